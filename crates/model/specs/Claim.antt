@@ -1,0 +1,130 @@
+-- THE THIRD DEMAND: of every list of steps and runs on one fresh lock, one claim. Assumes nothing: these are definitions.
+use mathlib.Core.Path.{_≡_}
+use mathlib.Core.Bool.{Bool, true, cond}
+use mathlib.Core.List.{List, [], _∷_, _++_}
+use mathlib.Core.Logic.{_≢_}
+use Prim.Native.Nat.{ℕ, _+_, _≤_}
+use lib.Dec.{eqb}
+use lib.ListN.{length, take, drop}
+use Rattle.model.specs.declared.TreeWords.{TreeWords}
+use Rattle.model.specs.declared.State.{State}
+use Rattle.model.specs.declared.StepReply.{StepReply}
+use Rattle.model.specs.declared.RunReply.{RunReply}
+use Rattle.model.specs.Trees.{Tree, tree-of, is-member, allowance}
+use Rattle.model.specs.States.{fresh-words, inside-count}
+use Rattle.model.specs.Steps.{begins, Step}
+use Rattle.model.specs.Runs.{steps, run-of, run, begun, ended, entries-under, occurrences}
+use Rattle.model.specs.Refusals.{Refusal, step-refusal, run-refusal}
+use Rattle.model.specs.Answers.{fresh-answer, step-reply, step-answer, run-reply, run-buffer, run-answer, trace-answer}
+
+-- CALLS: each names a tree of its own, and asks for one step of a thread, or for a run of a schedule with a trace buffer
+pub data Ask : Type 0 where
+  one-step : (thread : ℕ) → Ask
+  a-run : (schedule buffer : List ℕ) → Ask
+
+pub record Call : Type 0 where
+  pub tree : TreeWords
+  pub ask : Ask
+
+-- what a call returns and writes
+pub data Answer : Type 0 where
+  stepped : StepReply → Answer
+  ran : RunReply → (buffer : List ℕ) → Answer
+
+unfoldable pub state-in : Answer → State
+state-in (stepped r) = r .state
+state-in (ran r b) = r .state
+
+-- the answer to a call on a state that is handed in
+unfoldable pub answer-to : TreeWords → Ask → State → Answer
+answer-to w (one-step i) s = stepped (step-answer w s i)
+answer-to w (a-run is b) s = ran (run-answer w s is b) (trace-answer w s is b)
+
+unfoldable pub answer : Call → State → Answer
+answer c s = answer-to (c .tree) (c .ask) s
+
+-- the refusal that a call meets on a state
+unfoldable pub ask-refusal : Tree → Ask → State → Refusal
+ask-refusal t (one-step i) s = step-refusal t s i
+ask-refusal t (a-run is b) s = run-refusal t s is (length b)
+
+unfoldable pub call-refusal : Call → State → Refusal
+call-refusal c s = ask-refusal (tree-of (c .tree)) (c .ask) s
+
+unfoldable pub asked-entries : Ask → List ℕ
+asked-entries (one-step i) = i ∷ []
+asked-entries (a-run is b) = is
+
+-- the schedule entries that a call adds: its own where it is accepted, none where it is refused
+unfoldable pub added : Call → State → List ℕ
+added c s = cond (eqb (call-refusal c s .number) 0) (asked-entries (c .ask)) []
+
+-- THE LIST: each call gets unaltered the state that the one before returned
+unfoldable pub answers : List Call → State → List Answer
+answers [] s = []
+answers (c ∷ cs) s = let a = answer c s in a ∷ answers cs (state-in a)
+
+-- the list's schedule: the schedule entries of its accepted calls, joined in order
+unfoldable pub joined : List Call → State → List ℕ
+joined [] s = []
+joined (c ∷ cs) s = added c s ++ joined cs (state-in (answer c s))
+
+-- asked of the list: each accepted call names the fresh call's tree
+unfoldable pub Names : Tree → List Call → State → Type 0
+Names t [] s = Unit {0}
+Names t (c ∷ cs) s = (call-refusal c s .number ≡ 0 → tree-of (c .tree) ≡ t) × Names t cs (state-in (answer c s))
+
+-- WHAT IS EXPECTED, worked out from the step table over a schedule from fresh alone: no state is handed in
+-- the step table's state behind the first k entries
+unfoldable pub state-at : Tree → (schedule : List ℕ) → (k : ℕ) → State
+state-at t S k = run t (take k S) fresh-words .state
+
+-- the steps of the stretch of n entries behind the first k
+unfoldable pub stretch : Tree → (schedule : List ℕ) → (k n : ℕ) → List Step
+stretch t S k n = take n (drop k (steps t S fresh-words))
+
+-- a call at that point: refused or not by the table's state there; accepted, what the table gives over its stretch
+unfoldable pub expected-ask : Tree → (schedule : List ℕ) → (k : ℕ) → (named : Tree) → Ask → Answer
+expected-ask t S k u (one-step i) = stepped (step-reply (step-refusal u (state-at t S k) i) (state-at t S k) (state-at t S (k + 1)))
+expected-ask t S k u (a-run is b) =
+    let r = run-refusal u (state-at t S k) is (length b) in
+    let x = run-of (state-at t S k) (stretch t S k (length is)) in
+    ran (run-reply r (state-at t S k) x) (run-buffer r b x)
+
+unfoldable pub expected : Tree → (schedule : List ℕ) → (k : ℕ) → Call → Answer
+expected t S k c = expected-ask t S k (tree-of (c .tree)) (c .ask)
+
+unfoldable pub expected-answers : Tree → (schedule : List ℕ) → (k : ℕ) → List Call → List Answer
+expected-answers t S k [] = []
+expected-answers t S k (c ∷ cs) = expected t S k c ∷ expected-answers t S (k + length (added c (state-at t S k))) cs
+
+-- each accepted call's own entries are its stretch of the schedule
+unfoldable pub Stretches : Tree → (schedule : List ℕ) → (k : ℕ) → List Call → Type 0
+Stretches t S k [] = k ≡ length S
+Stretches t S k (c ∷ cs) =
+    let own = added c (state-at t S k) in
+    (take (length own) (drop k S) ≡ own) × Stretches t S (k + length own) cs
+
+pub record Prefix (xs ys : List ℕ) : Type 0 where
+  pub remainder : List ℕ
+  pub joins : xs ++ remainder ≡ ys
+
+-- THE CLAIM, of a list of calls on a fresh lock of tree t, where S is the list's schedule
+pub record Claim (t : Tree) (cs : List Call) (S : List ℕ) : Type 0 where
+  -- each call gives what the refusals and the step table give at that point of the whole schedule
+  pub each : answers cs fresh-words ≡ expected-answers t S 0 cs
+  pub stretches : Stretches t S 0 cs
+  -- after every schedule entry at most one thread is at Inside
+  pub alone : (k : ℕ) → inside-count (state-at t S k) ≤ 1
+  -- in each domain, after every entry: the members at the ends of standing ungranted are a prefix of those at its beginnings
+  pub in-order : (k d : ℕ) → Prefix (ended d (take k (steps t S fresh-words))) (begun d (take k (steps t S fresh-words)))
+  -- for two different members of a domain, while m stands ungranted, also where the list ends first: the entries of threads under q are at most its allowance
+  pub bounded :
+      (before meanwhile later : List Step) (x : Step) (m q : ℕ) → steps t S fresh-words ≡ before ++ (x ∷ (meanwhile ++ later)) →
+      x .standing ≡ begins m → occurrences m (ended (x .domain) meanwhile) ≡ 0 → is-member t (x .domain) q ≡ true → q ≢ m →
+      entries-under t q meanwhile ≤ allowance t q
+
+unfoldable pub Demand-three : Type 0
+Demand-three =
+    (w : TreeWords) (cs : List Call) → fresh-answer w .number ≡ 0 → Names (tree-of w) cs (fresh-answer w .state) →
+    Claim (tree-of w) cs (joined cs (fresh-answer w .state))

@@ -1,0 +1,104 @@
+-- Document 01, "When a call says no": numbers 4 to 13. Assumes nothing: these are definitions.
+use mathlib.Core.Bool.{Bool, true, false, _&&_, _||_, not, cond}
+use mathlib.Core.List.{List, [], _∷_, _++_}
+use Prim.Native.Nat.{ℕ, zero, suc}
+use lib.Dec.{ltb, leb, eqb}
+use lib.ListN.{length, getD}
+use Rattle.model.specs.declared.State.{State}
+use Rattle.model.specs.Trees.{Tree, is-leaf, level}
+use Rattle.model.specs.WellFormed.{well-formed}
+
+-- an answer's number and place; 0 and 0 for accepted
+pub record Refusal : Type 0 where
+  pub number : ℕ
+  pub place : ℕ
+
+unfoldable pub refusal : (number place : ℕ) → Refusal
+refusal n p = record { number = n; place = p }
+
+unfoldable pub accepted : Refusal
+accepted = refusal 0 0
+
+-- one of the tests: its number, how many places it looks at, and which of them are bad. A test that names no place looks at place 0 alone
+pub record Test : Type 0 where
+  pub number : ℕ
+  pub places : ℕ
+  pub bad : ℕ → Bool
+
+abbrev pub test : (number places : ℕ) → (ℕ → Bool) → Test
+test n k f = record { number = n; places = k; bad = f }
+
+-- the lowest bad place from a place on, among as many as are left; where there is none, another answer
+unfoldable pub lowest-bad : (number : ℕ) → (bad : ℕ → Bool) → (left at : ℕ) → (otherwise : Refusal) → Refusal
+lowest-bad n f zero p r = r
+lowest-bad n f (suc k) p r = let higher = lowest-bad n f k (suc p) r in cond (f p) (refusal n p) higher
+
+-- each is tested over everything before the next; the lowest place wins
+unfoldable pub first-refusal : List Test → Refusal
+first-refusal [] = accepted
+first-refusal (x ∷ xs) = lowest-bad (x .number) (x .bad) (x .places) 0 (first-refusal xs)
+
+-- 4: no domains, or more than 64
+unfoldable pub bad-domains : Tree → ℕ → Bool
+bad-domains t p = eqb (t .domains) 0 || ltb 64 (t .domains)
+
+-- 5: no threads, or more than 256
+unfoldable pub bad-threads : Tree → ℕ → Bool
+bad-threads t p = eqb (t .threads) 0 || ltb 256 (t .threads)
+
+-- 6: a domain other than 0 has a parent not below its own number
+unfoldable pub bad-parent : Tree → (domain : ℕ) → Bool
+bad-parent t d = not (eqb d 0) && leb d (t .parent d)
+
+-- 7: a domain lies deeper than level 6
+unfoldable pub too-deep : Tree → (domain : ℕ) → Bool
+too-deep t d = ltb 6 (level t d)
+
+-- 8: a domain other than 0 has threshold 0
+unfoldable pub no-threshold : Tree → (domain : ℕ) → Bool
+no-threshold t d = not (eqb d 0) && eqb (t .threshold d) 0
+
+-- 9: a home is no domain of the tree or has child domains
+unfoldable pub bad-home : Tree → (thread : ℕ) → Bool
+bad-home t i = leb (t .domains) (t .home i) || not (is-leaf t (t .home i))
+
+-- making a fresh lock meets 4 to 9
+unfoldable pub tree-tests : Tree → List Test
+tree-tests t =
+    test 4 1 (bad-domains t) ∷ test 5 1 (bad-threads t) ∷ test 6 (t .domains) (bad-parent t) ∷ test 7 (t .domains) (too-deep t)
+    ∷ test 8 (t .domains) (no-threshold t) ∷ test 9 (t .threads) (bad-home t) ∷ []
+
+-- 10: the state handed in is not well formed
+unfoldable pub bad-state : Tree → State → ℕ → Bool
+bad-state t s p = not (well-formed t s)
+
+-- 11: the schedule has more than 65,536 entries
+unfoldable pub bad-length : (schedule : List ℕ) → ℕ → Bool
+bad-length is p = ltb 65536 (length is)
+
+-- 12: a schedule entry is not below the number of threads, the place being its position
+unfoldable pub bad-entry : Tree → (schedule : List ℕ) → (position : ℕ) → Bool
+bad-entry t is p = leb (t .threads) (getD is p 0)
+
+-- 13: the trace buffer has fewer elements than the schedule
+unfoldable pub bad-room : (schedule : List ℕ) → (room : ℕ) → ℕ → Bool
+bad-room is room p = ltb room (length is)
+
+-- one step meets 4 to 10 and 12
+unfoldable pub step-tests : Tree → State → (thread : ℕ) → List Test
+step-tests t s i = tree-tests t ++ (test 10 1 (bad-state t s) ∷ test 12 1 (bad-entry t (i ∷ [])) ∷ [])
+
+-- a run meets 4 to 13
+unfoldable pub run-tests : Tree → State → (schedule : List ℕ) → (room : ℕ) → List Test
+run-tests t s is room =
+    tree-tests t
+    ++ (test 10 1 (bad-state t s) ∷ test 11 1 (bad-length is) ∷ test 12 (length is) (bad-entry t is) ∷ test 13 1 (bad-room is room) ∷ [])
+
+unfoldable pub tree-refusal : Tree → Refusal
+tree-refusal t = first-refusal (tree-tests t)
+
+unfoldable pub step-refusal : Tree → State → (thread : ℕ) → Refusal
+step-refusal t s i = first-refusal (step-tests t s i)
+
+unfoldable pub run-refusal : Tree → State → (schedule : List ℕ) → (room : ℕ) → Refusal
+run-refusal t s is room = first-refusal (run-tests t s is room)

@@ -1,0 +1,18 @@
+-- Tests over all numbers below a bound. Assumes nothing: these are definitions.
+use mathlib.Core.Bool.{Bool, true, false, _&&_, _||_}
+use Prim.Native.Nat.{ℕ, zero, suc, max}
+
+-- some number below n passes
+unfoldable pub any-below : ℕ → (ℕ → Bool) → Bool
+any-below zero f = false
+any-below (suc n) f = any-below n f || f n
+
+-- every number below n passes
+unfoldable pub all-below : ℕ → (ℕ → Bool) → Bool
+all-below zero f = true
+all-below (suc n) f = all-below n f && f n
+
+-- the largest value below n; 0 where there is none
+unfoldable pub largest-below : ℕ → (ℕ → ℕ) → ℕ
+largest-below zero f = 0
+largest-below (suc n) f = max (largest-below n f) (f n)

@@ -1,0 +1,75 @@
+-- A lock's state: tails, nexts, statuses, places, and the status words. Assumes nothing: these are definitions.
+use mathlib.Core.Bool.{cond}
+use mathlib.Core.List.{List}
+use Prim.Native.Nat.{ℕ, zero, suc, _+_, _-_}
+use lib.Dec.{eqb}
+use lib.ListN.{getD, set, replicate}
+use Rattle.model.specs.declared.PlaceWords.{PlaceWords}
+use Rattle.model.specs.declared.Place.{Place}
+use Rattle.model.specs.declared.State.{State}
+use Rattle.model.specs.Places.{place-words, words-of, place-of, is-inside}
+
+-- status words. COHORT_START
+abbrev pub cohort-start : ℕ
+cohort-start = 1
+
+-- ACQUIRE_PARENT, 2^64 − 2
+abbrev pub acquire-parent : ℕ
+acquire-parent = 18446744073709551614
+
+-- WAIT, 2^64 − 1
+abbrev pub wait-word : ℕ
+wait-word = 18446744073709551615
+
+-- UNLOCKED and LOCKED, at the root
+abbrev pub unlocked : ℕ
+unlocked = 0
+
+abbrev pub locked : ℕ
+locked = 1
+
+-- a word of the root's, or another
+abbrev pub root-word : (domain at-root elsewhere : ℕ) → ℕ
+root-word l a b = cond (eqb l 0) a b
+
+-- a tail or a next: 0 is none, else one more than a record
+abbrev pub none : ℕ
+none = 0
+
+abbrev pub tail : State → (domain : ℕ) → ℕ
+tail s d = getD (s .tails) d 0
+
+abbrev pub next : State → (number : ℕ) → ℕ
+next s r = getD (s .nexts) r 0
+
+abbrev pub status : State → (number : ℕ) → ℕ
+status s r = getD (s .statuses) r 0
+
+abbrev pub place : State → (thread : ℕ) → Place
+place s i = place-of (getD (s .places) i (place-words 0 0 0 0))
+
+-- fresh: all tails and nexts none, all statuses 0, all threads Idle, in all room
+unfoldable pub fresh-words : State
+fresh-words =
+    record { tails = replicate 64 0; nexts = replicate 320 0; statuses = replicate 320 0; places = replicate 256 (place-words 0 0 0 0) }
+
+abbrev pub with-tail : (domain value : ℕ) → State → State
+with-tail d v s = record { tails = set (s .tails) d v; nexts = s .nexts; statuses = s .statuses; places = s .places }
+
+abbrev pub with-next : (number value : ℕ) → State → State
+with-next r v s = record { tails = s .tails; nexts = set (s .nexts) r v; statuses = s .statuses; places = s .places }
+
+abbrev pub with-status : (number value : ℕ) → State → State
+with-status r v s = record { tails = s .tails; nexts = s .nexts; statuses = set (s .statuses) r v; places = s .places }
+
+abbrev pub with-place : (thread : ℕ) → Place → State → State
+with-place i p s = record { tails = s .tails; nexts = s .nexts; statuses = s .statuses; places = set (s .places) i (words-of p) }
+
+-- how many of the first n threads are Inside
+unfoldable pub inside-below : (n : ℕ) → State → ℕ
+inside-below zero s = 0
+inside-below (suc n) s = inside-below n s + cond (is-inside (place s n)) 1 0
+
+-- how many threads are Inside, in all room
+unfoldable pub inside-count : State → ℕ
+inside-count s = inside-below 256 s

@@ -1,0 +1,72 @@
+// The words that cross a call. Numbers only, laid out as C lays them out, so that a C++ host can hold them.
+
+// A tree with its threads. The root's parent and threshold, and room that the tree lacks, are not read.
+#[repr(C)]
+pub struct TreeWords {
+    pub domains: u32,
+    pub threads: u32,
+    pub parents: [u8; 64],
+    pub thresholds: [u16; 64],
+    pub homes: [u8; 256],
+}
+
+// A thread's place: a row of the step table (0 Idle to 10 Grant), its domain, the other record that it names, its word. A part that the row lacks is 0.
+#[repr(C)]
+pub struct PlaceWords {
+    pub row: u8,
+    pub domain: u8,
+    pub peer: u16,
+    pub word: u64,
+}
+
+// A lock state. A tail or a next is 0 for none, else the record's number + 1. Fresh is 0 throughout.
+#[repr(C)]
+pub struct State {
+    pub tails: [u16; 64],
+    pub nexts: [u16; 320],
+    pub statuses: [u64; 320],
+    pub places: [PlaceWords; 256],
+}
+
+// A thread's place as the step table names it; Invalid where four numbers are no place.
+pub enum Place {
+    Idle,
+    Prep(u8),
+    Swap(u8),
+    Link(u8, u16),
+    Wait(u8),
+    Inside,
+    Check(u8),
+    Help(u8),
+    Cas(u8),
+    Linger(u8),
+    Grant(u8, u16, u64),
+    Invalid,
+}
+
+// What the three calls return. Number 0 is accepted.
+#[repr(C)]
+pub struct FreshReply {
+    pub number: u32,
+    pub place: u32,
+    pub state: State,
+}
+
+#[repr(C)]
+pub struct StepReply {
+    pub number: u32,
+    pub place: u32,
+    pub state: State,
+}
+
+#[repr(C)]
+pub struct RunReply {
+    pub number: u32,
+    pub place: u32,
+    pub steps: u32,
+    pub entries: u32,
+    pub stays: u32,
+    pub root: u32,
+    pub passed: u32,
+    pub state: State,
+}
