@@ -36,7 +36,15 @@ run-refused r s =
 abbrev pub run-accepted : Run → RunReply
 run-accepted x =
     record {
-      number = 0; place = 0; steps = x .steps; entries = x .entries; stays = x .stays; root = x .root; passed = x .passed; state = x .state }
+      number = 0;
+      place = 0;
+      steps = x .steps;
+      entries = x .entries;
+      stays = x .stays;
+      root = x .root;
+      passed = x .passed;
+      state = x .state;
+    }
 
 unfoldable pub run-reply : Refusal → State → Run → RunReply
 run-reply r s x = cond (eqb (r .number) 0) (run-accepted x) (run-refused r s)

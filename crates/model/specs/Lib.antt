@@ -10,3 +10,4 @@ pub mod WellFormed
 pub mod Refusals
 pub mod Answers
 pub mod Claim
+pub mod Laws

@@ -82,8 +82,8 @@ swap-row t i l s =
     let swapped = with-tail l (I + 1) s in
     cond (eqb old none)
     (cond (eqb l 0)
-        (enters root-entry i l (with-status I unlocked swapped))
-        (moves i l (with-place i (climb-place t l) (with-status I cohort-start swapped))))
+    (enters root-entry i l (with-status I unlocked swapped))
+    (moves i l (with-place i (climb-place t l) (with-status I cohort-start swapped))))
     (record { thread = i; kind = other; domain = l; standing = begins I; state = with-place i (Link l (old - 1)) swapped })
 
 -- Link(L, p): next of p becomes I; to Wait(L)
@@ -98,8 +98,8 @@ wait-row t i l s =
     cond (eqb l 0) (cond (eqb v locked) (stays i l s) (enters root-entry i l s))
     (cond (eqb v wait-word) (stays i l s)
     (cond (eqb v acquire-parent)
-        (moves i l (with-place i (climb-place t l) (with-status I cohort-start s)))
-        (enters passed-entry i l s)))
+    (moves i l (with-place i (climb-place t l) (with-status I cohort-start s)))
+    (enters passed-entry i l s)))
 
 -- Inside: the thread leaves; to Help(home) if home is the root, else Check(home)
 unfoldable pub leave-row : Tree → (thread : ℕ) → State → Step
@@ -112,8 +112,8 @@ check-row t i l s =
     let v = status s I in
     let n = next s I in
     cond (ltb v (t .threshold l) && not (eqb n none))
-        (moves i l (with-place i (Grant l (n - 1) (v + 1)) s))
-        (moves i l (with-place i (release-place (t .parent l)) s))
+    (moves i l (with-place i (Grant l (n - 1) (v + 1)) s))
+    (moves i l (with-place i (release-place (t .parent l)) s))
 
 -- the word that Help and Linger grant: UNLOCKED at the root, else ACQUIRE_PARENT
 abbrev pub release-word : (domain : ℕ) → ℕ
@@ -129,8 +129,8 @@ help-row t i l s =
 unfoldable pub cas-row : Tree → (thread domain : ℕ) → State → Step
 cas-row t i l s =
     cond (eqb (tail s l) (own-record t i l + 1))
-        (moves i l (with-place i (done-place t i l) (with-tail l none s)))
-        (moves i l (with-place i (Linger l) s))
+    (moves i l (with-place i (done-place t i l) (with-tail l none s)))
+    (moves i l (with-place i (Linger l) s))
 
 -- Linger(L): next none stays; next s goes to Grant(L, s, v)
 unfoldable pub linger-row : Tree → (thread domain : ℕ) → State → Step

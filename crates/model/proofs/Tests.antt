@@ -1,0 +1,92 @@
+-- From tests to facts: connectives and scans. Assumes nothing.
+use mathlib.Core.Path.{_≡_, refl}
+use mathlib.Core.Bool.{Bool, true, false, _&&_, _||_, cond, false≢true, true≢false}
+use mathlib.Core.Logic.{_⊎_, inl, inr}
+use Prim.Native.Nat.{ℕ, zero, suc, _+_, _≤_, _<_}
+use native.Mathlib.Omega.{arith}
+use native.Mathlib.Decide.{ℕ-discrete}
+use Rattle.model.specs.Scans.{any-below, all-below, largest-below}
+
+pub and-both : (a b : Bool) → a && b ≡ true → (a ≡ true) × (b ≡ true)
+and-both true b e = (refl, e)
+and-both false b e = absurd (false≢true e)
+
+pub and-not : (a b : Bool) → a && b ≡ false → a ≡ true → b ≡ false
+and-not true b e p = e
+and-not false b e p = absurd (false≢true p)
+
+pub or-cases : (a b : Bool) → a || b ≡ true → (a ≡ true) ⊎ (b ≡ true)
+or-cases true b e = inl refl
+or-cases false b e = inr e
+
+pub or-neither : (a b : Bool) → a || b ≡ false → (a ≡ false) × (b ≡ false)
+or-neither true b e = absurd (true≢false e)
+or-neither false b e = (refl, e)
+
+pub or-right : (a b : Bool) → b ≡ true → a || b ≡ true
+or-right true b e = refl
+or-right false b e = e
+
+-- SCANS
+pub any-none : (n : ℕ) (f : ℕ → Bool) → any-below n f ≡ false → (j : ℕ) → j < n → f j ≡ false
+unfolding any-below
+any-none zero f e j h = absurd (omega arith)
+any-none (suc n) f e j h =
+    let both = or-neither (any-below n f) (f n) e in
+    elim (ℕ-discrete j n) [ yes p ↦ rw p (both .1) | no p ↦ any-none n f (both .0) j (omega arith) ]
+
+pub any-found : (n : ℕ) (f : ℕ → Bool) (j : ℕ) → j < n → f j ≡ true → any-below n f ≡ true
+unfolding any-below
+any-found zero f j h e = absurd (omega arith)
+any-found (suc n) f j h e =
+    elim (ℕ-discrete j n) [
+      | yes p ↦ or-right (any-below n f) (f n) (rw p at e)
+      | no p ↦ let r = any-found n f j (omega arith) e in rw r
+    ]
+
+pub any-same : (n : ℕ) (f g : ℕ → Bool) → ((j : ℕ) → j < n → f j ≡ g j) → any-below n f ≡ any-below n g
+unfolding any-below
+any-same zero f g h = refl
+any-same (suc n) f g h = rw (any-same n f g (λ j l. h j (omega arith)), h n (omega arith))
+
+pub record Found (n : ℕ) (f : ℕ → Bool) : Type 0 where
+  pub index : ℕ
+  pub below : index < n
+  pub holds : f index ≡ true
+
+pub any-one : (n : ℕ) (f : ℕ → Bool) → any-below n f ≡ true → Found n f
+unfolding any-below
+any-one zero f e = absurd (false≢true e)
+any-one (suc n) f e =
+    elim (or-cases (any-below n f) (f n) e) [
+      | inl p ↦ let r = any-one n f p in record { index = r .index; below = omega arith; holds = r .holds }
+      | inr p ↦ record { index = n; below = omega arith; holds = p }
+    ]
+
+pub largest-ge : (n : ℕ) (f : ℕ → ℕ) (j : ℕ) → j < n → f j ≤ largest-below n f
+unfolding largest-below
+largest-ge zero f j h = absurd (omega arith)
+largest-ge (suc n) f j h =
+    elim (ℕ-discrete j n) [ yes p ↦ rw p (omega arith) | no p ↦ omega (arith, largest-ge n f j (omega arith)) ]
+
+pub largest-same : (n : ℕ) (f g : ℕ → ℕ) → ((j : ℕ) → j < n → f j ≡ g j) → largest-below n f ≡ largest-below n g
+unfolding largest-below
+largest-same zero f g h = refl
+largest-same (suc n) f g h = rw (largest-same n f g (λ j l. h j (omega arith)), h n (omega arith))
+
+pub all-each : (n : ℕ) (f : ℕ → Bool) → all-below n f ≡ true → (j : ℕ) → j < n → f j ≡ true
+unfolding all-below
+all-each zero f e j h = absurd (omega arith)
+all-each (suc n) f e j h =
+    let both = and-both (all-below n f) (f n) e in
+    elim (ℕ-discrete j n) [ yes p ↦ rw p (both .1) | no p ↦ all-each n f (both .0) j (omega arith) ]
+
+pub all-true : (n : ℕ) (f : ℕ → Bool) → ((j : ℕ) → j < n → f j ≡ true) → all-below n f ≡ true
+unfolding all-below
+all-true zero f h = refl
+all-true (suc n) f h = rw (all-true n f (λ j l. h j (omega arith)), h n (omega arith))
+
+-- a choice by a test, by cases on the test
+pub by-test : {A : Type 0} (P : A → Type 0) (b : Bool) (x y : A) → (b ≡ true → P x) → (b ≡ false → P y) → P (cond b x y)
+by-test P true x y f g = f refl
+by-test P false x y f g = g refl

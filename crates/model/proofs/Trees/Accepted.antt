@@ -1,0 +1,102 @@
+-- An accepted tree as facts. Assumes nothing.
+use mathlib.Core.Path.{_≡_, sym, _∙_}
+use mathlib.Core.Bool.{Bool, true, false, _&&_, _||_, not, true≢false}
+use mathlib.Core.List.{List, [], _∷_, _++_}
+use mathlib.Core.Logic.{_≢_}
+use Prim.Native.Nat.{ℕ, _≤_, _<_}
+use native.Mathlib.Omega.{arith}
+use native.Mathlib.Decide.{ℕ-discrete}
+use lib.Dec.{eqb, leb, ltb}
+use borrow.Author.Tests.{ltb-false, leb-false, eqb-true, eqb-false, not-true, not-false, le-ltb, lt-leb, eq-eqb, ne-eqb}
+use Rattle.model.specs.Trees.{Tree, level, is-child, is-leaf}
+use Rattle.model.specs.Refusals.{Test, test, first-refusal, tree-tests, tree-refusal, bad-domains, bad-threads, bad-parent, too-deep, no-threshold, bad-home}
+use Rattle.model.proofs.Tests.{and-both, or-neither, any-none}
+use Rattle.model.proofs.Refusing.{tests-pass, test-skipped}
+
+pub record Accepted (t : Tree) : Type 0 where
+  pub some-domain : 0 < t .domains
+  pub few-domains : t .domains ≤ 64
+  pub some-thread : 0 < t .threads
+  pub few-threads : t .threads ≤ 256
+  pub parent-lower : (d : ℕ) → 0 < d → d < t .domains → t .parent d < d
+  pub flat : (d : ℕ) → d < t .domains → level t d ≤ 6
+  pub threshold-some : (d : ℕ) → 0 < d → d < t .domains → 1 ≤ t .threshold d
+  pub home-real : (i : ℕ) → i < t .threads → t .home i < t .domains
+  pub home-leaf : (i : ℕ) → i < t .threads → is-leaf t (t .home i) ≡ true
+
+-- a test that starts 'but for 0' fails at d above 0: its rest fails
+pub but-zero : (d : ℕ) (b : Bool) → not (eqb d 0) && b ≡ false → 0 < d → b ≡ false
+but-zero d b e h = let z = ne-eqb d 0 (omega arith) in rw z at e
+
+pub accepted : (t : Tree) → tree-refusal t .number ≡ 0 → Accepted t
+unfolding tree-refusal tree-tests bad-domains bad-threads bad-parent too-deep no-threshold bad-home
+accepted t e =
+    let c₄ = tests-pass (test 4 1 (bad-domains t)) _ (omega arith) e in
+    let c₅ = tests-pass (test 5 1 (bad-threads t)) _ (omega arith) (c₄ .1) in
+    let c₆ = tests-pass (test 6 (t .domains) (bad-parent t)) _ (omega arith) (c₅ .1) in
+    let c₇ = tests-pass (test 7 (t .domains) (too-deep t)) _ (omega arith) (c₆ .1) in
+    let c₈ = tests-pass (test 8 (t .domains) (no-threshold t)) _ (omega arith) (c₇ .1) in
+    let c₉ = tests-pass (test 9 (t .threads) (bad-home t)) [] (omega arith) (c₈ .1) in
+    let d₄ = or-neither (eqb (t .domains) 0) (ltb 64 (t .domains)) (c₄ .0 0 (omega arith)) in
+    let d₅ = or-neither (eqb (t .threads) 0) (ltb 256 (t .threads)) (c₅ .0 0 (omega arith)) in
+    let n₄ = eqb-false (t .domains) 0 (d₄ .0) in
+    let n₅ = eqb-false (t .threads) 0 (d₅ .0) in
+    let at₉ : (i : ℕ) → i < t .threads → leb (t .domains) (t .home i) || not (is-leaf t (t .home i)) ≡ false = λ i h. c₉ .0 i h in
+    record {
+      some-domain = omega (arith, n₄);
+      few-domains = ltb-false _ _ (d₄ .1);
+      some-thread = omega (arith, n₅);
+      few-threads = ltb-false _ _ (d₅ .1);
+      parent-lower = λ d p h. leb-false _ _ (but-zero d _ (c₆ .0 d h) p);
+      flat = λ d h. ltb-false _ _ (c₇ .0 d h);
+      threshold-some = λ d p h.
+          let n = eqb-false (t .threshold d) 0 (but-zero d _ (c₈ .0 d h) p) in
+          omega (arith, n);
+      home-real = λ i h. leb-false _ _ (or-neither _ (not (is-leaf t (t .home i))) (at₉ i h) .0);
+      home-leaf = λ i h. not-false _ (or-neither (leb (t .domains) (t .home i)) _ (at₉ i h) .1);
+    }
+
+-- an accepted tree passes all of its tests: those behind them decide
+pub tree-tests-skipped : (t : Tree) → Accepted t → (xs : List Test) → first-refusal (tree-tests t ++ xs) ≡ first-refusal xs
+unfolding tree-tests bad-domains bad-threads bad-parent too-deep no-threshold bad-home
+tree-tests-skipped t 𝓐 xs =
+    let a = ne-eqb (t .domains) 0 (omega (arith, 𝓐 .some-domain)) in
+    let b = le-ltb 64 (t .domains) (𝓐 .few-domains) in
+    let c = ne-eqb (t .threads) 0 (omega (arith, 𝓐 .some-thread)) in
+    let d = le-ltb 256 (t .threads) (𝓐 .few-threads) in
+    test-skipped (test 4 1 (bad-domains t)) _ (λ p l. rw (a, b))
+    ∙ test-skipped (test 5 1 (bad-threads t)) _ (λ p l. rw (c, d))
+    ∙ test-skipped (test 6 (t .domains) (bad-parent t)) _
+    (λ d s. elim (ℕ-discrete d 0) [ yes z ↦ rw (eq-eqb d 0 z) | no z ↦ rw (ne-eqb d 0 z, lt-leb d (t .parent d) (𝓐 .parent-lower d (omega arith) s)) ])
+    ∙ test-skipped (test 7 (t .domains) (too-deep t)) _ (λ d s. le-ltb 6 (level t d) (𝓐 .flat d s))
+    ∙ test-skipped (test 8 (t .domains) (no-threshold t)) _
+    (λ d s. elim (ℕ-discrete d 0) [
+      | yes z ↦ rw (eq-eqb d 0 z)
+      | no z ↦ let p = 𝓐 .threshold-some d (omega arith) s in rw (ne-eqb d 0 z, ne-eqb (t .threshold d) 0 (omega arith))
+    ])
+    ∙ test-skipped (test 9 (t .threads) (bad-home t)) xs (λ i h. rw (lt-leb (t .domains) (t .home i) (𝓐 .home-real i h), 𝓐 .home-leaf i h))
+
+-- CHILDREN AND LEAVES
+pub child-yes : (t : Tree) (d c : ℕ) → 0 < c → t .parent c ≡ d → is-child t d c ≡ true
+unfolding is-child
+child-yes t d c h e = rw (ne-eqb c 0 (omega arith), eq-eqb (t .parent c) d e)
+
+pub record Child (t : Tree) (d c : ℕ) : Type 0 where
+  pub no-root : 0 < c
+  pub hangs : t .parent c ≡ d
+
+pub child-facts : (t : Tree) (d c : ℕ) → is-child t d c ≡ true → Child t d c
+unfolding is-child
+child-facts t d c e =
+    let both = and-both (not (eqb c 0)) (eqb (t .parent c) d) e in
+    let n = eqb-false c 0 (not-true (eqb c 0) (both .0)) in
+    record { no-root = omega (arith, n); hangs = eqb-true (t .parent c) d (both .1) }
+
+-- a leaf is nobody's parent
+pub leaf-childless : (t : Tree) (d c : ℕ) → is-leaf t d ≡ true → 0 < c → c < t .domains → t .parent c ≢ d
+unfolding is-leaf
+leaf-childless t d c e p h q =
+    true≢false (sym (child-yes t d c p q) ∙ any-none (t .domains) (is-child t d) (not-true _ e) c h)
+
+pub home-childless : (t : Tree) → Accepted t → (i c : ℕ) → i < t .threads → 0 < c → c < t .domains → t .parent c ≢ t .home i
+home-childless t 𝓐 i c h p s = leaf-childless t (t .home i) c (𝓐 .home-leaf i h) p s

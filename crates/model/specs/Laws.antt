@@ -1,0 +1,131 @@
+-- THE LAWS OF THE STEP TABLE AND THE REFUSALS, for the second demand. Each is a statement; proofs/ has its proof. Assumes nothing.
+use mathlib.Core.Path.{_≡_}
+use mathlib.Core.Bool.{true, false, cond}
+use mathlib.Core.List.{List, [], _∷_, _++_}
+use mathlib.Core.Logic.{_≢_, _⊎_}
+use Prim.Native.Nat.{ℕ, _+_, _≤_, _<_}
+use lib.ListN.{length, getD}
+use Rattle.model.specs.declared.State.{State}
+use Rattle.model.specs.declared.Place.the-variants.{Swap, Wait, Inside}
+use Rattle.model.specs.Trees.{Tree, is-member}
+use Rattle.model.specs.Places.{place-words}
+use Rattle.model.specs.States.{acquire-parent, wait-word, status, place, fresh-words}
+use Rattle.model.specs.Steps.{stay, root-entry, passed-entry, is-entry, step}
+use Rattle.model.specs.Runs.{Run, run-of, run}
+use Rattle.model.specs.WellFormed.{well-formed}
+use Rattle.model.specs.Refusals.{refusal, accepted, Test, first-refusal, tree-refusal}
+
+-- both ways
+abbrev pub _⟺_ : Type 0 → Type 0 → Type 0
+A ⟺ B = (A → B) × (B → A)
+
+-- every entry of a schedule is a thread of the tree
+unfoldable pub All-threads : Tree → (schedule : List ℕ) → Type 0
+All-threads t [] = Unit {0}
+All-threads t (i ∷ is) = (i < t .threads) × All-threads t is
+
+-- thresholds are 16-bit numbers, as in every tree that a call names
+abbrev pub Sixteen-bit : Tree → Type 0
+Sixteen-bit t = (d : ℕ) → t .threshold d ≤ 65535
+
+-- what the type of a state fixes: the room of its arrays, and that statuses and words are below 2^64
+pub record Typed (s : State) : Type 0 where
+  pub tails-room : length (s .tails) ≡ 64
+  pub nexts-room : length (s .nexts) ≡ 320
+  pub statuses-room : length (s .statuses) ≡ 320
+  pub places-room : length (s .places) ≡ 256
+  pub statuses-fit : (r : ℕ) → status s r < 18446744073709551616
+  pub words-fit : (i : ℕ) → getD (s .places) i (place-words 0 0 0 0) .word < 18446744073709551616
+
+-- a state that a call may hand over: well formed, unused room included
+pub record Formed (t : Tree) (s : State) : Type 0 where
+  pub typed : Typed s
+  pub form : well-formed t s ≡ true
+
+-- 1. FORM. Fresh words are well formed, and steps and runs keep a state well formed
+pub record Keeps-form (t : Tree) : Type 0 where
+  pub of-fresh : Formed t fresh-words
+  pub of-step : (i : ℕ) (s : State) → i < t .threads → Formed t s → Formed t (step t i s .state)
+  pub of-run : (is : List ℕ) (s : State) → All-threads t is → Formed t s → Formed t (run t is s .state)
+
+unfoldable pub Form-law : Type 0
+Form-law = (t : Tree) → Sixteen-bit t → tree-refusal t .number ≡ 0 → Keeps-form t
+
+-- 2. RUNS. One run behind another
+unfoldable pub then-run : Run → Run → Run
+then-run x y =
+    record {
+      steps = x .steps + y .steps;
+      entries = x .entries + y .entries;
+      stays = x .stays + y .stays;
+      root = x .root + y .root;
+      passed = x .passed + y .passed;
+      trace = x .trace ++ y .trace;
+      state = y .state;
+    }
+
+-- a run equals its steps one after another
+pub record Equals-steps (t : Tree) (s : State) : Type 0 where
+  pub none : run t [] s ≡ run-of s []
+  pub one : (i : ℕ) → run t (i ∷ []) s ≡ run-of s (step t i s ∷ [])
+  pub joined : (is js : List ℕ) → run t (is ++ js) s ≡ then-run (run t is s) (run t js (run t is s .state))
+
+unfoldable pub Run-law : Type 0
+Run-law = (t : Tree) (s : State) → Equals-steps t s
+
+-- root entries and passed entries add up to the entries, which are as many as the trace has; steps are as many as the schedule has entries
+pub record Adds-up (schedule : List ℕ) (x : Run) : Type 0 where
+  pub both-entries : x .root + x .passed ≡ x .entries
+  pub traced : length (x .trace) ≡ x .entries
+  pub all-steps : x .steps ≡ length schedule
+
+unfoldable pub Count-law : Type 0
+Count-law = (t : Tree) (is : List ℕ) (s : State) → Adds-up is (run t is s)
+
+-- 3. KINDS. A stay changes nothing, and only a stay; an entry arrives Inside; a root entry came from Swap or Wait at the root, a passed entry from Wait at any other domain
+pub record Tells-kind (t : Tree) (i : ℕ) (s : State) : Type 0 where
+  pub stays-exactly : (step t i s .kind ≡ stay) ⟺ (step t i s .state ≡ s)
+  pub enters-exactly : (is-entry (step t i s .kind) ≡ true) ⟺ ((place (step t i s .state) i ≡ Inside) × (place s i ≢ Inside))
+  pub root-exactly :
+      (step t i s .kind ≡ root-entry)
+      ⟺ ((place (step t i s .state) i ≡ Inside) × ((place s i ≡ Swap 0) ⊎ (place s i ≡ Wait 0)))
+  pub passed-exactly :
+      (step t i s .kind ≡ passed-entry)
+      ⟺ ((place (step t i s .state) i ≡ Inside) × ((l : ℕ) × (l ≢ 0) × (place s i ≡ Wait l)))
+
+unfoldable pub Kind-law : Type 0
+Kind-law = (t : Tree) (i : ℕ) (s : State) → tree-refusal t .number ≡ 0 → i < t .threads → Formed t s → Tells-kind t i s
+
+-- 4. REFUSALS. Number n at place p exactly if every earlier test passes, p is bad and none below p is
+abbrev pub Passes : Test → Type 0
+Passes x = (p : ℕ) → p < x .places → x .bad p ≡ false
+
+pub data Refuses : List Test → (number place : ℕ) → Type 0 where
+  here :
+      (x : Test) (xs : List Test) (p : ℕ) → p < x .places → x .bad p ≡ true → ((q : ℕ) → q < p → x .bad q ≡ false) →
+      Refuses (x ∷ xs) (x .number) p
+  later : (x : Test) (xs : List Test) (n p : ℕ) → Passes x → Refuses xs n p → Refuses (x ∷ xs) n p
+
+unfoldable pub All-pass : List Test → Type 0
+All-pass [] = Unit {0}
+All-pass (x ∷ xs) = Passes x × All-pass xs
+
+-- no test has number 0, which means accepted
+unfoldable pub Numbered : List Test → Type 0
+Numbered [] = Unit {0}
+Numbered (x ∷ xs) = (0 < x .number) × Numbered xs
+
+pub record Refuses-exactly (xs : List Test) : Type 0 where
+  pub refused : (n p : ℕ) → 0 < n → (first-refusal xs ≡ refusal n p) ⟺ Refuses xs n p
+  pub passed : (first-refusal xs ≡ accepted) ⟺ All-pass xs
+  pub place-none : first-refusal xs .number ≡ 0 → first-refusal xs ≡ accepted
+
+unfoldable pub Refusal-law : Type 0
+Refusal-law = (xs : List Test) → Numbered xs → Refuses-exactly xs
+
+-- 5. WORDS. In every state reached from fresh: the status of a member of a domain other than the root is ACQUIRE_PARENT, WAIT or at most the threshold
+unfoldable pub Word-law : Type 0
+Word-law =
+    (t : Tree) → Sixteen-bit t → tree-refusal t .number ≡ 0 → (is : List ℕ) → All-threads t is → (d r : ℕ) → d ≢ 0 → is-member t d r ≡ true →
+    (status (run t is fresh-words .state) r ≡ acquire-parent) ⊎ (status (run t is fresh-words .state) r ≡ wait-word)
+    ⊎ (status (run t is fresh-words .state) r ≤ t .threshold d)
