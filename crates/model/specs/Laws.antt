@@ -16,6 +16,7 @@ use Rattle.model.specs.WellFormed.{well-formed}
 use Rattle.model.specs.Refusals.{refusal, accepted, Test, first-refusal, tree-refusal}
 
 -- both ways
+infixl 10 _⟺_
 abbrev pub _⟺_ : Type 0 → Type 0 → Type 0
 A ⟺ B = (A → B) × (B → A)
 
