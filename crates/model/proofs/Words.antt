@@ -4,3 +4,5 @@ pub mod View
 pub mod Represents
 pub mod Frame
 pub mod Joining
+pub mod Releasing
+pub mod Granting
