@@ -6,3 +6,5 @@ pub mod Frame
 pub mod Joining
 pub mod Releasing
 pub mod Granting
+pub mod Outcome
+pub mod Acquiring
