@@ -8,3 +8,5 @@ pub mod Releasing
 pub mod Granting
 pub mod Outcome
 pub mod Acquiring
+pub mod Leaving
+pub mod Steps
