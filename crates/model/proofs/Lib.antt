@@ -1,3 +1,4 @@
 pub mod Tests
 pub mod Refusing
 pub mod Trees
+pub mod Laws

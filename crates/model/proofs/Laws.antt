@@ -1,0 +1,3 @@
+-- The laws of the step table and the refusals, one file each.
+pub mod Runs
+pub mod Refusals
