@@ -1,4 +1,5 @@
 pub mod Tests
 pub mod Refusing
+pub mod Places
 pub mod Trees
 pub mod Laws
