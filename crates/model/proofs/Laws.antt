@@ -3,3 +3,4 @@ pub mod Runs
 pub mod Refusals
 pub mod Facts
 pub mod Form
+pub mod Kinds
