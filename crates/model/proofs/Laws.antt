@@ -4,3 +4,4 @@ pub mod Refusals
 pub mod Facts
 pub mod Form
 pub mod Kinds
+pub mod Words

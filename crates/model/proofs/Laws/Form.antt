@@ -29,7 +29,7 @@ use Rattle.model.proofs.Laws.Facts.{Good-tail, Good-next, Good-status, 
 use Rattle.model.proofs.Laws.Runs.{run-keeps}
 
 -- FRESH
-replicate-all : {A : Type 0} (Q : A → Type 0) (n j : ℕ) (d : A) → Q d → Q (getD (replicate n d) j d)
+pub replicate-all : {A : Type 0} (Q : A → Type 0) (n j : ℕ) (d : A) → Q d → Q (getD (replicate n d) j d)
 replicate-all Q zero j d q = q
 replicate-all Q (suc n) zero d q = q
 replicate-all Q (suc n) (suc j) d q = replicate-all Q n j d q
