@@ -3,3 +3,4 @@ pub mod Refusing
 pub mod Places
 pub mod Trees
 pub mod Laws
+pub mod Cases
