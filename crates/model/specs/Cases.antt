@@ -8,8 +8,6 @@ use Rattle.model.specs.declared.TreeWords.{TreeWords}
 use Rattle.model.specs.declared.PlaceWords.{PlaceWords}
 use Rattle.model.specs.declared.Place.the-variants.{Inside, Check}
 use Rattle.model.specs.declared.State.{State}
-use Rattle.model.specs.declared.FreshReply.{FreshReply}
-use Rattle.model.specs.declared.StepReply.{StepReply}
 use Rattle.model.specs.declared.RunReply.{RunReply}
 use Rattle.model.specs.States.{fresh-words, with-place}
 use Rattle.model.specs.Answers.{fresh-answer, step-answer, run-answer, trace-answer}

@@ -1,29 +1,25 @@
 -- FORM. Fresh words are well formed, and steps and runs keep a state well formed. Assumes nothing.
-use mathlib.Core.Path.{_≡_, refl, sym, ap, _∙_}
-use mathlib.Core.Bool.{Bool, true, false, _&&_, _||_, not, cond, false≢true}
-use mathlib.Core.List.{List, [], _∷_}
-use mathlib.Core.Logic.{_≢_, _⊎_, inl, inr}
-use Prim.Native.Nat.{ℕ, zero, suc, _+_, _-_, _≤_, _<_}
+use mathlib.Core.Path.{_≡_, refl}
+use mathlib.Core.Bool.{true, false, _&&_, not, false≢true}
+use mathlib.Core.Logic.{_≢_, inl, inr}
+use Prim.Native.Nat.{ℕ, zero, suc, _+_, _-_, _<_}
 use native.Mathlib.Omega.{arith}
-use native.Mathlib.Decide.{decLt}
 use lib.Dec.{eqb, ltb}
-use lib.ListN.{length, getD, set, replicate, length-replicate}
-use borrow.Author.Tests.{eqb-true, eqb-false, ltb-true, ne-eqb, not-true}
-use Rattle.model.specs.declared.PlaceWords.{PlaceWords}
+use lib.ListN.{getD, replicate, length-replicate}
+use borrow.Author.Tests.{eqb-false, ltb-true, not-true}
 use Rattle.model.specs.declared.Place.{Place}
 use Rattle.model.specs.declared.Place.the-variants.{Idle, Prep, Swap, Link, Wait, Inside, Check, Help, Cas, Linger, Grant, Invalid}
 use Rattle.model.specs.declared.State.{State}
 use Rattle.model.specs.Trees.{Tree, on-path, child, own-record, is-record, is-member, owner-domain}
 use Rattle.model.specs.Places.{place-words, words-of, place-of}
-use Rattle.model.specs.States.{acquire-parent, wait-word, locked, unlocked, cohort-start, root-word, none, tail, next, status, place, with-tail, with-next, with-status, with-place, fresh-words}
+use Rattle.model.specs.States.{acquire-parent, wait-word, locked, unlocked, cohort-start, root-word, none, tail, next, status, place, with-place, fresh-words}
 use Rattle.model.specs.Steps.{Step, climb-place, release-place, done-place, release-word, prep-row, swap-row, link-row, wait-row, leave-row, check-row, help-row, cas-row, linger-row, grant-row, row, step}
 use Rattle.model.specs.WellFormed.{good-place}
-use Rattle.model.specs.Refusals.{tree-refusal}
-use Rattle.model.specs.Laws.{Sixteen-bit, Formed, Keeps-form, Form-law}
+use Rattle.model.specs.Laws.{Sixteen-bit, Formed, Form-law}
 use Rattle.model.proofs.Tests.{by-test, and-both}
 use Rattle.model.proofs.Places.{words-of-place}
 use Rattle.model.proofs.Trees.Accepted.{Accepted, accepted}
-use Rattle.model.proofs.Trees.Paths.{on-path-home, on-path-root, on-path-parent}
+use Rattle.model.proofs.Trees.Paths.{on-path-home, on-path-parent}
 use Rattle.model.proofs.Trees.Records.{member-owner, member-record, own-record-member, on-path-child}
 use Rattle.model.proofs.Laws.Facts.{Good-tail, Good-next, Good-status, Good-thread, Facts, thread-idle, well-formed-facts, facts-well-formed, tail-keeps, next-keeps, status-keeps, place-keeps}
 use Rattle.model.proofs.Laws.Runs.{run-keeps}

@@ -1,16 +1,15 @@
 -- KINDS. A stay changes nothing, and only a stay; an entry arrives Inside; where root entries and passed entries come from. Assumes nothing.
 use mathlib.Core.Path.{_≡_, refl, sym, ap, _∙_}
-use mathlib.Core.Bool.{Bool, true, false, _&&_, _||_, not, cond, false≢true}
+use mathlib.Core.Bool.{true, false, _&&_, _||_, not, false≢true}
 use mathlib.Core.Logic.{_≢_, _⊎_, inl, inr}
-use Prim.Native.Nat.{ℕ, _+_, _-_, _≤_, _<_}
+use Prim.Native.Nat.{ℕ, _+_, _-_, _<_}
 use native.Mathlib.Omega.{arith}
 use lib.Dec.{eqb, ltb}
-use lib.ListN.{length}
 use borrow.Author.Tests.{eqb-true, eqb-false, not-true}
 use Rattle.model.specs.declared.Place.{Place}
 use Rattle.model.specs.declared.Place.the-variants.{Idle, Prep, Swap, Link, Wait, Inside, Check, Help, Cas, Linger, Grant, Invalid}
 use Rattle.model.specs.declared.State.{State}
-use Rattle.model.specs.Trees.{Tree, on-path, child, own-record, is-member}
+use Rattle.model.specs.Trees.{Tree, on-path, child, own-record}
 use Rattle.model.specs.Places.{words-of}
 use Rattle.model.specs.States.{acquire-parent, wait-word, locked, none, tail, next, status, place, with-place}
 use Rattle.model.specs.Steps.{Kind, stay, other, root-entry, passed-entry, is-root-entry, is-passed-entry, is-entry, Step, climb-place, release-place, done-place, release-word, prep-row, swap-row, link-row, wait-row, leave-row, check-row, help-row, cas-row, linger-row, grant-row, row, step}

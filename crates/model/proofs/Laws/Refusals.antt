@@ -1,15 +1,15 @@
 -- REFUSALS. Number n at place p exactly if every earlier test passes, p is bad and none below p is. Assumes nothing.
 use mathlib.Core.Path.{_≡_, refl, sym, ap, _∙_}
-use mathlib.Core.Bool.{Bool, true, false, cond, true≢false}
-use mathlib.Core.List.{List, [], _∷_, _++_}
+use mathlib.Core.Bool.{Bool, true, false}
+use mathlib.Core.List.{List, [], _∷_}
 use mathlib.Core.Logic.{_⊎_, inl, inr}
-use Prim.Native.Nat.{ℕ, zero, suc, _+_, _-_, _≤_, _<_}
+use Prim.Native.Nat.{ℕ, zero, suc, _+_, _-_, _<_}
 use native.Mathlib.Nat.{add-zero}
 use native.Mathlib.Omega.{arith}
 use native.Mathlib.Decide.{ℕ-discrete}
 use Rattle.model.specs.Refusals.{Refusal, refusal, accepted, Test, lowest-bad, first-refusal}
-use Rattle.model.specs.Laws.{Passes, Refuses, here, later, All-pass, Numbered, Refuses-exactly, Refusal-law}
-use Rattle.model.proofs.Refusing.{lowest-none, test-skipped}
+use Rattle.model.specs.Laws.{Refuses, here, later, All-pass, Numbered, Refusal-law}
+use Rattle.model.proofs.Refusing.{test-skipped}
 
 -- the lowest bad place p of those that are looked at is the answer
 pub lowest-hit :

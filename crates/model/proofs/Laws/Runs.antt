@@ -1,16 +1,15 @@
 -- RUNS. A run equals its steps one after another, and its counts add up. Assumes nothing.
-use mathlib.Core.Path.{_≡_, refl, sym, ap, _∙_}
-use mathlib.Core.Bool.{Bool, true, false, _||_, cond}
+use mathlib.Core.Path.{_≡_, refl, ap, _∙_}
+use mathlib.Core.Bool.{Bool, true, false, cond}
 use mathlib.Core.List.{List, [], _∷_, _++_, append-assoc}
-use Prim.Native.Nat.{ℕ, zero, suc, _+_, _≤_, _<_}
+use Prim.Native.Nat.{ℕ, zero, suc, _+_, _<_}
 use native.Mathlib.Omega.{arith}
-use lib.Dec.{eqb}
 use lib.ListN.{length, take, drop, length-append}
 use Rattle.model.specs.declared.State.{State}
 use Rattle.model.specs.Trees.{Tree}
 use Rattle.model.specs.Steps.{Kind, stay, other, root-entry, passed-entry, is-stay, is-root-entry, is-passed-entry, is-entry, Step, step}
-use Rattle.model.specs.Runs.{steps, state-after, how-many, entering, Run, run-of, run, begun-in, ended-in, begun, ended, entries-under}
-use Rattle.model.specs.Laws.{All-threads, then-run, Equals-steps, Run-law, Adds-up, Count-law}
+use Rattle.model.specs.Runs.{steps, state-after, how-many, entering, run-of, run, begun, ended, entries-under}
+use Rattle.model.specs.Laws.{All-threads, then-run, Run-law, Count-law}
 
 -- STEPS of two schedules, the second from the state after the first
 pub steps-join : (t : Tree) (is js : List ℕ) (s : State) → steps t (is ++ js) s ≡ steps t is s ++ steps t js (state-after s (steps t is s))
