@@ -11,3 +11,4 @@ pub mod Refusals
 pub mod Answers
 pub mod Claim
 pub mod Laws
+pub mod Cases
