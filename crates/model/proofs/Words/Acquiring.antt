@@ -12,7 +12,7 @@ use Rattle.model.specs.declared.Place.the-variants.{Prep, Swap, Link, Wa
 use Rattle.model.specs.declared.State.{State as WordState}
 use Rattle.model.specs.Trees.{Tree, own-record}
 use Rattle.model.specs.States.{acquire-parent, wait-word, locked, none, tail, status, with-tail, with-status, with-next}
-use Rattle.model.specs.Steps.{stays, moves, enters, root-entry, passed-entry, prep-row, swap-row, link-row, wait-row}
+use Rattle.model.specs.Steps.{is-root-entry, is-passed-entry, is-entry, stays, moves, enters, root-entry, passed-entry, prep-row, swap-row, link-row, wait-row}
 use Rattle.model.specs.Laws.{Sixteen-bit}
 use Rattle.model.proofs.Trees.Index.{ancestor, height, record-at}
 use Rattle.model.proofs.Trees.Accepted.{Accepted}
@@ -27,7 +27,7 @@ use Rattle.model.proofs.Words.View.{Words, words-in, Room, place-to}
 use Rattle.model.proofs.Words.Represents.{waiting-word, Counted, Fits, at-inside, Represents, left-alone}
 use Rattle.model.proofs.Words.Frame.{Others, apart, replaced}
 use Rattle.model.proofs.Words.Joining.{prepare, empty-there, take-root, take, stand-first, stand, link, climb-on}
-use Rattle.model.proofs.Words.Outcome.{shown-by, shown, Outcome, outcome, placed, status-placed, next-placed, tail-placed, prep-placed, swap-placed, member-small}
+use Rattle.model.proofs.Words.Outcome.{standing-shown, entry-shown, shown, Outcome, outcome, placed, status-placed, next-placed, tail-placed, prep-placed, swap-placed, member-small}
 
 module _ (t : Tree) (𝓐 : Accepted t) (s : WordState) (room : Room s) (g : State) (i : ℕ) (h : i < t .threads) (o : Others t (words-in s) g i) where
   abbrev w : Words
@@ -42,7 +42,7 @@ module _ (t : Tree) (𝓐 : Accepted t) (s : WordState) (room : Room s) (g : Sta
 
   -- PREP
   pub prep-outcome : (k : ℕ) → k ≤ height t i → g .stage i ≡ climb k → Counted t w g i k → Outcome t g (prep-row t i (ancestor t i k) s)
-  unfolding prep-row shown shown-by
+  unfolding prep-row shown standing-shown entry-shown is-entry is-root-entry is-passed-entry
   prep-outcome k l e c =
       let b = record-small t 𝓐 i h k l in
       rw (own-record-at t 𝓐 i h k l)
@@ -53,7 +53,7 @@ module _ (t : Tree) (𝓐 : Accepted t) (s : WordState) (room : Room s) (g : Sta
       (k : ℕ) → k ≤ height t i → g .stage i ≡ climb k → Counted t w g i k → w .nexts (record-at t i k) ≡ 0 →
       w .statuses (record-at t i k) ≡ waiting-word (ancestor t i k) → (b c : Bool) → eqb (tail s (ancestor t i k)) 0 ≡ b → eqb (ancestor t i k) 0 ≡ c →
       Outcome t g (swap-row t i (ancestor t i k) s)
-  unfolding swap-row shown shown-by words-in
+  unfolding swap-row shown standing-shown entry-shown is-entry is-root-entry is-passed-entry words-in
   swap-by k l e c nx sw true true y z =
       let b = record-small t 𝓐 i h k l in
       let d = domain-small k in
@@ -88,7 +88,7 @@ module _ (t : Tree) (𝓐 : Accepted t) (s : WordState) (room : Room s) (g : Sta
   pub link-outcome :
       (k p : ℕ) → k ≤ height t i → g .stage i ≡ queued k → Counted t w g i k → after (g .queue (ancestor t i k)) p ≡ suc (record-at t i k) → w .nexts p ≡ 0 →
       w .statuses (record-at t i k) ≡ waiting-word (ancestor t i k) → Outcome t g (link-row t i (ancestor t i k) p s)
-  unfolding link-row shown shown-by
+  unfolding link-row shown standing-shown entry-shown is-entry is-root-entry is-passed-entry
   link-outcome k p l e c a nx sw =
       let b = member-small t 𝓐 g (o .invariant) (ancestor t i k) p (after-in (g .queue (ancestor t i k)) p (record-at t i k) a) in
       rw (own-record-at t 𝓐 i h k l)
@@ -99,7 +99,7 @@ module _ (t : Tree) (𝓐 : Accepted t) (s : WordState) (room : Room s) (g : Sta
   pub wait-outcome :
       Represents t w g → (k : ℕ) → k ≤ height t i → w .statuses (record-at t i k) ≡ waiting-word (ancestor t i k) → (b : Bool) → eqb (ancestor t i k) 0 ≡ b →
       Outcome t g (wait-row t i (ancestor t i k) s)
-  unfolding wait-row shown shown-by words-in
+  unfolding wait-row shown standing-shown entry-shown is-entry is-root-entry is-passed-entry words-in
   wait-outcome rep k l sw true e =
       let v : status s (record-at t i k) ≡ 1 = rw e at sw in
       rw (own-record-at t 𝓐 i h k l, e, eq-eqb (status s (record-at t i k)) 1 v) (outcome _ g (record { same = refl; room = room }) rep done)
@@ -111,7 +111,7 @@ module _ (t : Tree) (𝓐 : Accepted t) (s : WordState) (room : Room s) (g : Sta
   pub woken-outcome :
       (k : ℕ) → k < height t i → g .stage i ≡ climb (suc k) → Counted t w g i k → w .statuses (record-at t i k) ≡ acquire-parent →
       g .tally (record-at t i k) ≡ 1 → Outcome t g (wait-row t i (ancestor t i k) s)
-  unfolding wait-row shown shown-by words-in
+  unfolding wait-row shown standing-shown entry-shown is-entry is-root-entry is-passed-entry words-in
   woken-outcome k b e c sw ta =
       let l : k ≤ height t i = omega arith in
       let z = ne-eqb (ancestor t i k) 0 (omega (arith, ancestor-inner t 𝓐 i h k b)) in
@@ -133,7 +133,7 @@ module _ (t : Tree) (𝓐 : Accepted t) (s : WordState) (room : Room s) (g : Sta
   pub ready-outcome :
       Sixteen-bit t → (k : ℕ) → k ≤ height t i → g .stage i ≡ ready → Counted t w g i (height t i) →
       (k ≡ height t i → w .statuses (record-at t i k) ≡ 0) → (b : Bool) → eqb (ancestor t i k) 0 ≡ b → Outcome t g (wait-row t i (ancestor t i k) s)
-  unfolding wait-row shown shown-by words-in low
+  unfolding wait-row shown standing-shown entry-shown is-entry is-root-entry is-passed-entry words-in low
   ready-outcome bits k l e c sw true z =
       let v : status s (record-at t i k) ≡ 0 = sw (ancestor-zero t 𝓐 i h k l (eqb-true (ancestor t i k) 0 z)) in
       let f = ne-eqb (status s (record-at t i k)) locked (omega arith) in
@@ -166,7 +166,7 @@ module _ (t : Tree) (𝓐 : Accepted t) (s : WordState) (room : Room s) (g : Sta
 pub idle-outcome :
     (t : Tree) (𝓐 : Accepted t) (s : WordState) (room : Room s) (g : State) (i : ℕ) (h : i < t .threads) → Others t (words-in s) g i →
     g .stage i ≡ out → Outcome t g (prep-row t i (t .home i) s)
-unfolding ancestor prep-row shown shown-by
+unfolding ancestor prep-row shown standing-shown entry-shown is-entry is-root-entry is-passed-entry
 idle-outcome t 𝓐 s room g i h o e =
     let x = prep-outcome t 𝓐 s room (record { queue = g .queue; stage = put (g .stage) i (climb 0); tally = g .tally }) i h (started t 𝓐 s room g i h o e) 0 (omega arith)
     (put-same (g .stage) i (climb 0) i refl) (λ m b q. absurd (omega arith)) in

@@ -12,7 +12,7 @@ use Rattle.model.specs.declared.Place.the-variants.{Check, Help, Cas, Li
 use Rattle.model.specs.declared.State.{State as WordState}
 use Rattle.model.specs.Trees.{Tree}
 use Rattle.model.specs.States.{acquire-parent, unlocked, none, tail, next, status}
-use Rattle.model.specs.Steps.{release-place, release-word, leave-row, check-row, help-row, cas-row, linger-row, grant-row}
+use Rattle.model.specs.Steps.{is-root-entry, is-passed-entry, is-entry, release-place, release-word, leave-row, check-row, help-row, cas-row, linger-row, grant-row}
 use Rattle.model.proofs.Trees.Index.{ancestor, height, record-at}
 use Rattle.model.proofs.Trees.Accepted.{Accepted}
 use Rattle.model.proofs.Trees.Paths.{ancestor-real, ancestor-inner, ancestor-root, ancestor-parent-of, root-test}
@@ -26,7 +26,7 @@ use Rattle.model.proofs.Words.Represents.{Counted, letting-go, letting-
 use Rattle.model.proofs.Words.Frame.{Others, replaced}
 use Rattle.model.proofs.Words.Releasing.{done-at, done-place-at, lone, last-there, vacate, heir, heir-real, heir-within}
 use Rattle.model.proofs.Words.Granting.{hand-lock, hand-domain}
-use Rattle.model.proofs.Words.Outcome.{shown-by, shown, Outcome, outcome, placed, status-placed, tail-placed}
+use Rattle.model.proofs.Words.Outcome.{standing-shown, entry-shown, shown, Outcome, outcome, placed, status-placed, tail-placed}
 
 module _ (t : Tree) (𝓐 : Accepted t) (s : WordState) (room : Room s) (g : State) (i : ℕ) (h : i < t .threads) (o : Others t (words-in s) g i) where
   abbrev w : Words
@@ -55,7 +55,7 @@ module _ (t : Tree) (𝓐 : Accepted t) (s : WordState) (room : Room s) (g : Sta
   left-state = record { queue = g .queue; stage = put (g .stage) i holding; tally = g .tally }
 
   pub leave-outcome : g .stage i ≡ inside → Counted t w g i (height t i) → Outcome t g (leave-row t i s)
-  unfolding leave-row shown shown-by ancestor
+  unfolding leave-row shown standing-shown entry-shown is-entry is-root-entry is-passed-entry ancestor
   leave-outcome e c =
       let p = release-place (t .home i) in
       outcome _ left-state (placed s room i few p)
@@ -67,7 +67,7 @@ module _ (t : Tree) (𝓐 : Accepted t) (s : WordState) (room : Room s) (g : Sta
       (k : ℕ) → k < height t i → g .stage i ≡ holding → Counted t w g i (height t i) → (b c : Bool) →
       ltb (status s (record-at t i k)) (t .threshold (ancestor t i k)) ≡ b → eqb (next s (record-at t i k)) 0 ≡ c →
       Outcome t g (check-row t i (ancestor t i k) s)
-  unfolding check-row shown shown-by words-in
+  unfolding check-row shown standing-shown entry-shown is-entry is-root-entry is-passed-entry words-in
   check-by k b e c true false y z =
       let l : k ≤ height t i = omega arith in
       let n = next s (record-at t i k) in
@@ -106,7 +106,7 @@ module _ (t : Tree) (𝓐 : Accepted t) (s : WordState) (room : Room s) (g : Sta
 
     -- HELP
     help-by : (b : Bool) → eqb (next s (record-at t i k)) 0 ≡ b → Outcome t g (help-row t i (ancestor t i k) s)
-    unfolding help-row shown shown-by
+    unfolding help-row shown standing-shown entry-shown is-entry is-root-entry is-passed-entry
     help-by true z =
         rw (own-record-at t 𝓐 i h k l, z)
         (outcome _ g (placed s room i few (Cas (ancestor t i k))) (stands-still (Cas (ancestor t i k)) (letting-go (height t i) k) e (at-cas k l c)) done)
@@ -119,7 +119,7 @@ module _ (t : Tree) (𝓐 : Accepted t) (s : WordState) (room : Room s) (g : Sta
 
     -- CAS
     cas-by : (b : Bool) → eqb (tail s (ancestor t i k)) (record-at t i k + 1) ≡ b → Outcome t g (cas-row t i (ancestor t i k) s)
-    unfolding cas-row shown shown-by words-in
+    unfolding cas-row shown standing-shown entry-shown is-entry is-root-entry is-passed-entry words-in
     cas-by true z =
         let tl = eqb-true (tail s (ancestor t i k)) (record-at t i k + 1) z in
         let d : ancestor t i k < 64 = omega (arith, ancestor-real t 𝓐 i h k, 𝓐 .few-domains) in
@@ -135,7 +135,7 @@ module _ (t : Tree) (𝓐 : Accepted t) (s : WordState) (room : Room s) (g : Sta
 
     -- LINGER
     linger-by : Represents t w g → (b : Bool) → eqb (next s (record-at t i k)) 0 ≡ b → Outcome t g (linger-row t i (ancestor t i k) s)
-    unfolding linger-row shown shown-by
+    unfolding linger-row shown standing-shown entry-shown is-entry is-root-entry is-passed-entry
     linger-by rep true z = rw (own-record-at t 𝓐 i h k l, z) (outcome _ g (record { same = refl; room = room }) rep done)
     linger-by rep false z =
         rw (own-record-at t 𝓐 i h k l, z)
@@ -153,7 +153,7 @@ module _ (t : Tree) (𝓐 : Accepted t) (s : WordState) (room : Room s) (g : Sta
     grant-by :
         (r : ℕ) → w .nexts (record-at t i k) ≡ suc r → (b : Bool) → eqb (ancestor t i k) 0 ≡ b →
         Outcome t g (grant-row t i (ancestor t i k) r (cond b unlocked acquire-parent) s)
-    unfolding grant-row shown shown-by
+    unfolding grant-row shown standing-shown entry-shown is-entry is-root-entry is-passed-entry
     grant-by r own true z =
         let root : k ≡ height t i = eqb-true k (height t i) (sym (root-test t 𝓐 i h k l) ∙ z) in
         let holds = e ∙ letting-go-root (height t i) k root in
@@ -175,7 +175,7 @@ module _ (t : Tree) (𝓐 : Accepted t) (s : WordState) (room : Room s) (g : Sta
   pub pass-outcome :
       (k r v : ℕ) → k < height t i → g .stage i ≡ holding → Counted t w g i (height t i) → w .nexts (record-at t i k) ≡ suc r →
       v ≡ suc (g .tally (record-at t i k)) → v ≤ t .threshold (ancestor t i k) → Outcome t g (grant-row t i (ancestor t i k) r v s)
-  unfolding grant-row shown shown-by low
+  unfolding grant-row shown standing-shown entry-shown is-entry is-root-entry is-passed-entry low
   pass-outcome k r v b e c own q y =
       let l : k ≤ height t i = omega arith in
       let first : k < low (height t i) (g .stage i) = rw e (omega arith) in

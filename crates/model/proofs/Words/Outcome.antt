@@ -9,7 +9,7 @@ use Rattle.model.specs.declared.Place.{Place}
 use Rattle.model.specs.declared.State.{State as WordState}
 use Rattle.model.specs.Trees.{Tree}
 use Rattle.model.specs.States.{with-tail, with-next, with-status, with-place}
-use Rattle.model.specs.Steps.{Kind, stay, other, root-entry, passed-entry, Standing, unchanged, begins, ends, Step}
+use Rattle.model.specs.Steps.{Kind, is-entry, Standing, unchanged, begins, ends, Step}
 use Rattle.model.proofs.Trees.Index.{height, record-at}
 use Rattle.model.proofs.Trees.Accepted.{Accepted}
 use Rattle.model.proofs.Trees.Records.{record-small}
@@ -22,17 +22,17 @@ use Rattle.model.proofs.Queues.Left.{acts-real}
 use Rattle.model.proofs.Words.View.{Words, words-in, Room, tail-to, next-to, status-to, place-to, tail-stored, next-stored, status-stored, place-stored, tail-room, next-room, status-room, place-room}
 use Rattle.model.proofs.Words.Represents.{Represents}
 
--- what a step shows of the queues
-unfoldable pub shown-by : Kind → Standing → (domain thread : ℕ) → List Event
-shown-by root-entry x d i = moves.entered i ∷ []
-shown-by passed-entry x d i = moves.entered i ∷ []
-shown-by stay x d i = []
-shown-by other unchanged d i = []
-shown-by other (begins m) d i = moves.begins d m ∷ []
-shown-by other (ends m) d i = moves.ends d m ∷ []
+-- what a step shows of the queues: a standing ungranted that begins or ends, and an entry
+unfoldable pub standing-shown : Standing → (domain : ℕ) → List Event
+standing-shown unchanged d = []
+standing-shown (begins m) d = moves.begins d m ∷ []
+standing-shown (ends m) d = moves.ends d m ∷ []
+
+unfoldable pub entry-shown : Kind → (thread : ℕ) → List Event
+entry-shown k i = cond (is-entry k) (moves.entered i ∷ []) []
 
 unfoldable pub shown : Step → List Event
-shown x = shown-by (x .kind) (x .standing) (x .domain) (x .thread)
+shown x = standing-shown (x .standing) (x .domain) ++ entry-shown (x .kind) (x .thread)
 
 pub record Outcome (t : Tree) (g : State) (x : Step) : Type 0 where
   pub state : State

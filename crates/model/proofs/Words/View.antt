@@ -7,11 +7,11 @@ use native.Mathlib.Omega.{arith}
 use lib.ListN.{length, getD, set, replicate, length-set}
 use lib.Seq.{getD-set-same, getD-set-other}
 use Rattle.model.specs.declared.Place.{Place}
-use Rattle.model.specs.declared.Place.the-variants.{Idle, Prep, Swap, Link, Wait, Inside, Check, Help, Cas, Linger, Grant, Invalid}
 use Rattle.model.specs.declared.PlaceWords.{PlaceWords}
 use Rattle.model.specs.declared.State.{State}
-use Rattle.model.specs.Places.{place-words, words-of, plain-place, place-of}
+use Rattle.model.specs.Places.{place-words, words-of, place-of}
 use Rattle.model.specs.States.{tail, next, status, place, fresh-words, with-tail, with-next, with-status, with-place}
+use Rattle.model.proofs.Places.{place-of-words}
 use Rattle.model.proofs.Queues.Lists.{same-or, put, put-same, put-other}
 
 -- tails by domain, nexts and statuses by record, places by thread
@@ -37,22 +37,6 @@ stored-at xs k v d h j =
     same-or j k _
     (λ z. rw z (getD-set-same xs k v d h ∙ sym (put-same (λ n. getD xs n d) k v k refl)))
     (λ z. getD-set-other xs k j v d z ∙ sym (put-other (λ n. getD xs n d) k v j z))
-
--- decoding what was coded
-place-back : (p : Place) → place-of (words-of p) ≡ p
-unfolding place-of plain-place
-place-back Idle = refl
-place-back (Prep l) = refl
-place-back (Swap l) = refl
-place-back (Link l p) = refl
-place-back (Wait l) = refl
-place-back Inside = refl
-place-back (Check l) = refl
-place-back (Help l) = refl
-place-back (Cas l) = refl
-place-back (Linger l) = refl
-place-back (Grant l r w) = refl
-place-back Invalid = refl
 
 -- the words with one changed
 abbrev pub tail-to : (domain value : ℕ) → Words → Words
@@ -94,7 +78,7 @@ module _ (s : State) (room : Room s) where
       λ j. same-or j i _
       (λ z. ap place-of (stored-at (s .places) i (words-of p) (place-words 0 0 0 0) (omega (arith, room .places-room)) j
           ∙ put-same (λ n. getD (s .places) n (place-words 0 0 0 0)) i (words-of p) j z)
-          ∙ place-back p ∙ sym (put-same (λ k. place s k) i p j z))
+          ∙ place-of-words p ∙ sym (put-same (λ k. place s k) i p j z))
       (λ z. ap place-of (getD-set-other (s .places) i j (words-of p) (place-words 0 0 0 0) z) ∙ sym (put-other (λ k. place s k) i p j z)) in
       ap (λ (x : ℕ → Place). record { tails = λ d. tail s d; nexts = λ r. next s r; statuses = λ r. status s r; places = x }) (fun-ext one)
 
