@@ -1,6 +1,7 @@
--- The laws of the step table and the refusals, one file each.
+-- The laws of the step table and the refusals: runs and counts, refusals and accepted calls, form, kinds, words.
 pub mod Runs
 pub mod Refusals
+pub mod Calls
 pub mod Facts
 pub mod Form
 pub mod Kinds

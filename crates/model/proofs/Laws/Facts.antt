@@ -22,6 +22,10 @@ use Rattle.model.specs.Laws.{Typed, Formed}
 use Rattle.model.proofs.Tests.{and-both, or-cases, or-right, all-each, all-true}
 use Rattle.model.proofs.Places.{place-of-words, idle-facts}
 
+-- a word of 64 bits
+abbrev pub Sixty-four-bit : (word : ℕ) → Type 0
+Sixty-four-bit v = v < 18446744073709551616
+
 -- what a well-formed state has at each index, unused room included
 abbrev pub Good-tail : Tree → (domain value : ℕ) → Type 0
 Good-tail t d v = (v ≡ 0) ⊎ (is-member t d (v - 1) ≡ true)
@@ -189,7 +193,7 @@ module _ (t : Tree) (s : State) (k : Facts t s) where
         places = k .places;
       }
 
-  pub status-keeps : (r v : ℕ) → is-record t r ≡ true → v < 18446744073709551616 → Facts t (with-status r v s)
+  pub status-keeps : (r v : ℕ) → is-record t r ≡ true → Sixty-four-bit v → Facts t (with-status r v s)
   status-keeps r v f h =
       let y = k .typed in
       record {
@@ -198,7 +202,7 @@ module _ (t : Tree) (s : State) (k : Facts t s) where
           nexts-room = y .nexts-room;
           statuses-room = length-set (s .statuses) r v ∙ y .statuses-room;
           places-room = y .places-room;
-          statuses-fit = set-all (λ _ w. w < 18446744073709551616) (s .statuses) r v 0 h (y .statuses-fit);
+          statuses-fit = set-all (λ _. Sixty-four-bit) (s .statuses) r v 0 h (y .statuses-fit);
           words-fit = y .words-fit;
         };
         tails = k .tails;
@@ -208,7 +212,7 @@ module _ (t : Tree) (s : State) (k : Facts t s) where
       }
 
   pub place-keeps :
-      (i : ℕ) (p : Place) → i < t .threads → good-place t i p ≡ true → words-of p .word < 18446744073709551616 → Facts t (with-place i p s)
+      (i : ℕ) (p : Place) → i < t .threads → good-place t i p ≡ true → Sixty-four-bit (words-of p .word) → Facts t (with-place i p s)
   place-keeps i p l f h =
       let y = k .typed in
       record {
@@ -218,7 +222,7 @@ module _ (t : Tree) (s : State) (k : Facts t s) where
           statuses-room = y .statuses-room;
           places-room = length-set (s .places) i (words-of p) ∙ y .places-room;
           statuses-fit = y .statuses-fit;
-          words-fit = set-all (λ _ x. x .word < 18446744073709551616) (s .places) i (words-of p) (place-words 0 0 0 0) h (y .words-fit);
+          words-fit = set-all (λ _ x. Sixty-four-bit (x .word)) (s .places) i (words-of p) (place-words 0 0 0 0) h (y .words-fit);
         };
         tails = k .tails;
         nexts = k .nexts;

@@ -21,7 +21,7 @@ use Rattle.model.proofs.Places.{words-of-place}
 use Rattle.model.proofs.Trees.Accepted.{Accepted, accepted}
 use Rattle.model.proofs.Trees.Paths.{on-path-home, on-path-parent}
 use Rattle.model.proofs.Trees.Records.{member-owner, member-record, own-record-member, on-path-child}
-use Rattle.model.proofs.Laws.Facts.{Good-tail, Good-next, Good-status, Good-thread, Facts, thread-idle, well-formed-facts, facts-well-formed, tail-keeps, next-keeps, status-keeps, place-keeps}
+use Rattle.model.proofs.Laws.Facts.{Sixty-four-bit, Good-tail, Good-next, Good-status, Good-thread, Facts, thread-idle, well-formed-facts, facts-well-formed, tail-keeps, next-keeps, status-keeps, place-keeps}
 use Rattle.model.proofs.Laws.Runs.{run-keeps}
 
 -- FRESH
@@ -39,8 +39,8 @@ fresh-facts t =
         nexts-room = length-replicate {A = ℕ} 320 0;
         statuses-room = length-replicate {A = ℕ} 320 0;
         places-room = length-replicate 256 (place-words 0 0 0 0);
-        statuses-fit = λ r. replicate-all (λ v. v < 18446744073709551616) 320 r 0 (omega arith);
-        words-fit = λ i. replicate-all (λ x. x .word < 18446744073709551616) 256 i (place-words 0 0 0 0) (omega arith);
+        statuses-fit = λ r. replicate-all Sixty-four-bit 320 r 0 (omega arith);
+        words-fit = λ i. replicate-all (λ x. Sixty-four-bit (x .word)) 256 i (place-words 0 0 0 0) (omega arith);
       };
       tails = λ d. replicate-all (Good-tail t d) 64 d 0 (inl refl);
       nexts = λ r. replicate-all (Good-next t r) 320 r 0 (inl refl);
@@ -60,20 +60,21 @@ some-next t r v (inr m) n = m .1
 one-more : (n : ℕ) → n + 1 - 1 ≡ n
 one-more n = omega arith
 
-root-word-fits : (l a b : ℕ) → a < 18446744073709551616 → b < 18446744073709551616 → root-word l a b < 18446744073709551616
-root-word-fits l a b f g = by-test (λ v. v < 18446744073709551616) (eqb l 0) a b (λ _. f) (λ _. g)
+root-word-fits : (l a b : ℕ) → Sixty-four-bit a → Sixty-four-bit b → Sixty-four-bit (root-word l a b)
+root-word-fits l a b f g = by-test Sixty-four-bit (eqb l 0) a b (λ _. f) (λ _. g)
 
 -- the facts after a step
 abbrev Kept : Tree → Step → Type 0
 Kept t x = Facts t (x .state)
 
+-- Invalid is nowhere good
 pub valid : (t : Tree) (i : ℕ) (p : Place) → good-place t i p ≡ true → p ≢ Invalid
 unfolding good-place
 valid t i p g e = false≢true (rw e at g)
 
 -- a place that is good, with a word that fits
 abbrev Fits : Tree → (thread : ℕ) → Place → Type 0
-Fits t i p = (good-place t i p ≡ true) × (words-of p .word < 18446744073709551616)
+Fits t i p = (good-place t i p ≡ true) × (Sixty-four-bit (words-of p .word))
 
 module _ (t : Tree) (b : Sixteen-bit t) (𝓐 : Accepted t) (i : ℕ) (h : i < t .threads) where
   record-good : (l : ℕ) → on-path t i l ≡ true → is-record t (own-record t i l) ≡ true
@@ -106,7 +107,7 @@ module _ (t : Tree) (b : Sixteen-bit t) (𝓐 : Accepted t) (i : ℕ) (h : i < t
         let e = member-owner t 𝓐 l I (own-record-member t 𝓐 i h l o) in
         rw e at (some-next t I (next s I) (k .nexts I) n)
 
-    grant-fits : (l w : ℕ) → on-path t i l ≡ true → next s (own-record t i l) ≢ 0 → w < 18446744073709551616 → Fits t i (Grant l (next s (own-record t i l) - 1) w)
+    grant-fits : (l w : ℕ) → on-path t i l ≡ true → next s (own-record t i l) ≢ 0 → Sixty-four-bit w → Fits t i (Grant l (next s (own-record t i l) - 1) w)
     unfolding good-place
     grant-fits l w o n f = (rw (o, successor l o n), f)
 
@@ -186,7 +187,7 @@ module _ (t : Tree) (b : Sixteen-bit t) (𝓐 : Accepted t) (i : ℕ) (h : i < t
         by-test (Kept t) (eqb n none) _ _ (λ _. k)
         (λ e. placed k (Grant l (n - 1) (release-word l)) (grant-fits l (release-word l) o (eqb-false n 0 e) (root-word-fits l unlocked acquire-parent (omega arith) (omega arith))))
 
-    grant-keeps : (l r w : ℕ) → on-path t i l ≡ true → is-member t l r ≡ true → w < 18446744073709551616 → Kept t (grant-row t i l r w s)
+    grant-keeps : (l r w : ℕ) → on-path t i l ≡ true → is-member t l r ≡ true → Sixty-four-bit w → Kept t (grant-row t i l r w s)
     unfolding grant-row
     grant-keeps l r w o m f =
         placed (status-keeps t s k r w (member-record t 𝓐 l r m) f) (done-place t i l) (done-fits l o)

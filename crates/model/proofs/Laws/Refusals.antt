@@ -1,14 +1,16 @@
 -- REFUSALS. Number n at place p exactly if every earlier test passes, p is bad and none below p is. Assumes nothing.
 use mathlib.Core.Path.{_≡_, refl, sym, ap, _∙_}
 use mathlib.Core.Bool.{Bool, true, false}
-use mathlib.Core.List.{List, [], _∷_}
+use mathlib.Core.List.{List, [], _∷_, _++_}
 use mathlib.Core.Logic.{_⊎_, inl, inr}
 use Prim.Native.Nat.{ℕ, zero, suc, _+_, _-_, _<_}
 use native.Mathlib.Nat.{add-zero}
 use native.Mathlib.Omega.{arith}
 use native.Mathlib.Decide.{ℕ-discrete}
-use Rattle.model.specs.Refusals.{Refusal, refusal, accepted, Test, lowest-bad, first-refusal}
-use Rattle.model.specs.Laws.{Refuses, here, later, All-pass, Numbered, Refusal-law}
+use Rattle.model.specs.declared.State.{State}
+use Rattle.model.specs.Trees.{Tree}
+use Rattle.model.specs.Refusals.{Refusal, refusal, accepted, Test, lowest-bad, first-refusal, tree-tests, step-tests, run-tests}
+use Rattle.model.specs.Laws.{Refuses, here, later, All-pass, Numbered, Refuses-exactly, Refusal-law}
 use Rattle.model.proofs.Refusing.{test-skipped}
 
 -- the lowest bad place p of those that are looked at is the answer
@@ -87,7 +89,7 @@ place-of : (n p : ℕ) → refusal n p .place ≡ p
 unfolding refusal
 place-of n p = refl
 
-accepted-number : accepted .number ≡ 0
+pub accepted-number : accepted .number ≡ 0
 unfolding accepted refusal
 accepted-number = refl
 
@@ -119,3 +121,21 @@ refusal-law xs h =
       passed = (λ e. passed-so xs o (ap (λ r. r .number) e ∙ accepted-number), pass-answer xs);
       place-none = λ e. pass-answer xs (passed-so xs o e);
     }
+
+-- THE CALLS' TESTS are numbered, so the law speaks of what each call meets
+tree-numbered : (t : Tree) (xs : List Test) → Numbered xs → Numbered (tree-tests t ++ xs)
+unfolding Numbered tree-tests
+tree-numbered t xs n = (omega arith, (omega arith, (omega arith, (omega arith, (omega arith, (omega arith, n))))))
+
+pub tree-refuses-exactly : (t : Tree) → Refuses-exactly (tree-tests t)
+unfolding Refusal-law Numbered tree-tests
+tree-refuses-exactly t = refusal-law (tree-tests t) (tree-numbered t [] tt)
+
+pub step-refuses-exactly : (t : Tree) (s : State) (i : ℕ) → Refuses-exactly (step-tests t s i)
+unfolding Refusal-law Numbered step-tests
+step-refuses-exactly t s i = refusal-law (step-tests t s i) (tree-numbered t _ (omega arith, (omega arith, tt)))
+
+pub run-refuses-exactly : (t : Tree) (s : State) (is : List ℕ) (room : ℕ) → Refuses-exactly (run-tests t s is room)
+unfolding Refusal-law Numbered run-tests
+run-refuses-exactly t s is room =
+    refusal-law (run-tests t s is room) (tree-numbered t _ (omega arith, (omega arith, (omega arith, (omega arith, tt)))))
