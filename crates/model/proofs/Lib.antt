@@ -6,3 +6,4 @@ pub mod Laws
 pub mod Cases
 pub mod Queues
 pub mod Words
+pub mod Claims

@@ -41,7 +41,7 @@ module _ (t : Tree) (𝓐 : Accepted t) (s : WordState) (room : Room s) (g : Sta
   domain-small k = omega (arith, ancestor-real t 𝓐 i h k, 𝓐 .few-domains)
 
   -- PREP
-  pub prep-outcome : (k : ℕ) → k ≤ height t i → g .stage i ≡ climb k → Counted t w g i k → Outcome t g (prep-row t i (ancestor t i k) s)
+  pub prep-outcome : (k : ℕ) → k ≤ height t i → g .stage i ≡ climb k → Counted t w g i k → Outcome t g i (prep-row t i (ancestor t i k) s)
   unfolding prep-row shown standing-shown entry-shown is-entry is-root-entry is-passed-entry
   prep-outcome k l e c =
       let b = record-small t 𝓐 i h k l in
@@ -52,7 +52,7 @@ module _ (t : Tree) (𝓐 : Accepted t) (s : WordState) (room : Room s) (g : Sta
   swap-by :
       (k : ℕ) → k ≤ height t i → g .stage i ≡ climb k → Counted t w g i k → w .nexts (record-at t i k) ≡ 0 →
       w .statuses (record-at t i k) ≡ waiting-word (ancestor t i k) → (b c : Bool) → eqb (tail s (ancestor t i k)) 0 ≡ b → eqb (ancestor t i k) 0 ≡ c →
-      Outcome t g (swap-row t i (ancestor t i k) s)
+      Outcome t g i (swap-row t i (ancestor t i k) s)
   unfolding swap-row shown standing-shown entry-shown is-entry is-root-entry is-passed-entry words-in
   swap-by k l e c nx sw true true y z =
       let b = record-small t 𝓐 i h k l in
@@ -81,13 +81,13 @@ module _ (t : Tree) (𝓐 : Accepted t) (s : WordState) (room : Room s) (g : Sta
 
   pub swap-outcome :
       (k : ℕ) → k ≤ height t i → g .stage i ≡ climb k → Counted t w g i k → w .nexts (record-at t i k) ≡ 0 →
-      w .statuses (record-at t i k) ≡ waiting-word (ancestor t i k) → Outcome t g (swap-row t i (ancestor t i k) s)
+      w .statuses (record-at t i k) ≡ waiting-word (ancestor t i k) → Outcome t g i (swap-row t i (ancestor t i k) s)
   swap-outcome k l e c nx sw = swap-by k l e c nx sw _ _ refl refl
 
   -- LINK
   pub link-outcome :
       (k p : ℕ) → k ≤ height t i → g .stage i ≡ queued k → Counted t w g i k → after (g .queue (ancestor t i k)) p ≡ suc (record-at t i k) → w .nexts p ≡ 0 →
-      w .statuses (record-at t i k) ≡ waiting-word (ancestor t i k) → Outcome t g (link-row t i (ancestor t i k) p s)
+      w .statuses (record-at t i k) ≡ waiting-word (ancestor t i k) → Outcome t g i (link-row t i (ancestor t i k) p s)
   unfolding link-row shown standing-shown entry-shown is-entry is-root-entry is-passed-entry
   link-outcome k p l e c a nx sw =
       let b = member-small t 𝓐 g (o .invariant) (ancestor t i k) p (after-in (g .queue (ancestor t i k)) p (record-at t i k) a) in
@@ -98,7 +98,7 @@ module _ (t : Tree) (𝓐 : Accepted t) (s : WordState) (room : Room s) (g : Sta
   -- WAIT, not granted
   pub wait-outcome :
       Represents t w g → (k : ℕ) → k ≤ height t i → w .statuses (record-at t i k) ≡ waiting-word (ancestor t i k) → (b : Bool) → eqb (ancestor t i k) 0 ≡ b →
-      Outcome t g (wait-row t i (ancestor t i k) s)
+      Outcome t g i (wait-row t i (ancestor t i k) s)
   unfolding wait-row shown standing-shown entry-shown is-entry is-root-entry is-passed-entry words-in
   wait-outcome rep k l sw true e =
       let v : status s (record-at t i k) ≡ 1 = rw e at sw in
@@ -110,7 +110,7 @@ module _ (t : Tree) (𝓐 : Accepted t) (s : WordState) (room : Room s) (g : Sta
   -- WAIT, granted and to acquire the parent
   pub woken-outcome :
       (k : ℕ) → k < height t i → g .stage i ≡ climb (suc k) → Counted t w g i k → w .statuses (record-at t i k) ≡ acquire-parent →
-      g .tally (record-at t i k) ≡ 1 → Outcome t g (wait-row t i (ancestor t i k) s)
+      g .tally (record-at t i k) ≡ 1 → Outcome t g i (wait-row t i (ancestor t i k) s)
   unfolding wait-row shown standing-shown entry-shown is-entry is-root-entry is-passed-entry words-in
   woken-outcome k b e c sw ta =
       let l : k ≤ height t i = omega arith in
@@ -132,7 +132,7 @@ module _ (t : Tree) (𝓐 : Accepted t) (s : WordState) (room : Room s) (g : Sta
 
   pub ready-outcome :
       Sixteen-bit t → (k : ℕ) → k ≤ height t i → g .stage i ≡ ready → Counted t w g i (height t i) →
-      (k ≡ height t i → w .statuses (record-at t i k) ≡ 0) → (b : Bool) → eqb (ancestor t i k) 0 ≡ b → Outcome t g (wait-row t i (ancestor t i k) s)
+      (k ≡ height t i → w .statuses (record-at t i k) ≡ 0) → (b : Bool) → eqb (ancestor t i k) 0 ≡ b → Outcome t g i (wait-row t i (ancestor t i k) s)
   unfolding wait-row shown standing-shown entry-shown is-entry is-root-entry is-passed-entry words-in low
   ready-outcome bits k l e c sw true z =
       let v : status s (record-at t i k) ≡ 0 = sw (ancestor-zero t 𝓐 i h k l (eqb-true (ancestor t i k) 0 z)) in
@@ -165,9 +165,9 @@ module _ (t : Tree) (𝓐 : Accepted t) (s : WordState) (room : Room s) (g : Sta
 
 pub idle-outcome :
     (t : Tree) (𝓐 : Accepted t) (s : WordState) (room : Room s) (g : State) (i : ℕ) (h : i < t .threads) → Others t (words-in s) g i →
-    g .stage i ≡ out → Outcome t g (prep-row t i (t .home i) s)
+    g .stage i ≡ out → Outcome t g i (prep-row t i (t .home i) s)
 unfolding ancestor prep-row shown standing-shown entry-shown is-entry is-root-entry is-passed-entry
 idle-outcome t 𝓐 s room g i h o e =
     let x = prep-outcome t 𝓐 s room (record { queue = g .queue; stage = put (g .stage) i (climb 0); tally = g .tally }) i h (started t 𝓐 s room g i h o e) 0 (omega arith)
     (put-same (g .stage) i (climb 0) i refl) (λ m b q. absurd (omega arith)) in
-    record { state = x .state; room = x .room; represents = x .represents; follows = silent (start i h e) (x .follows) }
+    record { whose = x .whose; state = x .state; room = x .room; represents = x .represents; follows = silent (start i h e) (x .follows) }

@@ -54,7 +54,7 @@ module _ (t : Tree) (𝓐 : Accepted t) (s : WordState) (room : Room s) (g : Sta
   abbrev left-state : State
   left-state = record { queue = g .queue; stage = put (g .stage) i holding; tally = g .tally }
 
-  pub leave-outcome : g .stage i ≡ inside → Counted t w g i (height t i) → Outcome t g (leave-row t i s)
+  pub leave-outcome : g .stage i ≡ inside → Counted t w g i (height t i) → Outcome t g i (leave-row t i s)
   unfolding leave-row shown standing-shown entry-shown is-entry is-root-entry is-passed-entry ancestor
   leave-outcome e c =
       let p = release-place (t .home i) in
@@ -66,7 +66,7 @@ module _ (t : Tree) (𝓐 : Accepted t) (s : WordState) (room : Room s) (g : Sta
   check-by :
       (k : ℕ) → k < height t i → g .stage i ≡ holding → Counted t w g i (height t i) → (b c : Bool) →
       ltb (status s (record-at t i k)) (t .threshold (ancestor t i k)) ≡ b → eqb (next s (record-at t i k)) 0 ≡ c →
-      Outcome t g (check-row t i (ancestor t i k) s)
+      Outcome t g i (check-row t i (ancestor t i k) s)
   unfolding check-row shown standing-shown entry-shown is-entry is-root-entry is-passed-entry words-in
   check-by k b e c true false y z =
       let l : k ≤ height t i = omega arith in
@@ -88,7 +88,7 @@ module _ (t : Tree) (𝓐 : Accepted t) (s : WordState) (room : Room s) (g : Sta
       rw (own-record-at t 𝓐 i h k (omega arith), y, ancestor-parent-of t 𝓐 i h k b)
       (outcome _ g (placed s room i few p) (stands-still p holding e (release-fits (place-to i p w) g (suc k) b c _ refl)) done)
 
-  pub check-outcome : (k : ℕ) → k < height t i → g .stage i ≡ holding → Counted t w g i (height t i) → Outcome t g (check-row t i (ancestor t i k) s)
+  pub check-outcome : (k : ℕ) → k < height t i → g .stage i ≡ holding → Counted t w g i (height t i) → Outcome t g i (check-row t i (ancestor t i k) s)
   check-outcome k b e c = check-by k b e c _ _ refl refl
 
   -- at the places where a domain is let go last
@@ -105,7 +105,7 @@ module _ (t : Tree) (𝓐 : Accepted t) (s : WordState) (room : Room s) (g : Sta
         stands-still _ (letting-go (height t i) k) e (at-grant k (n - 1) l c (omega (arith, some)))
 
     -- HELP
-    help-by : (b : Bool) → eqb (next s (record-at t i k)) 0 ≡ b → Outcome t g (help-row t i (ancestor t i k) s)
+    help-by : (b : Bool) → eqb (next s (record-at t i k)) 0 ≡ b → Outcome t g i (help-row t i (ancestor t i k) s)
     unfolding help-row shown standing-shown entry-shown is-entry is-root-entry is-passed-entry
     help-by true z =
         rw (own-record-at t 𝓐 i h k l, z)
@@ -114,11 +114,11 @@ module _ (t : Tree) (𝓐 : Accepted t) (s : WordState) (room : Room s) (g : Sta
         rw (own-record-at t 𝓐 i h k l, z)
         (outcome _ g (placed s room i few (Grant (ancestor t i k) (next s (record-at t i k) - 1) (release-word (ancestor t i k)))) (to-grant z) done)
 
-    pub help-outcome : Outcome t g (help-row t i (ancestor t i k) s)
+    pub help-outcome : Outcome t g i (help-row t i (ancestor t i k) s)
     help-outcome = help-by _ refl
 
     -- CAS
-    cas-by : (b : Bool) → eqb (tail s (ancestor t i k)) (record-at t i k + 1) ≡ b → Outcome t g (cas-row t i (ancestor t i k) s)
+    cas-by : (b : Bool) → eqb (tail s (ancestor t i k)) (record-at t i k + 1) ≡ b → Outcome t g i (cas-row t i (ancestor t i k) s)
     unfolding cas-row shown standing-shown entry-shown is-entry is-root-entry is-passed-entry words-in
     cas-by true z =
         let tl = eqb-true (tail s (ancestor t i k)) (record-at t i k + 1) z in
@@ -130,18 +130,18 @@ module _ (t : Tree) (𝓐 : Accepted t) (s : WordState) (room : Room s) (g : Sta
         rw (own-record-at t 𝓐 i h k l, z)
         (outcome _ g (placed s room i few (Linger (ancestor t i k))) (stands-still (Linger (ancestor t i k)) (letting-go (height t i) k) e (at-linger k l c)) done)
 
-    pub cas-outcome : Outcome t g (cas-row t i (ancestor t i k) s)
+    pub cas-outcome : Outcome t g i (cas-row t i (ancestor t i k) s)
     cas-outcome = cas-by _ refl
 
     -- LINGER
-    linger-by : Represents t w g → (b : Bool) → eqb (next s (record-at t i k)) 0 ≡ b → Outcome t g (linger-row t i (ancestor t i k) s)
+    linger-by : Represents t w g → (b : Bool) → eqb (next s (record-at t i k)) 0 ≡ b → Outcome t g i (linger-row t i (ancestor t i k) s)
     unfolding linger-row shown standing-shown entry-shown is-entry is-root-entry is-passed-entry
     linger-by rep true z = rw (own-record-at t 𝓐 i h k l, z) (outcome _ g (record { same = refl; room = room }) rep done)
     linger-by rep false z =
         rw (own-record-at t 𝓐 i h k l, z)
         (outcome _ g (placed s room i few (Grant (ancestor t i k) (next s (record-at t i k) - 1) (release-word (ancestor t i k)))) (to-grant z) done)
 
-    pub linger-outcome : Represents t w g → Outcome t g (linger-row t i (ancestor t i k) s)
+    pub linger-outcome : Represents t w g → Outcome t g i (linger-row t i (ancestor t i k) s)
     linger-outcome rep = linger-by rep _ refl
 
     -- GRANT of the domain, or of the lock at the root
@@ -152,7 +152,7 @@ module _ (t : Tree) (𝓐 : Accepted t) (s : WordState) (room : Room s) (g : Sta
 
     grant-by :
         (r : ℕ) → w .nexts (record-at t i k) ≡ suc r → (b : Bool) → eqb (ancestor t i k) 0 ≡ b →
-        Outcome t g (grant-row t i (ancestor t i k) r (cond b unlocked acquire-parent) s)
+        Outcome t g i (grant-row t i (ancestor t i k) r (cond b unlocked acquire-parent) s)
     unfolding grant-row shown standing-shown entry-shown is-entry is-root-entry is-passed-entry
     grant-by r own true z =
         let root : k ≡ height t i = eqb-true k (height t i) (sym (root-test t 𝓐 i h k l) ∙ z) in
@@ -168,13 +168,13 @@ module _ (t : Tree) (𝓐 : Accepted t) (s : WordState) (room : Room s) (g : Sta
         rw (done-place-at t 𝓐 i h k l)
         (outcome _ (x .state) (status-placed s room i few (done-at t i k) r acquire-parent (heir-small r own)) (x .represents) (more (x .move) done))
 
-    pub grant-outcome : (r : ℕ) → w .nexts (record-at t i k) ≡ suc r → Outcome t g (grant-row t i (ancestor t i k) r (release-word (ancestor t i k)) s)
+    pub grant-outcome : (r : ℕ) → w .nexts (record-at t i k) ≡ suc r → Outcome t g i (grant-row t i (ancestor t i k) r (release-word (ancestor t i k)) s)
     grant-outcome r own = grant-by r own _ refl
 
   -- GRANT of the lock, with a count
   pub pass-outcome :
       (k r v : ℕ) → k < height t i → g .stage i ≡ holding → Counted t w g i (height t i) → w .nexts (record-at t i k) ≡ suc r →
-      v ≡ suc (g .tally (record-at t i k)) → v ≤ t .threshold (ancestor t i k) → Outcome t g (grant-row t i (ancestor t i k) r v s)
+      v ≡ suc (g .tally (record-at t i k)) → v ≤ t .threshold (ancestor t i k) → Outcome t g i (grant-row t i (ancestor t i k) r v s)
   unfolding grant-row shown standing-shown entry-shown is-entry is-root-entry is-passed-entry low
   pass-outcome k r v b e c own q y =
       let l : k ≤ height t i = omega arith in

@@ -34,7 +34,8 @@ entry-shown k i = cond (is-entry k) (moves.entered i ∷ []) []
 unfoldable pub shown : Step → List Event
 shown x = standing-shown (x .standing) (x .domain) ++ entry-shown (x .kind) (x .thread)
 
-pub record Outcome (t : Tree) (g : State) (x : Step) : Type 0 where
+pub record Outcome (t : Tree) (g : State) (i : ℕ) (x : Step) : Type 0 where
+  pub whose : x .thread ≡ i
   pub state : State
   pub room : Room (x .state)
   pub represents : Represents t (words-in (x .state)) state
@@ -45,8 +46,8 @@ pub record Stored (s : WordState) (w : Words) : Type 0 where
   pub same : words-in s ≡ w
   pub room : Room s
 
-pub outcome : {t : Tree} {g : State} (x : Step) (g′ : State) {w′ : Words} → Stored (x .state) w′ → Represents t w′ g′ → Run t g (shown x) g′ → Outcome t g x
-outcome x g′ e p f = record { state = g′; room = e .room; represents = rw (e .same) p; follows = f }
+pub outcome : {t : Tree} {g : State} (x : Step) (g′ : State) {w′ : Words} → Stored (x .state) w′ → Represents t w′ g′ → Run t g (shown x) g′ → Outcome t g (x .thread) x
+outcome x g′ e p f = record { whose = refl; state = g′; room = e .room; represents = rw (e .same) p; follows = f }
 
 module _ (s : WordState) (w : Words) (e : Stored s w) where
   pub then-tail : (d v : ℕ) → d < 64 → Stored (with-tail d v s) (tail-to d v w)

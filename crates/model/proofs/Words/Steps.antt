@@ -20,7 +20,7 @@ module _ (t : Tree) (𝓐 : Accepted t) (bits : Sixteen-bit t) (s : WordState) (
   abbrev o : Others t (words-in s) g i
   o = others-of rep i
 
-  row-outcome : {p : Place} {x : Stage} → g .stage i ≡ x → Fits t (words-in s) g i p x → Outcome t g (row t i p s)
+  row-outcome : {p : Place} {x : Stage} → g .stage i ≡ x → Fits t (words-in s) g i p x → Outcome t g i (row t i p s)
   unfolding row
   row-outcome e at-idle = idle-outcome t 𝓐 s room g i h o e
   row-outcome e (at-prep k l c) = prep-outcome t 𝓐 s room g i h o k l e c
@@ -37,6 +37,6 @@ module _ (t : Tree) (𝓐 : Accepted t) (bits : Sixteen-bit t) (s : WordState) (
   row-outcome e (at-linger k l c) = linger-outcome t 𝓐 s room g i h o k l e c rep
   row-outcome e (at-grant k r l c n) = grant-outcome t 𝓐 s room g i h o k l e c r n
 
-  pub step-outcome : Outcome t g (step t i s)
+  pub step-outcome : Outcome t g i (step t i s)
   unfolding step words-in
   step-outcome = row-outcome refl (rep .fits i h)

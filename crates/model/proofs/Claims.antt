@@ -1,0 +1,5 @@
+-- The third demand: what holds along every schedule from fresh, and the one claim of a list of calls.
+pub mod Reached
+pub mod Alone
+pub mod Order
+pub mod Bounded
