@@ -3,3 +3,5 @@ pub mod Reached
 pub mod Alone
 pub mod Order
 pub mod Bounded
+pub mod Calls
+pub mod Demand

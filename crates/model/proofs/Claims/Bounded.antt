@@ -54,7 +54,8 @@ module _ (t : Tree) (𝓐 : Accepted t) (d q : ℕ) (mem : is-member t d q ≡ t
   unfolding shown entry-shown
   step-entries x h =
       omega (
-        arith, one-entry (x .thread) h (is-entry (x .kind)) (under t q (x .thread)) refl,
+        arith,
+        one-entry (x .thread) h (is-entry (x .kind)) (under t q (x .thread)) refl,
         entries-append (standing-shown (x .standing) (x .domain)) (cond (is-entry (x .kind)) (moves.entered (x .thread) ∷ []) []),
       )
 
@@ -101,5 +102,8 @@ bounded t 𝓐 all g real r before meanwhile later x m q e st none mem n =
     let bound = between t (laws t 𝓐) r (all-shown before) (entry ++ all-shown meanwhile) (all-shown later) d m q split quiet (member-owner t 𝓐 d q mem) n in
     let rest : All-real t (meanwhile ++ later) = real-behind t before (x ∷ (meanwhile ++ later)) (rw e at real) .1 in
     omega (
-      arith, bound, entries-shown t 𝓐 d q mem meanwhile (real-before t meanwhile later rest), entries-append t 𝓐 d q mem entry (all-shown meanwhile),
+      arith,
+      bound,
+      entries-shown t 𝓐 d q mem meanwhile (real-before t meanwhile later rest),
+      entries-append t 𝓐 d q mem entry (all-shown meanwhile),
     )

@@ -215,11 +215,11 @@ module _ (t : Tree) (𝓐 : Accepted t) (w : Words) (g : State) (i : ℕ) (h : i
         same-link = λ m q s b y. (
           b,
           nx q (λ x.
-          let b′ : after (g .queue (ancestor t j m)) p ≡ suc (record-at t j m) = rw x at b in
-          let same = one-queue t (laws t 𝓐) g inv (ancestor t j m) L p (after-in (g .queue (ancestor t j m)) p (record-at t j m) b′) here in
-          let b″ : after (g .queue L) p ≡ suc (record-at t j m) = rw same at b′ in
-          let acts-j : m < acts (height t j) (g .stage j) = rw s (omega arith) in
-          n (unique t (laws t 𝓐) g inv j i m k acts-j acting (omega arith) .0)) ∙ y,
+              let b′ : after (g .queue (ancestor t j m)) p ≡ suc (record-at t j m) = rw x at b in
+              let same = one-queue t (laws t 𝓐) g inv (ancestor t j m) L p (after-in (g .queue (ancestor t j m)) p (record-at t j m) b′) here in
+              let b″ : after (g .queue L) p ≡ suc (record-at t j m) = rw same at b′ in
+              let acts-j : m < acts (height t j) (g .stage j) = rw s (omega arith) in
+              n (unique t (laws t 𝓐) g inv j i m k acts-j acting (omega arith) .0)) ∙ y,
         );
       })
 

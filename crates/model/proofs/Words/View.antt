@@ -77,31 +77,43 @@ module _ (s : State) (room : Room s) where
       let one : (j : ℕ) → place (with-place i p s) j ≡ put (λ k. place s k) i p j =
       λ j. same-or j i _
       (λ z. ap place-of (stored-at (s .places) i (words-of p) (place-words 0 0 0 0) (omega (arith, room .places-room)) j
-          ∙ put-same (λ n. getD (s .places) n (place-words 0 0 0 0)) i (words-of p) j z)
-          ∙ place-of-words p ∙ sym (put-same (λ k. place s k) i p j z))
+      ∙ put-same (λ n. getD (s .places) n (place-words 0 0 0 0)) i (words-of p) j z)
+      ∙ place-of-words p ∙ sym (put-same (λ k. place s k) i p j z))
       (λ z. ap place-of (getD-set-other (s .places) i j (words-of p) (place-words 0 0 0 0) z) ∙ sym (put-other (λ k. place s k) i p j z)) in
       ap (λ (x : ℕ → Place). record { tails = λ d. tail s d; nexts = λ r. next s r; statuses = λ r. status s r; places = x }) (fun-ext one)
 
   pub tail-room : (d v : ℕ) → Room (with-tail d v s)
   tail-room d v =
       record {
-        tails-room = length-set (s .tails) d v ∙ room .tails-room; nexts-room = room .nexts-room;
-        statuses-room = room .statuses-room; places-room = room .places-room }
+        tails-room = length-set (s .tails) d v ∙ room .tails-room;
+        nexts-room = room .nexts-room;
+        statuses-room = room .statuses-room;
+        places-room = room .places-room;
+      }
 
   pub next-room : (r v : ℕ) → Room (with-next r v s)
   next-room r v =
       record {
-        tails-room = room .tails-room; nexts-room = length-set (s .nexts) r v ∙ room .nexts-room;
-        statuses-room = room .statuses-room; places-room = room .places-room }
+        tails-room = room .tails-room;
+        nexts-room = length-set (s .nexts) r v ∙ room .nexts-room;
+        statuses-room = room .statuses-room;
+        places-room = room .places-room;
+      }
 
   pub status-room : (r v : ℕ) → Room (with-status r v s)
   status-room r v =
       record {
-        tails-room = room .tails-room; nexts-room = room .nexts-room;
-        statuses-room = length-set (s .statuses) r v ∙ room .statuses-room; places-room = room .places-room }
+        tails-room = room .tails-room;
+        nexts-room = room .nexts-room;
+        statuses-room = length-set (s .statuses) r v ∙ room .statuses-room;
+        places-room = room .places-room;
+      }
 
   pub place-room : (i : ℕ) (p : Place) → Room (with-place i p s)
   place-room i p =
       record {
-        tails-room = room .tails-room; nexts-room = room .nexts-room;
-        statuses-room = room .statuses-room; places-room = length-set (s .places) i (words-of p) ∙ room .places-room }
+        tails-room = room .tails-room;
+        nexts-room = room .nexts-room;
+        statuses-room = room .statuses-room;
+        places-room = length-set (s .places) i (words-of p) ∙ room .places-room;
+      }
