@@ -5,3 +5,7 @@ pub mod Order
 pub mod Bounded
 pub mod Calls
 pub mod Demand
+pub mod Accepts
+pub mod Equality
+pub mod Acting
+pub mod Queues

@@ -66,7 +66,7 @@ module _ (t : Tree) (𝓐 : Accepted t) (d q : ℕ) (mem : is-member t d q ≡ t
   entries-shown (x ∷ xs) l =
       omega (arith, step-entries x (l .0), entries-shown xs (l .1), entries-append (shown x) (all-shown xs))
 
-same-count : (m : ℕ) (xs : List ℕ) → count m xs ≡ occurrences m xs
+pub same-count : (m : ℕ) (xs : List ℕ) → count m xs ≡ occurrences m xs
 unfolding count is occurrences
 same-count m [] = refl
 same-count m (x ∷ xs) = rw (same-count m xs)
