@@ -43,7 +43,7 @@ module _ (t : Tree) (pre own rest : List ℕ) where
   unfolding then-run
   run-behind = ap (λ x. x .state) (run-join t pre own fresh-words)
 
-run-one : (t : Tree) (i : ℕ) (s : State) → run t (i ∷ []) s .state ≡ step t i s .state
+pub run-one : (t : Tree) (i : ℕ) (s : State) → run t (i ∷ []) s .state ≡ step t i s .state
 unfolding run run-of steps state-after
 run-one t i s = refl
 
