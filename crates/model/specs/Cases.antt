@@ -1,4 +1,4 @@
--- Document 01, "Ladder of cases": those marked *, and a case on three levels, in one table. Assumes nothing: these are definitions.
+-- Document 01, "Ladder of cases": those marked *, and a case on three levels, in one table; and an allowance that is reached. Assumes nothing: these are definitions.
 use mathlib.Core.Bool.{Bool, true, false, _&&_}
 use mathlib.Core.List.{List, [], _∷_, _++_}
 use Prim.Native.Nat.{ℕ, zero, suc, _+_, _-_}
@@ -9,7 +9,9 @@ use Rattle.model.specs.declared.PlaceWords.{PlaceWords}
 use Rattle.model.specs.declared.Place.the-variants.{Inside, Check}
 use Rattle.model.specs.declared.State.{State}
 use Rattle.model.specs.declared.RunReply.{RunReply}
+use Rattle.model.specs.Trees.{tree-of, allowance}
 use Rattle.model.specs.States.{fresh-words, with-place}
+use Rattle.model.specs.Runs.{steps, state-after, begun, ended, entries-under, occurrences}
 use Rattle.model.specs.Answers.{fresh-answer, step-answer, run-answer, trace-answer}
 
 -- INPUTS. A tree by its numbers of domains and threads, its parents, thresholds and homes; the room behind them is 0
@@ -151,3 +153,23 @@ holds (run-call w s is x) = run-holds w s is (replicate (length is) 999) x
 unfoldable pub all-hold : List Case → Bool
 all-hold [] = true
 all-hold (c ∷ cs) = holds c && all-hold cs
+
+-- THE ALLOWANCE IS REACHED, so no lower bound would hold: three domains below the root, thresholds 2, 1 and 1, with threads 0 and 1, 2, and 3
+unfoldable pub three-homes : TreeWords
+three-homes = tree 4 4 (0 ∷ 0 ∷ 0 ∷ 0 ∷ []) (0 ∷ 2 ∷ 1 ∷ 1 ∷ []) (1 ∷ 1 ∷ 2 ∷ 3 ∷ [])
+
+-- thread 3 is Inside; domain 1 stands in the root's queue, thread 1 in domain 1's; last, domain 2 begins to stand behind domain 1
+unfoldable pub until-standing : List ℕ
+until-standing = replicate 4 3 ++ replicate 5 0 ++ replicate 3 1 ++ replicate 4 2
+
+-- while it stands: thread 3 leaves and grants domain 1; threads 0 and 1 enter
+unfoldable pub while-standing : List ℕ
+while-standing = (2 ∷ []) ++ replicate 4 3 ++ replicate 4 0 ++ (1 ∷ [])
+
+unfoldable pub allowance-reached : Bool
+allowance-reached =
+    let t = tree-of three-homes in
+    let before = steps t until-standing fresh-words in
+    let meanwhile = steps t while-standing (state-after fresh-words before) in
+    (same-numbers (begun 0 before) (257 ∷ 258 ∷ []) && eqb (occurrences 258 (ended 0 meanwhile)) 0)
+    && (eqb (entries-under t 257 meanwhile) 2 && eqb (allowance t 257) 2)
