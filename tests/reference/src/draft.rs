@@ -55,7 +55,7 @@ impl Draft {
 fn write_domain(file: &mut Vec<u8>, parent: u8, threshold: u16, random: &mut Random) {
     let says_parent = parent != PARENT_ABSENT || random.one_in(4);
     let says_threshold = threshold != THRESHOLD_ABSENT || random.one_in(4);
-    file.push(says_parent as u8 * PARENT_BIT | says_threshold as u8 * THRESHOLD_BIT);
+    file.push((says_parent as u8 * PARENT_BIT) | (says_threshold as u8 * THRESHOLD_BIT));
     if says_parent {
         file.push(parent);
     }
