@@ -69,6 +69,7 @@ fn main() {
     println!("{subject}: {} files, seed {}", options.count, options.seed);
     let mut random = Random::new(options.seed);
     let mut met = [0; NUMBERS];
+    let mut totals = [0; 5];
     for number in 0..options.count {
         let (file, room, seed) = (random_file(&mut random), Room::random(&mut random), random.word());
         let (table, other) = results(library.unwrap_or(lock_file::run_file), &file, room, seed);
@@ -78,13 +79,27 @@ fn main() {
             exit(1);
         }
         met[table.answer.number as usize] += 1;
+        add_counts(&mut totals, &table);
     }
     print_met(&met);
+    println!(
+        "in the accepted files: {} steps, {} entries, {} stays, {} root and {} passed entries",
+        totals[0], totals[1], totals[2], totals[3], totals[4]
+    );
     if MUST_BE_MET.iter().any(|&number| met[number] == 0) {
         println!("a number was never met");
         exit(1);
     }
     println!("{}", if library.is_some() { "no difference" } else { "nothing compared" });
+}
+
+/// Adds the five numbers of the listing's first line.
+fn add_counts(totals: &mut [u64; 5], result: &Result) {
+    let listing = &result.buffer[CANARY..CANARY + result.answer.length as usize];
+    let line = String::from_utf8_lossy(listing.split(|&byte| byte == b'\n').next().unwrap_or(&[])).into_owned();
+    for (total, number) in totals.iter_mut().zip(line.split(' ').skip(1)) {
+        *total += number.parse::<u64>().expect("a number of the listing");
+    }
 }
 
 fn print_met(met: &[u64; NUMBERS]) {

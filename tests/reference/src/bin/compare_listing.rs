@@ -3,9 +3,10 @@
 use reference::draft::{random_draft, Draft, Size};
 use reference::options::Options;
 use reference::random::Random;
-use reference::refusals::well_formed;
+use reference::refusals::{levels, well_formed};
 use reference::schedules::{schedule, STYLES};
 use reference::side_by_side::{compare, Coverage, Difference};
+use reference::table::{Tree, DEEPEST_LEVEL};
 use std::process::exit;
 
 fn main() {
@@ -13,19 +14,28 @@ fn main() {
     println!("step table against Listing 1: {} schedules, seed {}", options.count, options.seed);
     let mut random = Random::new(options.seed);
     let mut coverage = Coverage::default();
+    let mut depths = [0; DEEPEST_LEVEL as usize];
     for number in 0..options.count {
         let draft = random_case(&mut random);
+        depths[depth(&draft.tree()) - 1] += 1;
         if let Err(difference) = compare_one(&draft, &mut coverage) {
             report(number, &draft, &difference);
             exit(1);
         }
     }
+    println!("schedules on trees of 1 to 6 levels: {depths:?}");
     print_coverage(&coverage);
-    if !coverage.complete() {
-        println!("a way through the listing was never taken");
+    if !coverage.complete() || depths.contains(&0) {
+        println!("a way through the listing was never taken, or no tree was so deep");
         exit(1);
     }
     println!("no difference");
+}
+
+/// The level of the deepest home.
+fn depth(tree: &Tree) -> usize {
+    let levels = levels(tree);
+    (0..tree.threads).map(|thread| levels[tree.home(thread)] as usize).max().unwrap_or(1)
 }
 
 /// Mostly small; now and then many threads, or a long schedule.
