@@ -9,8 +9,8 @@ pub fn random_file(random: &mut Random) -> Vec<u8> {
     match random.below(400) {
         0 => overlong(random),
         1..=9 => noise(random),
-        10..=199 => valid(random).write(random),
-        200..=299 => broken(random).write(random),
+        10..=199 => valid_draft(random).write(random),
+        200..=299 => broken_draft(random).write(random),
         _ => damaged(random),
     }
 }
@@ -22,7 +22,8 @@ fn noise(random: &mut Random) -> Vec<u8> {
     (0..length).map(|_| random.below(bound) as u8).collect()
 }
 
-fn valid(random: &mut Random) -> Draft {
+/// A draft that is accepted, with a schedule.
+pub fn valid_draft(random: &mut Random) -> Draft {
     let size = Size { domains: random.pick(&[1, 3, 8, 16, 64]), threads: random.pick(&[1, 3, 6, 16, 16, 256]) };
     let mut draft = random_draft(random, size);
     let length = match random.below(500) {
@@ -45,14 +46,14 @@ fn cut_to_fit(draft: &mut Draft) {
 
 /// A file of 65,536 bytes or a few more: entries of thread 0 behind a valid one.
 fn overlong(random: &mut Random) -> Vec<u8> {
-    let mut file = valid(random).write(random);
+    let mut file = valid_draft(random).write(random);
     file.resize(LONGEST_FILE + random.between(0, 3), 0);
     file
 }
 
 /// A draft with one to three limits broken, so that the order of the refusals shows.
-fn broken(random: &mut Random) -> Draft {
-    let mut draft = valid(random);
+pub fn broken_draft(random: &mut Random) -> Draft {
+    let mut draft = valid_draft(random);
     for _ in 0..random.between(1, 3) {
         match random.below(8) {
             0 => break_number_of_domains(random, &mut draft),
@@ -132,7 +133,7 @@ fn break_entry(random: &mut Random, draft: &mut Draft) {
 
 /// A valid file, or one with a limit broken, with its bytes changed one to three times.
 fn damaged(random: &mut Random) -> Vec<u8> {
-    let draft = if random.one_in(4) { broken(random) } else { valid(random) };
+    let draft = if random.one_in(4) { broken_draft(random) } else { valid_draft(random) };
     let mut file = draft.write(random);
     for _ in 0..random.between(1, 3) {
         damage(random, &mut file);

@@ -1,4 +1,4 @@
-//! Makes a file that shows a difference smaller while it still shows one.
+//! Makes a file that shows a difference smaller while it still shows one, and writes it out.
 
 /// Only files this short have their counts lowered together with an entry: every pair of places is tried.
 const SHORT: usize = 200;
@@ -63,4 +63,14 @@ fn take_away_counted(file: &mut Vec<u8>, differs: &impl Fn(&[u8]) -> bool) -> bo
         }
     }
     false
+}
+
+/// Long stretches of one byte are written once, with their length.
+pub fn hexadecimal(file: &[u8]) -> String {
+    let stretches = file.chunk_by(|byte, next| byte == next);
+    let text = |stretch: &[u8]| match stretch.len() {
+        1..=64 => vec![format!("{:02x}", stretch[0]); stretch.len()].join(" "),
+        times => format!("{:02x} ({times} times)", stretch[0]),
+    };
+    stretches.map(text).collect::<Vec<_>>().join(" ")
 }

@@ -62,12 +62,13 @@ pub fn compare(tree: &Tree, schedule: &[u16], coverage: &mut Coverage) -> Result
     let lock = new_lock(tree);
     let turnstile = Turnstile::new();
     thread::scope(|scope| {
-        let start = |number: usize| {
+        let mut scheduler = turnstile.scheduler();
+        for number in 0..tree.threads {
             let worker = Worker::new(&lock, turnstile.turn(number));
             let work = move || worker.work(number, tree.home(number));
-            thread::Builder::new().stack_size(STACK).spawn_scoped(scope, work).expect("a thread starts").thread().clone()
-        };
-        let scheduler = turnstile.scheduler((0..tree.threads).map(start).collect());
+            let started = thread::Builder::new().stack_size(STACK).spawn_scoped(scope, work).expect("a thread starts");
+            scheduler.add(started.thread().clone());
+        }
         take_steps(tree, schedule, &lock, &scheduler, coverage)
     })
 }

@@ -40,8 +40,8 @@ impl Turnstile {
         Turn { turnstile: self, thread, held: Cell::new(false) }
     }
 
-    pub fn scheduler(&self, threads: Vec<Thread>) -> Scheduler<'_> {
-        Scheduler { turnstile: self, threads }
+    pub fn scheduler(&self) -> Scheduler<'_> {
+        Scheduler { turnstile: self, threads: Vec::new() }
     }
 }
 
@@ -84,6 +84,11 @@ impl Drop for Turn<'_> {
 }
 
 impl Scheduler<'_> {
+    /// Threads are added in the order of their numbers.
+    pub fn add(&mut self, thread: Thread) {
+        self.threads.push(thread);
+    }
+
     /// Lets one thread take one step and returns the line that its next step begins at.
     pub fn pass(&self, thread: usize) -> u32 {
         self.turnstile.turn.store(thread, SeqCst);

@@ -2,15 +2,15 @@
 
 use reference::library::{self, RunFile};
 use reference::lock_file::{self, FileAnswer};
+use reference::met::Met;
 use reference::options::Options;
 use reference::random::Random;
 use reference::random_file::random_file;
-use reference::shrink::shrink;
+use reference::shrink::{hexadecimal, shrink};
 use std::process::exit;
 
 const CANARY: usize = 64;
-const NUMBERS: usize = 15;
-const MUST_BE_MET: [usize; 12] = [0, 1, 2, 3, 4, 5, 6, 7, 8, 9, 12, 14];
+const REFUSALS: [usize; 11] = [1, 2, 3, 4, 5, 6, 7, 8, 9, 12, 14];
 
 /// The length of the output buffer: by itself, or by how much it differs from the listing's.
 #[derive(Clone, Copy, Debug)]
@@ -65,10 +65,10 @@ fn results(library: RunFile, file: &[u8], room: Room, seed: u64) -> (Result, Res
 fn main() {
     let options = Options::read(500_000, 5_000_000);
     let library = library::run_file();
-    let subject = if library.is_some() { "the library against the step table" } else { "no library given, files only counted" };
+    let subject = if library.is_some() { "the library's file call against the step table" } else { "no library named, files only counted" };
     println!("{subject}: {} files, seed {}", options.count, options.seed);
     let mut random = Random::new(options.seed);
-    let mut met = [0; NUMBERS];
+    let mut met = Met::new(&REFUSALS);
     let mut totals = [0; 5];
     for number in 0..options.count {
         let (file, room, seed) = (random_file(&mut random), Room::random(&mut random), random.word());
@@ -78,15 +78,13 @@ fn main() {
             report(library.unwrap_or(lock_file::run_file), &file, room, seed);
             exit(1);
         }
-        met[table.answer.number as usize] += 1;
+        met.count(table.answer.number);
         add_counts(&mut totals, &table);
     }
-    print_met(&met);
-    println!(
-        "in the accepted files: {} steps, {} entries, {} stays, {} root and {} passed entries",
-        totals[0], totals[1], totals[2], totals[3], totals[4]
-    );
-    if MUST_BE_MET.iter().any(|&number| met[number] == 0) {
+    met.print();
+    let [steps, entries, stays, root, passed] = totals;
+    println!("in the accepted files: {steps} steps, {entries} entries, {stays} stays, {root} root and {passed} passed entries");
+    if !met.complete() {
         println!("a number was never met");
         exit(1);
     }
@@ -100,11 +98,6 @@ fn add_counts(totals: &mut [u64; 5], result: &Result) {
     for (total, number) in totals.iter_mut().zip(line.split(' ').skip(1)) {
         *total += number.parse::<u64>().expect("a number of the listing");
     }
-}
-
-fn print_met(met: &[u64; NUMBERS]) {
-    let numbers: Vec<String> = MUST_BE_MET.iter().skip(1).map(|&number| format!("{number}: {}", met[number])).collect();
-    println!("accepted: {}, refused {}", met[0], numbers.join(", "));
 }
 
 fn report(library: RunFile, file: &[u8], room: Room, seed: u64) {
@@ -121,14 +114,4 @@ fn report(library: RunFile, file: &[u8], room: Room, seed: u64) {
     if let Some(byte) = (0..table.buffer.len()).find(|&byte| table.buffer[byte] != other.buffer[byte]) {
         println!("first output byte that differs: {}, {} and {}", byte as i64 - CANARY as i64, table.buffer[byte], other.buffer[byte]);
     }
-}
-
-/// Long stretches of one byte are written once, with their length.
-fn hexadecimal(file: &[u8]) -> String {
-    let stretches = file.chunk_by(|byte, next| byte == next);
-    let text = |stretch: &[u8]| match stretch.len() {
-        1..=64 => vec![format!("{:02x}", stretch[0]); stretch.len()].join(" "),
-        times => format!("{:02x} ({times} times)", stretch[0]),
-    };
-    stretches.map(text).collect::<Vec<_>>().join(" ")
 }
