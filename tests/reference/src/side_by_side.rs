@@ -127,21 +127,16 @@ fn lines_of(tree: &Tree, thread: usize, place: Place) -> &'static [u32] {
     }
 }
 
+/// The first thing that differs, in words.
 fn difference(tree: &Tree, state: &State, lock: &Lock, thread: usize, line: u32) -> Option<String> {
     let number = |record: Option<u16>| record.map(|record| record as usize);
+    let place = state.places[thread];
     let tail = (0..tree.domains).find(|&domain| lock.hnodes[domain].tail() != number(state.tails[domain]));
     let next = (0..RECORD_ROOM).find(|&record| lock.qnodes[record].next() != number(state.nexts[record]));
     let status = (0..RECORD_ROOM).find(|&record| lock.qnodes[record].status() != state.statuses[record]);
     let inside = (0..tree.threads).find(|&thread| lock.inside[thread].load(SeqCst) != (state.places[thread] == Place::Inside));
-    let place = state.places[thread];
-    let line = if lines_of(tree, thread, place).contains(&line) { None } else { Some(line) };
-    [
-        ("tail of domain", tail),
-        ("next of record", next),
-        ("status of record", status),
-        ("inside, thread", inside),
-        ("line", line.map(|line| line as usize)),
-    ]
-    .iter()
-    .find_map(|(what, where_)| where_.map(|where_| format!("{what} {where_}, thread {thread} at {place:?}")))
+    let line = Some(line as usize).filter(|_| !lines_of(tree, thread, place).contains(&line));
+    [("tail of domain", tail), ("next of record", next), ("status of record", status), ("inside of thread", inside), ("line", line)]
+        .iter()
+        .find_map(|&(what, number)| number.map(|number| format!("{what} {number}, thread {thread} at {place:?}")))
 }
