@@ -39,10 +39,17 @@ pub fn run_file() -> Option<RunFile> {
 mod call_entries {
     use crate::words::*;
 
+    /// Number and place alone.
+    #[repr(C)]
+    struct Answer {
+        number: u32,
+        place: u32,
+    }
+
     extern "C" {
         fn hmcs_fresh(tree: TreeWords) -> Reply;
         fn hmcs_step(tree: TreeWords, state: StateWords, thread: u16) -> Reply;
-        fn hmcs_step_in_place(tree: TreeWords, state: *mut StateWords, thread: u16, place: *mut u32) -> u32;
+        fn hmcs_step_in_place(tree: TreeWords, state: *mut StateWords, thread: u16) -> Answer;
         fn hmcs_run(tree: TreeWords, state: StateWords, schedule: *const u16, schedule_len: usize, trace: *mut u16, trace_len: usize) -> RunReply;
     }
 
@@ -55,9 +62,8 @@ mod call_entries {
     }
 
     pub fn step_in_place(tree: &TreeWords, state: &mut StateWords, thread: u16) -> (u32, u32) {
-        let mut place = 0x5A5A_5A5A;
-        let number = unsafe { hmcs_step_in_place(*tree, state, thread, &mut place) };
-        (number, place)
+        let answer = unsafe { hmcs_step_in_place(*tree, state, thread) };
+        (answer.number, answer.place)
     }
 
     pub fn run(tree: &TreeWords, state: &StateWords, schedule: &[u16], trace: &mut [u16]) -> RunReply {
