@@ -98,6 +98,7 @@ goes-back behind-43 c fs = c
 goes-back behind-82 c fs = c
 
 unfoldable pub returns : (calls : List Frame) → Control
+-- no call ends where there is none
 returns [] = control outside []
 returns (f ∷ fs) = goes-back (f .back) (returns fs) fs
 

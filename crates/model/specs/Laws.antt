@@ -119,7 +119,7 @@ Numbered (x ∷ xs) = (0 < x .number) × Numbered xs
 pub record Refuses-exactly (xs : List Test) : Type 0 where
   pub refused : (n p : ℕ) → 0 < n → (first-refusal xs ≡ refusal n p) ⟺ Refuses xs n p
   pub passed : (first-refusal xs ≡ accepted) ⟺ All-pass xs
-  pub place-none : first-refusal xs .number ≡ 0 → first-refusal xs ≡ accepted
+  pub zero-accepted : first-refusal xs .number ≡ 0 → first-refusal xs ≡ accepted
 
 unfoldable pub Refusal-law : Type 0
 Refusal-law = (xs : List Test) → Numbered xs → Refuses-exactly xs

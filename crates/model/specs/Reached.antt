@@ -25,7 +25,7 @@ unfoldable pub last-state : List Call → State → State
 last-state [] s = s
 last-state (c ∷ cs) s = last-state cs (state-in (answer c s))
 
--- existing threads, no more entries than are allowed, and room for the trace
+-- existing threads, no more entries than are allowed, and a trace buffer at least as long as the schedule
 unfoldable pub Asks-well : Tree → Ask → Type 0
 Asks-well t (one-step i) = i < t .threads
 Asks-well t (a-run is b) = All-threads t is × (length is ≤ 65536) × (length is ≤ length b)

@@ -119,7 +119,7 @@ refusal-law xs h =
     record {
       refused = λ n p z. (refused-so xs o n p z, refuses-answer xs n p);
       passed = (λ e. passed-so xs o (ap (λ r. r .number) e ∙ accepted-number), pass-answer xs);
-      place-none = λ e. pass-answer xs (passed-so xs o e);
+      zero-accepted = λ e. pass-answer xs (passed-so xs o e);
     }
 
 -- THE CALLS' TESTS are numbered, so the law speaks of what each call meets
