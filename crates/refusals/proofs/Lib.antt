@@ -1,0 +1,4 @@
+pub mod Reading
+pub mod Scanning
+pub mod Levels
+pub mod Children
