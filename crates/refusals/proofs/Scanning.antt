@@ -56,3 +56,7 @@ single-hit x xs e h = test-hit x xs 0 (record { within = omega arith; passed = �
 
 pub single-missed : (x : Test) (xs : List Test) → x .places ≡ 1 → x .bad 0 ≡ false → first-refusal (x ∷ xs) ≡ first-refusal xs
 single-missed x xs e h = test-skipped x xs (λ p l. single (x .bad) false h p (omega arith))
+
+-- what a test that a function computes is, by its answer
+pub by-answer : (r : Bool) {x : Bool} (b : Bool) → r ≡ x → r ≡ b → x ≡ b
+by-answer r b p q = sym p ∙ q

@@ -1,6 +1,6 @@
 // The tests of a state that is handed in, in an accepted tree.
 ghost use mathlib.Core.Path.{_≡_};
-ghost use mathlib.Core.Bool.{_||_};
+ghost use mathlib.Core.Bool.{_&&_, _||_, not};
 ghost use mathlib.Core.List.{[]};
 ghost use Prim.Native.Nat.{ℕ, _<_, _≤_};
 ghost use lib.Dec.{eqb};
@@ -159,6 +159,26 @@ fn names_no_domain(row: u8) -> bool
     row == 5
 }
 
+// Check at the root.
+fn is_root_check(row: u8, l: u8) -> bool
+    ensures { λ q. ⌜ q ≡ eqb row 6 && eqb l 0 ⌝ }
+{
+    if row != 6 {
+        return false;
+    }
+    l == 0
+}
+
+// A word where the row is not Grant.
+fn has_spare_word(row: u8, word: u64) -> bool
+    ensures { λ q. ⌜ q ≡ not (eqb word 0) && not (eqb row 10) ⌝ }
+{
+    if word == 0 {
+        return false;
+    }
+    row != 10
+}
+
 fn good_peer_at(owners: &[u8; 320], row: u8, l: u8, peer: u16) -> bool
     ensures { λ q. ⌜ q ≡ peer-in (now (owners .entry)) row l peer ⌝ }
 {
@@ -182,10 +202,8 @@ fn good_domain_at<'a>(
     requires { ⌜ home < domains ⌝ }
     ensures { λ r. ⌜ r ≡ domain-in (parents-in domains (now (parents .entry))) (now (owners .entry)) home row l peer ⌝ }
 {
-    if row == 6 {
-        if l == 0 {
-            return false;
-        }
+    if is_root_check(row, l) {
+        return false;
     }
     if !meets_at(parents, domains, home, l) {
         return false;
@@ -211,10 +229,8 @@ fn good_place_at<'a>(
     if 10 < row {
         return false;
     }
-    if row != 10 {
-        if q.word != 0 {
-            return false;
-        }
+    if has_spare_word(row, q.word) {
+        return false;
     }
     if names_no_domain(row) {
         if l != 0 {
