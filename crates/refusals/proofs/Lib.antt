@@ -4,3 +4,6 @@ pub mod Levels
 pub mod Children
 pub mod Meeting
 pub mod Owning
+pub mod Members
+pub mod PlaceTests
+pub mod Formed
