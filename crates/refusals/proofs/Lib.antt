@@ -7,3 +7,7 @@ pub mod Owning
 pub mod Members
 pub mod PlaceTests
 pub mod Formed
+pub mod TreeTests
+pub mod ScheduleTests
+pub mod Joining
+pub mod StateTests
