@@ -1,0 +1,12 @@
+-- The abstract layer of the third demand: a tree of queues, its moves, its invariant, and the three claims of every run of moves.
+pub mod Lists
+pub mod Paths
+pub mod Moves
+pub mod Invariant
+pub mod Keeps
+pub mod Order
+pub mod Left
+pub mod Allowance
+pub mod Alive
+pub mod Handovers
+pub mod Fair
