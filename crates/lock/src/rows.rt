@@ -97,14 +97,22 @@ fn root_word_at(l: u8, at_root: u64, elsewhere: u64) -> u64
 fn release_place_at(d: u8) -> Place
     ensures { λ r. ⌜ r ≡ release-place d ⌝ }
 {
-    if d == 0 { Place::Help(d) } else { Place::Check(d) }
+    if d == 0 {
+        Place::Help(d)
+    } else {
+        Place::Check(d)
+    }
 }
 
 // Where a thread goes from a domain that is done.
 fn done_place_at(home: u8, l: u8, child: u8) -> Place
     ensures { λ r. ⌜ r ≡ done-at home l child ⌝ }
 {
-    if l == home { Place::Idle } else { Place::Help(child) }
+    if l == home {
+        Place::Idle
+    } else {
+        Place::Help(child)
+    }
 }
 
 fn prep(w: Words) -> Effect

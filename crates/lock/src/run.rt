@@ -66,7 +66,12 @@ fn trace_at(trace: &mut [u16], at: u32, kind: u8, i: u16) -> u32
 }
 
 // The steps of a schedule, stored one after another into one state, which is copied at the start and at the end alone.
-pub(crate) fn run_steps(tree: TreeWords, state: State, schedule: &[u16], trace: &mut [u16]) -> RunReply
+pub(crate) fn run_steps(
+    tree: TreeWords,
+    state: State,
+    schedule: &[u16],
+    trace: &mut [u16],
+) -> RunReply
     requires { ⌜ Runs (tree-of tree) state (now schedule) (length (now trace)) ⌝ }
     ensures { λ r. ⌜ r ≡ run-accepted (run (tree-of tree) (now (schedule .entry)) state) ⌝ }
     ensures { λ r. ⌜ now (trace .exit) ≡ trace-front (now (trace .entry)) (run (tree-of tree) (now (schedule .entry)) state) ⌝ }
