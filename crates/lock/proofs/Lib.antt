@@ -1,2 +1,4 @@
 pub mod Children
 pub mod Leaving
+pub mod WordsRead
+pub mod Deciding
