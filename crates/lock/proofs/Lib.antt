@@ -2,3 +2,5 @@ pub mod Children
 pub mod Leaving
 pub mod WordsRead
 pub mod Deciding
+pub mod Threads
+pub mod Going
