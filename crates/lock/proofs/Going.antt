@@ -87,7 +87,7 @@ traced-long b n k i = by (ltb k 2)
     by true = refl
     by false = length-set b n i
 
-thread-at : (t : Tree) (is : List ℕ) → All-threads t is → (k : ℕ) → k < length is → getD is k 0 < t .threads
+pub thread-at : (t : Tree) (is : List ℕ) → All-threads t is → (k : ℕ) → k < length is → getD is k 0 < t .threads
 unfolding All-threads
 thread-at t [] a k h = absurd (omega arith)
 thread-at t (i ∷ is) a zero h = a .0

@@ -4,3 +4,6 @@ pub mod WordsRead
 pub mod Deciding
 pub mod Threads
 pub mod Going
+pub mod Typing
+pub mod Turns
+pub mod Answering

@@ -2,7 +2,7 @@
 use mathlib.Core.Path.{_≡_}
 use mathlib.Core.Bool.{true, cond}
 use mathlib.Core.List.{List, _++_}
-use Prim.Native.Nat.{ℕ, _+_, _≤_, _<_}
+use Prim.Native.Nat.{ℕ, _<_}
 use lib.Dec.{ltb, eqb}
 use lib.ListN.{getD, set, length, drop}
 use Rattle.model.specs.declared.PlaceWords.{PlaceWords}
@@ -12,8 +12,7 @@ use Rattle.model.specs.Trees.{Tree}
 use Rattle.model.specs.Refusals.{tree-refusal}
 use Rattle.model.specs.Steps.{step}
 use Rattle.model.specs.Runs.{Run}
-use Rattle.model.specs.WellFormed.{good-place, well-formed}
-use Rattle.model.specs.Laws.{All-threads}
+use Rattle.model.specs.WellFormed.{good-place}
 use Rattle.lock.specs.declared.rows.Effect.{Effect}
 use Rattle.lock.specs.Effects.{Does, state-in}
 
@@ -42,11 +41,3 @@ traced-at b n k i = cond (ltb k 2) b (set b n i)
 -- the buffer with a run's trace at its front
 abbrev pub trace-front : List ℕ → Run → List ℕ
 trace-front b x = x .trace ++ drop (length (x .trace)) b
-
--- what acceptance gives a run
-pub record Runs (t : Tree) (s : State) (is : List ℕ) (room : ℕ) : Type 0 where
-  pub tree : tree-refusal t .number ≡ 0
-  pub form : well-formed t s ≡ true
-  pub short : length is ≤ 65536
-  pub threads : All-threads t is
-  pub fits : length is ≤ room

@@ -3,10 +3,11 @@ ghost use mathlib.Core.Path.{_≡_};
 ghost use Prim.Native.Nat.{ℕ, _+_, _<_, _≤_};
 ghost use lib.ListN.{length};
 ghost use Rattle.model.specs.Trees.{tree-of};
+ghost use Rattle.model.specs.Refusals.{run-refusal};
 ghost use Rattle.model.specs.Runs.{run};
 ghost use Rattle.model.specs.Answers.{run-accepted};
 ghost use Rattle.lock.specs.Effects.{stored};
-ghost use Rattle.lock.specs.Running.{one-if, entered, traced-at, trace-front, Runs};
+ghost use Rattle.lock.specs.Running.{one-if, entered, traced-at, trace-front};
 use crate::rows;
 use model::RunReply;
 use model::State;
@@ -72,7 +73,7 @@ pub(crate) fn run_steps(
     schedule: &[u16],
     trace: &mut [u16],
 ) -> RunReply
-    requires { ⌜ Runs (tree-of tree) state (now schedule) (length (now trace)) ⌝ }
+    requires { ⌜ run-refusal (tree-of tree) state (now schedule) (length (now trace)) .number ≡ 0 ⌝ }
     ensures { λ r. ⌜ r ≡ run-accepted (run (tree-of tree) (now (schedule .entry)) state) ⌝ }
     ensures { λ r. ⌜ now (trace .exit) ≡ trace-front (now (trace .entry)) (run (tree-of tree) (now (schedule .entry)) state) ⌝ }
 {
