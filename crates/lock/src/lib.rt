@@ -1,0 +1,110 @@
+// The three calls on a lock, by value: each answers as the model says, for every input.
+ghost use mathlib.Core.Path.{_≡_};
+ghost use Rattle.model.specs.States.{fresh-words};
+ghost use Rattle.model.specs.Refusals.{refusal};
+ghost use Rattle.model.specs.Answers.{fresh-answer, step-answer, run-refused, run-answer, trace-answer};
+
+mod rows;
+mod run;
+
+use model::FreshReply;
+use model::PlaceWords;
+use model::RunReply;
+use model::State;
+use model::StepReply;
+use model::TreeWords;
+
+fn fresh_state() -> State
+    ensures { λ r. ⌜ r ≡ fresh-words ⌝ }
+{
+    let place = PlaceWords {
+        row: 0,
+        domain: 0,
+        peer: 0,
+        word: 0,
+    };
+    let tails = [0u16; 64];
+    let nexts = [0u16; 320];
+    let statuses = [0u64; 320];
+    let places = [place; 256];
+    State {
+        tails,
+        nexts,
+        statuses,
+        places,
+    }
+}
+
+// A fresh lock: the fresh words, accepted or refused.
+pub fn fresh_lock(tree: TreeWords) -> FreshReply
+    ensures { λ r. ⌜ r ≡ fresh-answer tree ⌝ }
+{
+    let r = refusals::tree_refusal_of(tree);
+    let state = fresh_state();
+    FreshReply {
+        number: r.number,
+        place: r.place,
+        state,
+    }
+}
+
+// One step of a thread: the state after it; refused, the state as it came.
+pub fn step_lock(tree: TreeWords, state: State, thread: u16) -> StepReply
+    ensures { λ r. ⌜ r ≡ step-answer tree state thread ⌝ }
+{
+    let r = refusals::state_refusal_of(tree, state);
+    if r.number != 0 {
+        return StepReply {
+            number: r.number,
+            place: r.place,
+            state,
+        };
+    }
+    if tree.threads <= thread as u32 {
+        return StepReply {
+            number: 12,
+            place: 0,
+            state,
+        };
+    }
+    let schedule = [thread];
+    let mut trace = [0u16];
+    let x = run::run_steps(tree, state, &schedule, &mut trace);
+    let after = x.state;
+    StepReply {
+        number: 0,
+        place: 0,
+        state: after,
+    }
+}
+
+fn refused(number: u32, place: u32, state: State) -> RunReply
+    ensures { λ r. ⌜ r ≡ run-refused (refusal number place) state ⌝ }
+{
+    RunReply {
+        number,
+        place,
+        steps: 0,
+        entries: 0,
+        stays: 0,
+        root: 0,
+        passed: 0,
+        state,
+    }
+}
+
+// The steps of a schedule: the state after the last of them and the counts, the entering threads at the front of the trace; refused, the state and the trace as they came.
+pub fn run_lock(tree: TreeWords, state: State, schedule: &[u16], trace: &mut [u16]) -> RunReply
+    ensures { λ r. ⌜ r ≡ run-answer tree state (now (schedule .entry)) (now (trace .entry)) ⌝ }
+    ensures { λ r. ⌜ now (trace .exit) ≡ trace-answer tree state (now (schedule .entry)) (now (trace .entry)) ⌝ }
+{
+    let r = refusals::state_refusal_of(tree, state);
+    if r.number != 0 {
+        return refused(r.number, r.place, state);
+    }
+    let q = refusals::schedule_refusal_of(tree.threads, schedule, trace.len());
+    if q.number != 0 {
+        return refused(q.number, q.place, state);
+    }
+    run::run_steps(tree, state, schedule, trace)
+}
