@@ -33,7 +33,12 @@ pub extern "C" fn hmcs_step(tree: TreeWords, state: State, thread: u16) -> StepR
 
 // A run by value: the entering threads at the front of the trace; refused, state and trace as they came.
 #[no_mangle]
-pub extern "C" fn hmcs_run(tree: TreeWords, state: State, schedule: &[u16], trace: &mut [u16]) -> RunReply
+pub extern "C" fn hmcs_run(
+    tree: TreeWords,
+    state: State,
+    schedule: &[u16],
+    trace: &mut [u16],
+) -> RunReply
     ensures { λ r. ⌜ r ≡ run-answer tree state (now (schedule .entry)) (now (trace .entry)) ⌝ }
     ensures { λ r. ⌜ now (trace .exit) ≡ trace-answer tree state (now (schedule .entry)) (now (trace .entry)) ⌝ }
 {
