@@ -6,20 +6,18 @@ use Prim.Native.Nat.{ℕ, zero, suc, _+_, _≤_, _<_}
 use native.Mathlib.Omega.{arith}
 use native.Mathlib.Nat.{add-zero}
 use native.Mathlib.Numerals.{add-one}
-use lib.Dec.{eqb, ltb}
+use lib.Dec.{ltb}
 use borrow.Author.Tests.{ne-eqb}
-use lib.ListN.{getD, length, take, drop, set, length-set, length-append, length-take}
-use lib.Seq.{take-suc, take-all, drop-cons, set-append-seam, length-take-le}
-use Rattle.model.specs.declared.PlaceWords.{PlaceWords}
+use lib.ListN.{getD, length, take, drop, set, length-set, length-append}
+use lib.Seq.{take-suc, take-all, drop-cons, set-append-seam}
 use Rattle.model.specs.declared.State.{State}
 use Rattle.model.specs.Trees.{Tree}
 use Rattle.model.specs.Refusals.{tree-refusal}
-use Rattle.model.specs.Steps.{Kind, stay, other, root-entry, passed-entry, is-stay, is-root-entry, is-passed-entry, is-entry, Step, step}
+use Rattle.model.specs.Steps.{Kind, stay, other, root-entry, passed-entry, is-stay, is-root-entry, is-passed-entry, is-entry, step}
 use Rattle.model.specs.Runs.{steps, state-after, how-many, entering, Run, run-of, run}
-use Rattle.model.specs.declared.RunReply.{RunReply}
 use Rattle.model.specs.Answers.{run-accepted}
 use Rattle.model.specs.Laws.{All-threads, Sixteen-bit, Formed, Form-law, Count-law, Kind-law, then-run}
-use Rattle.model.proofs.Laws.Runs.{steps-length, run-join, count-law}
+use Rattle.model.proofs.Laws.Runs.{run-join, count-law}
 use Rattle.model.proofs.Laws.Form.{form-law}
 use Rattle.model.proofs.Laws.Kinds.{kind-law}
 use Rattle.lock.specs.declared.rows.Effect.{Effect}
@@ -61,15 +59,6 @@ zero-stay stay e = refl
 zero-stay other e = absurd (omega arith)
 zero-stay root-entry e = absurd (omega arith)
 zero-stay passed-entry e = absurd (omega arith)
-
-how-many-few : (f : Kind → Bool) (xs : List Step) → how-many f xs ≤ length xs
-unfolding how-many
-how-many-few f [] = omega arith
-how-many-few f (x ∷ xs) = let h = how-many-few f xs in by (f (x .kind)) h
-  where
-    by : (b : Bool) → how-many f xs ≤ length xs → cond b 1 0 + how-many f xs ≤ suc (length xs)
-    by true h = omega arith
-    by false h = omega arith
 
 -- THE TRACE: one thread more at the end of what is written
 front-next :
