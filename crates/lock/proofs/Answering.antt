@@ -1,21 +1,18 @@
 -- From what the refusals and the run answer to the answers of the calls. Assumes nothing.
 use mathlib.Core.Path.{_≡_, refl, sym, ap, _∙_}
-use mathlib.Core.Bool.{true, false, cond}
-use mathlib.Core.List.{List, [], _∷_, _++_}
+use mathlib.Core.List.{List, [], _∷_}
 use Prim.Native.Nat.{ℕ, _≤_, _<_}
 use native.Mathlib.Omega.{arith}
-use lib.Dec.{eqb, leb}
 use lib.ListN.{length}
 use borrow.Author.Tests.{ne-eqb, eq-eqb, le-leb, lt-leb}
 use Rattle.model.specs.declared.TreeWords.{TreeWords}
 use Rattle.model.specs.declared.State.{State}
-use Rattle.model.specs.declared.StepReply.{StepReply}
 use Rattle.model.specs.declared.RunReply.{RunReply}
-use Rattle.model.specs.Trees.{Tree, tree-of}
+use Rattle.model.specs.Trees.{tree-of}
 use Rattle.model.specs.Steps.{step}
 use Rattle.model.specs.Runs.{steps, state-after, run-of, run}
 use Rattle.model.specs.Refusals as model
-use Rattle.model.specs.Refusals.{refusal, accepted, test, first-refusal, tree-tests, bad-state, bad-entry, bad-length, bad-room, step-tests, run-tests, step-refusal, run-refusal}
+use Rattle.model.specs.Refusals.{refusal, accepted, test, first-refusal, tree-tests, bad-entry, step-tests, run-tests, step-refusal, run-refusal}
 use Rattle.model.specs.Answers.{step-reply, step-answer, run-refused, run-accepted, run-reply, run-buffer, run-answer, trace-answer}
 use Rattle.model.specs.Laws.{All-threads}
 use Rattle.model.proofs.Laws.Refusals.{accepted-number}

@@ -4,21 +4,22 @@ use mathlib.Core.Bool.{Bool, true, false, cond}
 use mathlib.Core.List.{List, [], _∷_, _++_, append-nil, append-assoc}
 use Prim.Native.Nat.{ℕ, zero, suc, _+_, _≤_, _<_}
 use native.Mathlib.Omega.{arith}
+use native.Mathlib.Nat.{add-zero}
 use native.Mathlib.Numerals.{add-one}
-use lib.Dec.{eqb, ltb}
-use lib.ListN.{getD, length, take, drop, set, length-set, length-append, length-take}
-use lib.Seq.{take-suc, take-all, drop-cons, set-append-seam, length-take-le}
-use Rattle.model.specs.declared.PlaceWords.{PlaceWords}
+use lib.Dec.{ltb}
+use borrow.Author.Tests.{ne-eqb}
+use lib.ListN.{getD, length, take, drop, set, length-set, length-append}
+use lib.Seq.{take-suc, take-all, drop-cons, set-append-seam}
 use Rattle.model.specs.declared.State.{State}
 use Rattle.model.specs.Trees.{Tree}
 use Rattle.model.specs.Refusals.{tree-refusal}
-use Rattle.model.specs.Steps.{Kind, stay, other, root-entry, passed-entry, is-stay, is-root-entry, is-passed-entry, is-entry, Step, step}
+use Rattle.model.specs.Steps.{Kind, stay, other, root-entry, passed-entry, is-stay, is-root-entry, is-passed-entry, is-entry, step}
 use Rattle.model.specs.Runs.{steps, state-after, how-many, entering, Run, run-of, run}
-use Rattle.model.specs.declared.RunReply.{RunReply}
 use Rattle.model.specs.Answers.{run-accepted}
-use Rattle.model.specs.Laws.{All-threads, Sixteen-bit, Formed, Form-law, Count-law, then-run}
-use Rattle.model.proofs.Laws.Runs.{steps-length, run-join, count-law}
+use Rattle.model.specs.Laws.{All-threads, Sixteen-bit, Formed, Form-law, Count-law, Kind-law, then-run}
+use Rattle.model.proofs.Laws.Runs.{run-join, count-law}
 use Rattle.model.proofs.Laws.Form.{form-law}
+use Rattle.model.proofs.Laws.Kinds.{kind-law}
 use Rattle.lock.specs.declared.rows.Effect.{Effect}
 use Rattle.lock.specs.Effects.{kind-number, apply, Does}
 use Rattle.lock.specs.Running.{one-if, entered, traced-at, trace-front}
@@ -53,14 +54,11 @@ passed-is other = refl
 passed-is root-entry = refl
 passed-is passed-entry = refl
 
-how-many-few : (f : Kind → Bool) (xs : List Step) → how-many f xs ≤ length xs
-unfolding how-many
-how-many-few f [] = omega arith
-how-many-few f (x ∷ xs) = let h = how-many-few f xs in by (f (x .kind)) h
-  where
-    by : (b : Bool) → how-many f xs ≤ length xs → cond b 1 0 + how-many f xs ≤ suc (length xs)
-    by true h = omega arith
-    by false h = omega arith
+zero-stay : (k : Kind) → kind-number k ≡ 0 → k ≡ stay
+zero-stay stay e = refl
+zero-stay other e = absurd (omega arith)
+zero-stay root-entry e = absurd (omega arith)
+zero-stay passed-entry e = absurd (omega arith)
 
 -- THE TRACE: one thread more at the end of what is written
 front-next :
@@ -143,7 +141,7 @@ module _ (t : Tree) (is b₀ : List ℕ) (s₀ : State) where
   at-most false = omega arith
 
   -- one turn of the loop
-  pub turn :
+  turn :
       (b : List ℕ) (s : State) (entries stays root passed k : ℕ) (e : Effect) (b′ : List ℕ) (s′ : State) (entries′ one two three : ℕ) →
       tree-refusal t .number ≡ 0 → Sixteen-bit t → All-threads t is → length is ≤ length b₀ → k < length is → Going b s entries stays root passed k →
       Does (step t (getD is k 0) s) (getD is k 0) e s → s′ ≡ apply (getD is k 0) e s → entries′ ≡ entries + entered (e .kind) →
@@ -183,6 +181,29 @@ module _ (t : Tree) (is b₀ : List ℕ) (s₀ : State) where
         root-fit = omega (arith, g .root-fit);
         passed-fit = omega (arith, g .passed-fit);
       }
+
+  -- a turn that stays: nothing is stored
+  pub turn-stay :
+      (b : List ℕ) (s : State) (entries stays root passed k : ℕ) (e : Effect) → tree-refusal t .number ≡ 0 → Sixteen-bit t → All-threads t is →
+      length is ≤ length b₀ → k < length is → Going b s entries stays root passed k → Does (step t (getD is k 0) s) (getD is k 0) e s → e .kind ≡ 0 →
+      Going b s entries (stays + 1) root passed (k + 1)
+  unfolding Kind-law
+  turn-stay b s entries stays root passed k e accepted sixteen all room h g D z =
+      let same = kind-law t (getD is k 0) s accepted (thread-at t is all k h) (g .formed) .stays-exactly .0 (zero-stay _ (sym (D .kind-told) ∙ z)) in
+      rw (add-zero root, add-zero passed) at
+      (turn b s entries stays root passed k e b s entries 1 0 0 accepted sixteen all room h g D (sym (D .state-left ∙ same)) (rw z (sym (add-zero entries)))
+      (rw z) (rw z) (rw z) (rw z))
+
+  -- any other turn
+  pub turn-move :
+      (b : List ℕ) (s : State) (entries stays root passed k : ℕ) (e : Effect) (b′ : List ℕ) (s′ : State) (entries′ two three : ℕ) →
+      tree-refusal t .number ≡ 0 → Sixteen-bit t → All-threads t is → length is ≤ length b₀ → k < length is → Going b s entries stays root passed k →
+      Does (step t (getD is k 0) s) (getD is k 0) e s → (e .kind ≡ 0 → ⊥) → s′ ≡ apply (getD is k 0) e s → entries′ ≡ entries + entered (e .kind) →
+      b′ ≡ traced-at b entries (e .kind) (getD is k 0) → two ≡ one-if (e .kind) 2 → three ≡ one-if (e .kind) 3 →
+      Going b′ s′ entries′ stays (root + two) (passed + three) (k + 1)
+  turn-move b s entries stays root passed k e b′ s′ entries′ two three accepted sixteen all room h g D n es ee eb e₂ e₃ =
+      rw (add-zero stays) at
+      (turn b s entries stays root passed k e b′ s′ entries′ 0 two three accepted sixteen all room h g D es ee eb (rw (ne-eqb (e .kind) 0 n)) e₂ e₃)
 
   -- the end
   whole : (k : ℕ) → length is ≤ k → so-far k ≡ run t is s₀

@@ -1,14 +1,12 @@
 -- What a row leaves: a place as it was, and the place after a domain is done. Assumes nothing.
-use mathlib.Core.Path.{_≡_, refl, sym, ap, _∙_}
+use mathlib.Core.Path.{_≡_, refl, ap}
 use mathlib.Core.Bool.{Bool, true, false, cond}
-use mathlib.Core.List.{List}
-use Prim.Native.Nat.{ℕ, _<_}
+use Prim.Native.Nat.{ℕ}
 use lib.Dec.{eqb}
 use lib.ListN.{getD}
 use lib.Seq.{set-getD}
 use borrow.Author.Tests.{eqb-false}
 use Rattle.model.specs.declared.PlaceWords.{PlaceWords}
-use Rattle.model.specs.declared.Place.{Place}
 use Rattle.model.specs.declared.Place.the-variants.{Idle, Help}
 use Rattle.model.specs.declared.State.{State}
 use Rattle.model.specs.Places.{place-words}

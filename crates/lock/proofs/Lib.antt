@@ -1,5 +1,6 @@
 pub mod Children
 pub mod Leaving
+pub mod RowPlaces
 pub mod WordsRead
 pub mod Deciding
 pub mod Threads

@@ -1,9 +1,9 @@
 -- What the type of a state fixes: the room of its arrays, and that statuses and words are below 2^64. Assumes nothing.
-use mathlib.Core.Path.{_≡_, refl, sym, _∙_}
+use mathlib.Core.Path.{sym, _∙_}
 use mathlib.Core.List.{List, [], _∷_, map}
 use Prim.Native.Nat.{ℕ, zero, suc, _<_}
 use native.Mathlib.Omega.{arith}
-use lib.ListN.{getD, length, length-map}
+use lib.ListN.{getD, length-map}
 use mir.Val.{Val}
 use denote.Array.{each}
 use denote.Shadow.{shadow}

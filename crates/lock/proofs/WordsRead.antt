@@ -1,6 +1,6 @@
 -- The words that a row reads, by the arrays. Assumes nothing.
 use mathlib.Core.Path.{_≡_, refl, sym, ap, _∙_}
-use mathlib.Core.List.{List, []}
+use mathlib.Core.List.{List}
 use mathlib.Core.Logic.{_≢_}
 use Prim.Native.Nat.{ℕ, _+_, _≤_, _<_}
 use native.Mathlib.Omega.{arith}
@@ -9,12 +9,12 @@ use borrow.Author.Tests.{eq-eqb, ne-eqb}
 use Rattle.model.specs.declared.PlaceWords.{PlaceWords}
 use Rattle.model.specs.Trees.{Tree, tree-of, child-from, child, own-record}
 use Rattle.model.specs.Refusals.{tree-refusal}
-use Rattle.model.proofs.Trees.Accepted.{Accepted, accepted}
+use Rattle.model.proofs.Trees.Accepted.{accepted}
 use Rattle.refusals.specs.Arrays.{tree-in, parents-in, Lower}
 use Rattle.refusals.proofs.Reading.{read-in, parent-in, home-in}
 use Rattle.refusals.proofs.Formed.{lower}
 use Rattle.lock.specs.declared.rows.Words.{Words}
-use Rattle.lock.specs.Effects.{Reads, Read}
+use Rattle.lock.specs.Effects.{Read}
 use Rattle.lock.proofs.Children.{child-same}
 
 module _ (n m : ℕ) (ps ts hs : List ℕ) (e : tree-refusal (tree-in n m ps ts hs) .number ≡ 0) where

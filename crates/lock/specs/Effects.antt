@@ -10,7 +10,7 @@ use Rattle.model.specs.declared.PlaceWords.{PlaceWords}
 use Rattle.model.specs.declared.Place.{Place}
 use Rattle.model.specs.declared.Place.the-variants.{Idle, Prep, Swap, Link, Wait, Inside, Check, Help, Cas, Linger, Grant, Invalid}
 use Rattle.model.specs.declared.State.{State}
-use Rattle.model.specs.Places.{place-words, words-of}
+use Rattle.model.specs.Places.{place-words}
 use Rattle.model.specs.States.{tail, next, status}
 use Rattle.model.specs.Trees.{Tree, child, own-record}
 use Rattle.model.specs.Steps.{Kind, stay, other, root-entry, passed-entry, Step}

@@ -6,7 +6,6 @@ use Prim.Native.Nat.{ℕ, _<_}
 use lib.Dec.{ltb, eqb}
 use lib.ListN.{getD, set, length, drop}
 use Rattle.model.specs.declared.PlaceWords.{PlaceWords}
-use Rattle.model.specs.declared.State.{State}
 use Rattle.model.specs.Places.{place-words, place-of}
 use Rattle.model.specs.Trees.{Tree}
 use Rattle.model.specs.Refusals.{tree-refusal}

@@ -3,7 +3,9 @@ ghost use mathlib.Core.Path.{_≡_};
 ghost use mathlib.Core.List.{[]};
 ghost use Prim.Native.Nat.{ℕ, _<_, _≤_};
 ghost use Rattle.model.specs.States.{root-word};
-ghost use Rattle.model.specs.Places.{words-of};
+ghost use mathlib.Core.Logic.{_≢_};
+ghost use Rattle.model.specs.declared.Place.the-variants.{Invalid};
+ghost use Rattle.model.specs.Places.{words-of, place-of};
 ghost use Rattle.model.specs.Trees.{child-from};
 ghost use Rattle.model.specs.Refusals.{tree-refusal};
 ghost use Rattle.model.specs.Steps.{release-place, release-word, prep-row, swap-row, link-row, wait-row, leave-row, check-row, help-row, cas-row, linger-row, grant-row, stays};
@@ -291,6 +293,29 @@ fn domain_at(home: u8, p: Place) -> u8
     }
 }
 
+// The place of four numbers that give one: its row alone decides.
+fn place_by_row(words: PlaceWords) -> Place
+    requires { ⌜ place-of words ≢ Invalid ⌝ }
+    ensures { λ r. ⌜ r ≡ place-of words ⌝ }
+{
+    let l = words.domain;
+    let row = words.row;
+    match row {
+        0 => Place::Idle,
+        1 => Place::Prep(l),
+        2 => Place::Swap(l),
+        3 => Place::Link(l, words.peer),
+        4 => Place::Wait(l),
+        5 => Place::Inside,
+        6 => Place::Check(l),
+        7 => Place::Help(l),
+        8 => Place::Cas(l),
+        9 => Place::Linger(l),
+        10 => Place::Grant(l, words.peer, words.word),
+        _ => Place::Invalid,
+    }
+}
+
 // The words of a thread's row at a domain.
 fn words_at<'t, 's>(
     parents: &'t [u8; 64],
@@ -368,7 +393,7 @@ pub(crate) fn decide<'t, 's>(
 {
     let k = i as usize;
     let home = homes[k];
-    let p = places::place_at(place);
+    let p = place_by_row(place);
     let l = domain_at(home, p);
     let w = words_at(
         parents,

@@ -102,19 +102,20 @@ pub(crate) fn run_steps(
             i,
             before,
         );
+        let kind = e.kind;
+        if kind == 0 {
+            stays += 1;
+            k += 1;
+            continue;
+        }
         store_tail(&mut n.tails, e.domain, e.tail);
         store_next(&mut n.nexts, e.linked, e.next);
         store_status(&mut n.statuses, e.marked, e.status);
         let place = e.place;
         n.places[at] = place;
-        let kind = e.kind;
         entries = trace_at(trace, entries, kind, i);
-        let stay = one_if_at(kind, 0);
-        let at_root = one_if_at(kind, 2);
-        let below = one_if_at(kind, 3);
-        stays += stay;
-        root += at_root;
-        passed += below;
+        root += one_if_at(kind, 2);
+        passed += one_if_at(kind, 3);
         k += 1;
     }
     RunReply {

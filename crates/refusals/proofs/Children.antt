@@ -2,7 +2,7 @@
 use mathlib.Core.Path.{_≡_, refl, sym, ap, _∙_}
 use mathlib.Core.Bool.{Bool, true, false, _||_}
 use mathlib.Core.List.{List, []}
-use Prim.Native.Nat.{ℕ, zero, suc, _+_, _≤_, _<_}
+use Prim.Native.Nat.{ℕ, _+_, _≤_, _<_}
 use native.Mathlib.Numerals.{add-one}
 use native.Mathlib.Omega.{arith}
 use native.Mathlib.Decide.{ℕ-discrete}
@@ -12,7 +12,7 @@ use borrow.Author.Tests.{eq-eqb, ne-eqb, lt-leb, le-leb}
 use Rattle.model.specs.Scans.{any-below}
 use Rattle.model.specs.Trees.{tree-of, is-child, is-leaf}
 use Rattle.model.specs.Refusals.{bad-home}
-use Rattle.model.proofs.Tests.{any-same, or-right}
+use Rattle.model.proofs.Tests.{or-right}
 use Rattle.refusals.specs.Arrays.{tree-in, parents-in, Lower, Inner}
 use Rattle.refusals.proofs.Reading.{read-in, parent-in, not-not}
 

@@ -1,11 +1,10 @@
 -- The tests by the table of owners together: a state passes them exactly if it is well formed. Assumes nothing.
-use mathlib.Core.Path.{_≡_, refl, sym, ap, _∙_}
-use mathlib.Core.Bool.{Bool, true, false, _&&_, not, cond}
+use mathlib.Core.Path.{_≡_, refl, _∙_}
+use mathlib.Core.Bool.{Bool, true, false, _&&_, not}
 use mathlib.Core.List.{List, []}
-use Prim.Native.Nat.{ℕ, zero, suc, _≤_, _<_}
+use Prim.Native.Nat.{ℕ, zero, suc, _<_}
 use native.Mathlib.Omega.{arith}
 use native.Mathlib.Decide.{decLt}
-use lib.Dec.{ltb}
 use lib.ListN.{getD}
 use borrow.Author.Tests.{lt-ltb, le-ltb}
 use Rattle.model.specs.declared.TreeWords.{TreeWords}
@@ -13,13 +12,13 @@ use Rattle.model.specs.declared.State.{State}
 use Rattle.model.specs.declared.PlaceWords.{PlaceWords}
 use Rattle.model.specs.Scans.{all-below}
 use Rattle.model.specs.Places.{place-words}
-use Rattle.model.specs.States.{tail, next, status, place}
-use Rattle.model.specs.Trees.{Tree, tree-of, is-record, owner-domain, meets}
+use Rattle.model.specs.States.{tail, next, status}
+use Rattle.model.specs.Trees.{Tree, tree-of, is-record, owner-domain}
 use Rattle.model.specs.WellFormed.{good-tail, good-next, good-status, good-thread, well-formed}
 use Rattle.model.proofs.Trees.Accepted.{Accepted}
 use Rattle.refusals.specs.Arrays.{tree-in, parents-in, Lower}
-use Rattle.refusals.specs.Tables.{Owners, Homes-real, next-in, record-in, place-in, idle-in, thread-in}
-use Rattle.refusals.proofs.Reading.{parent-in, home-in}
+use Rattle.refusals.specs.Tables.{Owners, Homes-real, next-in, record-in, place-in, thread-in}
+use Rattle.refusals.proofs.Reading.{parent-in}
 use Rattle.refusals.proofs.Meeting.{meets-same}
 use Rattle.refusals.proofs.Members.{tail-is, record-is}
 use Rattle.refusals.proofs.PlaceTests.{place-is, idle-is}

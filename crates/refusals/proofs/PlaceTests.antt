@@ -1,21 +1,20 @@
 -- A place by its four numbers: the test is document 01's. Assumes nothing.
 use mathlib.Core.Path.{_≡_, refl, sym, ap, _∙_}
-use mathlib.Core.Bool.{Bool, true, false, _&&_, _||_, not, cond}
-use mathlib.Core.List.{List, []}
-use Prim.Native.Nat.{ℕ, _+_, _-_, _≤_, _<_}
+use mathlib.Core.Bool.{Bool, true, false, _&&_, not, cond}
+use mathlib.Core.List.{List}
+use Prim.Native.Nat.{ℕ, _-_, _≤_, _<_}
 use native.Mathlib.Omega.{arith}
-use native.Mathlib.Decide.{ℕ-discrete, decLt}
-use lib.Dec.{eqb, ltb}
-use lib.ListN.{getD}
-use borrow.Author.Tests.{eq-eqb, ne-eqb, lt-ltb, le-ltb}
+use native.Mathlib.Decide.{ℕ-discrete}
+use lib.Dec.{eqb}
+use borrow.Author.Tests.{ne-eqb, lt-ltb}
 use Rattle.model.specs.declared.Place.{Place}
-use Rattle.model.specs.declared.Place.the-variants.{Idle, Prep, Swap, Link, Wait, Inside, Check, Help, Cas, Linger, Grant, Invalid}
+use Rattle.model.specs.declared.Place.the-variants.{Idle, Prep, Swap, Link, Wait, Inside, Check, Help, Cas, Linger, Invalid}
 use Rattle.model.specs.Places.{place-words, plain-place, place-of, is-idle}
-use Rattle.model.specs.Trees.{Tree, meets, on-path, is-member}
+use Rattle.model.specs.Trees.{Tree, on-path, is-member}
 use Rattle.model.specs.WellFormed.{good-place}
 use Rattle.model.proofs.Trees.Accepted.{Accepted}
 use Rattle.model.proofs.Trees.Paths.{path-index, ancestor-real}
-use Rattle.refusals.specs.Tables.{Owners, member-in, peer-in, domain-in, place-in, idle-in}
+use Rattle.refusals.specs.Tables.{Owners, member-in, place-in, idle-in}
 use Rattle.refusals.proofs.Members.{member-is}
 
 -- a row is one of the table's, or beyond them

@@ -1,14 +1,14 @@
 -- Scans: one place more, and what the lowest bad place is to a list of tests. Assumes nothing.
 use mathlib.Core.Path.{_≡_, refl, sym, _∙_}
-use mathlib.Core.Bool.{Bool, true, false, _&&_, cond}
-use mathlib.Core.List.{List, [], _∷_, _++_}
+use mathlib.Core.Bool.{Bool, true, false, _&&_}
+use mathlib.Core.List.{List, _∷_}
 use Prim.Native.Nat.{ℕ, zero, suc, _+_, _≤_, _<_}
 use native.Mathlib.Omega.{arith}
-use native.Mathlib.Nat.{add-zero}
 use native.Mathlib.Decide.{ℕ-discrete}
 use Rattle.model.specs.Scans.{all-below}
-use Rattle.model.specs.Refusals.{Refusal, refusal, Test, lowest-bad, first-refusal}
-use Rattle.model.proofs.Refusing.{test-skipped, lowest-none}
+use Rattle.model.specs.Refusals.{refusal, Test, first-refusal}
+use Rattle.model.proofs.Refusing.{test-skipped}
+use Rattle.model.proofs.Laws.Refusals.{lowest-hit}
 use Rattle.refusals.specs.Lowest.{Lowest}
 
 -- what holds below d and at d holds below d + 1
@@ -26,23 +26,12 @@ all-fails (suc n) f j l e =
     and-false true b q = refl
     and-false false b q = sym q
 
--- the lowest bad place p, from place a on
-lowest-hit :
-    (n : ℕ) (f : ℕ → Bool) (k a p : ℕ) (r : Refusal) → a ≤ p → p < a + k → ((j : ℕ) → j < p → f j ≡ false) → f p ≡ true →
-    lowest-bad n f k a r ≡ refusal n p
-unfolding lowest-bad
-lowest-hit n f zero a p r l h g e = absurd (omega arith)
-lowest-hit n f (suc k) a p r l h g e =
-    elim (ℕ-discrete a p) [
-      | yes q ↦ let z : f a ≡ true = rw q e in rw z (rw q)
-      | no q ↦
-          let z : f a ≡ false = g a (omega arith) in
-          rw z (lowest-hit n f k (suc a) p r (omega arith) (omega arith) g e)
-    ]
-
+-- the lowest bad place, and none
 pub test-hit : (x : Test) (xs : List Test) (p : ℕ) → Lowest (x .places) (x .bad) p → p < x .places → first-refusal (x ∷ xs) ≡ refusal (x .number) p
 unfolding first-refusal
-test-hit x xs p L h = lowest-hit (x .number) (x .bad) (x .places) 0 p (first-refusal xs) (omega arith) (omega arith) (L .passed) (L .fails h)
+test-hit x xs p L h =
+    let z : (q : ℕ) → 0 + q ≡ q = λ q. omega arith in
+    rw (z p) at (lowest-hit (x .number) (x .bad) (x .places) 0 p (first-refusal xs) h (rw (z p) (L .fails h)) (λ q m. rw (z q) (L .passed q m)))
 
 pub test-missed : (x : Test) (xs : List Test) (p : ℕ) → Lowest (x .places) (x .bad) p → x .places ≤ p → first-refusal (x ∷ xs) ≡ first-refusal xs
 test-missed x xs p L h = test-skipped x xs (λ j l. L .passed j (omega arith))

@@ -4,7 +4,7 @@ use mathlib.Core.List.{List, [], _∷_}
 use Prim.Native.Nat.{ℕ, _≤_, _<_}
 use lib.ListN.{length}
 use borrow.Author.Tests.{lt-ltb, le-ltb}
-use Rattle.model.specs.Refusals.{Refusal, refusal, accepted, Test, test, first-refusal, bad-length, bad-entry, bad-room}
+use Rattle.model.specs.Refusals.{refusal, accepted, Test, test, first-refusal, bad-length, bad-entry, bad-room}
 use Rattle.refusals.specs.Arrays.{tree-in, schedule-tests}
 use Rattle.refusals.specs.Lowest.{Lowest}
 use Rattle.refusals.proofs.Scanning.{single-hit, single-missed, test-hit, test-missed}

@@ -2,7 +2,6 @@
 use mathlib.Core.Path.{_≡_, refl, sym, ap, _∙_}
 use mathlib.Core.Bool.{true, false}
 use mathlib.Core.List.{[], _∷_}
-use Prim.Native.Nat.{ℕ}
 use Rattle.model.specs.declared.State.{State}
 use Rattle.model.specs.Trees.{Tree}
 use Rattle.model.specs.Refusals.{refusal, accepted, test, first-refusal, tree-tests, tree-refusal, bad-state}

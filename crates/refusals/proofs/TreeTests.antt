@@ -1,16 +1,13 @@
 -- The tests of a tree in order: what the scans answer is the tree's refusal. Assumes nothing.
 use mathlib.Core.Path.{_≡_, refl, sym, _∙_}
-use mathlib.Core.Bool.{Bool, true, false, _||_, not, _&&_}
+use mathlib.Core.Bool.{Bool}
 use mathlib.Core.List.{List, [], _∷_}
 use Prim.Native.Nat.{ℕ, zero, suc, _≤_, _<_}
 use native.Mathlib.Omega.{arith}
-use lib.Dec.{eqb, leb, ltb}
-use lib.ListN.{getD}
 use borrow.Author.Tests.{eq-eqb, ne-eqb, lt-ltb, le-ltb, leb-false}
 use Rattle.model.specs.declared.TreeWords.{TreeWords}
-use Rattle.model.specs.Scans.{any-below}
 use Rattle.model.specs.Trees.{Tree, tree-of, depth-from, depth, level, is-child, is-leaf}
-use Rattle.model.specs.Refusals.{Refusal, refusal, accepted, Test, test, first-refusal, tree-tests, tree-refusal, bad-domains, bad-threads, bad-parent, too-deep, no-threshold, bad-home}
+use Rattle.model.specs.Refusals.{refusal, accepted, Test, test, first-refusal, tree-tests, tree-refusal, bad-domains, bad-threads, bad-parent, too-deep, no-threshold, bad-home}
 use Rattle.model.proofs.Trees.Accepted.{but-zero}
 use Rattle.refusals.specs.Arrays.{tree-in, parents-in, Lower}
 use Rattle.refusals.specs.Lowest.{Lowest}

@@ -6,7 +6,6 @@ use Prim.Native.Nat.{ℕ, _-_, _<_}
 use lib.Dec.{eqb, ltb}
 use lib.ListN.{getD, length}
 use Rattle.model.specs.declared.PlaceWords.{PlaceWords}
-use Rattle.model.specs.Places.{place-words}
 use Rattle.model.specs.Trees.{Tree, meets, is-record, owner-domain}
 
 -- a thread's record: its home, or 255 where there is no such thread

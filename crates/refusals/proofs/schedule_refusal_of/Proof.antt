@@ -1,7 +1,5 @@
 -- `refusals::schedule_refusal_of` meets its contract. Assumes nothing.
-use mathlib.Core.Path.{_∙_}
-use borrow.Author.Tests.{lt-ltb, le-ltb}
-use Rattle.model.specs.Refusals.{refusal, accepted, first-refusal}
+use Rattle.model.specs.Refusals.{refusal, accepted}
 use Rattle.refusals.proofs.ScheduleTests as tests
 use borrow.Author.Needs.{needs}
 use Rattle.refusals.proofs.schedule_refusal_of.Statement.{statement}

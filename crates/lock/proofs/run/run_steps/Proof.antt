@@ -5,7 +5,7 @@ use native.Mathlib.Omega.{arith}
 use lib.ListN.{length}
 use Rattle.model.specs.Trees.{tree-of}
 use Rattle.model.proofs.Laws.Calls.{run-facts}
-use Rattle.lock.proofs.Going.{Going, start, turn, run-ends, trace-ends}
+use Rattle.lock.proofs.Going.{Going, start, turn-stay, turn-move, run-ends, trace-ends}
 use Rattle.lock.proofs.Typing.{typed}
 use Rattle.lock.proofs.Turns.{sixteen, thread-small, ready, all-stored}
 use borrow.Author.Needs.{needs}
@@ -47,6 +47,23 @@ element-copy-out-before c = omega (arith, thread-small _ _ _ _ _ (run-facts _ _ 
 decide-requires : tie.Need-decide-requires Inv-loop μ-loop
 decide-requires c κs = ready _ _ _ _ _ _ (run-facts _ _ _ _ (c .before .before .before .before .before .before .before .before .before .before .before .before .before .before .pre)) (c .before .before .before .before .before .before .before .before .before .before .before .loop .inv .formed) (c .before .before .before .before .before .before .before .before .before .before .loop-test .taken)
 
+add-stays : tie.Need-add-stays Inv-loop μ-loop
+add-stays c = omega (arith, c .before .before .before .before .before .before .before .before .before .before .before .before .loop-test .taken, c .before .before .before .before .before .before .before .before .before .before .before .before .before .loop .inv .stays-fit, run-facts _ _ _ _ (c .before .before .before .before .before .before .before .before .before .before .before .before .before .before .before .before .pre) .short)
+
+add-k : tie.Need-add-k Inv-loop μ-loop
+add-k c = omega (arith, c .before .before .before .before .before .before .before .before .before .before .before .before .loop-test .taken, run-facts _ _ _ _ (c .before .before .before .before .before .before .before .before .before .before .before .before .before .before .before .before .pre) .short)
+
+loop-less : tie.Need-loop-less Inv-loop μ-loop
+loop-less c = omega (arith, c .before .before .before .before .before .before .before .before .before .before .before .before .loop-test .taken)
+
+loop-again : tie.Need-loop-again Inv-loop μ-loop
+loop-again c =
+    let r = run-facts _ _ _ _ (c .before .before .before .before .before .before .before .before .before .before .before .before .before .before .before .before .pre) in
+    let l = c .before .before .before .before .before .before .before .before .before .before .before .before .before .loop in
+    let e = c .before .decide in
+    turn-stay _ _ _ _ _ _ _ _ _ _ _ (e .result) (r .tree) (sixteen _) (r .threads) (r .fits) (c .before .before .before .before .before .before .before .before .before .before .before .before .loop-test .taken) (l .inv)
+    (e .ensures .does (l .n .places) refl) (c .if1 .taken)
+
 store-tail-requires : tie.Need-store-tail-requires Inv-loop μ-loop
 store-tail-requires c κs = search needs
 
@@ -57,49 +74,44 @@ store-status-requires : tie.Need-store-status-requires Inv-loop μ-loop
 store-status-requires c κs = search needs
 
 mul-place : tie.Need-mul-place Inv-loop μ-loop
-mul-place c = omega (arith, thread-small _ _ _ _ _ (run-facts _ _ _ _ (c .before .before .before .before .before .before .before .before .before .before .before .before .before .before .before .before .before .before .before .before .before .before .pre)) (c .before .before .before .before .before .before .before .before .before .before .before .before .before .before .before .before .before .before .loop-test .taken))
+mul-place c = omega (arith, thread-small _ _ _ _ _ (run-facts _ _ _ _ (c .before .before .before .before .before .before .before .before .before .before .before .before .before .before .before .before .before .before .before .before .before .before .before .pre)) (c .before .before .before .before .before .before .before .before .before .before .before .before .before .before .before .before .before .before .before .loop-test .taken))
 
 element-set-from-place : tie.Need-element-set-from-place Inv-loop μ-loop
-element-set-from-place c = omega (arith, thread-small _ _ _ _ _ (run-facts _ _ _ _ (c .before .before .before .before .before .before .before .before .before .before .before .before .before .before .before .before .before .before .before .before .before .before .pre)) (c .before .before .before .before .before .before .before .before .before .before .before .before .before .before .before .before .before .before .loop-test .taken))
+element-set-from-place c = omega (arith, thread-small _ _ _ _ _ (run-facts _ _ _ _ (c .before .before .before .before .before .before .before .before .before .before .before .before .before .before .before .before .before .before .before .before .before .before .before .pre)) (c .before .before .before .before .before .before .before .before .before .before .before .before .before .before .before .before .before .before .before .loop-test .taken))
 
 trace-at-requires : tie.Need-trace-at-requires Inv-loop μ-loop
 trace-at-requires c κs =
-    let g = c .before .before .before .before .before .before .before .before .before .before .before .before .before .before .before .before .before .before .before .before .loop .inv in
-    let r = run-facts _ _ _ _ (c .before .before .before .before .before .before .before .before .before .before .before .before .before .before .before .before .before .before .before .before .before .before .before .pre) in
-    (omega (arith, c .before .before .before .before .before .before .before .before .before .before .before .before .before .before .before .before .before .before .before .loop-test .taken, g .entries-fit, g .long, r .fits), omega (arith, c .before .before .before .before .before .before .before .before .before .before .before .before .before .before .before .before .before .before .before .loop-test .taken, g .entries-fit, r .short))
+    let g = c .before .before .before .before .before .before .before .before .before .before .before .before .before .before .before .before .before .before .before .before .before .loop .inv in
+    let r = run-facts _ _ _ _ (c .before .before .before .before .before .before .before .before .before .before .before .before .before .before .before .before .before .before .before .before .before .before .before .before .pre) in
+    (omega (arith, c .before .before .before .before .before .before .before .before .before .before .before .before .before .before .before .before .before .before .before .before .loop-test .taken, g .entries-fit, g .long, r .fits), omega (arith, c .before .before .before .before .before .before .before .before .before .before .before .before .before .before .before .before .before .before .before .before .loop-test .taken, g .entries-fit, r .short))
 
 one-if-at-requires : tie.Need-one-if-at-requires Inv-loop μ-loop
 one-if-at-requires c κs = search needs
 
+add-root : tie.Need-add-root Inv-loop μ-loop
+add-root c = omega (arith, c .before .before .before .before .before .before .before .before .before .before .before .before .before .before .before .before .before .before .before .before .before .before .before .before .loop-test .taken, c .before .before .before .before .before .before .before .before .before .before .before .before .before .before .before .before .before .before .before .before .before .before .before .before .before .loop .inv .root-fit, run-facts _ _ _ _ (c .before .before .before .before .before .before .before .before .before .before .before .before .before .before .before .before .before .before .before .before .before .before .before .before .before .before .before .before .pre) .short, c .one-if-at .ensures .1)
+
 one-if-at-requires-2 : tie.Need-one-if-at-requires-2 Inv-loop μ-loop
 one-if-at-requires-2 c κs = search needs
 
-one-if-at-requires-3 : tie.Need-one-if-at-requires-3 Inv-loop μ-loop
-one-if-at-requires-3 c κs = search needs
-
-add-stays : tie.Need-add-stays Inv-loop μ-loop
-add-stays c = omega (arith, c .before .before .before .before .before .before .before .before .before .before .before .before .before .before .before .before .before .before .before .before .before .before .before .before .before .loop-test .taken, c .before .before .before .before .before .before .before .before .before .before .before .before .before .before .before .before .before .before .before .before .before .before .before .before .before .before .loop .inv .stays-fit, run-facts _ _ _ _ (c .before .before .before .before .before .before .before .before .before .before .before .before .before .before .before .before .before .before .before .before .before .before .before .before .before .before .before .before .before .pre) .short, c .before .before .one-if-at .ensures .1)
-
-add-root : tie.Need-add-root Inv-loop μ-loop
-add-root c = omega (arith, c .before .before .before .before .before .before .before .before .before .before .before .before .before .before .before .before .before .before .before .before .before .before .before .before .before .loop-test .taken, c .before .before .before .before .before .before .before .before .before .before .before .before .before .before .before .before .before .before .before .before .before .before .before .before .before .before .loop .inv .root-fit, run-facts _ _ _ _ (c .before .before .before .before .before .before .before .before .before .before .before .before .before .before .before .before .before .before .before .before .before .before .before .before .before .before .before .before .before .pre) .short, c .before .one-if-at2 .ensures .1)
-
 add-passed : tie.Need-add-passed Inv-loop μ-loop
-add-passed c = omega (arith, c .before .before .before .before .before .before .before .before .before .before .before .before .before .before .before .before .before .before .before .before .before .before .before .before .before .loop-test .taken, c .before .before .before .before .before .before .before .before .before .before .before .before .before .before .before .before .before .before .before .before .before .before .before .before .before .before .loop .inv .passed-fit, run-facts _ _ _ _ (c .before .before .before .before .before .before .before .before .before .before .before .before .before .before .before .before .before .before .before .before .before .before .before .before .before .before .before .before .before .pre) .short, c .one-if-at3 .ensures .1)
+add-passed c = omega (arith, c .before .before .before .before .before .before .before .before .before .before .before .before .before .before .before .before .before .before .before .before .before .before .before .before .before .loop-test .taken, c .before .before .before .before .before .before .before .before .before .before .before .before .before .before .before .before .before .before .before .before .before .before .before .before .before .before .loop .inv .passed-fit, run-facts _ _ _ _ (c .before .before .before .before .before .before .before .before .before .before .before .before .before .before .before .before .before .before .before .before .before .before .before .before .before .before .before .before .before .pre) .short, c .one-if-at2 .ensures .1)
 
-add-k : tie.Need-add-k Inv-loop μ-loop
-add-k c = omega (arith, c .before .before .before .before .before .before .before .before .before .before .before .before .before .before .before .before .before .before .before .before .before .before .before .before .before .loop-test .taken, run-facts _ _ _ _ (c .before .before .before .before .before .before .before .before .before .before .before .before .before .before .before .before .before .before .before .before .before .before .before .before .before .before .before .before .before .pre) .short)
+add-k-2 : tie.Need-add-k-2 Inv-loop μ-loop
+add-k-2 c = omega (arith, c .before .before .before .before .before .before .before .before .before .before .before .before .before .before .before .before .before .before .before .before .before .before .before .before .before .loop-test .taken, run-facts _ _ _ _ (c .before .before .before .before .before .before .before .before .before .before .before .before .before .before .before .before .before .before .before .before .before .before .before .before .before .before .before .before .before .pre) .short)
 
-loop-less : tie.Need-loop-less Inv-loop μ-loop
-loop-less c = omega (arith, c .before .before .before .before .before .before .before .before .before .before .before .before .before .before .before .before .before .before .before .before .before .before .before .before .before .loop-test .taken)
+loop-less-2 : tie.Need-loop-less-2 Inv-loop μ-loop
+loop-less-2 c = omega (arith, c .before .before .before .before .before .before .before .before .before .before .before .before .before .before .before .before .before .before .before .before .before .before .before .before .before .loop-test .taken)
 
-loop-again : tie.Need-loop-again Inv-loop μ-loop
-loop-again c =
+loop-again-2 : tie.Need-loop-again-2 Inv-loop μ-loop
+loop-again-2 c =
     let r = run-facts _ _ _ _ (c .before .before .before .before .before .before .before .before .before .before .before .before .before .before .before .before .before .before .before .before .before .before .before .before .before .before .before .before .before .pre) in
     let l = c .before .before .before .before .before .before .before .before .before .before .before .before .before .before .before .before .before .before .before .before .before .before .before .before .before .before .loop in
     let e = c .before .before .before .before .before .before .before .before .before .before .before .before .before .before .decide in
-    turn _ _ _ _ _ _ _ _ _ _ _ (e .result) _ _ _ _ _ _ (r .tree) (sixteen _) (r .threads) (r .fits) (c .before .before .before .before .before .before .before .before .before .before .before .before .before .before .before .before .before .before .before .before .before .before .before .before .before .loop-test .taken) (l .inv)
-    (e .ensures .does (l .n .places) refl) (all-stored _ (e .result) (l .n) _ _ _ (c .before .before .before .before .before .before .before .before .before .before .before .before .store-tail .ensures) (c .before .before .before .before .before .before .before .before .before .before .store-next .ensures) (c .before .before .before .before .before .before .before .before .store-status .ensures))
-    (c .before .before .before .before .before .trace-at .ensures .0) (c .before .before .before .before .before .trace-at .ensures .1) (c .before .before .one-if-at .ensures .0) (c .before .one-if-at2 .ensures .0) (c .one-if-at3 .ensures .0)
+    turn-move _ _ _ _ _ _ _ _ _ _ _ (e .result) _ _ _ _ _ (r .tree) (sixteen _) (r .threads) (r .fits) (c .before .before .before .before .before .before .before .before .before .before .before .before .before .before .before .before .before .before .before .before .before .before .before .before .before .loop-test .taken) (l .inv)
+    (e .ensures .does (l .n .places) refl) (c .before .before .before .before .before .before .before .before .before .before .before .before .before .if1 .left)
+    (all-stored _ (e .result) (l .n) _ _ _ (c .before .before .before .before .before .before .before .before .before .before .before .store-tail .ensures) (c .before .before .before .before .before .before .before .before .before .store-next .ensures) (c .before .before .before .before .before .before .before .store-status .ensures))
+    (c .before .before .before .before .trace-at .ensures .0) (c .before .before .before .before .trace-at .ensures .1) (c .before .one-if-at .ensures .0) (c .one-if-at2 .ensures .0)
 
 same-length : tie.Need-same-length Inv-loop μ-loop
 same-length c = c .before .loop .inv .long
@@ -122,6 +134,10 @@ run-steps-spec =
     mul-before
     element-copy-out-before
     decide-requires
+    add-stays
+    add-k
+    loop-less
+    loop-again
     store-tail-requires
     store-next-requires
     store-status-requires
@@ -129,13 +145,11 @@ run-steps-spec =
     element-set-from-place
     trace-at-requires
     one-if-at-requires
-    one-if-at-requires-2
-    one-if-at-requires-3
-    add-stays
     add-root
+    one-if-at-requires-2
     add-passed
-    add-k
-    loop-less
-    loop-again
+    add-k-2
+    loop-less-2
+    loop-again-2
     same-length
     returns)

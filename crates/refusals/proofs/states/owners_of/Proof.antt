@@ -1,5 +1,5 @@
 -- `refusals::states::owners_of` meets its contract: the parents of the domains passed are in the table. Assumes nothing.
-use Prim.Native.Nat.{ℕ, _≤_, _<_, _-_}
+use Prim.Native.Nat.{_≤_, _<_, _-_}
 use native.Mathlib.Omega.{arith}
 use Rattle.refusals.proofs.Owning.{Domain-owners, domains-first, domains-next, domains-all}
 use borrow.Author.Needs.{needs}

@@ -1,5 +1,5 @@
 -- `refusals::states::thread_owners` meets its contract: the homes of the threads passed are in the table. Assumes nothing.
-use Prim.Native.Nat.{ℕ, _≤_, _<_, _-_}
+use Prim.Native.Nat.{_≤_, _-_}
 use native.Mathlib.Omega.{arith}
 use Rattle.refusals.specs.Tables.{Thread-owners}
 use Rattle.refusals.proofs.Owning.{threads-first, threads-next, threads-all}

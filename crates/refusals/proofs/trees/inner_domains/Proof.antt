@@ -1,5 +1,5 @@
 -- `refusals::trees::inner_domains` meets its contract: the parents of the domains passed are marked. Assumes nothing.
-use Prim.Native.Nat.{ℕ, _≤_, _<_, _-_}
+use Prim.Native.Nat.{_≤_, _<_, _-_}
 use native.Mathlib.Omega.{arith}
 use Rattle.refusals.specs.Arrays.{Lower}
 use Rattle.refusals.proofs.Children.{Children, children-first, children-next, children-all}
