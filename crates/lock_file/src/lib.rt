@@ -1,0 +1,36 @@
+// The lock file: its reader, the listing, and the file call.
+use model::TreeWords;
+
+// How far reading came: to a position, to the end of the file inside a field or where one is still due, or to a bit map with a bit that has no meaning.
+pub(crate) enum Reached {
+    At(usize),
+    Ended,
+    BadMap(usize),
+}
+
+// The domains' words, as far as there is room.
+pub(crate) struct DomainsRead {
+    reached: Reached,
+    parents: [u8; 64],
+    thresholds: [u16; 64],
+}
+
+// The threads' homes, as far as there is room.
+pub(crate) struct ThreadsRead {
+    reached: Reached,
+    homes: [u8; 256],
+}
+
+// A tree, and where its schedule starts.
+pub(crate) struct TreeRead {
+    reached: Reached,
+    tree: TreeWords,
+}
+
+// What the file call returns. Number 0 is accepted.
+#[repr(C)]
+pub struct FileReply {
+    pub number: u32,
+    pub place: u32,
+    pub length: u32,
+}
