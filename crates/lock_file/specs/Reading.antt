@@ -62,12 +62,16 @@ threshold-at bs at = cond (eqb (bit-1 (byte bs at)) 1) (two-bytes bs (at + 1 + b
 abbrev pub domains-at : Reached → (parents thresholds : List ℕ) → DomainsRead
 domains-at r ps hs = record { reached = r; parents = ps; thresholds = hs }
 
--- the entries of the domains from one on, as many as are left; each is stored where there is room
+-- a word is stored where there is room
+unfoldable pub stored : (room : ℕ) → (words : List ℕ) → (at word : ℕ) → List ℕ
+stored room ws k v = cond (ltb k room) (set ws k v) ws
+
+-- the entries of the domains from one on, as many as are left; there is room for 64
 unfoldable pub domains-from : (bytes : List ℕ) → (left domain at : ℕ) → (parents thresholds : List ℕ) → DomainsRead
 domains-from bs zero d at ps hs = domains-at (At at) ps hs
 domains-from bs (suc k) d at ps hs =
     elim (domain-end bs at) [
-      | At next ↦ domains-from bs k (d + 1) next (set ps d (parent-at bs at)) (set hs d (threshold-at bs at))
+      | At next ↦ domains-from bs k (d + 1) next (stored 64 ps d (parent-at bs at)) (stored 64 hs d (threshold-at bs at))
       | Ended ↦ domains-at Ended ps hs
       | BadMap p ↦ domains-at (BadMap p) ps hs
     ]
@@ -89,13 +93,13 @@ home-at bs before at = cond (eqb (bit-0 (byte bs at)) 1) (byte bs (at + 1)) befo
 abbrev pub threads-at : Reached → (homes : List ℕ) → ThreadsRead
 threads-at r hs = record { reached = r; homes = hs }
 
--- the entries of the threads from one on, as many as are left; each is stored where there is room
+-- the entries of the threads from one on, as many as are left; there is room for 256
 unfoldable pub threads-from : (bytes : List ℕ) → (left thread before at : ℕ) → (homes : List ℕ) → ThreadsRead
 threads-from bs zero i before at hs = threads-at (At at) hs
 threads-from bs (suc k) i before at hs =
     let h = home-at bs before at in
     elim (thread-end bs at) [
-      | At next ↦ threads-from bs k (i + 1) h next (set hs i h)
+      | At next ↦ threads-from bs k (i + 1) h next (stored 256 hs i h)
       | Ended ↦ threads-at Ended hs
       | BadMap p ↦ threads-at (BadMap p) hs
     ]

@@ -1,4 +1,6 @@
 // The lock file: its reader, the listing, and the file call.
+mod reading;
+
 use model::TreeWords;
 
 // How far reading came: to a position, to the end of the file inside a field or where one is still due, or to a bit map with a bit that has no meaning.

@@ -1,0 +1,33 @@
+use borrow.Author.Needs.{needs}
+use Rattle.lock_file.proofs.reading.read_domains.Statement.{statement}
+use Rattle.lock_file.proofs.reading.read_domains.Tie as tie
+use Rattle.lock_file.proofs.reading.read_domains.Reads as reads
+use Rattle.lock_file.proofs.reading.read_domains.Lts as lts
+use Rattle.lock_file.proofs.reading.byte_at.Reads as byte-at-reads
+use Rattle.lock_file.proofs.reading.read_domains_from.Reads as read-domains-from-reads
+use Rattle.lock_file.proofs.reading.wide.Reads as wide-reads
+
+-- src/reading.rt:176:9
+returns : tie.Need-returns
+returns c = ?
+
+-- src/reading.rt:182:34
+byte-at-requires : tie.Need-byte-at-requires
+byte-at-requires c κs = search needs
+
+-- src/reading.rt:182:29
+wide-requires : tie.Need-wide-requires
+wide-requires c κs = search needs
+
+-- src/reading.rt:182:5
+read-domains-from-requires : tie.Need-read-domains-from-requires
+read-domains-from-requires c κs = search needs
+
+-- src/reading.rt:172:1
+returns-2 : tie.Need-returns-2
+returns-2 c = ?
+
+pub read-domains-spec : {M : Type 1} → statement M
+read-domains-spec =
+    tie.close
+    (tie.spec returns byte-at-requires wide-requires read-domains-from-requires returns-2)

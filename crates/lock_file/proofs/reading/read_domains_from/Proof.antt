@@ -1,0 +1,97 @@
+use Rattle.lock_file.proofs.reading.read_domains_from.Statement.{statement}
+use Rattle.lock_file.proofs.reading.read_domains_from.Tie as tie
+use Rattle.lock_file.proofs.reading.read_domains_from.Reads as reads
+use Rattle.lock_file.proofs.reading.read_domains_from.Lts as lts
+use Rattle.lock_file.proofs.reading.domain_end_at.Reads as domain-end-at-reads
+use Rattle.lock_file.proofs.reading.parent_of.Reads as parent-of-reads
+use Rattle.lock_file.proofs.reading.store_parent.Reads as store-parent-reads
+use Rattle.lock_file.proofs.reading.store_threshold.Reads as store-threshold-reads
+use Rattle.lock_file.proofs.reading.threshold_of.Reads as threshold-of-reads
+
+abbrev Inv-loop : tie.InvT-loop
+Inv-loop file domains parents₀ thresholds₀ at₀ d₀ parents thresholds at d = ?
+
+abbrev μ-loop : tie.MeasureT-loop
+μ-loop file domains parents₀ thresholds₀ at₀ d₀ parents thresholds at d = ?
+
+-- src/reading.rt:140:5
+loop-holds : tie.Need-loop-holds Inv-loop μ-loop
+loop-holds c = ?
+
+-- src/reading.rt:141:15
+domain-end-at-requires : tie.Need-domain-end-at-requires Inv-loop μ-loop
+domain-end-at-requires c κs = ?
+
+-- src/reading.rt:142:25
+enum-known-next : tie.Need-enum-known-next Inv-loop μ-loop
+enum-known-next c = ?
+
+-- src/reading.rt:143:47
+parent-of-requires : tie.Need-parent-of-requires Inv-loop μ-loop
+parent-of-requires c κs = ?
+
+-- src/reading.rt:143:17
+store-parent-requires : tie.Need-store-parent-requires Inv-loop μ-loop
+store-parent-requires c κs = ?
+
+-- src/reading.rt:144:53
+threshold-of-requires : tie.Need-threshold-of-requires Inv-loop μ-loop
+threshold-of-requires c κs = ?
+
+-- src/reading.rt:144:17
+store-threshold-requires : tie.Need-store-threshold-requires Inv-loop μ-loop
+store-threshold-requires c κs = ?
+
+-- src/reading.rt:149:30
+enum-told : tie.Need-enum-told Inv-loop μ-loop
+enum-told c = ?
+
+-- src/reading.rt:148:17
+returns : tie.Need-returns Inv-loop μ-loop
+returns c = ?
+
+-- src/reading.rt:154:29
+enum-known-p : tie.Need-enum-known-p Inv-loop μ-loop
+enum-known-p c = ?
+
+-- src/reading.rt:155:17
+returns-2 : tie.Need-returns-2 Inv-loop μ-loop
+returns-2 c = ?
+
+-- src/reading.rt:162:9
+add-d : tie.Need-add-d Inv-loop μ-loop
+add-d c = ?
+
+-- src/reading.rt:140:5
+loop-less : tie.Need-loop-less Inv-loop μ-loop
+loop-less c = ?
+
+-- src/reading.rt:140:5
+loop-again : tie.Need-loop-again Inv-loop μ-loop
+loop-again c = ?
+
+-- src/reading.rt:133:1
+returns-3 : tie.Need-returns-3 Inv-loop μ-loop
+returns-3 c = ?
+
+pub read-domains-from-spec : {M : Type 1} → statement M
+read-domains-from-spec =
+    tie.close
+    (tie.spec
+    Inv-loop
+    μ-loop
+    loop-holds
+    domain-end-at-requires
+    enum-known-next
+    parent-of-requires
+    store-parent-requires
+    threshold-of-requires
+    store-threshold-requires
+    enum-told
+    returns
+    enum-known-p
+    returns-2
+    add-d
+    loop-less
+    loop-again
+    returns-3)

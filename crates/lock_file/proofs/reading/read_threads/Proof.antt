@@ -1,0 +1,46 @@
+use borrow.Author.Needs.{needs}
+use Rattle.lock_file.proofs.reading.read_threads.Statement.{statement}
+use Rattle.lock_file.proofs.reading.read_threads.Tie as tie
+use Rattle.lock_file.proofs.reading.read_threads.Reads as reads
+use Rattle.lock_file.proofs.reading.read_threads.Lts as lts
+use Rattle.lock_file.proofs.reading.read_threads_behind.Reads as read-threads-behind-reads
+
+-- src/reading.rt:265:21
+enum-known-reached : tie.Need-enum-known-reached
+enum-known-reached c = search needs
+
+-- src/reading.rt:265:28
+read-threads-behind-requires : tie.Need-read-threads-behind-requires
+read-threads-behind-requires c κs = search needs
+
+-- src/reading.rt:267:22
+enum-told : tie.Need-enum-told
+enum-told c = search needs
+
+-- src/reading.rt:270:25
+enum-known-reached-2 : tie.Need-enum-known-reached-2
+enum-known-reached-2 c = search needs
+
+-- src/reading.rt:261:1
+returns : tie.Need-returns
+returns c = ?
+
+-- src/reading.rt:261:1
+returns-2 : tie.Need-returns-2
+returns-2 c = ?
+
+-- src/reading.rt:261:1
+returns-3 : tie.Need-returns-3
+returns-3 c = ?
+
+pub read-threads-spec : {M : Type 1} → statement M
+read-threads-spec =
+    tie.close
+    (tie.spec
+    enum-known-reached
+    read-threads-behind-requires
+    enum-told
+    enum-known-reached-2
+    returns
+    returns-2
+    returns-3)

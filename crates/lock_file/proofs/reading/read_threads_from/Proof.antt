@@ -1,0 +1,85 @@
+use Rattle.lock_file.proofs.reading.read_threads_from.Statement.{statement}
+use Rattle.lock_file.proofs.reading.read_threads_from.Tie as tie
+use Rattle.lock_file.proofs.reading.read_threads_from.Reads as reads
+use Rattle.lock_file.proofs.reading.read_threads_from.Lts as lts
+use Rattle.lock_file.proofs.reading.home_of.Reads as home-of-reads
+use Rattle.lock_file.proofs.reading.store_home.Reads as store-home-reads
+use Rattle.lock_file.proofs.reading.thread_end_at.Reads as thread-end-at-reads
+
+abbrev Inv-loop : tie.InvT-loop
+Inv-loop file threads start homes₀ home₀ at₀ i₀ homes home at i = ?
+
+abbrev μ-loop : tie.MeasureT-loop
+μ-loop file threads start homes₀ home₀ at₀ i₀ homes home at i = ?
+
+-- src/reading.rt:210:5
+loop-holds : tie.Need-loop-holds Inv-loop μ-loop
+loop-holds c = ?
+
+-- src/reading.rt:211:15
+thread-end-at-requires : tie.Need-thread-end-at-requires Inv-loop μ-loop
+thread-end-at-requires c κs = ?
+
+-- src/reading.rt:212:25
+enum-known-next : tie.Need-enum-known-next Inv-loop μ-loop
+enum-known-next c = ?
+
+-- src/reading.rt:213:17
+home-of-requires : tie.Need-home-of-requires Inv-loop μ-loop
+home-of-requires c κs = ?
+
+-- src/reading.rt:214:17
+store-home-requires : tie.Need-store-home-requires Inv-loop μ-loop
+store-home-requires c κs = ?
+
+-- src/reading.rt:219:30
+enum-told : tie.Need-enum-told Inv-loop μ-loop
+enum-told c = ?
+
+-- src/reading.rt:218:17
+returns : tie.Need-returns Inv-loop μ-loop
+returns c = ?
+
+-- src/reading.rt:223:29
+enum-known-p : tie.Need-enum-known-p Inv-loop μ-loop
+enum-known-p c = ?
+
+-- src/reading.rt:224:17
+returns-2 : tie.Need-returns-2 Inv-loop μ-loop
+returns-2 c = ?
+
+-- src/reading.rt:230:9
+add-i : tie.Need-add-i Inv-loop μ-loop
+add-i c = ?
+
+-- src/reading.rt:210:5
+loop-less : tie.Need-loop-less Inv-loop μ-loop
+loop-less c = ?
+
+-- src/reading.rt:210:5
+loop-again : tie.Need-loop-again Inv-loop μ-loop
+loop-again c = ?
+
+-- src/reading.rt:203:1
+returns-3 : tie.Need-returns-3 Inv-loop μ-loop
+returns-3 c = ?
+
+pub read-threads-from-spec : {M : Type 1} → statement M
+read-threads-from-spec =
+    tie.close
+    (tie.spec
+    Inv-loop
+    μ-loop
+    loop-holds
+    thread-end-at-requires
+    enum-known-next
+    home-of-requires
+    store-home-requires
+    enum-told
+    returns
+    enum-known-p
+    returns-2
+    add-i
+    loop-less
+    loop-again
+    returns-3)

@@ -1,0 +1,46 @@
+use borrow.Author.Needs.{needs}
+use Rattle.lock_file.proofs.reading.schedule_start_of.Statement.{statement}
+use Rattle.lock_file.proofs.reading.schedule_start_of.Tie as tie
+use Rattle.lock_file.proofs.reading.schedule_start_of.Reads as reads
+use Rattle.lock_file.proofs.reading.schedule_start_of.Lts as lts
+use Rattle.lock_file.proofs.reading.schedule_start_at.Reads as schedule-start-at-reads
+
+-- src/reading.rt:316:21
+enum-known-reached : tie.Need-enum-known-reached
+enum-known-reached c = search needs
+
+-- src/reading.rt:316:28
+schedule-start-at-requires : tie.Need-schedule-start-at-requires
+schedule-start-at-requires c κs = search needs
+
+-- src/reading.rt:317:27
+enum-told : tie.Need-enum-told
+enum-told c = search needs
+
+-- src/reading.rt:318:25
+enum-known-reached-2 : tie.Need-enum-known-reached-2
+enum-known-reached-2 c = search needs
+
+-- src/reading.rt:312:1
+returns : tie.Need-returns
+returns c = ?
+
+-- src/reading.rt:312:1
+returns-2 : tie.Need-returns-2
+returns-2 c = ?
+
+-- src/reading.rt:312:1
+returns-3 : tie.Need-returns-3
+returns-3 c = ?
+
+pub schedule-start-of-spec : {M : Type 1} → statement M
+schedule-start-of-spec =
+    tie.close
+    (tie.spec
+    enum-known-reached
+    schedule-start-at-requires
+    enum-told
+    enum-known-reached-2
+    returns
+    returns-2
+    returns-3)

@@ -1,0 +1,52 @@
+use borrow.Author.Needs.{needs}
+use Rattle.lock_file.proofs.reading.thread_count_of.Statement.{statement}
+use Rattle.lock_file.proofs.reading.thread_count_of.Tie as tie
+use Rattle.lock_file.proofs.reading.thread_count_of.Reads as reads
+use Rattle.lock_file.proofs.reading.thread_count_of.Lts as lts
+use Rattle.lock_file.proofs.reading.two_bytes_at.Reads as two-bytes-at-reads
+use Rattle.lock_file.proofs.reading.word_count.Reads as word-count-reads
+
+-- src/reading.rt:293:21
+enum-known-reached : tie.Need-enum-known-reached
+enum-known-reached c = search needs
+
+-- src/reading.rt:293:39
+two-bytes-at-requires : tie.Need-two-bytes-at-requires
+two-bytes-at-requires c κs = search needs
+
+-- src/reading.rt:293:28
+word-count-requires : tie.Need-word-count-requires
+word-count-requires c κs = search needs
+
+-- src/reading.rt:294:27
+enum-told : tie.Need-enum-told
+enum-told c = search needs
+
+-- src/reading.rt:295:31
+enum-told-2 : tie.Need-enum-told-2
+enum-told-2 c = search needs
+
+-- src/reading.rt:289:1
+returns : tie.Need-returns
+returns c = ?
+
+-- src/reading.rt:289:1
+returns-2 : tie.Need-returns-2
+returns-2 c = ?
+
+-- src/reading.rt:289:1
+returns-3 : tie.Need-returns-3
+returns-3 c = ?
+
+pub thread-count-of-spec : {M : Type 1} → statement M
+thread-count-of-spec =
+    tie.close
+    (tie.spec
+    enum-known-reached
+    two-bytes-at-requires
+    word-count-requires
+    enum-told
+    enum-told-2
+    returns
+    returns-2
+    returns-3)
