@@ -1,3 +1,6 @@
+-- `read_domains` meets its contract. Assumes nothing.
+use Rattle.lock_file.specs.Reading.{domains-read}
+use borrow.Author.Tests.{lt-ltb, le-ltb, le-leb, lt-leb, eq-eqb, ne-eqb}
 use borrow.Author.Needs.{needs}
 use Rattle.lock_file.proofs.reading.read_domains.Statement.{statement}
 use Rattle.lock_file.proofs.reading.read_domains.Tie as tie
@@ -9,7 +12,8 @@ use Rattle.lock_file.proofs.reading.wide.Reads as wide-reads
 
 -- src/reading.rt:176:9
 returns : tie.Need-returns
-returns c = ?
+unfolding domains-read
+returns c = rw (eq-eqb _ _ (c .if1 .taken))
 
 -- src/reading.rt:182:34
 byte-at-requires : tie.Need-byte-at-requires
@@ -25,7 +29,8 @@ read-domains-from-requires c κs = search needs
 
 -- src/reading.rt:172:1
 returns-2 : tie.Need-returns-2
-returns-2 c = ?
+unfolding domains-read
+returns-2 c = rw (ne-eqb _ _ (c .before .before .before .if1 .left), c .read-domains-from .ensures, c .before .wide .ensures, c .before .before .byte-at .ensures)
 
 pub read-domains-spec : {M : Type 1} → statement M
 read-domains-spec =

@@ -1,3 +1,5 @@
+-- `read_threads` meets its contract. Assumes nothing.
+use Rattle.lock_file.specs.Reading.{threads-read}
 use borrow.Author.Needs.{needs}
 use Rattle.lock_file.proofs.reading.read_threads.Statement.{statement}
 use Rattle.lock_file.proofs.reading.read_threads.Tie as tie
@@ -23,15 +25,18 @@ enum-known-reached-2 c = search needs
 
 -- src/reading.rt:261:1
 returns : tie.Need-returns
-returns c = ?
+unfolding threads-read
+returns c = rw (c .before .before .reached .given .1, c .read-threads-behind .ensures)
 
 -- src/reading.rt:261:1
 returns-2 : tie.Need-returns-2
-returns-2 c = ?
+unfolding threads-read
+returns-2 c = rw (c .enum-told .given .1)
 
 -- src/reading.rt:261:1
 returns-3 : tie.Need-returns-3
-returns-3 c = ?
+unfolding threads-read
+returns-3 c = rw (c .before .reached2 .given .1)
 
 pub read-threads-spec : {M : Type 1} → statement M
 read-threads-spec =

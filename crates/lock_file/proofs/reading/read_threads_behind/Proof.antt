@@ -1,3 +1,6 @@
+-- `read_threads_behind` meets its contract. Assumes nothing.
+use Rattle.lock_file.specs.Reading.{threads-behind}
+use mathlib.Core.Path.{_≡_, refl, sym, _∙_, ap}
 use borrow.Author.Needs.{needs}
 use Rattle.lock_file.proofs.reading.read_threads_behind.Statement.{statement}
 use Rattle.lock_file.proofs.reading.read_threads_behind.Tie as tie
@@ -38,15 +41,18 @@ enum-known-p c = search needs
 
 -- src/reading.rt:245:1
 returns : tie.Need-returns
-returns c = ?
+unfolding threads-behind
+returns c = rw (sym (c .before .before .before .before .before .before .field-end-at .ensures) ∙ c .before .before .before .before .next .given .1, c .read-threads-from .ensures, c .before .wide-count .ensures, c .before .before .two-bytes-at .ensures)
 
 -- src/reading.rt:245:1
 returns-2 : tie.Need-returns-2
-returns-2 c = ?
+unfolding threads-behind
+returns-2 c = rw (sym (c .before .before .field-end-at .ensures) ∙ c .enum-told .given .1)
 
 -- src/reading.rt:245:1
 returns-3 : tie.Need-returns-3
-returns-3 c = ?
+unfolding threads-behind
+returns-3 c = rw (sym (c .before .before .before .field-end-at .ensures) ∙ c .before .p .given .1)
 
 pub read-threads-behind-spec : {M : Type 1} → statement M
 read-threads-behind-spec =

@@ -1,3 +1,5 @@
+-- `read_tree` meets its contract. Assumes nothing.
+use Rattle.lock_file.specs.Reading.{tree-read}
 use borrow.Author.Needs.{needs}
 use Rattle.lock_file.proofs.reading.read_tree.Statement.{statement}
 use Rattle.lock_file.proofs.reading.read_tree.Tie as tie
@@ -36,7 +38,8 @@ schedule-start-of-requires c κs = search needs
 
 -- src/reading.rt:323:1
 returns : tie.Need-returns
-returns c = ?
+unfolding tree-read
+returns c = rw (c .schedule-start-of .ensures, c .before .thread-count-of .ensures, c .before .before .domain-count-of .ensures, c .before .before .before .byte-at .ensures, c .before .before .before .before .before .read-threads .ensures, c .before .before .before .before .before .before .before .before .read-domains .ensures)
 
 pub read-tree-spec : {M : Type 1} → statement M
 read-tree-spec =

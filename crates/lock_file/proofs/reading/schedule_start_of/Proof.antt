@@ -1,3 +1,5 @@
+-- `schedule_start_of` meets its contract. Assumes nothing.
+use Rattle.lock_file.specs.Reading.{schedule-start}
 use borrow.Author.Needs.{needs}
 use Rattle.lock_file.proofs.reading.schedule_start_of.Statement.{statement}
 use Rattle.lock_file.proofs.reading.schedule_start_of.Tie as tie
@@ -23,15 +25,18 @@ enum-known-reached-2 c = search needs
 
 -- src/reading.rt:312:1
 returns : tie.Need-returns
-returns c = ?
+unfolding schedule-start
+returns c = rw (c .before .before .reached .given .1, c .schedule-start-at .ensures)
 
 -- src/reading.rt:312:1
 returns-2 : tie.Need-returns-2
-returns-2 c = ?
+unfolding schedule-start
+returns-2 c = rw (c .enum-told .given .1)
 
 -- src/reading.rt:312:1
 returns-3 : tie.Need-returns-3
-returns-3 c = ?
+unfolding schedule-start
+returns-3 c = rw (c .before .reached2 .given .1)
 
 pub schedule-start-of-spec : {M : Type 1} → statement M
 schedule-start-of-spec =

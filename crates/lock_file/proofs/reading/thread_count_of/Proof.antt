@@ -1,3 +1,5 @@
+-- `thread_count_of` meets its contract. Assumes nothing.
+use Rattle.lock_file.specs.Reading.{thread-count}
 use borrow.Author.Needs.{needs}
 use Rattle.lock_file.proofs.reading.thread_count_of.Statement.{statement}
 use Rattle.lock_file.proofs.reading.thread_count_of.Tie as tie
@@ -28,15 +30,18 @@ enum-told-2 c = search needs
 
 -- src/reading.rt:289:1
 returns : tie.Need-returns
-returns c = ?
+unfolding thread-count
+returns c = rw (c .before .before .before .reached .given .1, c .word-count .ensures, c .before .two-bytes-at .ensures)
 
 -- src/reading.rt:289:1
 returns-2 : tie.Need-returns-2
-returns-2 c = ?
+unfolding thread-count
+returns-2 c = rw (c .enum-told .given .1)
 
 -- src/reading.rt:289:1
 returns-3 : tie.Need-returns-3
-returns-3 c = ?
+unfolding thread-count
+returns-3 c = rw (c .enum-told2 .given .1)
 
 pub thread-count-of-spec : {M : Type 1} → statement M
 thread-count-of-spec =
