@@ -16,7 +16,7 @@ use Rattle.model.specs.Refusals.{Refusal, refusal, accepted, lowest-bad, first-
 use Rattle.model.specs.Answers.{run-reply, run-answer}
 use Rattle.lock_file.specs.declared.FileReply.{FileReply}
 use Rattle.lock_file.specs.Reading.{Reading, refused, described, reached-refusal, field-end, entry-end, domain-size, domain-end, parent-at, threshold-at, stored, domains-from, domains-read, thread-end, home-at, threads-from, threads-behind, threads-read, thread-count, schedule-start, tree-read, entries-from, entries-at, reading-of, file-read}
-use Rattle.lock_file.specs.Listing.{digits, numeral, trace-lines, first-line, listing, refusal-line}
+use Rattle.lock_file.specs.Listing.{digits, numeral, number-then, trace-lines, first-line, listing, refusal-line}
 use Rattle.lock_file.specs.FileAnswers.{listing-outcome, run-outcome, file-run, file-trace, reading-outcome, file-outcome, outcome-reply, outcome-output, file-answer, output-answer}
 
 abbrev pub same : List ℕ → List ℕ → Bool
@@ -99,10 +99,10 @@ cases =
     ∷ gives 1 3 (replicate 64 0) (replicate 64 0) (0 ∷ 9 ∷ 9 ∷ replicate 253 0) [] (file-read (1 ∷ 3 ∷ 0 ∷ 0 ∷ 1 ∷ 9 ∷ 0 ∷ []))
     ∷ replies 9 1 0 (file-answer (1 ∷ 3 ∷ 0 ∷ 0 ∷ 1 ∷ 9 ∷ 0 ∷ []) [])
     -- "refused 8 1", and an empty schedule's listing "ok 0 0 0 0 0"
-    ∷ same (refusal-line (refusal 8 1)) (114 ∷ 101 ∷ 102 ∷ 117 ∷ 115 ∷ 101 ∷ 100 ∷ 32 ∷ 56 ∷ 32 ∷ 49 ∷ 10 ∷ [])
+    ∷ same (refusal-line 8 1) (114 ∷ 101 ∷ 102 ∷ 117 ∷ 115 ∷ 101 ∷ 100 ∷ 32 ∷ 56 ∷ 32 ∷ 49 ∷ 10 ∷ [])
     ∷ same (output-answer (1 ∷ 1 ∷ 0 ∷ 0 ∷ []) (replicate 13 0)) (111 ∷ 107 ∷ 32 ∷ 48 ∷ 32 ∷ 48 ∷ 32 ∷ 48 ∷ 32 ∷ 48 ∷ 32 ∷ 48 ∷ 10 ∷ [])
     ∷ same (numeral 65535) (54 ∷ 53 ∷ 53 ∷ 51 ∷ 53 ∷ []) ∷ same (numeral 10) (49 ∷ 48 ∷ []) ∷ []
 
 pub cases-hold : all cases ≡ true
-unfolding any-below all-below read-word tree-of is-child is-leaf depth-from depth level meets on-path child-from child own-record is-record is-member owner-domain plain-place place-of is-idle fresh-words is-stay is-root-entry is-passed-entry is-entry prep-row swap-row link-row wait-row leave-row check-row help-row cas-row linger-row grant-row row step steps state-after how-many entering run-of run good-tail good-next good-status good-place good-thread well-formed refusal accepted lowest-bad first-refusal bad-domains bad-threads bad-parent too-deep no-threshold bad-home tree-tests bad-state bad-length bad-entry bad-room run-tests tree-refusal run-refusal run-reply run-answer reached-refusal field-end entry-end domain-size domain-end parent-at threshold-at stored domains-from domains-read thread-end home-at threads-from threads-behind threads-read thread-count schedule-start tree-read entries-from entries-at reading-of file-read digits numeral trace-lines first-line listing refusal-line listing-outcome run-outcome file-run file-trace reading-outcome file-outcome outcome-reply outcome-output file-answer output-answer cases
+unfolding any-below all-below read-word tree-of is-child is-leaf depth-from depth level meets on-path child-from child own-record is-record is-member owner-domain plain-place place-of is-idle fresh-words is-stay is-root-entry is-passed-entry is-entry prep-row swap-row link-row wait-row leave-row check-row help-row cas-row linger-row grant-row row step steps state-after how-many entering run-of run good-tail good-next good-status good-place good-thread well-formed refusal accepted lowest-bad first-refusal bad-domains bad-threads bad-parent too-deep no-threshold bad-home tree-tests bad-state bad-length bad-entry bad-room run-tests tree-refusal run-refusal run-reply run-answer reached-refusal field-end entry-end domain-size domain-end parent-at threshold-at stored domains-from domains-read thread-end home-at threads-from threads-behind threads-read thread-count schedule-start tree-read entries-from entries-at reading-of file-read digits numeral number-then trace-lines first-line listing refusal-line listing-outcome run-outcome file-run file-trace reading-outcome file-outcome outcome-reply outcome-output file-answer output-answer cases
 cases-hold = refl

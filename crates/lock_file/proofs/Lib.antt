@@ -1,2 +1,4 @@
 pub mod Cases
 pub mod Positions
+pub mod Numerals
+pub mod Writing

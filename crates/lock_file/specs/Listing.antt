@@ -4,7 +4,6 @@ use mathlib.Core.List.{List, [], _∷_, _++_}
 use Prim.Native.Nat.{ℕ, zero, suc, _+_, _/_, _%_}
 use lib.Dec.{ltb}
 use Rattle.model.specs.declared.RunReply.{RunReply}
-use Rattle.model.specs.Refusals.{Refusal}
 
 -- a decimal digit
 abbrev pub digit : ℕ → ℕ
@@ -24,22 +23,25 @@ space = 32
 abbrev pub line-feed : ℕ
 line-feed = 10
 
+-- a numeral and the byte behind it
+unfoldable pub number-then : (value behind : ℕ) → List ℕ
+number-then v b = numeral v ++ (b ∷ [])
+
 -- one line a trace element
 unfoldable pub trace-lines : (trace : List ℕ) → List ℕ
 trace-lines [] = []
-trace-lines (i ∷ is) = numeral i ++ (line-feed ∷ trace-lines is)
+trace-lines (i ∷ is) = number-then i line-feed ++ trace-lines is
 
 -- "ok", steps, entries, stays, root and passed entries
-unfoldable pub first-line : RunReply → List ℕ
-first-line r =
-    111 ∷ 107 ∷ space ∷ (numeral (r .steps) ++ (space ∷ (numeral (r .entries) ++ (space ∷ (numeral (r .stays)
-    ++ (space ∷ (numeral (r .root) ++ (space ∷ (numeral (r .passed) ++ (line-feed ∷ []))))))))))
+unfoldable pub first-line : (steps entries stays root passed : ℕ) → List ℕ
+first-line steps entries stays root passed =
+    (111 ∷ 107 ∷ space ∷ []) ++ (number-then steps space ++ (number-then entries space
+    ++ (number-then stays space ++ (number-then root space ++ number-then passed line-feed))))
 
 -- the listing of an accepted run
 unfoldable pub listing : RunReply → (trace : List ℕ) → List ℕ
-listing r trace = first-line r ++ trace-lines trace
+listing r trace = first-line (r .steps) (r .entries) (r .stays) (r .root) (r .passed) ++ trace-lines trace
 
 -- "refused", number and place
-unfoldable pub refusal-line : Refusal → List ℕ
-refusal-line r =
-    114 ∷ 101 ∷ 102 ∷ 117 ∷ 115 ∷ 101 ∷ 100 ∷ space ∷ (numeral (r .number) ++ (space ∷ (numeral (r .place) ++ (line-feed ∷ []))))
+unfoldable pub refusal-line : (number place : ℕ) → List ℕ
+refusal-line n p = (114 ∷ 101 ∷ 102 ∷ 117 ∷ 115 ∷ 101 ∷ 100 ∷ space ∷ []) ++ (number-then n space ++ number-then p line-feed)

@@ -1,4 +1,5 @@
 // The lock file: its reader, the listing, and the file call.
+mod listing;
 mod reading;
 
 use model::TreeWords;
