@@ -4,10 +4,12 @@ use mathlib.Core.Bool.{Bool, true, false, cond}
 use mathlib.Core.List.{List, [], _∷_, _++_}
 use Prim.Native.Nat.{ℕ, zero, suc, _+_, _*_, _/_, _%_, _≤_, _<_}
 use native.Mathlib.Omega.{arith}
+use native.Mathlib.Numerals.{add-one}
 use lib.Dec.{ltb}
-use lib.ListN.{length, length-append}
+use lib.Seq.{drop-cons}
+use lib.ListN.{length, length-append, drop, getD, drop-of-length-le}
 use borrow.Author.Tests.{ltb-true, ltb-false, lt-ltb, le-ltb}
-use Rattle.lock_file.specs.Listing.{digit, digits, numeral}
+use Rattle.lock_file.specs.Listing.{digit, digits, numeral, number-then, trace-lines, first-line}
 
 -- fuel from the value on makes no difference
 digits-same : (k j v : ℕ) → v ≤ k → v ≤ j → digits k v ≡ digits j v
@@ -64,3 +66,29 @@ length-positive v = by (ltb v 10) refl
     by : (b : Bool) → ltb v 10 ≡ b → 1 ≤ length (numeral v)
     by true e = omega (arith, length-small v (ltb-true v 10 e))
     by false e = omega (arith, length-large v (ltb-false v 10 e))
+
+pub length-number : (v b : ℕ) → length (number-then v b) ≡ length (numeral v) + 1
+unfolding number-then
+length-number v b = rw length-append
+
+pub length-first-line :
+    (a b c d e : ℕ) →
+    length (first-line a b c d e)
+    ≡ 3 + (length (numeral a) + 1) + (length (numeral b) + 1) + (length (numeral c) + 1) + (length (numeral d) + 1) + (length (numeral e) + 1)
+unfolding first-line
+length-first-line a b c d e = simp (length-append, length-number) (omega arith)
+
+-- the trace lines from k on: the next, or none
+pub trace-lines-next :
+    (is : List ℕ) (k : ℕ) → k < length is → trace-lines (drop k is) ≡ number-then (getD is k 0) 10 ++ trace-lines (drop (k + 1) is)
+unfolding trace-lines
+trace-lines-next is k h = rw (drop-cons is k 0 h, add-one)
+
+pub trace-lines-over : (is : List ℕ) (k : ℕ) → length is ≤ k → trace-lines (drop k is) ≡ []
+unfolding trace-lines
+trace-lines-over is k h = rw (drop-of-length-le is h)
+
+pub trace-length-next :
+    (is : List ℕ) (k : ℕ) → k < length is →
+    length (trace-lines (drop k is)) ≡ length (numeral (getD is k 0)) + 1 + length (trace-lines (drop (k + 1) is))
+trace-length-next is k h = rw (trace-lines-next is k h, length-append, length-number)

@@ -5,10 +5,10 @@ use mathlib.Core.Logic.{_≢_}
 use Prim.Native.Nat.{ℕ, zero, suc, _+_, _/_, _%_, _≤_, _<_}
 use native.Mathlib.Omega.{arith}
 use native.Mathlib.Nat.{add-zero, add-suc, suc-add}
-use lib.ListN.{length, set, drop}
+use lib.ListN.{length, set, getD, drop}
 use lib.Seq.{sets, set-comm, sets-eq}
-use Rattle.lock_file.specs.Listing.{digit, numeral}
-use Rattle.lock_file.proofs.Numerals.{numeral-small, numeral-large}
+use Rattle.lock_file.specs.Listing.{digit, numeral, number-then, trace-lines}
+use Rattle.lock_file.proofs.Numerals.{numeral-small, numeral-large, trace-lines-next}
 
 -- a store behind the places that others fill may come first
 pub sets-behind : (l : List ℕ) (i : ℕ) (vs : List ℕ) (j a : ℕ) → i + length vs ≤ j → sets (set l j a) i vs ≡ set (sets l i vs) j a
@@ -39,3 +39,19 @@ last-digit l at v k h e = rw (e, numeral-large v h) (sym (sets-last l at (numera
 
 pub only-digit : (l : List ℕ) (at v : ℕ) → v < 10 → set l at (digit v) ≡ sets l at (numeral v)
 only-digit l at v h = rw (numeral-small v h)
+
+-- five parts, each behind the one before
+pub sets-five :
+    (l : List ℕ) (at : ℕ) (a b c d e : List ℕ) →
+    sets l at (a ++ (b ++ (c ++ (d ++ e))))
+    ≡ sets (sets (sets (sets (sets l at a) (at + length a) b) (at + length a + length b) c) (at + length a + length b + length c) d)
+    (at + length a + length b + length c + length d) e
+sets-five l at a b c d e = simp sets-append
+
+-- the next line of a trace, and those behind it
+pub trace-written :
+    (l : List ℕ) (at : ℕ) (is : List ℕ) (k : ℕ) → k < length is →
+    sets l at (trace-lines (drop k is))
+    ≡ sets (sets l at (number-then (getD is k 0) 10)) (at + length (number-then (getD is k 0) 10)) (trace-lines (drop (k + 1) is))
+trace-written l at is k h =
+    rw (trace-lines-next is k h) (sets-append l at (number-then (getD is k 0) 10) (trace-lines (drop (k + 1) is)))
