@@ -4,12 +4,14 @@ use mathlib.Core.Bool.{Bool, true, false, cond}
 use mathlib.Core.List.{List}
 use Prim.Native.Nat.{ℕ, zero, suc, _+_, _-_, _%_, _≤_, _<_}
 use native.Mathlib.Omega.{arith}
+use native.Mathlib.Numerals.{add-one}
 use lib.Dec.{ltb, leb}
-use lib.ListN.{length}
+use lib.ListN.{length, set}
+use lib.Seq.{sets}
 use borrow.Author.Tests.{ltb-true, ltb-false, leb-true, leb-false}
 use Rattle.lock_file.specs.declared.Reached.{Reached}
 use Rattle.lock_file.specs.declared.Reached.the-variants.{At, Ended, BadMap}
-use Rattle.lock_file.specs.Reading.{byte, field-end, entry-end, domain-size, domain-end, parent-at, threshold-at, stored, domains-at, domains-from, thread-end, home-at, threads-at, threads-from}
+use Rattle.lock_file.specs.Reading.{byte, field-end, entry-end, domain-size, domain-end, parent-at, threshold-at, stored, domains-at, domains-from, thread-end, home-at, threads-at, threads-from, two-bytes, entries-from}
 
 -- a field or an entry that ends at a position lies within the file
 pub field-within :
@@ -99,3 +101,15 @@ module _ (bs : List ℕ) (T i before at : ℕ) (hs : List ℕ) where
       (p : ℕ) → i < T → thread-end bs at ≡ BadMap p → threads-from bs (T - i) i before at hs ≡ threads-at (BadMap p) hs
   unfolding threads-from
   threads-bad p h e = let z : T - i ≡ suc (T - (i + 1)) = omega arith in rw (z, e, threads-from)
+
+-- the schedule's entries from the k-th on, stored one behind another
+module _ (bs : List ℕ) (n k at : ℕ) (l : List ℕ) where
+  pub schedule-next :
+      k < n →
+      sets l k (entries-from bs (n - k) at) ≡ sets (set l k (two-bytes bs at)) (k + 1) (entries-from bs (n - (k + 1)) (at + 2))
+  unfolding entries-from
+  schedule-next h = let z : n - k ≡ suc (n - (k + 1)) = omega arith in rw (z, add-one k)
+
+  pub schedule-over : n ≤ k → sets l k (entries-from bs (n - k) at) ≡ l
+  unfolding entries-from
+  schedule-over h = let z : n - k ≡ 0 = omega arith in rw z

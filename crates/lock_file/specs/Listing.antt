@@ -3,7 +3,6 @@ use mathlib.Core.Bool.{cond}
 use mathlib.Core.List.{List, [], _∷_, _++_}
 use Prim.Native.Nat.{ℕ, zero, suc, _+_, _/_, _%_}
 use lib.Dec.{ltb}
-use Rattle.model.specs.declared.RunReply.{RunReply}
 
 -- a decimal digit
 abbrev pub digit : ℕ → ℕ
@@ -38,9 +37,9 @@ first-line steps entries stays root passed =
     (111 ∷ 107 ∷ space ∷ []) ++ (number-then steps space ++ (number-then entries space
     ++ (number-then stays space ++ (number-then root space ++ number-then passed line-feed))))
 
--- the listing of an accepted run
-unfoldable pub listing : RunReply → (trace : List ℕ) → List ℕ
-listing r trace = first-line (r .steps) (r .entries) (r .stays) (r .root) (r .passed) ++ trace-lines trace
+-- the listing of an accepted run: its counts, then its trace
+unfoldable pub listing : (steps entries stays root passed : ℕ) → (trace : List ℕ) → List ℕ
+listing steps entries stays root passed trace = first-line steps entries stays root passed ++ trace-lines trace
 
 -- "refused", number and place
 unfoldable pub refusal-line : (number place : ℕ) → List ℕ

@@ -2,9 +2,11 @@
 ghost use mathlib.Core.Path.{_≡_};
 ghost use mathlib.Core.List.{[], _∷_};
 ghost use Prim.Native.Nat.{_+_, _<_, _≤_};
-ghost use lib.ListN.{length, set, take};
+ghost use lib.ListN.{length};
 ghost use lib.Seq.{sets};
-ghost use Rattle.lock_file.specs.Listing.{digit, numeral, number-then, first-line, trace-lines};
+ghost use Rattle.lock_file.specs.Listing.{digit, numeral, number-then, first-line, trace-lines, listing};
+ghost use Rattle.lock_file.specs.FileAnswers.{listing-outcome, outcome-reply, outcome-output};
+use crate::FileReply;
 
 fn digit_of(d: u32) -> u8
     requires { ⌜ d < 10 ⌝ }
@@ -139,4 +141,35 @@ fn trace_length(trace: &[u16]) -> usize
         k += 1;
     }
     total
+}
+
+// Measures the listing first, so that a short output buffer stays as it came; then writes it.
+pub(crate) fn list_run(
+    steps: u32,
+    entries: u32,
+    stays: u32,
+    root: u32,
+    passed: u32,
+    trace: &[u16],
+    output: &mut [u8],
+) -> FileReply
+    requires { ⌜ length (now trace) ≤ 65536 ⌝ }
+    ensures { λ r. ⌜ r ≡ outcome-reply (listing-outcome (listing steps entries stays root passed (now (trace .entry))) (length (now (output .entry)))) ⌝ }
+    ensures { λ r. ⌜ now (output .exit) ≡ outcome-output (listing-outcome (listing steps entries stays root passed (now (trace .entry))) (length (now (output .entry)))) (now (output .entry)) ⌝ }
+{
+    let total = first_line_length(steps, entries, stays, root, passed) + trace_length(trace);
+    if output.len() < total {
+        return FileReply {
+            number: 14,
+            place: 0,
+            length: 0,
+        };
+    }
+    let at = put_first_line(output, steps, entries, stays, root, passed);
+    put_trace(output, at, trace);
+    FileReply {
+        number: 0,
+        place: 0,
+        length: total as u32,
+    }
 }

@@ -1,8 +1,9 @@
 // Reading a lock file from left to right.
 ghost use mathlib.Core.Path.{_≡_};
-ghost use Prim.Native.Nat.{_-_, _<_};
+ghost use Prim.Native.Nat.{_+_, _*_, _-_, _<_, _≤_};
+ghost use lib.Seq.{sets};
 ghost use lib.ListN.{length, replicate};
-ghost use Rattle.lock_file.specs.Reading.{byte, two-bytes, field-end, entry-end, domain-size, domain-end, parent-at, threshold-at, stored, domains-from, domains-read, thread-end, home-at, threads-from, threads-behind, threads-read, thread-count, schedule-start, tree-read};
+ghost use Rattle.lock_file.specs.Reading.{byte, two-bytes, field-end, entry-end, domain-size, domain-end, parent-at, threshold-at, stored, domains-from, domains-read, thread-end, home-at, threads-from, threads-behind, threads-read, thread-count, schedule-start, tree-read, entries-from};
 use crate::DomainsRead;
 use crate::Reached;
 use crate::ThreadsRead;
@@ -340,4 +341,19 @@ pub(crate) fn read_tree(file: &[u8]) -> TreeRead
         homes,
     };
     TreeRead { reached, tree }
+}
+
+// The schedule's entries, at the front of a buffer.
+pub(crate) fn read_schedule(file: &[u8], start: usize, entries: usize, schedule: &mut [u16])
+    requires { ⌜ start + 2 * entries ≤ length (now file) ⌝ }
+    requires { ⌜ entries ≤ length (now schedule) ⌝ }
+    ensures { λ r. ⌜ now (schedule .exit) ≡ sets (now (schedule .entry)) 0 (entries-from (now (file .entry)) entries start) ⌝ }
+{
+    let mut at = start;
+    let mut k = 0;
+    while k < entries {
+        schedule[k] = two_bytes_at(file, at);
+        at += 2;
+        k += 1;
+    }
 }
