@@ -3,3 +3,7 @@ pub mod Positions
 pub mod Numerals
 pub mod Writing
 pub mod Outcomes
+pub mod Bytes
+pub mod DomainEntry
+pub mod ThreadEntry
+pub mod Stored

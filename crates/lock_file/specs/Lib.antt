@@ -2,3 +2,5 @@
 pub mod Reading
 pub mod Listing
 pub mod FileAnswers
+pub mod Format
+pub mod FileLaws

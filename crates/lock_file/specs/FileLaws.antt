@@ -1,0 +1,37 @@
+-- THE LAWS OF THE LOCK FILE AND THE LISTING. Each is a statement; proofs/ has its proof. Assumes nothing.
+use mathlib.Core.Path.{_≡_}
+use mathlib.Core.List.{List, [], _∷_}
+use mathlib.Core.Logic.{_≢_, _⊎_}
+use Prim.Native.Nat.{ℕ, _+_, _*_, _-_, _≤_, _<_}
+use lib.ListN.{length, getD}
+use Rattle.model.specs.declared.TreeWords.{TreeWords}
+use Rattle.model.specs.Laws.{_⟺_}
+use Rattle.lock_file.specs.Reading.{described, file-read}
+use Rattle.lock_file.specs.Listing.{numeral}
+use Rattle.lock_file.specs.FileAnswers.{file-run}
+use Rattle.lock_file.specs.Format.{Describes}
+
+-- 1. FORMAT. Reading accepts a file, with a tree and a schedule, exactly if the file describes them
+unfoldable pub Format-law : Type 0
+Format-law =
+    (bytes : List ℕ) (w : TreeWords) (schedule : List ℕ) → (file-read bytes ≡ described w schedule) ⟺ Describes bytes w schedule
+
+-- 2. NUMERALS. The value that decimal digits have, behind those that were read
+unfoldable pub value-from : (value : ℕ) → (digits : List ℕ) → ℕ
+value-from v [] = v
+value-from v (b ∷ bs) = value-from (10 * v + (b - 48)) bs
+
+-- a numeral has digits only, reads back, and starts with 0 only if it is that of 0
+pub record Decimal (v : ℕ) (bytes : List ℕ) : Type 0 where
+  pub reads-back : value-from 0 bytes ≡ v
+  pub digits-only : (k : ℕ) → k < length bytes → (48 ≤ getD bytes k 0) × (getD bytes k 0 ≤ 57)
+  pub no-leading-zero : v ≢ 0 → getD bytes 0 0 ≢ 48
+
+unfoldable pub Numeral-law : Type 0
+Numeral-law = (v : ℕ) → Decimal v (numeral v)
+
+-- 3. REFUSALS. The file call's run meets no refusal but 4 to 9 and 12
+unfoldable pub File-run-law : Type 0
+File-run-law =
+    (w : TreeWords) (schedule : List ℕ) → length schedule ≤ 65536 →
+    (file-run w schedule .number ≢ 10) × (file-run w schedule .number ≢ 11) × (file-run w schedule .number ≢ 13)
