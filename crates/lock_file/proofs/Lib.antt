@@ -7,3 +7,4 @@ pub mod Bytes
 pub mod DomainEntry
 pub mod ThreadEntry
 pub mod Stored
+pub mod DomainEntries

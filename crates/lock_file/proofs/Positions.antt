@@ -54,31 +54,75 @@ pub domain-within :
 unfolding domain-end domain-size
 domain-within bs at next e = entry-within bs 3 at (domain-size (byte bs at)) next (omega arith) e
 
+-- by how far reading came
+pub reached-cases :
+    {C : Type 0} (r : Reached) → ((next : ℕ) → r ≡ At next → C) → (r ≡ Ended → C) → ((p : ℕ) → r ≡ BadMap p → C) → C
+reached-cases (At next) f g h = f next refl
+reached-cases Ended f g h = g refl
+reached-cases (BadMap p) f g h = h p refl
+
+-- one domain's entry, and those behind it
+module _ (bs : List ℕ) (k d at : ℕ) (ps hs : List ℕ) where
+  pub domain-then :
+      (next : ℕ) → domain-end bs at ≡ At next →
+      domains-from bs (suc k) d at ps hs
+      ≡ domains-from bs k (d + 1) next (stored 64 ps d (parent-at bs at)) (stored 64 hs d (threshold-at bs at))
+  unfolding domains-from
+  domain-then next e = rw (e, domains-from)
+
+  pub domain-ended : domain-end bs at ≡ Ended → domains-from bs (suc k) d at ps hs ≡ domains-at Ended ps hs
+  unfolding domains-from
+  domain-ended e = rw (e, domains-from)
+
+  pub domain-bad : (p : ℕ) → domain-end bs at ≡ BadMap p → domains-from bs (suc k) d at ps hs ≡ domains-at (BadMap p) ps hs
+  unfolding domains-from
+  domain-bad p e = rw (e, domains-from)
+
 -- the domains from d to D − 1: the next entry, the end, or a refusal
 module _ (bs : List ℕ) (D d at : ℕ) (ps hs : List ℕ) where
   pub domains-next :
       (next : ℕ) → d < D → domain-end bs at ≡ At next →
       domains-from bs (D - d) d at ps hs
       ≡ domains-from bs (D - (d + 1)) (d + 1) next (stored 64 ps d (parent-at bs at)) (stored 64 hs d (threshold-at bs at))
-  unfolding domains-from
-  domains-next next h e = let z : D - d ≡ suc (D - (d + 1)) = omega arith in rw (z, e, domains-from)
+  domains-next next h e =
+      let z : D - d ≡ suc (D - (d + 1)) = omega arith in
+      rw z (domain-then bs (D - (d + 1)) d at ps hs next e)
 
   pub domains-over : D ≤ d → domains-from bs (D - d) d at ps hs ≡ domains-at (At at) ps hs
   unfolding domains-from
   domains-over h = let z : D - d ≡ 0 = omega arith in rw z
 
   pub domains-ended : d < D → domain-end bs at ≡ Ended → domains-from bs (D - d) d at ps hs ≡ domains-at Ended ps hs
-  unfolding domains-from
-  domains-ended h e = let z : D - d ≡ suc (D - (d + 1)) = omega arith in rw (z, e, domains-from)
+  domains-ended h e =
+      let z : D - d ≡ suc (D - (d + 1)) = omega arith in
+      rw z (domain-ended bs (D - (d + 1)) d at ps hs e)
 
   pub domains-bad :
       (p : ℕ) → d < D → domain-end bs at ≡ BadMap p → domains-from bs (D - d) d at ps hs ≡ domains-at (BadMap p) ps hs
-  unfolding domains-from
-  domains-bad p h e = let z : D - d ≡ suc (D - (d + 1)) = omega arith in rw (z, e, domains-from)
+  domains-bad p h e =
+      let z : D - d ≡ suc (D - (d + 1)) = omega arith in
+      rw z (domain-bad bs (D - (d + 1)) d at ps hs p e)
 
 pub thread-within : (bs : List ℕ) (at next : ℕ) → thread-end bs at ≡ At next → Entry-within bs 1 at (1 + byte bs at % 2) next
 unfolding thread-end
 thread-within bs at next e = entry-within bs 1 at (1 + byte bs at % 2) next (omega arith) e
+
+-- one thread's entry, and those behind it
+module _ (bs : List ℕ) (k i before at : ℕ) (hs : List ℕ) where
+  pub thread-then :
+      (next : ℕ) → thread-end bs at ≡ At next →
+      threads-from bs (suc k) i before at hs
+      ≡ threads-from bs k (i + 1) (home-at bs before at) next (stored 256 hs i (home-at bs before at))
+  unfolding threads-from
+  thread-then next e = rw (e, threads-from)
+
+  pub thread-ended : thread-end bs at ≡ Ended → threads-from bs (suc k) i before at hs ≡ threads-at Ended hs
+  unfolding threads-from
+  thread-ended e = rw (e, threads-from)
+
+  pub thread-bad : (p : ℕ) → thread-end bs at ≡ BadMap p → threads-from bs (suc k) i before at hs ≡ threads-at (BadMap p) hs
+  unfolding threads-from
+  thread-bad p e = rw (e, threads-from)
 
 -- the threads from i to T − 1: the next entry, the end, or a refusal
 module _ (bs : List ℕ) (T i before at : ℕ) (hs : List ℕ) where
@@ -86,21 +130,24 @@ module _ (bs : List ℕ) (T i before at : ℕ) (hs : List ℕ) where
       (next : ℕ) → i < T → thread-end bs at ≡ At next →
       threads-from bs (T - i) i before at hs
       ≡ threads-from bs (T - (i + 1)) (i + 1) (home-at bs before at) next (stored 256 hs i (home-at bs before at))
-  unfolding threads-from
-  threads-next next h e = let z : T - i ≡ suc (T - (i + 1)) = omega arith in rw (z, e, threads-from)
+  threads-next next h e =
+      let z : T - i ≡ suc (T - (i + 1)) = omega arith in
+      rw z (thread-then bs (T - (i + 1)) i before at hs next e)
 
   pub threads-over : T ≤ i → threads-from bs (T - i) i before at hs ≡ threads-at (At at) hs
   unfolding threads-from
   threads-over h = let z : T - i ≡ 0 = omega arith in rw z
 
   pub threads-ended : i < T → thread-end bs at ≡ Ended → threads-from bs (T - i) i before at hs ≡ threads-at Ended hs
-  unfolding threads-from
-  threads-ended h e = let z : T - i ≡ suc (T - (i + 1)) = omega arith in rw (z, e, threads-from)
+  threads-ended h e =
+      let z : T - i ≡ suc (T - (i + 1)) = omega arith in
+      rw z (thread-ended bs (T - (i + 1)) i before at hs e)
 
   pub threads-bad :
       (p : ℕ) → i < T → thread-end bs at ≡ BadMap p → threads-from bs (T - i) i before at hs ≡ threads-at (BadMap p) hs
-  unfolding threads-from
-  threads-bad p h e = let z : T - i ≡ suc (T - (i + 1)) = omega arith in rw (z, e, threads-from)
+  threads-bad p h e =
+      let z : T - i ≡ suc (T - (i + 1)) = omega arith in
+      rw z (thread-bad bs (T - (i + 1)) i before at hs p e)
 
 -- the schedule's entries from the k-th on, stored one behind another
 module _ (bs : List ℕ) (n k at : ℕ) (l : List ℕ) where
