@@ -8,3 +8,5 @@ pub mod DomainEntry
 pub mod ThreadEntry
 pub mod Stored
 pub mod DomainEntries
+pub mod ThreadEntries
+pub mod ScheduleEntries
