@@ -25,9 +25,9 @@ domains-room bs zero d at ps hs = (refl, refl)
 domains-room bs (suc k) d at ps hs =
     reached-cases (domain-end bs at)
     (λ next e.
-      let rest = domains-room bs k (d + 1) next (stored 64 ps d (parent-at bs at)) (stored 64 hs d (threshold-at bs at)) in
-      rw (domain-then bs k d at ps hs next e)
-      (rest .0 ∙ stored-length 64 ps d (parent-at bs at), rest .1 ∙ stored-length 64 hs d (threshold-at bs at)))
+    let rest = domains-room bs k (d + 1) next (stored 64 ps d (parent-at bs at)) (stored 64 hs d (threshold-at bs at)) in
+    rw (domain-then bs k d at ps hs next e)
+    (rest .0 ∙ stored-length 64 ps d (parent-at bs at), rest .1 ∙ stored-length 64 hs d (threshold-at bs at)))
     (λ e. rw (domain-ended bs k d at ps hs e) (refl, refl))
     (λ p e. rw (domain-bad bs k d at ps hs p e) (refl, refl))
 
@@ -40,9 +40,9 @@ domains-kept bs zero d at ps hs j o = (refl, refl)
 domains-kept bs (suc k) d at ps hs j o =
     reached-cases (domain-end bs at)
     (λ next e.
-      let rest = domains-kept bs k (d + 1) next (stored 64 ps d (parent-at bs at)) (stored 64 hs d (threshold-at bs at)) j (beyond o) in
-      rw (domain-then bs k d at ps hs next e)
-      (rest .0 ∙ stored-other 64 ps d (parent-at bs at) j (apart o), rest .1 ∙ stored-other 64 hs d (threshold-at bs at) j (apart o)))
+    let rest = domains-kept bs k (d + 1) next (stored 64 ps d (parent-at bs at)) (stored 64 hs d (threshold-at bs at)) j (beyond o) in
+    rw (domain-then bs k d at ps hs next e)
+    (rest .0 ∙ stored-other 64 ps d (parent-at bs at) j (apart o), rest .1 ∙ stored-other 64 hs d (threshold-at bs at) j (apart o)))
     (λ e. rw (domain-ended bs k d at ps hs e) (refl, refl))
     (λ p e. rw (domain-bad bs k d at ps hs p e) (refl, refl))
   where
@@ -71,25 +71,25 @@ domains-bytes bs zero d at next ps hs a b e =
 domains-bytes bs (suc k) d at next ps hs a b e =
     reached-cases (domain-end bs at)
     (λ n g.
-      let p = parent-at bs at in
-      let h = threshold-at bs at in
-      let qs = stored 64 ps d p in
-      let is = stored 64 hs d h in
-      let then = domain-then bs k d at ps hs n g in
-      let first = domain-bytes bs at n g in
-      let rest = domains-bytes bs k (d + 1) n next qs is (stored-length 64 ps d p ∙ a) (stored-length 64 hs d h ∙ b) (rw then at e) in
-      let room = domains-room bs k (d + 1) n qs is in
-      let kept = domains-kept bs k (d + 1) n qs is d (inl (omega arith)) in
-      let long = stored-length 64 ps d p in
-      let long2 = stored-length 64 hs d h in
-      rw then
-      (record {
-        bytes = first .bytes ++ rest .bytes;
-        entries =
+    let p = parent-at bs at in
+    let h = threshold-at bs at in
+    let qs = stored 64 ps d p in
+    let is = stored 64 hs d h in
+    let then = domain-then bs k d at ps hs n g in
+    let first = domain-bytes bs at n g in
+    let rest = domains-bytes bs k (d + 1) n next qs is (stored-length 64 ps d p ∙ a) (stored-length 64 hs d h ∙ b) (rw then at e) in
+    let room = domains-room bs k (d + 1) n qs is in
+    let kept = domains-kept bs k (d + 1) n qs is d (inl (omega arith)) in
+    let long = stored-length 64 ps d p in
+    let long2 = stored-length 64 hs d h in
+    rw then
+    (record {
+      bytes = first .bytes ++ rest .bytes;
+      entries =
           next-domain d k p h (first .bytes) (rest .bytes) (first .entry) (λ l. kept .0 ∙ stored-here 64 ps d p (omega arith) (omega arith))
           (λ l. kept .1 ∙ stored-here 64 hs d h (omega arith) (omega arith)) (rest .entries);
-        split = first .split ∙ ap (λ l. first .bytes ++ l) (rest .split) ∙ sym (append-assoc (first .bytes) (rest .bytes) (drop next bs));
-      }))
+      split = first .split ∙ ap (λ l. first .bytes ++ l) (rest .split) ∙ sym (append-assoc (first .bytes) (rest .bytes) (drop next bs));
+    }))
     (λ g. let bad : Ended ≡ At next = rw (domain-ended bs k d at ps hs g) at e in absurd (let z : _≡_ {A = ℕ} 0 1 = cc in omega arith))
     (λ p g. let bad : BadMap p ≡ At next = rw (domain-bad bs k d at ps hs p g) at e in absurd (let z : _≡_ {A = ℕ} 0 1 = cc in omega arith))
 
@@ -128,17 +128,17 @@ domains-stored bs k d at ps hs gp gh xs rest a b c f (next-domain d′ k′ p h 
       reached = others .reached ∙ ap At long;
       behind = rw long at (others .behind);
       parents-given =
-        λ j l m o.
+          λ j l m o.
           elim (ℕ-discrete j d) [
             | yes z ↦ rw z
-              (kept .0 ∙ stored-here 64 ps d (parent-at bs at) (omega arith) (omega arith) ∙ first .parent ∙ sym (hold-p (omega arith)))
+                (kept .0 ∙ stored-here 64 ps d (parent-at bs at) (omega arith) (omega arith) ∙ first .parent ∙ sym (hold-p (omega arith)))
             | no z ↦ others .parents-given j (omega arith) (omega arith) o
           ];
       thresholds-given =
-        λ j l m o.
+          λ j l m o.
           elim (ℕ-discrete j d) [
             | yes z ↦ rw z
-              (kept .1 ∙ stored-here 64 hs d (threshold-at bs at) (omega arith) (omega arith) ∙ first .threshold ∙ sym (hold-h (omega arith)))
+                (kept .1 ∙ stored-here 64 hs d (threshold-at bs at) (omega arith) (omega arith) ∙ first .threshold ∙ sym (hold-h (omega arith)))
             | no z ↦ others .thresholds-given j (omega arith) (omega arith) o
           ];
     })

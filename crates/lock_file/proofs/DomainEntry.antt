@@ -48,13 +48,14 @@ domain-map bs at next (suc (suc (suc zero))) e a b c =
       bytes = 3 ∷ byte bs (at + 1) ∷ byte bs (at + 1 + 1) ∷ byte bs (at + 1 + 1 + 1) ∷ [];
       entry = both-fields (byte bs (at + 1)) (byte bs (at + 1 + 1)) (byte bs (at + 1 + 1 + 1));
       split =
-        rw
-        (next-byte bs at (omega arith),
-         e,
-         next-byte bs (at + 1) (omega arith),
-         next-byte bs (at + 1 + 1) (omega arith),
-         next-byte bs (at + 1 + 1 + 1) (omega arith),
-         z);
+          rw (
+            next-byte bs at (omega arith),
+            e,
+            next-byte bs (at + 1) (omega arith),
+            next-byte bs (at + 1 + 1) (omega arith),
+            next-byte bs (at + 1 + 1 + 1) (omega arith),
+            z,
+          );
     })
 domain-map bs at next (suc (suc (suc (suc m)))) e a b c = absurd (omega arith)
 

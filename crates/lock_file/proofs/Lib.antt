@@ -10,3 +10,5 @@ pub mod Stored
 pub mod DomainEntries
 pub mod ThreadEntries
 pub mod ScheduleEntries
+pub mod Accepted
+pub mod FormatLaw

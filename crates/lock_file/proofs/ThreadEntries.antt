@@ -12,7 +12,7 @@ use Rattle.lock_file.specs.declared.Reached.the-variants.{At, Ended, Bad
 use Rattle.lock_file.specs.declared.ThreadsRead.{ThreadsRead}
 use Rattle.lock_file.specs.Reading.{thread-end, home-at, stored, threads-from}
 use Rattle.lock_file.specs.Format.{Holds, Thread-entries, no-thread, next-thread}
-use Rattle.lock_file.proofs.Positions.{reached-cases, thread-then, thread-ended, thread-bad}
+use Rattle.lock_file.proofs.Positions.{reached-cases, thread-within, thread-then, thread-ended, thread-bad}
 use Rattle.lock_file.proofs.Stored.{stored-length, stored-here, stored-other}
 use Rattle.lock_file.proofs.ThreadEntry.{Thread-at, thread-bytes, Thread-read, thread-fields}
 
@@ -25,8 +25,8 @@ threads-room bs (suc k) i before at hs =
     let h = home-at bs before at in
     reached-cases (thread-end bs at)
     (λ next e.
-      rw (thread-then bs k i before at hs next e)
-      (threads-room bs k (i + 1) h next (stored 256 hs i h) ∙ stored-length 256 hs i h))
+    rw (thread-then bs k i before at hs next e)
+    (threads-room bs k (i + 1) h next (stored 256 hs i h) ∙ stored-length 256 hs i h))
     (λ e. rw (thread-ended bs k i before at hs e))
     (λ p e. rw (thread-bad bs k i before at hs p e))
 
@@ -40,8 +40,8 @@ threads-kept bs (suc k) i before at hs j o =
     let h = home-at bs before at in
     reached-cases (thread-end bs at)
     (λ next e.
-      rw (thread-then bs k i before at hs next e)
-      (threads-kept bs k (i + 1) h next (stored 256 hs i h) j (beyond o) ∙ stored-other 256 hs i h j (apart o)))
+    rw (thread-then bs k i before at hs next e)
+    (threads-kept bs k (i + 1) h next (stored 256 hs i h) j (beyond o) ∙ stored-other 256 hs i h j (apart o)))
     (λ e. rw (thread-ended bs k i before at hs e))
     (λ p e. rw (thread-bad bs k i before at hs p e))
   where
@@ -52,6 +52,25 @@ threads-kept bs (suc k) i before at hs j o =
     apart : (j < i) ⊎ (i + suc k ≤ j) → j ≢ i
     apart (inl l) z = omega arith
     apart (inr g) z = omega arith
+
+-- a position that reading came to lies within the file
+pub threads-within :
+    (bs : List ℕ) (k i before at next : ℕ) (hs : List ℕ) → at ≤ length bs → threads-from bs k i before at hs .reached ≡ At next →
+    next ≤ length bs
+unfolding threads-from
+threads-within bs zero i before at next hs a e = let z : at ≡ next = cc in omega arith
+threads-within bs (suc k) i before at next hs a e =
+    let h = home-at bs before at in
+    reached-cases (thread-end bs at)
+    (λ n g.
+    threads-within bs k (i + 1) h n next (stored 256 hs i h) (thread-within bs at n g .within)
+    (rw (thread-then bs k i before at hs n g) at e))
+    (λ g.
+    let bad : Ended ≡ At next = rw (thread-ended bs k i before at hs g) at e in
+    absurd (let z : _≡_ {A = ℕ} 0 1 = cc in omega arith))
+    (λ p g.
+    let bad : BadMap p ≡ At next = rw (thread-bad bs k i before at hs p g) at e in
+    absurd (let z : _≡_ {A = ℕ} 0 1 = cc in omega arith))
 
 -- entries that were read: their bytes, up to the position reached
 pub record Threads-at (bs : List ℕ) (i k before at next : ℕ) (hs : List ℕ) : Type 0 where
@@ -69,28 +88,28 @@ threads-bytes bs zero i before at next hs a e =
 threads-bytes bs (suc k) i before at next hs a e =
     reached-cases (thread-end bs at)
     (λ n g.
-      let h = home-at bs before at in
-      let ms = stored 256 hs i h in
-      let then = thread-then bs k i before at hs n g in
-      let long = stored-length 256 hs i h in
-      let first = thread-bytes bs before at n g in
-      let rest = threads-bytes bs k (i + 1) h n next ms (long ∙ a) (rw then at e) in
-      let room = threads-room bs k (i + 1) h n ms in
-      let kept = threads-kept bs k (i + 1) h n ms i (inl (omega arith)) in
-      rw then
-      (record {
-        bytes = first .bytes ++ rest .bytes;
-        entries =
+    let h = home-at bs before at in
+    let ms = stored 256 hs i h in
+    let then = thread-then bs k i before at hs n g in
+    let long = stored-length 256 hs i h in
+    let first = thread-bytes bs before at n g in
+    let rest = threads-bytes bs k (i + 1) h n next ms (long ∙ a) (rw then at e) in
+    let room = threads-room bs k (i + 1) h n ms in
+    let kept = threads-kept bs k (i + 1) h n ms i (inl (omega arith)) in
+    rw then
+    (record {
+      bytes = first .bytes ++ rest .bytes;
+      entries =
           next-thread i k before h (first .bytes) (rest .bytes) (first .entry)
           (λ l. kept ∙ stored-here 256 hs i h (omega arith) (omega arith)) (rest .entries);
-        split = first .split ∙ ap (λ l. first .bytes ++ l) (rest .split) ∙ sym (append-assoc (first .bytes) (rest .bytes) (drop next bs));
-      }))
+      split = first .split ∙ ap (λ l. first .bytes ++ l) (rest .split) ∙ sym (append-assoc (first .bytes) (rest .bytes) (drop next bs));
+    }))
     (λ g.
-      let bad : Ended ≡ At next = rw (thread-ended bs k i before at hs g) at e in
-      absurd (let z : _≡_ {A = ℕ} 0 1 = cc in omega arith))
+    let bad : Ended ≡ At next = rw (thread-ended bs k i before at hs g) at e in
+    absurd (let z : _≡_ {A = ℕ} 0 1 = cc in omega arith))
     (λ p g.
-      let bad : BadMap p ≡ At next = rw (thread-bad bs k i before at hs p g) at e in
-      absurd (let z : _≡_ {A = ℕ} 0 1 = cc in omega arith))
+    let bad : BadMap p ≡ At next = rw (thread-bad bs k i before at hs p g) at e in
+    absurd (let z : _≡_ {A = ℕ} 0 1 = cc in omega arith))
 
 -- the other way: entries that stand at a position are read, and their homes stored
 pub record Threads-read (bs : List ℕ) (i k at : ℕ) (r : ThreadsRead) (given bytes rest : List ℕ) : Type 0 where
@@ -117,7 +136,7 @@ threads-stored bs k i before at hs given xs rest a b (next-thread i′ k′ befo
       reached = others .reached ∙ ap At long;
       behind = rw long at (others .behind);
       homes-given =
-        λ j l m o.
+          λ j l m o.
           elim (ℕ-discrete j i) [
             | yes z ↦ rw z (kept ∙ stored-here 256 hs i h (omega arith) (omega arith) ∙ sym (hold (omega arith)))
             | no z ↦ others .homes-given j (omega arith) (omega arith) o
