@@ -12,3 +12,5 @@ pub mod ThreadEntries
 pub mod ScheduleEntries
 pub mod Accepted
 pub mod FormatLaw
+pub mod NumeralLaw
+pub mod FileRunLaw
