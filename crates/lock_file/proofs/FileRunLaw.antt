@@ -5,9 +5,10 @@ use mathlib.Core.List.{List, [], _∷_}
 use mathlib.Core.Logic.{_≢_, _⊎_, inl, inr}
 use Prim.Native.Nat.{ℕ, zero, suc, _+_, _≤_, _<_}
 use native.Mathlib.Omega.{arith}
+use native.Mathlib.Decide.{ℕ-discrete}
 use lib.Dec.{ltb, eqb}
 use lib.ListN.{length, getD, replicate, length-replicate}
-use borrow.Author.Tests.{le-ltb, eqb-true}
+use borrow.Author.Tests.{ltb-true, ltb-false, le-ltb, eqb-true}
 use Rattle.model.specs.declared.TreeWords.{TreeWords}
 use Rattle.model.specs.declared.State.{State}
 use Rattle.model.specs.Trees.{Tree, tree-of}
@@ -21,7 +22,6 @@ use Rattle.model.specs.Laws.{Passes}
 use Rattle.model.proofs.Tests.{all-true, by-test}
 use Rattle.model.proofs.Refusing.{lowest-none}
 use Rattle.lock_file.specs.FileAnswers.{file-run}
-use Rattle.lock_file.specs.FileLaws.{File-run-law}
 use Rattle.lock_file.proofs.Stored.{zeros}
 
 repeated : {A : Type 0} (n k : ℕ) (a : A) → getD (replicate n a) k a ≡ a
@@ -118,15 +118,16 @@ module _ (t : Tree) (is : List ℕ) (room : ℕ) (short : length is ≤ 65536) (
   unfolding run-refusal
   run-never n h o = never-answered n (run-tests t fresh-words is room) (omega arith) (never n h o)
 
-pub file-run-law : File-run-law
-unfolding File-run-law file-run run-answer
-file-run-law w is short =
+-- so it is 4 to 9 or 12, if any
+pub run-met : (w : TreeWords) (is : List ℕ) → length is ≤ 65536 → (file-run w is .number ≤ 9) ⊎ (file-run w is .number ≡ 12)
+unfolding file-run run-answer
+run-met w is short =
     let buffer : List ℕ = replicate (length is) 0 in
     let enough : length is ≤ length buffer = omega (arith, length-replicate {A = ℕ} (length is) 0) in
     let r = run-refusal (tree-of w) fresh-words is (length buffer) in
-    let same = replied r fresh-words (run (tree-of w) is fresh-words) in
-    let no = run-never (tree-of w) is (length buffer) short enough in (
-      rw same (no 10 (omega arith) (λ e. omega arith)),
-      rw same (no 11 (omega arith) (λ e. omega arith)),
-      rw same (no 13 (omega arith) (λ e. omega arith)),
-    )
+    rw (replied r fresh-words (run (tree-of w) is fresh-words))
+    (by (r .number) (ltb 9 (r .number)) refl (run-never (tree-of w) is (length buffer) short enough (r .number)))
+  where
+    by : (n : ℕ) (b : Bool) → ltb 9 n ≡ b → (9 < n → n ≢ 12 → n ≢ n) → (n ≤ 9) ⊎ (n ≡ 12)
+    by n false e f = inl (ltb-false 9 n e)
+    by n true e f = elim (ℕ-discrete n 12) [ yes z ↦ inr z | no z ↦ absurd (f (ltb-true 9 n e) z refl) ]

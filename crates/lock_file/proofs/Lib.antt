@@ -14,3 +14,4 @@ pub mod Accepted
 pub mod FormatLaw
 pub mod NumeralLaw
 pub mod FileRunLaw
+pub mod FileRefusalLaw

@@ -8,7 +8,7 @@ use Rattle.model.specs.declared.TreeWords.{TreeWords}
 use Rattle.model.specs.Laws.{_⟺_}
 use Rattle.lock_file.specs.Reading.{described, file-read}
 use Rattle.lock_file.specs.Listing.{numeral}
-use Rattle.lock_file.specs.FileAnswers.{file-run}
+use Rattle.lock_file.specs.FileAnswers.{file-answer}
 use Rattle.lock_file.specs.Format.{Describes}
 
 -- 1. FORMAT. Reading accepts a file, with a tree and a schedule, exactly if the file describes them
@@ -31,8 +31,9 @@ pub record Decimal (v : ℕ) (bytes : List ℕ) : Type 0 where
 unfoldable pub Numeral-law : Type 0
 Numeral-law = (v : ℕ) → Decimal v (numeral v)
 
--- 3. REFUSALS. The file call's run meets no refusal but 4 to 9 and 12
-unfoldable pub File-run-law : Type 0
-File-run-law =
-    (w : TreeWords) (schedule : List ℕ) → length schedule ≤ 65536 →
-    (file-run w schedule .number ≢ 10) × (file-run w schedule .number ≢ 11) × (file-run w schedule .number ≢ 13)
+-- 3. REFUSALS. The file call meets 1 to 9, 12 and 14: it runs from a fresh lock, its schedules are short, its trace buffer has room
+unfoldable pub Met : (number : ℕ) → Type 0
+Met n = (n ≤ 9) ⊎ ((n ≡ 12) ⊎ (n ≡ 14))
+
+unfoldable pub File-refusal-law : Type 0
+File-refusal-law = (bytes output : List ℕ) → Met (file-answer bytes output .number)
