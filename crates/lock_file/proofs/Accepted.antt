@@ -1,9 +1,9 @@
 -- A file that reading accepts: how far each part came. Assumes nothing.
-use mathlib.Core.Path.{_≡_, refl, sym, _∙_, ap}
+use mathlib.Core.Path.{_≡_, refl}
 use mathlib.Core.Bool.{Bool, true, false, cond}
 use mathlib.Core.List.{List}
 use mathlib.Core.Logic.{_≢_}
-use Prim.Native.Nat.{ℕ, _+_, _-_, _%_, _≤_, _<_}
+use Prim.Native.Nat.{ℕ, _+_, _-_, _%_, _≤_}
 use native.Mathlib.Omega.{arith}
 use lib.Dec.{eqb}
 use lib.ListN.{length, replicate}
@@ -11,10 +11,9 @@ use borrow.Author.Tests.{eqb-true, eqb-false}
 use Rattle.model.specs.declared.TreeWords.{TreeWords}
 use Rattle.lock_file.specs.declared.Reached.{Reached}
 use Rattle.lock_file.specs.declared.Reached.the-variants.{At, Ended, BadMap}
-use Rattle.lock_file.specs.declared.DomainsRead.{DomainsRead}
 use Rattle.lock_file.specs.declared.ThreadsRead.{ThreadsRead}
-use Rattle.lock_file.specs.Reading.{byte, two-bytes, field-end, domains-at, domains-from, domains-read, threads-from, threads-behind, threads-read, schedule-start, entries-at, Reading, refused, described, reading-of}
-use Rattle.lock_file.proofs.Positions.{reached-cases, field-within}
+use Rattle.lock_file.specs.Reading.{byte, two-bytes, field-end, domains-at, domains-from, domains-read, threads-from, threads-behind, threads-read, schedule-start, entries-at, described, reading-of}
+use Rattle.lock_file.proofs.Positions.{field-within}
 
 -- an accepted reading
 pub record Accepted-at (bs : List ℕ) (r : Reached) (v w : TreeWords) (is : List ℕ) : Type 0 where

@@ -2,7 +2,7 @@
 use mathlib.Core.Path.{_≡_, refl}
 use mathlib.Core.Bool.{Bool, true, false, _&&_}
 use mathlib.Core.List.{List, [], _∷_, _++_}
-use Prim.Native.Nat.{ℕ, suc, _+_}
+use Prim.Native.Nat.{ℕ, suc}
 use lib.Dec.{eqb}
 use lib.ListN.{replicate}
 use Rattle.model.specs.Scans.{any-below, all-below}
@@ -12,7 +12,7 @@ use Rattle.model.specs.States.{fresh-words}
 use Rattle.model.specs.Steps.{is-stay, is-root-entry, is-passed-entry, is-entry, prep-row, swap-row, link-row, wait-row, leave-row, check-row, help-row, cas-row, linger-row, grant-row, row, step}
 use Rattle.model.specs.Runs.{steps, state-after, how-many, entering, run-of, run}
 use Rattle.model.specs.WellFormed.{good-tail, good-next, good-status, good-place, good-thread, well-formed}
-use Rattle.model.specs.Refusals.{Refusal, refusal, accepted, lowest-bad, first-refusal, bad-domains, bad-threads, bad-parent, too-deep, no-threshold, bad-home, tree-tests, bad-state, bad-length, bad-entry, bad-room, run-tests, tree-refusal, run-refusal}
+use Rattle.model.specs.Refusals.{refusal, accepted, lowest-bad, first-refusal, bad-domains, bad-threads, bad-parent, too-deep, no-threshold, bad-home, tree-tests, bad-state, bad-length, bad-entry, bad-room, run-tests, tree-refusal, run-refusal}
 use Rattle.model.specs.Answers.{run-reply, run-answer}
 use Rattle.lock_file.specs.declared.FileReply.{FileReply}
 use Rattle.lock_file.specs.Reading.{Reading, refused, described, reached-refusal, field-end, entry-end, domain-size, domain-end, parent-at, threshold-at, stored, domains-from, domains-read, thread-end, home-at, threads-from, threads-behind, threads-read, thread-count, schedule-start, tree-read, entries-from, entries-at, reading-of, file-read}

@@ -1,20 +1,19 @@
 -- The domains' entries: what reading them stores, and that it reads exactly the entries that stand there. Assumes nothing.
 use mathlib.Core.Path.{_≡_, refl, sym, _∙_, ap}
-use mathlib.Core.List.{List, [], _∷_, _++_, append-assoc}
+use mathlib.Core.List.{List, [], _++_, append-assoc}
 use mathlib.Core.Logic.{_≢_, _⊎_, inl, inr}
 use Prim.Native.Nat.{ℕ, zero, suc, _+_, _≤_, _<_}
 use native.Mathlib.Omega.{arith}
 use native.Mathlib.Nat.{add-zero}
 use native.Mathlib.Decide.{ℕ-discrete}
 use lib.ListN.{length, getD, drop, length-append}
-use Rattle.lock_file.specs.declared.Reached.{Reached}
 use Rattle.lock_file.specs.declared.Reached.the-variants.{At, Ended, BadMap}
 use Rattle.lock_file.specs.declared.DomainsRead.{DomainsRead}
 use Rattle.lock_file.specs.Reading.{domain-end, parent-at, threshold-at, stored, domains-from}
-use Rattle.lock_file.specs.Format.{Holds, Domain-entries, no-domain, next-domain}
+use Rattle.lock_file.specs.Format.{Domain-entries, no-domain, next-domain}
 use Rattle.lock_file.proofs.Positions.{reached-cases, domain-then, domain-ended, domain-bad}
 use Rattle.lock_file.proofs.Stored.{stored-length, stored-here, stored-other}
-use Rattle.lock_file.proofs.DomainEntry.{Domain-at, domain-bytes, Domain-read, domain-fields}
+use Rattle.lock_file.proofs.DomainEntry.{domain-bytes, domain-fields}
 
 -- reading keeps the room
 pub domains-room :

@@ -1,20 +1,19 @@
 -- REFUSALS OF THE FILE CALL: 1 to 9, 12 and 14. Assumes nothing.
 use mathlib.Core.Path.{_≡_, refl}
-use mathlib.Core.Bool.{Bool, true, false, cond}
 use mathlib.Core.List.{List}
 use mathlib.Core.Logic.{_⊎_, inl, inr}
-use Prim.Native.Nat.{ℕ, zero, suc, _+_, _-_, _/_, _≤_, _<_}
+use Prim.Native.Nat.{ℕ, zero, suc, _+_, _-_, _/_, _≤_}
 use native.Mathlib.Omega.{arith}
 use lib.Dec.{ltb, eqb}
 use lib.ListN.{length}
 use borrow.Author.Tests.{ltb-false}
 use Rattle.model.specs.declared.TreeWords.{TreeWords}
 use Rattle.model.specs.declared.RunReply.{RunReply}
-use Rattle.model.specs.Refusals.{Refusal, refusal}
+use Rattle.model.specs.Refusals.{refusal}
 use Rattle.model.proofs.Tests.{by-test}
 use Rattle.lock_file.specs.declared.Reached.{Reached}
 use Rattle.lock_file.specs.declared.Reached.the-variants.{At, Ended, BadMap}
-use Rattle.lock_file.specs.Reading.{reached-refusal, entries-from, entries-at, Reading, refused, described, tree-read, reading-of, file-read}
+use Rattle.lock_file.specs.Reading.{reached-refusal, entries-from, entries-at, tree-read, reading-of, file-read}
 use Rattle.lock_file.specs.Listing.{listing}
 use Rattle.lock_file.specs.FileAnswers.{Outcome, refused-by, lists, listing-outcome, run-outcome, file-run, file-trace, reading-outcome, file-outcome, outcome-reply, file-answer}
 use Rattle.lock_file.specs.FileLaws.{Met, File-refusal-law}

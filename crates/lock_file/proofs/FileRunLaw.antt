@@ -1,6 +1,6 @@
 -- REFUSALS OF THE FILE CALL'S RUN: a fresh lock is well formed, and schedule and trace buffer have the right length. Assumes nothing.
-use mathlib.Core.Path.{_≡_, refl, sym, _∙_, ap}
-use mathlib.Core.Bool.{Bool, true, false, not, cond}
+use mathlib.Core.Path.{_≡_, refl, sym}
+use mathlib.Core.Bool.{Bool, true, false, cond}
 use mathlib.Core.List.{List, [], _∷_}
 use mathlib.Core.Logic.{_≢_, _⊎_, inl, inr}
 use Prim.Native.Nat.{ℕ, zero, suc, _+_, _≤_, _<_}
@@ -13,7 +13,7 @@ use Rattle.model.specs.declared.TreeWords.{TreeWords}
 use Rattle.model.specs.declared.State.{State}
 use Rattle.model.specs.Trees.{Tree, tree-of}
 use Rattle.model.specs.Places.{place-words, plain-place, place-of, is-idle}
-use Rattle.model.specs.States.{fresh-words, place}
+use Rattle.model.specs.States.{fresh-words}
 use Rattle.model.specs.Runs.{Run, run}
 use Rattle.model.specs.WellFormed.{good-tail, good-next, good-status, good-place, good-thread, well-formed}
 use Rattle.model.specs.Refusals.{Refusal, refusal, accepted, Test, test, lowest-bad, first-refusal, bad-state, bad-length, bad-room, tree-tests, run-tests, run-refusal}

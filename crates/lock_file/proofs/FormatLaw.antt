@@ -1,26 +1,25 @@
 -- THE FORMAT: reading accepts a file exactly if the file describes a tree and a schedule. Assumes nothing.
 use mathlib.Core.Path.{_≡_, refl, sym, _∙_, ap}
-use mathlib.Core.List.{List, [], _∷_, _++_}
+use mathlib.Core.List.{List, _∷_, _++_}
 use mathlib.Core.Logic.{_≢_, _⊎_, inl, inr}
-use Prim.Native.Nat.{ℕ, zero, suc, _+_, _*_, _-_, _%_, _≤_, _<_}
+use Prim.Native.Nat.{ℕ, _+_, _-_, _%_, _≤_, _<_}
 use native.Mathlib.Omega.{arith}
 use native.Mathlib.Decide.{ℕ-discrete}
-use lib.ListN.{length, getD, drop, replicate, length-append}
+use lib.ListN.{length, drop, replicate}
 use borrow.Author.Tests.{eq-eqb, ne-eqb}
 use Rattle.model.specs.declared.TreeWords.{TreeWords}
 use Rattle.lock_file.specs.declared.Reached.the-variants.{At}
-use Rattle.lock_file.specs.declared.TreeRead.{TreeRead}
 use Rattle.lock_file.specs.declared.DomainsRead.{DomainsRead}
 use Rattle.lock_file.specs.declared.ThreadsRead.{ThreadsRead}
-use Rattle.lock_file.specs.Reading.{byte, low-first, two-bytes, field-end, domains-from, domains-read, threads-from, threads-behind, threads-read, thread-count, schedule-start, tree-read, entries-at, described, reading-of, file-read}
+use Rattle.lock_file.specs.Reading.{byte, two-bytes, field-end, domains-from, domains-read, threads-from, threads-behind, threads-read, thread-count, schedule-start, tree-read, entries-at, described, reading-of, file-read}
 use Rattle.lock_file.specs.Format.{Full-room, Describes}
 use Rattle.lock_file.specs.FileLaws.{Format-law}
-use Rattle.lock_file.proofs.Bytes.{next-byte, Starts, starts, field-reached}
+use Rattle.lock_file.proofs.Bytes.{next-byte, starts, field-reached}
 use Rattle.lock_file.proofs.Stored.{zeros, same-words}
-use Rattle.lock_file.proofs.DomainEntries.{domains-room, domains-kept, Domains-at, domains-bytes, Domains-read, domains-stored}
-use Rattle.lock_file.proofs.ThreadEntries.{threads-room, threads-kept, threads-within, Threads-at, threads-bytes, Threads-read, threads-stored}
-use Rattle.lock_file.proofs.ScheduleEntries.{schedule-bytes, Schedule-read, schedule-stored}
-use Rattle.lock_file.proofs.Accepted.{Accepted-at, reading-accepted, schedule-started, Threads-started, threads-started, domains-started}
+use Rattle.lock_file.proofs.DomainEntries.{domains-room, domains-kept, domains-bytes, Domains-read, domains-stored}
+use Rattle.lock_file.proofs.ThreadEntries.{threads-room, threads-kept, threads-within, threads-bytes, Threads-read, threads-stored}
+use Rattle.lock_file.proofs.ScheduleEntries.{schedule-bytes, schedule-stored}
+use Rattle.lock_file.proofs.Accepted.{reading-accepted, schedule-started, threads-started, domains-started}
 
 abbrev domains-of : (bytes : List ℕ) → DomainsRead
 domains-of bs = domains-from bs (byte bs 0 - 1) 1 1 (replicate 64 0) (replicate 64 0)

@@ -1,5 +1,6 @@
 pub mod Cases
 pub mod Positions
+pub mod Within
 pub mod Numerals
 pub mod Writing
 pub mod Outcomes
@@ -15,3 +16,4 @@ pub mod FormatLaw
 pub mod NumeralLaw
 pub mod FileRunLaw
 pub mod FileRefusalLaw
+pub mod FileRun

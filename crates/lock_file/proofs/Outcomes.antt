@@ -1,5 +1,5 @@
--- The listing in an output buffer: long enough, or too short. Assumes nothing.
-use mathlib.Core.Path.{_≡_, refl, sym, _∙_}
+-- The outcome of the file call, case by case. Assumes nothing.
+use mathlib.Core.Path.{_≡_, sym, _∙_, ap}
 use mathlib.Core.List.{List, _++_}
 use Prim.Native.Nat.{ℕ, _+_, _≤_, _<_}
 use native.Mathlib.Omega.{arith}
@@ -8,8 +8,12 @@ use lib.Seq.{sets}
 use borrow.Author.Tests.{lt-ltb, le-ltb}
 use Rattle.model.specs.Refusals.{refusal}
 use Rattle.lock_file.specs.Listing.{first-line, trace-lines, listing}
+use Rattle.lock_file.specs.FileAnswers.{refused-by, lists, listing-outcome, run-outcome, file-run, file-trace, reading-outcome, file-outcome}
+use Rattle.lock_file.specs.declared.Reached.the-variants.{At, Ended, BadMap}
+use Rattle.lock_file.specs.declared.TreeRead.{TreeRead}
+use Rattle.lock_file.specs.Reading.{reached-refusal, tree-read, entries-at, reading-of, file-read}
 use Rattle.lock_file.proofs.Writing.{sets-append, sets-front}
-use Rattle.lock_file.specs.FileAnswers.{refused-by, lists, listing-outcome}
+use Rattle.lock_file.proofs.Within.{position, tree-position}
 
 pub listing-short : (ls : List ℕ) (room : ℕ) → room < length ls → listing-outcome ls room ≡ refused-by (refusal 14 0)
 unfolding listing-outcome
@@ -34,3 +38,32 @@ listing-written out a b c d e is h =
     let line = first-line a b c d e in
     let z : 0 + length line ≡ length line = omega arith in
     rw z at (sym (sets-append out 0 line (trace-lines is))) ∙ sets-front out (line ++ trace-lines is) h
+
+-- a file that is too long
+pub file-long : (bs : List ℕ) (room : ℕ) → 65536 < length bs → file-outcome bs room ≡ refused-by (refusal 1 0)
+unfolding file-outcome
+file-long bs room h = rw (lt-ltb 65536 (length bs) h)
+
+-- any other, by how far reading came
+module _ (bs : List ℕ) (room : ℕ) (h : length bs ≤ 65536) (t : TreeRead) (read : t ≡ tree-read bs) where
+  pub file-at :
+      (at : ℕ) → t .reached ≡ At at →
+      file-outcome bs room ≡ run-outcome (file-run (t .tree) (entries-at bs at)) (file-trace (t .tree) (entries-at bs at)) room
+  unfolding file-outcome file-read reading-of reading-outcome
+  file-at at e = rw (le-ltb 65536 (length bs) h, ← read, e)
+
+  pub file-ended : t .reached ≡ Ended → file-outcome bs room ≡ refused-by (refusal 2 (length bs))
+  unfolding file-outcome file-read reading-of reading-outcome reached-refusal
+  file-ended e = rw (le-ltb 65536 (length bs) h, ← read, e)
+
+  pub file-bad : (p : ℕ) → t .reached ≡ BadMap p → file-outcome bs room ≡ refused-by (refusal 3 p)
+  unfolding file-outcome file-read reading-of reading-outcome reached-refusal
+  file-bad p e = rw (le-ltb 65536 (length bs) h, ← read, e)
+
+  pub place-within : (p : ℕ) → t .reached ≡ BadMap p → p ≤ length bs
+  unfolding position
+  place-within p e = rw (sym (ap (λ x. x .reached) read) ∙ e) at (tree-position bs)
+
+  pub start-within : (at : ℕ) → t .reached ≡ At at → at ≤ length bs
+  unfolding position
+  start-within at e = rw (sym (ap (λ x. x .reached) read) ∙ e) at (tree-position bs)

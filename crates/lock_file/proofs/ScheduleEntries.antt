@@ -1,13 +1,12 @@
 -- The schedule's entries: reading them, and their bytes standing there, are the same. Assumes nothing.
-use mathlib.Core.Path.{_≡_, refl, sym, _∙_, ap}
-use mathlib.Core.List.{List, [], _∷_, _++_}
-use Prim.Native.Nat.{ℕ, zero, suc, _+_, _*_, _-_, _/_, _%_, _≤_, _<_}
+use mathlib.Core.Path.{_≡_, refl, ap}
+use mathlib.Core.List.{List, _∷_}
+use Prim.Native.Nat.{ℕ, zero, suc, _+_, _*_, _-_, _/_, _%_, _≤_}
 use native.Mathlib.Omega.{arith}
-use native.Mathlib.Nat.{add-zero}
 use lib.ListN.{length, drop, length-drop, drop-of-length-le}
-use Rattle.lock_file.specs.Reading.{byte, two-bytes, entries-from, entries-at}
+use Rattle.lock_file.specs.Reading.{byte, entries-from, entries-at}
 use Rattle.lock_file.specs.Format.{Schedule-entries, no-entry, next-entry}
-use Rattle.lock_file.proofs.Bytes.{next-byte, Starts, starts}
+use Rattle.lock_file.proofs.Bytes.{next-byte, starts}
 
 entries-bytes :
     (bs : List ℕ) (k at : ℕ) → length bs ≡ at + 2 * k → Schedule-entries (entries-from bs k at) (drop at bs)

@@ -1,20 +1,20 @@
 -- The threads' entries: what reading them stores, and that it reads exactly the entries that stand there. Assumes nothing.
 use mathlib.Core.Path.{_≡_, refl, sym, _∙_, ap}
-use mathlib.Core.List.{List, [], _∷_, _++_, append-assoc}
+use mathlib.Core.List.{List, [], _++_, append-assoc}
 use mathlib.Core.Logic.{_≢_, _⊎_, inl, inr}
 use Prim.Native.Nat.{ℕ, zero, suc, _+_, _≤_, _<_}
 use native.Mathlib.Omega.{arith}
 use native.Mathlib.Nat.{add-zero}
 use native.Mathlib.Decide.{ℕ-discrete}
 use lib.ListN.{length, getD, drop, length-append}
-use Rattle.lock_file.specs.declared.Reached.{Reached}
 use Rattle.lock_file.specs.declared.Reached.the-variants.{At, Ended, BadMap}
 use Rattle.lock_file.specs.declared.ThreadsRead.{ThreadsRead}
 use Rattle.lock_file.specs.Reading.{thread-end, home-at, stored, threads-from}
-use Rattle.lock_file.specs.Format.{Holds, Thread-entries, no-thread, next-thread}
-use Rattle.lock_file.proofs.Positions.{reached-cases, thread-within, thread-then, thread-ended, thread-bad}
+use Rattle.lock_file.specs.Format.{Thread-entries, no-thread, next-thread}
+use Rattle.lock_file.proofs.Positions.{reached-cases, thread-then, thread-ended, thread-bad}
+use Rattle.lock_file.proofs.Within.{position, threads-position}
 use Rattle.lock_file.proofs.Stored.{stored-length, stored-here, stored-other}
-use Rattle.lock_file.proofs.ThreadEntry.{Thread-at, thread-bytes, Thread-read, thread-fields}
+use Rattle.lock_file.proofs.ThreadEntry.{thread-bytes, thread-fields}
 
 -- reading keeps the room
 pub threads-room :
@@ -57,20 +57,8 @@ threads-kept bs (suc k) i before at hs j o =
 pub threads-within :
     (bs : List ℕ) (k i before at next : ℕ) (hs : List ℕ) → at ≤ length bs → threads-from bs k i before at hs .reached ≡ At next →
     next ≤ length bs
-unfolding threads-from
-threads-within bs zero i before at next hs a e = let z : at ≡ next = cc in omega arith
-threads-within bs (suc k) i before at next hs a e =
-    let h = home-at bs before at in
-    reached-cases (thread-end bs at)
-    (λ n g.
-    threads-within bs k (i + 1) h n next (stored 256 hs i h) (thread-within bs at n g .within)
-    (rw (thread-then bs k i before at hs n g) at e))
-    (λ g.
-    let bad : Ended ≡ At next = rw (thread-ended bs k i before at hs g) at e in
-    absurd (let z : _≡_ {A = ℕ} 0 1 = cc in omega arith))
-    (λ p g.
-    let bad : BadMap p ≡ At next = rw (thread-bad bs k i before at hs p g) at e in
-    absurd (let z : _≡_ {A = ℕ} 0 1 = cc in omega arith))
+unfolding position
+threads-within bs k i before at next hs a e = rw e at (threads-position bs k i before at hs a)
 
 -- entries that were read: their bytes, up to the position reached
 pub record Threads-at (bs : List ℕ) (i k before at next : ℕ) (hs : List ℕ) : Type 0 where

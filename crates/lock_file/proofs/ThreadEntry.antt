@@ -1,14 +1,14 @@
 -- One thread's entry: reading it at a position, and its bytes standing there, are the same. Assumes nothing.
 use mathlib.Core.Path.{_≡_, refl}
 use mathlib.Core.List.{List, [], _∷_, _++_}
-use Prim.Native.Nat.{ℕ, zero, suc, _+_, _%_, _≤_, _<_}
+use Prim.Native.Nat.{ℕ, zero, suc, _+_, _%_, _≤_}
 use native.Mathlib.Omega.{arith}
 use lib.ListN.{length, drop}
 use Rattle.lock_file.specs.declared.Reached.the-variants.{At}
 use Rattle.lock_file.specs.Reading.{byte, thread-end, home-at}
 use Rattle.lock_file.specs.Format.{Thread-entry, home-before, home-given}
-use Rattle.lock_file.proofs.Positions.{Entry-within, thread-within}
-use Rattle.lock_file.proofs.Bytes.{next-byte, Starts, starts, entry-reached}
+use Rattle.lock_file.proofs.Positions.{thread-within}
+use Rattle.lock_file.proofs.Bytes.{next-byte, starts, entry-reached}
 
 -- an entry's bytes at a position, and where they end
 pub record Thread-at (bs : List ℕ) (at next before h : ℕ) : Type 0 where

@@ -1,7 +1,10 @@
 // The lock file: its reader, the listing, and the file call.
+mod calling;
 mod listing;
 mod reading;
 
+ghost use mathlib.Core.Path.{_≡_};
+ghost use Prim.Native.Nat.{_≤_};
 use model::TreeWords;
 
 // How far reading came: to a position, to the end of the file inside a field or where one is still due, or to a bit map with a bit that has no meaning.
@@ -36,4 +39,11 @@ pub struct FileReply {
     pub number: u32,
     pub place: u32,
     pub length: u32,
+}
+
+fn place_word(place: usize) -> u32
+    requires { ⌜ place ≤ 65536 ⌝ }
+    ensures { λ r. ⌜ r ≡ place ⌝ }
+{
+    place as u32
 }

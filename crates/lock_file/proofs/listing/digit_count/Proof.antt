@@ -1,15 +1,12 @@
 -- `digit_count` meets its contract: a division by ten takes a digit off. Assumes nothing.
-use Rattle.lock_file.proofs.Numerals.{length-small, length-large, length-word}
-use Rattle.lock_file.specs.Listing.{numeral}
-use borrow.Author.Needs.{needs}
+use mathlib.Core.Path.{_≡_}
+use Prim.Native.Nat.{_+_, _≤_}
 use native.Mathlib.Omega.{arith}
 use lib.ListN.{length}
-use Prim.Native.Nat.{_+_, _≤_}
-use mathlib.Core.Path.{_≡_}
+use Rattle.lock_file.specs.Listing.{numeral}
+use Rattle.lock_file.proofs.Numerals.{length-small, length-large, length-word}
 use Rattle.lock_file.proofs.listing.digit_count.Statement.{statement}
 use Rattle.lock_file.proofs.listing.digit_count.Tie as tie
-use Rattle.lock_file.proofs.listing.digit_count.Reads as reads
-use Rattle.lock_file.proofs.listing.digit_count.Lts as lts
 
 abbrev Inv-loop : tie.InvT-loop
 Inv-loop value rest₀ n₀ rest n =
@@ -18,23 +15,18 @@ Inv-loop value rest₀ n₀ rest n =
 abbrev μ-loop : tie.MeasureT-loop
 μ-loop value rest₀ n₀ rest n = rest
 
--- src/listing.rt:23:5
 loop-holds : tie.Need-loop-holds Inv-loop μ-loop
 loop-holds c = (omega arith, omega arith)
 
--- src/listing.rt:25:9
 add-n : tie.Need-add-n Inv-loop μ-loop
 add-n c = omega arith
 
--- src/listing.rt:23:5
 loop-less : tie.Need-loop-less Inv-loop μ-loop
 loop-less c = omega arith
 
--- src/listing.rt:23:5
 loop-again : tie.Need-loop-again Inv-loop μ-loop
 loop-again c = (omega (arith, length-large (c .before .loop .rest) (c .loop-test .taken)), omega arith)
 
--- src/listing.rt:17:1
 returns : tie.Need-returns Inv-loop μ-loop
 returns c = (omega (arith, length-small (c .before .loop .rest) (c .loop-test .left)), omega (arith, length-small (c .before .loop .rest) (c .loop-test .left), length-word (c .before .before .args .value) (omega arith)))
 

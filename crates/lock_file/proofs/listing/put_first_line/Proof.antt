@@ -1,51 +1,39 @@
 -- `put_first_line` meets its contract: the parts one behind another. Assumes nothing.
-use Rattle.lock_file.proofs.Writing.{sets-five}
-use lib.ListN.{length-append}
-use Rattle.lock_file.proofs.Writing.{sets-append}
-use Rattle.lock_file.proofs.Numerals.{length-first-line, length-number}
-use Rattle.lock_file.specs.Listing.{number-then, first-line}
-use mathlib.Core.Path.{_≡_, refl, sym, _∙_}
+use mathlib.Core.Path.{sym}
 use native.Mathlib.Omega.{arith}
+use lib.ListN.{length-append}
 use borrow.Author.Needs.{needs}
+use Rattle.lock_file.specs.Listing.{number-then, first-line}
+use Rattle.lock_file.proofs.Writing.{sets-five}
+use Rattle.lock_file.proofs.Numerals.{length-first-line, length-number}
 use Rattle.lock_file.proofs.listing.put_first_line.Statement.{statement}
 use Rattle.lock_file.proofs.listing.put_first_line.Tie as tie
-use Rattle.lock_file.proofs.listing.put_first_line.Reads as reads
-use Rattle.lock_file.proofs.listing.put_first_line.Lts as lts
-use Rattle.lock_file.proofs.listing.put_number.Reads as put-number-reads
-use Rattle.lock_file.proofs.listing.put_ok.Reads as put-ok-reads
 
--- src/listing.rt:82:5
 put-ok-requires : tie.Need-put-ok-requires
 put-ok-requires c κs = let a = c .before .before .args in omega (arith, length-first-line (a .steps) (a .entries) (a .stays) (a .root) (a .passed))
 
--- src/listing.rt:83:9
 put-number-requires : tie.Need-put-number-requires
 put-number-requires c κs = let a = c .before .before .before .before .before .before .args in omega (arith, length-first-line (a .steps) (a .entries) (a .stays) (a .root) (a .passed), length-number (a .steps) 32, c .before .before .before .put-ok .kept .0)
 
--- src/listing.rt:84:9
 put-number-requires-2 : tie.Need-put-number-requires-2
 put-number-requires-2 c κs = let a = c .before .before .before .before .before .before .before .before .before .before .args in omega (arith, length-first-line (a .steps) (a .entries) (a .stays) (a .root) (a .passed), length-number (a .steps) 32, length-number (a .entries) 32, c .before .before .before .before .before .before .before .put-ok .kept .0, c .before .before .before .put-number .kept .0, c .before .before .before .put-number .ensures .0)
 
--- src/listing.rt:85:9
 put-number-requires-3 : tie.Need-put-number-requires-3
 put-number-requires-3 c κs = let a = c .before .before .before .before .before .before .before .before .before .before .before .before .before .before .args in omega (arith, length-first-line (a .steps) (a .entries) (a .stays) (a .root) (a .passed), length-number (a .steps) 32, length-number (a .entries) 32, length-number (a .stays) 32, c .before .before .before .before .before .before .before .before .before .before .before .put-ok .kept .0, c .before .before .before .before .before .before .before .put-number .kept .0, c .before .before .before .before .before .before .before .put-number .ensures .0, c .before .before .before .put-number2 .kept .0, c .before .before .before .put-number2 .ensures .0)
 
--- src/listing.rt:86:9
 put-number-requires-4 : tie.Need-put-number-requires-4
 put-number-requires-4 c κs = let a = c .before .before .before .before .before .before .before .before .before .before .before .before .before .before .before .before .before .before .args in omega (arith, length-first-line (a .steps) (a .entries) (a .stays) (a .root) (a .passed), length-number (a .steps) 32, length-number (a .entries) 32, length-number (a .stays) 32, length-number (a .root) 32, c .before .before .before .before .before .before .before .before .before .before .before .before .before .before .before .put-ok .kept .0, c .before .before .before .before .before .before .before .before .before .before .before .put-number .kept .0, c .before .before .before .before .before .before .before .before .before .before .before .put-number .ensures .0, c .before .before .before .before .before .before .before .put-number2 .kept .0, c .before .before .before .before .before .before .before .put-number2 .ensures .0, c .before .before .before .put-number3 .kept .0, c .before .before .before .put-number3 .ensures .0)
 
--- src/listing.rt:87:5
 put-number-requires-5 : tie.Need-put-number-requires-5
 put-number-requires-5 c κs = let a = c .before .before .before .before .before .before .before .before .before .before .before .before .before .before .before .before .before .before .before .before .before .before .args in omega (arith, length-first-line (a .steps) (a .entries) (a .stays) (a .root) (a .passed), length-number (a .steps) 32, length-number (a .entries) 32, length-number (a .stays) 32, length-number (a .root) 32, length-number (a .passed) 10, c .before .before .before .before .before .before .before .before .before .before .before .before .before .before .before .before .before .before .before .put-ok .kept .0, c .before .before .before .before .before .before .before .before .before .before .before .before .before .before .before .put-number .kept .0, c .before .before .before .before .before .before .before .before .before .before .before .before .before .before .before .put-number .ensures .0, c .before .before .before .before .before .before .before .before .before .before .before .put-number2 .kept .0, c .before .before .before .before .before .before .before .before .before .before .before .put-number2 .ensures .0, c .before .before .before .before .before .before .before .put-number3 .kept .0, c .before .before .before .before .before .before .before .put-number3 .ensures .0, c .before .before .before .put-number4 .kept .0, c .before .before .before .put-number4 .ensures .0)
 
--- src/listing.rt:77:1
 same-length : tie.Need-same-length
 same-length c = search needs
 
--- src/listing.rt:77:1
 returns : tie.Need-returns
 unfolding first-line
-returns c = let a = c .before .before .before .before .before .before .before .before .before .before .before .before .before .before .before .before .before .before .before .before .before .before .before .before .before .args in
+returns c =
+    let a = c .before .before .before .before .before .before .before .before .before .before .before .before .before .before .before .before .before .before .before .before .before .before .before .before .before .args in
     let n1 = c .before .before .before .before .before .before .before .before .before .before .before .before .before .before .before .before .before .before .put-number .ensures in
     let n2 = c .before .before .before .before .before .before .before .before .before .before .before .before .before .before .put-number2 .ensures in
     let n3 = c .before .before .before .before .before .before .before .before .before .before .put-number3 .ensures in

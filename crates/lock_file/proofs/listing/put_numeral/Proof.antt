@@ -1,19 +1,15 @@
 -- `put_numeral` meets its contract: what is left to write gives what the whole gives. Assumes nothing.
-use Rattle.lock_file.proofs.Writing.{last-digit, only-digit}
-use Rattle.lock_file.proofs.Numerals.{length-small, length-large, length-positive}
-use Rattle.lock_file.specs.Listing.{numeral}
-use borrow.Author.Needs.{needs}
-use native.Mathlib.Omega.{arith}
-use lib.Seq.{sets}
-use lib.ListN.{length, length-set}
+use mathlib.Core.Path.{_≡_, refl, _∙_}
 use Prim.Native.Nat.{_+_, _-_, _/_, _≤_}
-use mathlib.Core.Path.{_≡_, refl, sym, _∙_}
+use native.Mathlib.Omega.{arith}
+use lib.ListN.{length, length-set}
+use lib.Seq.{sets}
+use borrow.Author.Needs.{needs}
+use Rattle.lock_file.specs.Listing.{numeral}
+use Rattle.lock_file.proofs.Writing.{last-digit, only-digit}
+use Rattle.lock_file.proofs.Numerals.{length-large, length-positive}
 use Rattle.lock_file.proofs.listing.put_numeral.Statement.{statement}
 use Rattle.lock_file.proofs.listing.put_numeral.Tie as tie
-use Rattle.lock_file.proofs.listing.put_numeral.Reads as reads
-use Rattle.lock_file.proofs.listing.put_numeral.Lts as lts
-use Rattle.lock_file.proofs.listing.digit_count.Reads as digit-count-reads
-use Rattle.lock_file.proofs.listing.digit_of.Reads as digit-of-reads
 
 abbrev Inv-loop : tie.InvT-loop
 Inv-loop output₀ at value count rest₀ left₀ output rest left =
@@ -23,37 +19,30 @@ Inv-loop output₀ at value count rest₀ left₀ output rest left =
 abbrev μ-loop : tie.MeasureT-loop
 μ-loop output₀ at value count rest₀ left₀ output rest left = rest
 
--- src/listing.rt:36:9
 digit-count-requires : tie.Need-digit-count-requires Inv-loop μ-loop
 digit-count-requires c κs = search needs
 
--- src/listing.rt:39:5
 loop-holds : tie.Need-loop-holds Inv-loop μ-loop
 loop-holds c = (c .digit-count .ensures .0, refl, refl, omega (arith, c .digit-count .ensures .0))
 
--- src/listing.rt:40:9
 sub-left : tie.Need-sub-left Inv-loop μ-loop
 sub-left c = omega (arith, length-positive (c .before .loop .rest))
 
--- src/listing.rt:41:29
 digit-of-requires : tie.Need-digit-of-requires Inv-loop μ-loop
 digit-of-requires c κs = omega arith
 
--- src/listing.rt:41:16
 add-output : tie.Need-add-output Inv-loop μ-loop
 add-output c = search needs
 
--- src/listing.rt:41:9
 slice-write-output : tie.Need-slice-write-output Inv-loop μ-loop
 slice-write-output c = omega (arith, length-positive (c .before .before .loop .rest))
 
--- src/listing.rt:39:5
 loop-less : tie.Need-loop-less Inv-loop μ-loop
 loop-less c = omega arith
 
--- src/listing.rt:39:5
 loop-again : tie.Need-loop-again Inv-loop μ-loop
-loop-again c = let h = c .before .before .loop in
+loop-again c =
+    let h = c .before .before .loop in
     let ten = c .before .loop-test .taken in
     let shorter : h .left - 1 ≡ length (numeral (h .rest / 10)) = omega (arith, length-large (h .rest) ten) in (
       shorter,
@@ -62,23 +51,18 @@ loop-again c = let h = c .before .before .loop in
       omega arith,
     )
 
--- src/listing.rt:44:18
 digit-of-requires-2 : tie.Need-digit-of-requires-2 Inv-loop μ-loop
 digit-of-requires-2 c κs = omega arith
 
--- src/listing.rt:44:5
 slice-write-output-2 : tie.Need-slice-write-output-2 Inv-loop μ-loop
 slice-write-output-2 c = omega (arith, length-positive (c .before .before .loop .rest))
 
--- src/listing.rt:45:5
 add-result : tie.Need-add-result Inv-loop μ-loop
 add-result c = search needs
 
--- src/listing.rt:31:1
 same-length : tie.Need-same-length Inv-loop μ-loop
 same-length c = simp length-set (c .before .before .loop .inv .1)
 
--- src/listing.rt:31:1
 returns : tie.Need-returns Inv-loop μ-loop
 returns c = let h = c .before .before .loop in (
   omega (arith, c .before .before .before .digit-count .ensures .0),

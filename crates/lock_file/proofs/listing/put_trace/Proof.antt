@@ -1,21 +1,15 @@
 -- `put_trace` meets its contract: what is left to write gives what the whole gives. Assumes nothing.
-use Rattle.lock_file.specs.Listing.{numeral}
-use mathlib.Core.Path.{ap}
+use mathlib.Core.Path.{ap, _≡_, refl, sym, _∙_}
+use Prim.Native.Nat.{_+_, _-_, _≤_}
+use native.Mathlib.Omega.{arith}
+use lib.ListN.{length, drop}
+use lib.Seq.{sets}
+use borrow.Author.Needs.{needs}
+use Rattle.lock_file.specs.Listing.{numeral, trace-lines}
 use Rattle.lock_file.proofs.Writing.{trace-written}
 use Rattle.lock_file.proofs.Numerals.{length-number, trace-length-next, trace-lines-over}
-use Rattle.lock_file.specs.Listing.{trace-lines}
-use lib.Seq.{sets}
-use lib.ListN.{length, drop}
-use Prim.Native.Nat.{_+_, _*_, _-_, _≤_}
-use borrow.Author.Needs.{needs}
-use mathlib.Core.Path.{_≡_, refl, sym, _∙_}
-use native.Mathlib.Omega.{arith}
 use Rattle.lock_file.proofs.listing.put_trace.Statement.{statement}
 use Rattle.lock_file.proofs.listing.put_trace.Tie as tie
-use Rattle.lock_file.proofs.listing.put_trace.Reads as reads
-use Rattle.lock_file.proofs.listing.put_trace.Lts as lts
-use Rattle.lock_file.proofs.listing.put_number.Reads as put-number-reads
-use Rattle.lock_file.proofs.listing.wide.Reads as wide-reads
 
 abbrev Inv-loop : tie.InvT-loop
 Inv-loop output₀ start trace at₀ k₀ output at k =
@@ -26,40 +20,34 @@ Inv-loop output₀ start trace at₀ k₀ output at k =
 abbrev μ-loop : tie.MeasureT-loop
 μ-loop output₀ start trace at₀ k₀ output at k = length trace - k
 
--- src/listing.rt:110:5
 loop-holds : tie.Need-loop-holds Inv-loop μ-loop
 loop-holds c = (search needs, refl, refl, refl)
 
--- src/listing.rt:111:22
 mul-wide : tie.Need-mul-wide Inv-loop μ-loop
 mul-wide c = search needs
 
--- src/listing.rt:111:22
 shared-slice-read-wide : tie.Need-shared-slice-read-wide Inv-loop μ-loop
 shared-slice-read-wide c = search needs
 
--- src/listing.rt:111:13
 wide-requires : tie.Need-wide-requires Inv-loop μ-loop
 wide-requires c κs = search needs
 
--- src/listing.rt:112:9
 put-number-requires : tie.Need-put-number-requires Inv-loop μ-loop
-put-number-requires c κs = let h = c .before .before .before .before .loop in
+put-number-requires c κs =
+    let h = c .before .before .before .before .loop in
     let is = c .before .before .before .before .before .before .before .args .trace .now in
     let e = c .before .wide .ensures in
     omega (arith, length-number (c .before .wide .result) 10, trace-length-next is (h .k) (c .before .before .before .loop-test .taken), ap (λ v. length (numeral v)) e)
 
--- src/listing.rt:113:9
 add-k : tie.Need-add-k Inv-loop μ-loop
 add-k c = search needs
 
--- src/listing.rt:110:5
 loop-less : tie.Need-loop-less Inv-loop μ-loop
 loop-less c = omega arith
 
--- src/listing.rt:110:5
 loop-again : tie.Need-loop-again Inv-loop μ-loop
-loop-again c = let h = c .before .before .before .before .before .before .before .loop in
+loop-again c =
+    let h = c .before .before .before .before .before .before .before .loop in
     let a = c .before .before .before .before .before .before .before .before .before .before .args in
     let e = c .before .before .before .before .wide .ensures in
     let n = c .before .before .put-number in
@@ -72,11 +60,9 @@ loop-again c = let h = c .before .before .before .before .before .before .before
       rw (n .ensures .1, n .ensures .0, e) (sym (trace-written (h .output) (h .at) (a .trace .now) (h .k) t) ∙ h .inv .3),
     )
 
--- src/listing.rt:104:1
 same-length : tie.Need-same-length Inv-loop μ-loop
 same-length c = c .before .loop .inv .1
 
--- src/listing.rt:104:1
 returns : tie.Need-returns Inv-loop μ-loop
 returns c = rw (trace-lines-over (c .before .before .before .before .args .trace .now) (c .before .loop .k) (c .loop-test .left)) at (c .before .loop .inv .3)
 

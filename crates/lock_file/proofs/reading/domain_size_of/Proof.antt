@@ -1,33 +1,24 @@
 -- `domain_size_of` meets its contract. Assumes nothing.
-use Rattle.lock_file.specs.Reading.{domain-size}
 use borrow.Author.Needs.{needs}
+use Rattle.lock_file.specs.Reading.{domain-size}
 use Rattle.lock_file.proofs.reading.domain_size_of.Statement.{statement}
 use Rattle.lock_file.proofs.reading.domain_size_of.Tie as tie
-use Rattle.lock_file.proofs.reading.domain_size_of.Reads as reads
-use Rattle.lock_file.proofs.reading.domain_size_of.Lts as lts
-use Rattle.lock_file.proofs.reading.wide.Reads as wide-reads
 
--- src/reading.rt:73:9
 wide-requires : tie.Need-wide-requires
 wide-requires c κs = search needs
 
--- src/reading.rt:73:5
 add-result : tie.Need-add-result
 add-result c = search needs
 
--- src/reading.rt:73:29
 wide-requires-2 : tie.Need-wide-requires-2
 wide-requires-2 c κs = search needs
 
--- src/reading.rt:73:25
 mul-result : tie.Need-mul-result
 mul-result c = search needs
 
--- src/reading.rt:73:5
 add-result-2 : tie.Need-add-result-2
 add-result-2 c = search needs
 
--- src/reading.rt:70:1
 returns : tie.Need-returns
 unfolding domain-size
 returns c = search needs

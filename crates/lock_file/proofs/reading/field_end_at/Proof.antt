@@ -1,34 +1,27 @@
 -- `field_end_at` meets its contract. Assumes nothing.
 use Prim.Native.Nat.{_-_, _<_}
-use lib.ListN.{length}
-use Rattle.lock_file.specs.Reading.{field-end}
 use native.Mathlib.Omega.{arith}
-use borrow.Author.Tests.{lt-ltb, le-ltb, le-leb, lt-leb, eq-eqb, ne-eqb}
+use lib.ListN.{length}
+use borrow.Author.Tests.{lt-ltb, le-ltb}
 use borrow.Author.Needs.{needs}
+use Rattle.lock_file.specs.Reading.{field-end}
 use Rattle.lock_file.proofs.reading.field_end_at.Statement.{statement}
 use Rattle.lock_file.proofs.reading.field_end_at.Tie as tie
-use Rattle.lock_file.proofs.reading.field_end_at.Reads as reads
-use Rattle.lock_file.proofs.reading.field_end_at.Lts as lts
 
--- src/reading.rt:48:9
 returns : tie.Need-returns
 unfolding field-end
 returns c = let h : length (c .before .args .file .now) - c .before .args .at < c .before .args .size = omega arith in rw (lt-ltb _ _ h)
 
--- src/reading.rt:50:8
 sub-if2 : tie.Need-sub-if2
 sub-if2 c = search needs
 
--- src/reading.rt:51:9
 returns-2 : tie.Need-returns-2
 unfolding field-end
 returns-2 c = rw (lt-ltb _ _ (c .if2 .taken))
 
--- src/reading.rt:53:17
 add-t4 : tie.Need-add-t4
 add-t4 c = search needs
 
--- src/reading.rt:43:1
 returns-3 : tie.Need-returns-3
 unfolding field-end
 returns-3 c = rw (le-ltb _ _ (c .if2 .left))

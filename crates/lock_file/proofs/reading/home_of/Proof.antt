@@ -1,31 +1,23 @@
 -- `home_of` meets its contract. Assumes nothing.
-use Rattle.lock_file.specs.Reading.{home-at}
-use borrow.Author.Tests.{lt-ltb, le-ltb, le-leb, lt-leb, eq-eqb, ne-eqb}
+use borrow.Author.Tests.{eq-eqb, ne-eqb}
 use borrow.Author.Needs.{needs}
+use Rattle.lock_file.specs.Reading.{home-at}
 use Rattle.lock_file.proofs.reading.home_of.Statement.{statement}
 use Rattle.lock_file.proofs.reading.home_of.Tie as tie
-use Rattle.lock_file.proofs.reading.home_of.Reads as reads
-use Rattle.lock_file.proofs.reading.home_of.Lts as lts
-use Rattle.lock_file.proofs.reading.byte_at.Reads as byte-at-reads
 
--- src/reading.rt:195:8
 byte-at-requires : tie.Need-byte-at-requires
 byte-at-requires c κs = search needs
 
--- src/reading.rt:196:23
 add-byte-at : tie.Need-add-byte-at
 add-byte-at c = search needs
 
--- src/reading.rt:196:9
 byte-at-requires-2 : tie.Need-byte-at-requires-2
 byte-at-requires-2 c κs = search needs
 
--- src/reading.rt:191:1
 returns : tie.Need-returns
 unfolding home-at
 returns c = rw (c .byte-at2 .ensures, ← c .before .before .byte-at .ensures, eq-eqb _ _ (c .before .if1 .taken))
 
--- src/reading.rt:191:1
 returns-2 : tie.Need-returns-2
 unfolding home-at
 returns-2 c = rw (← c .before .byte-at .ensures, ne-eqb _ _ (c .if1 .left))

@@ -1,33 +1,23 @@
 -- `read_domains` meets its contract. Assumes nothing.
-use Rattle.lock_file.specs.Reading.{domains-read}
-use borrow.Author.Tests.{lt-ltb, le-ltb, le-leb, lt-leb, eq-eqb, ne-eqb}
+use borrow.Author.Tests.{eq-eqb, ne-eqb}
 use borrow.Author.Needs.{needs}
+use Rattle.lock_file.specs.Reading.{domains-read}
 use Rattle.lock_file.proofs.reading.read_domains.Statement.{statement}
 use Rattle.lock_file.proofs.reading.read_domains.Tie as tie
-use Rattle.lock_file.proofs.reading.read_domains.Reads as reads
-use Rattle.lock_file.proofs.reading.read_domains.Lts as lts
-use Rattle.lock_file.proofs.reading.byte_at.Reads as byte-at-reads
-use Rattle.lock_file.proofs.reading.read_domains_from.Reads as read-domains-from-reads
-use Rattle.lock_file.proofs.reading.wide.Reads as wide-reads
 
--- src/reading.rt:176:9
 returns : tie.Need-returns
 unfolding domains-read
 returns c = rw (eq-eqb _ _ (c .if1 .taken))
 
--- src/reading.rt:182:34
 byte-at-requires : tie.Need-byte-at-requires
 byte-at-requires c κs = search needs
 
--- src/reading.rt:182:29
 wide-requires : tie.Need-wide-requires
 wide-requires c κs = search needs
 
--- src/reading.rt:182:5
 read-domains-from-requires : tie.Need-read-domains-from-requires
 read-domains-from-requires c κs = search needs
 
--- src/reading.rt:172:1
 returns-2 : tie.Need-returns-2
 unfolding domains-read
 returns-2 c = rw (ne-eqb _ _ (c .before .before .before .if1 .left), c .read-domains-from .ensures, c .before .wide .ensures, c .before .before .byte-at .ensures)

@@ -1,19 +1,11 @@
 -- `read_domains_from` meets its contract: what is left to read gives what the whole gives. Assumes nothing.
-use Rattle.lock_file.proofs.Positions.{domain-within, domains-next, domains-over, domains-ended, domains-bad}
-use Rattle.lock_file.specs.Reading.{domains-from}
+use mathlib.Core.Path.{_≡_, refl, sym, _∙_}
 use Prim.Native.Nat.{_≤_, _-_}
-use native.Mathlib.Omega.{arith}
-use mathlib.Core.Path.{_≡_, refl, sym, _∙_, ap}
 use borrow.Author.Needs.{needs}
+use Rattle.lock_file.specs.Reading.{domains-from}
+use Rattle.lock_file.proofs.Positions.{domain-within, domains-next, domains-over, domains-ended, domains-bad}
 use Rattle.lock_file.proofs.reading.read_domains_from.Statement.{statement}
 use Rattle.lock_file.proofs.reading.read_domains_from.Tie as tie
-use Rattle.lock_file.proofs.reading.read_domains_from.Reads as reads
-use Rattle.lock_file.proofs.reading.read_domains_from.Lts as lts
-use Rattle.lock_file.proofs.reading.domain_end_at.Reads as domain-end-at-reads
-use Rattle.lock_file.proofs.reading.parent_of.Reads as parent-of-reads
-use Rattle.lock_file.proofs.reading.store_parent.Reads as store-parent-reads
-use Rattle.lock_file.proofs.reading.store_threshold.Reads as store-threshold-reads
-use Rattle.lock_file.proofs.reading.threshold_of.Reads as threshold-of-reads
 
 abbrev Inv-loop : tie.InvT-loop
 Inv-loop file domains parents₀ thresholds₀ at₀ d₀ parents thresholds at d =
@@ -22,59 +14,45 @@ Inv-loop file domains parents₀ thresholds₀ at₀ d₀ parents thresholds at 
 abbrev μ-loop : tie.MeasureT-loop
 μ-loop file domains parents₀ thresholds₀ at₀ d₀ parents thresholds at d = domains - d
 
--- src/reading.rt:140:5
 loop-holds : tie.Need-loop-holds Inv-loop μ-loop
 loop-holds c = (search needs, refl)
 
--- src/reading.rt:141:15
 domain-end-at-requires : tie.Need-domain-end-at-requires Inv-loop μ-loop
 domain-end-at-requires c κs = search needs
 
--- src/reading.rt:142:25
 enum-known-next : tie.Need-enum-known-next Inv-loop μ-loop
 enum-known-next c = search needs
 
--- src/reading.rt:143:47
 parent-of-requires : tie.Need-parent-of-requires Inv-loop μ-loop
 parent-of-requires c κs = domain-within _ _ _ (sym (c .before .before .before .before .domain-end-at .ensures) ∙ c .before .before .next .given .1) .inside
 
--- src/reading.rt:143:17
 store-parent-requires : tie.Need-store-parent-requires Inv-loop μ-loop
 store-parent-requires c κs = search needs
 
--- src/reading.rt:144:53
 threshold-of-requires : tie.Need-threshold-of-requires Inv-loop μ-loop
 threshold-of-requires c κs = domain-within _ _ _ (sym (c .before .before .before .before .before .before .before .domain-end-at .ensures) ∙ c .before .before .before .before .before .next .given .1) .inside
 
--- src/reading.rt:144:17
 store-threshold-requires : tie.Need-store-threshold-requires Inv-loop μ-loop
 store-threshold-requires c κs = search needs
 
--- src/reading.rt:149:30
 enum-told : tie.Need-enum-told Inv-loop μ-loop
 enum-told c = search needs
 
--- src/reading.rt:148:17
 returns : tie.Need-returns Inv-loop μ-loop
 returns c = sym (domains-ended _ _ _ _ _ _ (c .before .before .before .loop-test .taken) (sym (c .before .before .domain-end-at .ensures) ∙ c .enum-told .given .1)) ∙ c .before .before .before .before .loop .inv .1
 
--- src/reading.rt:154:29
 enum-known-p : tie.Need-enum-known-p Inv-loop μ-loop
 enum-known-p c = search needs
 
--- src/reading.rt:155:17
 returns-2 : tie.Need-returns-2 Inv-loop μ-loop
 returns-2 c = sym (domains-bad _ _ _ _ _ _ _ (c .before .before .before .before .loop-test .taken) (sym (c .before .before .before .domain-end-at .ensures) ∙ c .before .p .given .1)) ∙ c .before .before .before .before .before .loop .inv .1
 
--- src/reading.rt:162:9
 add-d : tie.Need-add-d Inv-loop μ-loop
 add-d c = search needs
 
--- src/reading.rt:140:5
 loop-less : tie.Need-loop-less Inv-loop μ-loop
 loop-less c = search needs
 
--- src/reading.rt:140:5
 loop-again : tie.Need-loop-again Inv-loop μ-loop
 loop-again c = let came = sym (c .before .before .before .before .before .before .before .before .before .domain-end-at .ensures) ∙ c .before .before .before .before .before .before .before .next .given .1 in (
   search needs,
@@ -82,7 +60,6 @@ loop-again c = let came = sym (c .before .before .before .before .before .before
       (sym (domains-next _ _ _ _ _ _ _ (c .before .before .before .before .before .before .before .before .before .before .loop-test .taken) came) ∙ c .before .before .before .before .before .before .before .before .before .before .before .loop .inv .1),
 )
 
--- src/reading.rt:133:1
 returns-3 : tie.Need-returns-3 Inv-loop μ-loop
 returns-3 c = sym (domains-over _ _ _ _ _ _ (c .loop-test .left)) ∙ c .before .loop .inv .1
 

@@ -1,18 +1,15 @@
 -- `read_schedule` meets its contract: what is left to store gives what the whole gives. Assumes nothing.
-use Rattle.lock_file.proofs.Positions.{schedule-next, schedule-over}
-use Rattle.lock_file.specs.Reading.{entries-from}
-use lib.Seq.{sets}
-use lib.ListN.{length, length-set}
+use mathlib.Core.Path.{_≡_, refl, sym, _∙_}
+use Prim.Native.Nat.{_+_, _*_, _-_, _≤_}
 use native.Mathlib.Nat.{sub-zero}
-use Prim.Native.Nat.{_+_, _*_, _-_, _≤_, _<_}
-use borrow.Author.Needs.{needs}
-use mathlib.Core.Path.{_≡_, refl, sym, _∙_, ap}
 use native.Mathlib.Omega.{arith}
+use lib.ListN.{length, length-set}
+use lib.Seq.{sets}
+use borrow.Author.Needs.{needs}
+use Rattle.lock_file.specs.Reading.{entries-from}
+use Rattle.lock_file.proofs.Positions.{schedule-next, schedule-over}
 use Rattle.lock_file.proofs.reading.read_schedule.Statement.{statement}
 use Rattle.lock_file.proofs.reading.read_schedule.Tie as tie
-use Rattle.lock_file.proofs.reading.read_schedule.Reads as reads
-use Rattle.lock_file.proofs.reading.read_schedule.Lts as lts
-use Rattle.lock_file.proofs.reading.two_bytes_at.Reads as two-bytes-at-reads
 
 abbrev Inv-loop : tie.InvT-loop
 Inv-loop file start entries schedule₀ at₀ k₀ schedule at k =
@@ -22,37 +19,30 @@ Inv-loop file start entries schedule₀ at₀ k₀ schedule at k =
 abbrev μ-loop : tie.MeasureT-loop
 μ-loop file start entries schedule₀ at₀ k₀ schedule at k = entries - k
 
--- src/reading.rt:354:5
 loop-holds : tie.Need-loop-holds Inv-loop μ-loop
 loop-holds c = (omega arith, refl, omega arith, rw sub-zero)
 
--- src/reading.rt:355:23
 two-bytes-at-requires : tie.Need-two-bytes-at-requires Inv-loop μ-loop
 two-bytes-at-requires c κs = search needs
 
--- src/reading.rt:355:9
 mul-schedule : tie.Need-mul-schedule Inv-loop μ-loop
 mul-schedule c = search needs
 
--- src/reading.rt:355:9
 slice-write-schedule : tie.Need-slice-write-schedule Inv-loop μ-loop
 slice-write-schedule c = omega arith
 
--- src/reading.rt:356:9
 add-at : tie.Need-add-at Inv-loop μ-loop
 add-at c = search needs
 
--- src/reading.rt:357:9
 add-k : tie.Need-add-k Inv-loop μ-loop
 add-k c = search needs
 
--- src/reading.rt:354:5
 loop-less : tie.Need-loop-less Inv-loop μ-loop
 loop-less c = omega arith
 
--- src/reading.rt:354:5
 loop-again : tie.Need-loop-again Inv-loop μ-loop
-loop-again c = let h = c .before .before .loop in
+loop-again c =
+    let h = c .before .before .loop in
     let t = c .before .loop-test .taken in (
       search needs,
       simp length-set (h .inv .1),
@@ -60,11 +50,9 @@ loop-again c = let h = c .before .before .loop in
       rw (c .two-bytes-at .ensures) (sym (schedule-next _ _ _ _ _ t) ∙ h .inv .3),
     )
 
--- src/reading.rt:347:1
 same-length : tie.Need-same-length Inv-loop μ-loop
 same-length c = c .before .loop .inv .1
 
--- src/reading.rt:347:1
 returns : tie.Need-returns Inv-loop μ-loop
 returns c = sym (schedule-over _ _ _ _ _ (c .loop-test .left)) ∙ c .before .loop .inv .3
 

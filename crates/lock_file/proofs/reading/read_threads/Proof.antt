@@ -1,39 +1,29 @@
 -- `read_threads` meets its contract. Assumes nothing.
-use Rattle.lock_file.specs.Reading.{threads-read}
 use borrow.Author.Needs.{needs}
+use Rattle.lock_file.specs.Reading.{threads-read}
 use Rattle.lock_file.proofs.reading.read_threads.Statement.{statement}
 use Rattle.lock_file.proofs.reading.read_threads.Tie as tie
-use Rattle.lock_file.proofs.reading.read_threads.Reads as reads
-use Rattle.lock_file.proofs.reading.read_threads.Lts as lts
-use Rattle.lock_file.proofs.reading.read_threads_behind.Reads as read-threads-behind-reads
 
--- src/reading.rt:265:21
 enum-known-reached : tie.Need-enum-known-reached
 enum-known-reached c = search needs
 
--- src/reading.rt:265:28
 read-threads-behind-requires : tie.Need-read-threads-behind-requires
 read-threads-behind-requires c κs = search needs
 
--- src/reading.rt:267:22
 enum-told : tie.Need-enum-told
 enum-told c = search needs
 
--- src/reading.rt:270:25
 enum-known-reached-2 : tie.Need-enum-known-reached-2
 enum-known-reached-2 c = search needs
 
--- src/reading.rt:261:1
 returns : tie.Need-returns
 unfolding threads-read
 returns c = rw (c .before .before .reached .given .1, c .read-threads-behind .ensures)
 
--- src/reading.rt:261:1
 returns-2 : tie.Need-returns-2
 unfolding threads-read
 returns-2 c = rw (c .enum-told .given .1)
 
--- src/reading.rt:261:1
 returns-3 : tie.Need-returns-3
 unfolding threads-read
 returns-3 c = rw (c .before .reached2 .given .1)

@@ -1,55 +1,39 @@
 -- `read_threads_behind` meets its contract. Assumes nothing.
-use Rattle.lock_file.specs.Reading.{threads-behind}
-use mathlib.Core.Path.{_≡_, refl, sym, _∙_, ap}
+use mathlib.Core.Path.{sym, _∙_}
 use borrow.Author.Needs.{needs}
+use Rattle.lock_file.specs.Reading.{threads-behind}
 use Rattle.lock_file.proofs.reading.read_threads_behind.Statement.{statement}
 use Rattle.lock_file.proofs.reading.read_threads_behind.Tie as tie
-use Rattle.lock_file.proofs.reading.read_threads_behind.Reads as reads
-use Rattle.lock_file.proofs.reading.read_threads_behind.Lts as lts
-use Rattle.lock_file.proofs.reading.field_end_at.Reads as field-end-at-reads
-use Rattle.lock_file.proofs.reading.read_threads_from.Reads as read-threads-from-reads
-use Rattle.lock_file.proofs.reading.two_bytes_at.Reads as two-bytes-at-reads
-use Rattle.lock_file.proofs.reading.wide_count.Reads as wide-count-reads
 
--- src/reading.rt:248:11
 field-end-at-requires : tie.Need-field-end-at-requires
 field-end-at-requires c κs = search needs
 
--- src/reading.rt:249:21
 enum-known-next : tie.Need-enum-known-next
 enum-known-next c = search needs
 
--- src/reading.rt:249:65
 two-bytes-at-requires : tie.Need-two-bytes-at-requires
 two-bytes-at-requires c κs = search needs
 
--- src/reading.rt:249:54
 wide-count-requires : tie.Need-wide-count-requires
 wide-count-requires c κs = search needs
 
--- src/reading.rt:249:30
 read-threads-from-requires : tie.Need-read-threads-from-requires
 read-threads-from-requires c κs = search needs
 
--- src/reading.rt:251:22
 enum-told : tie.Need-enum-told
 enum-told c = search needs
 
--- src/reading.rt:254:25
 enum-known-p : tie.Need-enum-known-p
 enum-known-p c = search needs
 
--- src/reading.rt:245:1
 returns : tie.Need-returns
 unfolding threads-behind
 returns c = rw (sym (c .before .before .before .before .before .before .field-end-at .ensures) ∙ c .before .before .before .before .next .given .1, c .read-threads-from .ensures, c .before .wide-count .ensures, c .before .before .two-bytes-at .ensures)
 
--- src/reading.rt:245:1
 returns-2 : tie.Need-returns-2
 unfolding threads-behind
 returns-2 c = rw (sym (c .before .before .field-end-at .ensures) ∙ c .enum-told .given .1)
 
--- src/reading.rt:245:1
 returns-3 : tie.Need-returns-3
 unfolding threads-behind
 returns-3 c = rw (sym (c .before .before .before .field-end-at .ensures) ∙ c .before .p .given .1)

@@ -1,39 +1,29 @@
 -- `schedule_start_of` meets its contract. Assumes nothing.
-use Rattle.lock_file.specs.Reading.{schedule-start}
 use borrow.Author.Needs.{needs}
+use Rattle.lock_file.specs.Reading.{schedule-start}
 use Rattle.lock_file.proofs.reading.schedule_start_of.Statement.{statement}
 use Rattle.lock_file.proofs.reading.schedule_start_of.Tie as tie
-use Rattle.lock_file.proofs.reading.schedule_start_of.Reads as reads
-use Rattle.lock_file.proofs.reading.schedule_start_of.Lts as lts
-use Rattle.lock_file.proofs.reading.schedule_start_at.Reads as schedule-start-at-reads
 
--- src/reading.rt:316:21
 enum-known-reached : tie.Need-enum-known-reached
 enum-known-reached c = search needs
 
--- src/reading.rt:316:28
 schedule-start-at-requires : tie.Need-schedule-start-at-requires
 schedule-start-at-requires c κs = search needs
 
--- src/reading.rt:317:27
 enum-told : tie.Need-enum-told
 enum-told c = search needs
 
--- src/reading.rt:318:25
 enum-known-reached-2 : tie.Need-enum-known-reached-2
 enum-known-reached-2 c = search needs
 
--- src/reading.rt:312:1
 returns : tie.Need-returns
 unfolding schedule-start
 returns c = rw (c .before .before .reached .given .1, c .schedule-start-at .ensures)
 
--- src/reading.rt:312:1
 returns-2 : tie.Need-returns-2
 unfolding schedule-start
 returns-2 c = rw (c .enum-told .given .1)
 
--- src/reading.rt:312:1
 returns-3 : tie.Need-returns-3
 unfolding schedule-start
 returns-3 c = rw (c .before .reached2 .given .1)

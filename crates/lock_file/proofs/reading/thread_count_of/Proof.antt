@@ -1,44 +1,32 @@
 -- `thread_count_of` meets its contract. Assumes nothing.
-use Rattle.lock_file.specs.Reading.{thread-count}
 use borrow.Author.Needs.{needs}
+use Rattle.lock_file.specs.Reading.{thread-count}
 use Rattle.lock_file.proofs.reading.thread_count_of.Statement.{statement}
 use Rattle.lock_file.proofs.reading.thread_count_of.Tie as tie
-use Rattle.lock_file.proofs.reading.thread_count_of.Reads as reads
-use Rattle.lock_file.proofs.reading.thread_count_of.Lts as lts
-use Rattle.lock_file.proofs.reading.two_bytes_at.Reads as two-bytes-at-reads
-use Rattle.lock_file.proofs.reading.word_count.Reads as word-count-reads
 
--- src/reading.rt:293:21
 enum-known-reached : tie.Need-enum-known-reached
 enum-known-reached c = search needs
 
--- src/reading.rt:293:39
 two-bytes-at-requires : tie.Need-two-bytes-at-requires
 two-bytes-at-requires c κs = search needs
 
--- src/reading.rt:293:28
 word-count-requires : tie.Need-word-count-requires
 word-count-requires c κs = search needs
 
--- src/reading.rt:294:27
 enum-told : tie.Need-enum-told
 enum-told c = search needs
 
--- src/reading.rt:295:31
 enum-told-2 : tie.Need-enum-told-2
 enum-told-2 c = search needs
 
--- src/reading.rt:289:1
 returns : tie.Need-returns
 unfolding thread-count
 returns c = rw (c .before .before .before .reached .given .1, c .word-count .ensures, c .before .two-bytes-at .ensures)
 
--- src/reading.rt:289:1
 returns-2 : tie.Need-returns-2
 unfolding thread-count
 returns-2 c = rw (c .enum-told .given .1)
 
--- src/reading.rt:289:1
 returns-3 : tie.Need-returns-3
 unfolding thread-count
 returns-3 c = rw (c .enum-told2 .given .1)

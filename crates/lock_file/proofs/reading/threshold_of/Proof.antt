@@ -1,41 +1,29 @@
 -- `threshold_of` meets its contract. Assumes nothing.
-use Rattle.lock_file.specs.Reading.{threshold-at}
-use borrow.Author.Tests.{lt-ltb, le-ltb, le-leb, lt-leb, eq-eqb, ne-eqb}
+use borrow.Author.Tests.{eq-eqb, ne-eqb}
 use borrow.Author.Needs.{needs}
+use Rattle.lock_file.specs.Reading.{threshold-at}
 use Rattle.lock_file.proofs.reading.threshold_of.Statement.{statement}
 use Rattle.lock_file.proofs.reading.threshold_of.Tie as tie
-use Rattle.lock_file.proofs.reading.threshold_of.Reads as reads
-use Rattle.lock_file.proofs.reading.threshold_of.Lts as lts
-use Rattle.lock_file.proofs.reading.byte_at.Reads as byte-at-reads
-use Rattle.lock_file.proofs.reading.two_bytes_at.Reads as two-bytes-at-reads
-use Rattle.lock_file.proofs.reading.wide.Reads as wide-reads
 
--- src/reading.rt:99:9
 byte-at-requires : tie.Need-byte-at-requires
 byte-at-requires c κs = search needs
 
--- src/reading.rt:101:28
 add-two-bytes-at : tie.Need-add-two-bytes-at
 add-two-bytes-at c = search needs
 
--- src/reading.rt:101:37
 wide-requires : tie.Need-wide-requires
 wide-requires c κs = search needs
 
--- src/reading.rt:101:28
 add-two-bytes-at-2 : tie.Need-add-two-bytes-at-2
 add-two-bytes-at-2 c = search needs
 
--- src/reading.rt:101:9
 two-bytes-at-requires : tie.Need-two-bytes-at-requires
 two-bytes-at-requires c κs = search needs
 
--- src/reading.rt:95:1
 returns : tie.Need-returns
 unfolding threshold-at
 returns c = rw (c .two-bytes-at .ensures, c .before .wide .ensures, ← c .before .before .before .byte-at .ensures, eq-eqb _ _ (c .before .before .if1 .taken))
 
--- src/reading.rt:95:1
 returns-2 : tie.Need-returns-2
 unfolding threshold-at
 returns-2 c = rw (← c .before .byte-at .ensures, ne-eqb _ _ (c .if1 .left))
