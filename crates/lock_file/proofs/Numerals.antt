@@ -9,7 +9,7 @@ use lib.Dec.{ltb}
 use lib.ListN.{length, length-append, drop, getD, drop-of-length-le}
 use lib.Seq.{drop-cons}
 use borrow.Author.Tests.{ltb-true, ltb-false, lt-ltb, le-ltb}
-use Rattle.lock_file.specs.Listing.{digit, digits, numeral, number-then, trace-lines, first-line}
+use Rattle.lock_file.specs.Listing.{digit, digits, numeral, number-then, trace-lines, first-line, refusal-line}
 
 -- fuel from the value on makes no difference
 digits-same : (k j v : ℕ) → v ≤ k → v ≤ j → digits k v ≡ digits j v
@@ -77,6 +77,11 @@ pub length-first-line :
     ≡ 3 + (length (numeral a) + 1) + (length (numeral b) + 1) + (length (numeral c) + 1) + (length (numeral d) + 1) + (length (numeral e) + 1)
 unfolding first-line
 length-first-line a b c d e = simp (length-append, length-number) (omega arith)
+
+pub length-refusal-line :
+    (n p : ℕ) → length (refusal-line n p) ≡ 8 + (length (numeral n) + 1) + (length (numeral p) + 1)
+unfolding refusal-line
+length-refusal-line n p = simp (length-append, length-number) (omega arith)
 
 -- the trace lines from k on: the next, or none
 pub trace-lines-next :

@@ -1,13 +1,13 @@
 -- The outcome of the file call, case by case. Assumes nothing.
 use mathlib.Core.Path.{_≡_, sym, _∙_, ap}
-use mathlib.Core.List.{List, _++_}
+use mathlib.Core.List.{List, [], _∷_, _++_}
 use Prim.Native.Nat.{ℕ, _+_, _≤_, _<_}
 use native.Mathlib.Omega.{arith}
 use lib.ListN.{length, drop, length-append}
 use lib.Seq.{sets}
 use borrow.Author.Tests.{lt-ltb, le-ltb}
 use Rattle.model.specs.Refusals.{refusal}
-use Rattle.lock_file.specs.Listing.{first-line, trace-lines, listing}
+use Rattle.lock_file.specs.Listing.{number-then, first-line, trace-lines, listing, refusal-line}
 use Rattle.lock_file.specs.FileAnswers.{refused-by, lists, listing-outcome, run-outcome, file-run, file-trace, reading-outcome, file-outcome}
 use Rattle.lock_file.specs.declared.Reached.the-variants.{At, Ended, BadMap}
 use Rattle.lock_file.specs.declared.TreeRead.{TreeRead}
@@ -38,6 +38,20 @@ listing-written out a b c d e is h =
     let line = first-line a b c d e in
     let z : 0 + length line ≡ length line = omega arith in
     rw z at (sym (sets-append out 0 line (trace-lines is))) ∙ sets-front out (line ++ trace-lines is) h
+
+-- the line of a refusal, part by part
+pub refusal-written :
+    (out : List ℕ) (n p : ℕ) → length (refusal-line n p) ≤ length out →
+    sets
+    (sets (sets out 0 (114 ∷ 101 ∷ 102 ∷ 117 ∷ 115 ∷ 101 ∷ 100 ∷ 32 ∷ [])) 8 (number-then n 32))
+    (8 + length (number-then n 32))
+    (number-then p 10)
+    ≡ refusal-line n p ++ drop (length (refusal-line n p)) out
+unfolding refusal-line
+refusal-written out n p h =
+    let word : List ℕ = 114 ∷ 101 ∷ 102 ∷ 117 ∷ 115 ∷ 101 ∷ 100 ∷ 32 ∷ [] in
+    sym (sets-append (sets out 0 word) 8 (number-then n 32) (number-then p 10))
+    ∙ sets-front out (word ++ (number-then n 32 ++ number-then p 10)) h
 
 -- a file that is too long
 pub file-long : (bs : List ℕ) (room : ℕ) → 65536 < length bs → file-outcome bs room ≡ refused-by (refusal 1 0)

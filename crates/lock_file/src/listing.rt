@@ -4,7 +4,7 @@ ghost use mathlib.Core.List.{[], _∷_};
 ghost use Prim.Native.Nat.{_+_, _<_, _≤_};
 ghost use lib.ListN.{length};
 ghost use lib.Seq.{sets};
-ghost use Rattle.lock_file.specs.Listing.{digit, numeral, number-then, first-line, trace-lines, listing};
+ghost use Rattle.lock_file.specs.Listing.{digit, numeral, number-then, first-line, trace-lines, listing, refusal-line};
 ghost use Rattle.lock_file.specs.FileAnswers.{listing-outcome, outcome-reply, outcome-output};
 use crate::FileReply;
 
@@ -172,4 +172,32 @@ pub(crate) fn list_run(
         place: 0,
         length: total as u32,
     }
+}
+
+fn put_refused(output: &mut [u8])
+    requires { ⌜ 8 ≤ length (now output) ⌝ }
+    ensures { λ r. ⌜ now (output .exit) ≡ sets (now (output .entry)) 0 (114 ∷ 101 ∷ 102 ∷ 117 ∷ 115 ∷ 101 ∷ 100 ∷ 32 ∷ []) ⌝ }
+{
+    output[0] = 114;
+    output[1] = 101;
+    output[2] = 102;
+    output[3] = 117;
+    output[4] = 115;
+    output[5] = 101;
+    output[6] = 100;
+    output[7] = 32;
+}
+
+// Writes the line of a refusal at the front and returns its length; a short output buffer stays as it came.
+pub(crate) fn list_refusal(number: u32, place: u32, output: &mut [u8]) -> usize
+    ensures { λ r. ⌜ r ≡ outcome-reply (listing-outcome (refusal-line number place) (length (now (output .entry)))) .length ⌝ }
+    ensures { λ r. ⌜ now (output .exit) ≡ outcome-output (listing-outcome (refusal-line number place) (length (now (output .entry)))) (now (output .entry)) ⌝ }
+{
+    let total = 8 + number_length(number) + number_length(place);
+    if output.len() < total {
+        return 0;
+    }
+    put_refused(output);
+    let at = put_number(output, 8, number, 32);
+    put_number(output, at, place, 10)
 }
