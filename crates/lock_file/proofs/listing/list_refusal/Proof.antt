@@ -36,19 +36,12 @@ put-refused-requires : tie.Need-put-refused-requires
 put-refused-requires c κs = search needs
 
 put-number-requires : tie.Need-put-number-requires
-put-number-requires c κs = let a = c .before .before .before .before .before .before .before .before .before .args in omega (arith, length-number (a .number) 32, c .before .before .before .put-refused .kept .0)
+put-number-requires c κs = let a = c .before .before .before .before .before .before .before .before .before .args in omega (arith, length-number (a .number) 32)
 
 put-number-requires-2 : tie.Need-put-number-requires-2
 put-number-requires-2 c κs =
     let a = c .before .before .before .before .before .before .before .before .before .before .before .before .before .args in
-    omega (
-      arith,
-      length-number (a .number) 32,
-      length-number (a .place) 10,
-      c .before .before .before .before .before .before .before .put-refused .kept .0,
-      c .before .before .before .put-number .kept .0,
-      c .before .before .before .put-number .ensures .0,
-    )
+    omega (arith, length-number (a .number) 32, length-number (a .place) 10)
 
 same-length : tie.Need-same-length
 same-length c = search needs
@@ -62,7 +55,7 @@ returns-2 c =
     let fits : length line ≤ length (a .output .now) = omega arith in
     let first = c .before .before .before .before .before .before .put-number .ensures in
     let second = c .before .before .put-number2 .ensures in (
-      rw (listing-fits line _ fits) (omega (arith, first .0, second .0, length-number (a .number) 32, length-number (a .place) 10)),
+      rw (listing-fits line _ fits) (omega (arith, length-number (a .number) 32, length-number (a .place) 10)),
       rw (listing-fits line _ fits, second .1, first .1, first .0, c .before .before .before .before .before .before .before .before .before .before .put-refused .ensures)
           (refusal-written (a .output .now) (a .number) (a .place) fits),
     )

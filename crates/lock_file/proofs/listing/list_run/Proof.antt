@@ -47,11 +47,11 @@ returns-2 c =
     let a = c .before .before .before .before .before .before .before .before .before .before .before .before .before .args in
     let ls = listing (a .steps) (a .entries) (a .stays) (a .root) (a .passed) (a .trace .now) in
     let long = length-listing (a .steps) (a .entries) (a .stays) (a .root) (a .passed) (a .trace .now) in
-    let measured : c .before .before .before .before .before .before .before .before .before .before .first-line-length .result + c .before .before .before .before .before .before .before .before .before .trace-length .result ≡ length ls =
-    omega (arith, c .before .before .before .before .before .before .before .before .before .before .first-line-length .ensures .0, c .before .before .before .before .before .before .before .before .before .trace-length .ensures .0) in
-    let fits : length ls ≤ length (a .output .now) = omega (arith, c .before .before .before .before .before .before .before .before .if1 .left) in (
+    let measured : c .before .before .before .before .before .before .before .before .before .before .first-line-length .result + c .before .before .before .before .before .before .before .before .before .trace-length .result ≡ length ls = omega arith in
+    let fits : length ls ≤ length (a .output .now) = omega arith in
+    let line = c .before .before .before .before .before .before .put-first-line .ensures in (
       rw (listing-fits ls _ fits, measured),
-      rw (listing-fits ls _ fits, c .before .before .put-trace .ensures, c .before .before .before .before .before .before .put-first-line .ensures .1, c .before .before .before .before .before .before .put-first-line .ensures .0)
+      rw (listing-fits ls _ fits, c .before .before .put-trace .ensures, line .1, line .0)
           (listing-written (a .output .now) (a .steps) (a .entries) (a .stays) (a .root) (a .passed) (a .trace .now) fits),
     )
 

@@ -13,19 +13,29 @@ put-ok-requires : tie.Need-put-ok-requires
 put-ok-requires c κs = let a = c .before .before .args in omega (arith, length-first-line (a .steps) (a .entries) (a .stays) (a .root) (a .passed))
 
 put-number-requires : tie.Need-put-number-requires
-put-number-requires c κs = let a = c .before .before .before .before .before .before .args in omega (arith, length-first-line (a .steps) (a .entries) (a .stays) (a .root) (a .passed), length-number (a .steps) 32, c .before .before .before .put-ok .kept .0)
+put-number-requires c κs =
+    let a = c .before .before .before .before .before .before .args in
+    omega (arith, length-first-line (a .steps) (a .entries) (a .stays) (a .root) (a .passed), length-number (a .steps) 32)
 
 put-number-requires-2 : tie.Need-put-number-requires-2
-put-number-requires-2 c κs = let a = c .before .before .before .before .before .before .before .before .before .before .args in omega (arith, length-first-line (a .steps) (a .entries) (a .stays) (a .root) (a .passed), length-number (a .steps) 32, length-number (a .entries) 32, c .before .before .before .before .before .before .before .put-ok .kept .0, c .before .before .before .put-number .kept .0, c .before .before .before .put-number .ensures .0)
+put-number-requires-2 c κs =
+    let a = c .before .before .before .before .before .before .before .before .before .before .args in
+    omega (arith, length-first-line (a .steps) (a .entries) (a .stays) (a .root) (a .passed), length-number (a .steps) 32, length-number (a .entries) 32)
 
 put-number-requires-3 : tie.Need-put-number-requires-3
-put-number-requires-3 c κs = let a = c .before .before .before .before .before .before .before .before .before .before .before .before .before .before .args in omega (arith, length-first-line (a .steps) (a .entries) (a .stays) (a .root) (a .passed), length-number (a .steps) 32, length-number (a .entries) 32, length-number (a .stays) 32, c .before .before .before .before .before .before .before .before .before .before .before .put-ok .kept .0, c .before .before .before .before .before .before .before .put-number .kept .0, c .before .before .before .before .before .before .before .put-number .ensures .0, c .before .before .before .put-number2 .kept .0, c .before .before .before .put-number2 .ensures .0)
+put-number-requires-3 c κs =
+    let a = c .before .before .before .before .before .before .before .before .before .before .before .before .before .before .args in
+    omega (arith, length-first-line (a .steps) (a .entries) (a .stays) (a .root) (a .passed), length-number (a .steps) 32, length-number (a .entries) 32, length-number (a .stays) 32)
 
 put-number-requires-4 : tie.Need-put-number-requires-4
-put-number-requires-4 c κs = let a = c .before .before .before .before .before .before .before .before .before .before .before .before .before .before .before .before .before .before .args in omega (arith, length-first-line (a .steps) (a .entries) (a .stays) (a .root) (a .passed), length-number (a .steps) 32, length-number (a .entries) 32, length-number (a .stays) 32, length-number (a .root) 32, c .before .before .before .before .before .before .before .before .before .before .before .before .before .before .before .put-ok .kept .0, c .before .before .before .before .before .before .before .before .before .before .before .put-number .kept .0, c .before .before .before .before .before .before .before .before .before .before .before .put-number .ensures .0, c .before .before .before .before .before .before .before .put-number2 .kept .0, c .before .before .before .before .before .before .before .put-number2 .ensures .0, c .before .before .before .put-number3 .kept .0, c .before .before .before .put-number3 .ensures .0)
+put-number-requires-4 c κs =
+    let a = c .before .before .before .before .before .before .before .before .before .before .before .before .before .before .before .before .before .before .args in
+    omega (arith, length-first-line (a .steps) (a .entries) (a .stays) (a .root) (a .passed), length-number (a .steps) 32, length-number (a .entries) 32, length-number (a .stays) 32, length-number (a .root) 32)
 
 put-number-requires-5 : tie.Need-put-number-requires-5
-put-number-requires-5 c κs = let a = c .before .before .before .before .before .before .before .before .before .before .before .before .before .before .before .before .before .before .before .before .before .before .args in omega (arith, length-first-line (a .steps) (a .entries) (a .stays) (a .root) (a .passed), length-number (a .steps) 32, length-number (a .entries) 32, length-number (a .stays) 32, length-number (a .root) 32, length-number (a .passed) 10, c .before .before .before .before .before .before .before .before .before .before .before .before .before .before .before .before .before .before .before .put-ok .kept .0, c .before .before .before .before .before .before .before .before .before .before .before .before .before .before .before .put-number .kept .0, c .before .before .before .before .before .before .before .before .before .before .before .before .before .before .before .put-number .ensures .0, c .before .before .before .before .before .before .before .before .before .before .before .put-number2 .kept .0, c .before .before .before .before .before .before .before .before .before .before .before .put-number2 .ensures .0, c .before .before .before .before .before .before .before .put-number3 .kept .0, c .before .before .before .before .before .before .before .put-number3 .ensures .0, c .before .before .before .put-number4 .kept .0, c .before .before .before .put-number4 .ensures .0)
+put-number-requires-5 c κs =
+    let a = c .before .before .before .before .before .before .before .before .before .before .before .before .before .before .before .before .before .before .before .before .before .before .args in
+    omega (arith, length-first-line (a .steps) (a .entries) (a .stays) (a .root) (a .passed), length-number (a .steps) 32, length-number (a .entries) 32, length-number (a .stays) 32, length-number (a .root) 32, length-number (a .passed) 10)
 
 same-length : tie.Need-same-length
 same-length c = search needs

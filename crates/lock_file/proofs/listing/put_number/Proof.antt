@@ -10,13 +10,13 @@ use Rattle.lock_file.proofs.listing.put_number.Statement.{statement}
 use Rattle.lock_file.proofs.listing.put_number.Tie as tie
 
 put-numeral-requires : tie.Need-put-numeral-requires
-put-numeral-requires c κs = omega (arith, length-number (c .before .before .args .value) (c .before .before .args .behind))
+put-numeral-requires c κs = let a = c .before .before .args in omega (arith, length-number (a .value) (a .behind))
 
 slice-write-output : tie.Need-slice-write-output
-slice-write-output c = omega (arith, length-number (c .before .before .before .before .before .args .value) (c .before .before .before .before .before .args .behind), c .before .before .put-numeral .kept .0)
+slice-write-output c = let a = c .before .before .before .before .before .args in omega (arith, length-number (a .value) (a .behind))
 
 add-result : tie.Need-add-result
-add-result c = search (needs, length-number (c .before .before .before .before .before .args .value) (c .before .before .before .before .before .args .behind))
+add-result c = let a = c .before .before .before .before .before .args in search (needs, length-number (a .value) (a .behind))
 
 same-length : tie.Need-same-length
 same-length c = search needs
@@ -25,9 +25,9 @@ returns : tie.Need-returns
 unfolding number-then
 returns c =
     let a = c .before .before .before .before .before .args in
-    let n = c .before .before .put-numeral in (
-      omega (arith, n .ensures .0, length-number (a .value) (a .behind)),
-      rw (n .ensures .1, n .ensures .0) (sym (sets-append (a .output .now) (a .at) (numeral (a .value)) (a .behind ∷ []))),
+    let n = c .before .before .put-numeral .ensures in (
+      omega (arith, length-number (a .value) (a .behind)),
+      rw (n .1, n .0) (sym (sets-append (a .output .now) (a .at) (numeral (a .value)) (a .behind ∷ []))),
     )
 
 pub put-number-spec : {M : Type 1} → statement M

@@ -35,9 +35,9 @@ wide-requires c κs = search needs
 put-number-requires : tie.Need-put-number-requires Inv-loop μ-loop
 put-number-requires c κs =
     let h = c .before .before .before .before .loop in
-    let is = c .before .before .before .before .before .before .before .args .trace .now in
-    let e = c .before .wide .ensures in
-    omega (arith, length-number (c .before .wide .result) 10, trace-length-next is (h .k) (c .before .before .before .loop-test .taken), ap (λ v. length (numeral v)) e)
+    let element = c .before .wide in
+    let next = trace-length-next (c .before .before .before .before .before .before .before .args .trace .now) (h .k) (c .before .before .before .loop-test .taken) in
+    omega (arith, length-number (element .result) 10, ap (λ v. length (numeral v)) (element .ensures))
 
 add-k : tie.Need-add-k Inv-loop μ-loop
 add-k c = search needs
@@ -49,15 +49,14 @@ loop-again : tie.Need-loop-again Inv-loop μ-loop
 loop-again c =
     let h = c .before .before .before .before .before .before .before .loop in
     let a = c .before .before .before .before .before .before .before .before .before .before .args in
-    let e = c .before .before .before .before .wide .ensures in
+    let element = c .before .before .before .before .wide in
     let n = c .before .before .put-number in
     let t = c .before .before .before .before .before .before .loop-test .taken in
-    let next = trace-length-next (a .trace .now) (h .k) t in
-    let long = ap (λ v. length (numeral v)) e in (
+    let next = trace-length-next (a .trace .now) (h .k) t in (
       search needs,
       n .kept .0 ∙ h .inv .1,
-      omega (arith, n .ensures .0, length-number (c .before .before .before .before .wide .result) 10, next, long),
-      rw (n .ensures .1, n .ensures .0, e) (sym (trace-written (h .output) (h .at) (a .trace .now) (h .k) t) ∙ h .inv .3),
+      omega (arith, n .ensures .0, length-number (element .result) 10, ap (λ v. length (numeral v)) (element .ensures)),
+      rw (n .ensures .1, n .ensures .0, element .ensures) (sym (trace-written (h .output) (h .at) (a .trace .now) (h .k) t) ∙ h .inv .3),
     )
 
 same-length : tie.Need-same-length Inv-loop μ-loop
