@@ -17,3 +17,4 @@ pub mod NumeralLaw
 pub mod FileRunLaw
 pub mod FileRefusalLaw
 pub mod FileRun
+pub mod FileClaim

@@ -3,12 +3,16 @@ use mathlib.Core.Path.{_≡_}
 use mathlib.Core.List.{List, [], _∷_}
 use mathlib.Core.Logic.{_≢_, _⊎_}
 use Prim.Native.Nat.{ℕ, _+_, _*_, _-_, _≤_, _<_}
-use lib.ListN.{length, getD}
+use lib.ListN.{length, getD, replicate}
 use Rattle.model.specs.declared.TreeWords.{TreeWords}
+use Rattle.model.specs.Trees.{tree-of}
+use Rattle.model.specs.States.{fresh-words}
+use Rattle.model.specs.Answers.{fresh-answer, trace-answer}
+use Rattle.model.specs.Claim.{Call, a-run, ran, answers, joined, Claim, Demand-three}
 use Rattle.model.specs.Laws.{_⟺_}
 use Rattle.lock_file.specs.Reading.{described, file-read}
 use Rattle.lock_file.specs.Listing.{numeral}
-use Rattle.lock_file.specs.FileAnswers.{file-answer}
+use Rattle.lock_file.specs.FileAnswers.{run-outcome, file-run, file-trace, file-outcome, file-answer}
 use Rattle.lock_file.specs.Format.{Describes}
 
 -- 1. FORMAT. Reading accepts a file, with a tree and a schedule, exactly if the file describes them
@@ -37,3 +41,22 @@ Met n = (n ≤ 9) ⊎ ((n ≡ 12) ⊎ (n ≡ 14))
 
 unfoldable pub File-refusal-law : Type 0
 File-refusal-law = (bytes output : List ℕ) → Met (file-answer bytes output .number)
+
+-- 4. FILES. For a file that describes a tree and a schedule the file call answers what a run of them from fresh answers
+unfoldable pub Described-law : Type 0
+Described-law =
+    (bytes : List ℕ) (w : TreeWords) (schedule : List ℕ) (room : ℕ) → length bytes ≤ 65536 → Describes bytes w schedule →
+    file-outcome bytes room ≡ run-outcome (file-run w schedule) (file-trace w schedule) room
+
+-- 5. THE THIRD DEMAND. The file call's run is a list of calls, on a lock of its own
+abbrev pub file-call : TreeWords → (schedule : List ℕ) → Call
+file-call w is = record { tree = w; ask = a-run is (replicate (length is) 0) }
+
+pub record One-call (w : TreeWords) (schedule : List ℕ) : Type 0 where
+  pub answered :
+      answers (file-call w schedule ∷ []) fresh-words
+      ≡ ran (file-run w schedule) (trace-answer w fresh-words schedule (replicate (length schedule) 0)) ∷ []
+  pub claimed : Claim (tree-of w) (file-call w schedule ∷ []) (joined (file-call w schedule ∷ []) fresh-words)
+
+unfoldable pub File-claim-law : Type 0
+File-claim-law = Demand-three → (w : TreeWords) (schedule : List ℕ) → fresh-answer w .number ≡ 0 → One-call w schedule
