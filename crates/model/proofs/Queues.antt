@@ -8,5 +8,5 @@ pub mod Order
 pub mod Left
 pub mod Allowance
 pub mod Alive
-pub mod Steps
+pub mod Handovers
 pub mod Fair

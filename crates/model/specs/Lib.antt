@@ -11,3 +11,5 @@ pub mod Refusals
 pub mod Answers
 pub mod Claim
 pub mod Laws
+pub mod Reached
+pub mod Cases

@@ -1,0 +1,136 @@
+-- The listing and the step table agree, after every schedule from fresh. Assumes nothing.
+use mathlib.Core.Path.{_≡_, refl, sym, ap, _∙_}
+use mathlib.Core.Bool.{Bool, true, false, cond}
+use mathlib.Core.List.{List, [], _∷_, _++_, append-assoc, append-nil}
+use mathlib.Core.Logic.{_≢_}
+use Prim.Native.Nat.{ℕ, zero, suc, _+_, _≤_, _<_}
+use native.Mathlib.Omega.{arith}
+use lib.Dec.{eqb}
+use lib.ListN.{length}
+use borrow.Author.Tests.{eq-eqb, ne-eqb}
+use Rattle.model.specs.declared.Place.{Place}
+use Rattle.model.specs.declared.Place.the-variants.{Idle, Prep, Swap, Link, Wait, Check}
+use Rattle.model.specs.declared.State.{State}
+use Rattle.model.specs.Trees.{Tree}
+use Rattle.model.specs.Places.{place-words, plain-place, place-of}
+use Rattle.model.specs.States.{wait-word, status, place, fresh-words}
+use Rattle.model.specs.Steps.{row, step}
+use Rattle.model.specs.Runs.{steps, state-after, run-of, run}
+use Rattle.model.specs.Refusals.{tree-refusal}
+use Rattle.model.specs.Laws.{All-threads, Sixteen-bit, Formed, Form-law}
+use Rattle.model.specs.Reached.{equality-check-row, Equality-law}
+use Rattle.model.proofs.Trees.Index.{ancestor, height, record-at}
+use Rattle.model.proofs.Trees.Accepted.{Accepted, accepted}
+use Rattle.model.proofs.Queues.Lists.{same-or}
+use Rattle.model.proofs.Laws.Form.{replicate-all, form-law}
+use Rattle.model.proofs.Claims.Calls.{run-behind, run-one}
+use Rattle.model.proofs.Claims.Equality.{equality-law}
+use Rattle.model.proofs.Claims.Reached.{threads-join}
+use Rattle.listing.specs.Listing.{behind-17, Control, control, line-7, line-9, line-11, line-13, line-66, line-67, line-71, line-72, top-domain, top-back}
+use Rattle.listing.specs.Agreement.{prep-place, place-at, place-of-control, entry, Threads, at-first, turn, turns, memory-of, Agrees, Listing-agrees}
+use Rattle.listing.proofs.Stacks.{acquire-back, acquire-stack, top-domain-at, Corresponds, c-idle, c-prep, c-swap, c-link, c-wait, c-inside, c-check, c-pass, c-help, c-cas, c-linger, c-55, c-59}
+use Rattle.listing.proofs.Acquiring.{Together, standing, idle-together, prep-together, swap-together, link-together, wait-root-together, wait-together}
+use Rattle.listing.proofs.Releasing.{leave-together, check-together, pass-together, help-together, cas-together, linger-together, line-55-together, line-59-together}
+
+-- ONE ENTRY, by the place where the thread stands
+module _ (t : Tree) (𝓐 : Accepted t) (i : ℕ) (h : i < t .threads) (s : State) (room : i < length (s .places)) (small : (r : ℕ) → status s r ≤ wait-word)
+    (by-equality : (l : ℕ) → place s i ≡ Check l → row t i (Check l) s ≡ equality-check-row t i l s) where
+  wait-by : (k : ℕ) → k ≤ height t i → (b : Bool) → eqb (ancestor t i k) 0 ≡ b → place s i ≡ Wait (ancestor t i k) →
+      Together t i s (row t i (Wait (ancestor t i k)) s) (entry t i (standing (control (cond b line-72 line-13) (acquire-stack t i k)) s))
+  unfolding row
+  wait-by k l true z q = wait-root-together t 𝓐 i h s room k l z q _ refl
+  wait-by k l false z q = wait-together t 𝓐 i h s room k l z q (small (record-at t i k)) _ _ refl refl
+
+  row-together : {c : Control} {p : Place} → place s i ≡ p → Corresponds t i c p → Together t i s (row t i p s) (entry t i (standing c s))
+  unfolding row
+  row-together q c-idle = idle-together t 𝓐 i h s room _ refl
+  row-together q (c-prep k l) = prep-together t 𝓐 i h s room (suc k) l _ refl
+  row-together q (c-swap k l) = swap-together t 𝓐 i h s room k l _ _ refl refl
+  row-together q (c-link k p l) = link-together t 𝓐 i h s room k p l _ refl
+  row-together q (c-wait k l) = wait-by k l _ refl q
+  row-together q c-inside = leave-together t 𝓐 i h s room
+  row-together q (c-check k fs b x) = rw (by-equality (ancestor t i k) q) (check-together t 𝓐 i h s room k b fs x)
+  row-together q (c-pass k c r fs b x) = pass-together t 𝓐 i h s room k b c r fs x
+  row-together q (c-help k b fs l x y) = help-together t 𝓐 i h s room k l b fs x y _ refl
+  row-together q (c-cas k b fs l x y) = cas-together t 𝓐 i h s room k l b fs x y _ refl
+  row-together q (c-linger k b fs l x y) = linger-together t 𝓐 i h s room k l b fs x y q _ refl
+  row-together q (c-55 k r b fs l x y) = line-55-together t 𝓐 i h s room k l b fs x y r
+  row-together q (c-59 k r b fs l x y) = line-59-together t 𝓐 i h s room k l b fs x y r
+
+-- ALL THREADS
+pub record Together-all (t : Tree) (x : Threads) (s : State) : Type 0 where
+  pub memory : x .memory ≡ memory-of s
+  pub corresponds : (i : ℕ) → i < t .threads → Corresponds t i (x .controls i) (place s i)
+
+-- a control that corresponds to a place stands there by the table of points
+corresponding : {t : Tree} {i : ℕ} {c : Control} {p : Place} → Corresponds t i c p → place-of-control c ≡ p
+unfolding place-of-control place-at prep-place top-domain top-back acquire-back
+corresponding c-idle = refl
+corresponding {t} {i} (c-prep k l) = either (eqb (ancestor t i (suc k)) 0)
+  where
+    either : (b : Bool) → place-at (cond b line-66 line-7) (ancestor t i (suc k)) behind-17 ≡ Prep (ancestor t i (suc k))
+    either true = refl
+    either false = refl
+corresponding {t} {i} (c-swap k l) = either (eqb (ancestor t i k) 0)
+  where
+    either : (b : Bool) → place-at (cond b line-67 line-9) (ancestor t i k) (acquire-back k) ≡ Swap (ancestor t i k)
+    either true = refl
+    either false = refl
+corresponding {t} {i} (c-link k p l) = either (eqb (ancestor t i k) 0)
+  where
+    either : (b : Bool) → place-at (cond b (line-71 p) (line-11 p)) (ancestor t i k) (acquire-back k) ≡ Link (ancestor t i k) p
+    either true = refl
+    either false = refl
+corresponding {t} {i} (c-wait k l) = either (eqb (ancestor t i k) 0)
+  where
+    either : (b : Bool) → place-at (cond b line-72 line-13) (ancestor t i k) (acquire-back k) ≡ Wait (ancestor t i k)
+    either true = refl
+    either false = refl
+corresponding c-inside = refl
+corresponding (c-check k fs b x) = rw (top-domain-at x)
+corresponding (c-pass k c r fs b x) = rw (top-domain-at x)
+corresponding (c-help k b fs l x y) = refl
+corresponding (c-cas k b fs l x y) = refl
+corresponding (c-linger k b fs l x y) = refl
+corresponding (c-55 k r b fs l x y) = refl
+corresponding (c-59 k r b fs l x y) = refl
+
+module _ (t : Tree) (bits : Sixteen-bit t) (ok : tree-refusal t .number ≡ 0) where
+  -- one turn, from a state reached from fresh
+  one-turn :
+      (pre : List ℕ) → All-threads t pre → (i : ℕ) → i < t .threads → (x : Threads) → Together-all t x (run t pre fresh-words .state) →
+      Together-all t (turn t i x) (step t i (run t pre fresh-words .state) .state)
+  unfolding turn step Form-law Equality-law
+  one-turn pre all i h x y =
+      let s = run t pre fresh-words .state in
+      let 𝓐 = accepted t ok in
+      let formed = form-law t bits ok .of-run pre fresh-words all (form-law t bits ok .of-fresh) in
+      let room : i < length (s .places) = omega (arith, formed .typed .places-room, 𝓐 .few-threads) in
+      let small : (r : ℕ) → status s r ≤ wait-word = λ r. omega (arith, formed .typed .statuses-fit r) in
+      let eq : (l : ℕ) → place s i ≡ Check l → row t i (Check l) s ≡ equality-check-row t i l s =
+      λ l q. rw q at (equality-law t bits ok pre all i l h q .same-step) in
+      let z = row-together t 𝓐 i h s room small eq refl (y .corresponds i h) in
+      rw (y .memory) (record {
+        memory = z .memory;
+        corresponds = λ j hj. same-or j i _
+            (λ e. rw (e, eq-eqb i i refl, z .there) (z .corresponds))
+            (λ e. rw (ne-eqb j i e, z .elsewhere j e) (y .corresponds j hj));
+      })
+
+  along :
+      (is pre : List ℕ) → All-threads t pre → All-threads t is → (x : Threads) → Together-all t x (run t pre fresh-words .state) →
+      Together-all t (turns t is x) (run t (pre ++ is) fresh-words .state)
+  unfolding turns All-threads
+  along [] pre all l x y = rw (append-nil pre) y
+  along (i ∷ is) pre all l x y =
+      let one = one-turn pre all i (l .0) x y in
+      let next : Together-all t (turn t i x) (run t (pre ++ (i ∷ [])) fresh-words .state) = rw (run-behind t pre (i ∷ []) [], run-one t i (run t pre fresh-words .state)) one in
+      rw (append-assoc pre (i ∷ []) is) at (along is (pre ++ (i ∷ [])) (threads-join t pre (i ∷ []) all (l .0, tt)) (l .1) (turn t i x) next)
+
+pub listing-agrees : Listing-agrees
+unfolding Listing-agrees at-first All-threads run run-of steps state-after memory-of fresh-words place-of plain-place
+listing-agrees t bits ok is all =
+    let idle : (i : ℕ) → place fresh-words i ≡ Idle = λ i. replicate-all (λ x. place-of x ≡ Idle) 256 i (place-words 0 0 0 0) refl in
+    let start : Together-all t at-first fresh-words = record { memory = refl; corresponds = λ i h. rw (idle i) c-idle } in
+    let y = along t bits ok is [] tt all at-first start in
+    record { memory = y .memory; places = λ i h. corresponding (y .corresponds i h) }

@@ -1,0 +1,6 @@
+pub mod Stacks
+pub mod Entries
+pub mod Acquiring
+pub mod Returning
+pub mod Releasing
+pub mod Agreement

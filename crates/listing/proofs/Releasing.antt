@@ -1,0 +1,173 @@
+-- The lines of Release, entry by entry, do what the rows from Inside to Idle do. Assumes nothing.
+use mathlib.Core.Path.{_≡_, refl, sym, ap, _∙_}
+use mathlib.Core.Bool.{Bool, true, false, _&&_, not, cond}
+use mathlib.Core.List.{List, [], _∷_}
+use Prim.Native.Nat.{ℕ, zero, suc, _+_, _-_, _≤_, _<_}
+use native.Mathlib.Omega.{arith}
+use lib.Dec.{eqb}
+use lib.ListN.{length}
+use borrow.Author.Tests.{eqb-true, eqb-false}
+use Rattle.model.specs.declared.Place.{Place}
+use Rattle.model.specs.declared.Place.the-variants.{Check, Help, Cas, Linger, Grant}
+use Rattle.model.specs.declared.State.{State}
+use Rattle.model.specs.Trees.{Tree, own-record}
+use Rattle.model.specs.States.{unlocked, none, tail, next, status, place, with-place}
+use Rattle.model.specs.Steps.{Step, release-place, release-word, leave-row, help-row, cas-row, linger-row, grant-row}
+use Rattle.model.specs.Reached.{equality-check-row}
+use Rattle.model.proofs.Trees.Index.{ancestor, height, record-at}
+use Rattle.model.proofs.Trees.Accepted.{Accepted}
+use Rattle.model.proofs.Trees.Paths.{ancestor-parent-of, ancestor-not-root}
+use Rattle.model.proofs.Trees.Records.{own-record-at}
+use Rattle.model.proofs.Words.Releasing.{done-at, done-place-at}
+use Rattle.listing.specs.Listing.{lock-at, next-at, status-at, store-lock, store-status, Return, from-release, behind-29, behind-41, behind-82, Frame, frame, critical, line-25, line-37, line-53, line-55, line-57, line-58, line-59, Control, control, After, goes, returns, line, next-line, top-domain, top-node}
+use Rattle.listing.specs.Agreement.{settle, entry, memory-of}
+use Rattle.listing.proofs.Stacks.{Release-stack, at-home, by-29, by-41, shaped, Helper-back, of-82, helper-stack, helper-returns, Corresponds, c-check, c-pass, c-help, c-cas, c-linger, c-55, c-59}
+use Rattle.listing.proofs.Entries.{begins}
+use Rattle.listing.proofs.Returning.{released-at, leaves, check-reached, check-alone, check-passes, help-none, help-some, cas-fails, linger-stays, linger-sees, Ended, ended}
+use Rattle.listing.proofs.Acquiring.{Together, standing, moved, stayed, together}
+
+module _ (t : Tree) (𝓐 : Accepted t) (i : ℕ) (h : i < t .threads) (s : State) (room : i < length (s .places)) where
+  -- a call of ReleaseReal at an index, where it stands
+  released :
+      (k : ℕ) (b : Return) (fs : List Frame) → k ≤ height t i → Release-stack t i k (frame (ancestor t i k) (record-at t i k) b ∷ fs) → (c : Bool) → eqb (ancestor t i k) 0 ≡ c →
+      Corresponds t i
+      (cond c (control (line-53 unlocked) (frame (ancestor t i k) (record-at t i k) behind-82 ∷ frame (ancestor t i k) (record-at t i k) b ∷ fs))
+      (control line-25 (frame (ancestor t i k) (record-at t i k) b ∷ fs)))
+      (cond c (Help (ancestor t i k)) (Check (ancestor t i k)))
+  released k b fs l x true e =
+      let c : Corresponds t i (control (line-53 (cond (eqb (ancestor t i k) 0) 0 _)) _) (Help (ancestor t i k)) = c-help k behind-82 (frame (ancestor t i k) (record-at t i k) b ∷ fs) l x of-82 in
+      rw e at c
+  released k b fs l x false e = c-check k (frame (ancestor t i k) (record-at t i k) b ∷ fs) (ancestor-not-root t 𝓐 i h k l (omega (arith, eqb-false (ancestor t i k) 0 e))) x
+
+  -- LEAVING
+  pub leave-together : Together t i s (leave-row t i s) (entry t i (standing (control critical []) s))
+  unfolding leave-row memory-of ancestor record-at
+  leave-together =
+      let p = release-place (t .home i) in
+      together t 𝓐 i h s room (record { thread = released-at (t .home i) i from-release []; memory = memory-of s }) p (leaves t i (memory-of s)) refl
+      (moved refl) (released 0 from-release [] (omega arith) at-home _ refl)
+
+  -- CHECK, by equality as the listing has it
+  module _ (k : ℕ) (b : k < height t i) where
+    abbrev L : ℕ
+    L = ancestor t i k
+
+    abbrev R : ℕ
+    R = record-at t i k
+
+    check-by :
+        (back : Return) (fs : List Frame) → Release-stack t i k (frame L R back ∷ fs) → (c d : Bool) → eqb (status s R) (t .threshold L) ≡ c → eqb (next s R) 0 ≡ d →
+        Together t i s (equality-check-row t i L s) (entry t i (standing (control line-25 (frame L R back ∷ fs)) s))
+    unfolding equality-check-row memory-of
+    check-by back fs x true d e f =
+        let p = release-place (ancestor t i (suc k)) in
+        let same = check-reached t i L R back fs (memory-of s) e in
+        rw (own-record-at t 𝓐 i h k (omega arith), e, ancestor-parent-of t 𝓐 i h k b)
+        (together t 𝓐 i h s room (record { thread = released-at (ancestor t i (suc k)) (256 + L) behind-29 (frame L R back ∷ fs); memory = memory-of s }) p
+        (rw (ancestor-parent-of t 𝓐 i h k b) at same) refl (moved refl) (next-call behind-29 (by-29 k (frame L R back ∷ fs) x)))
+      where
+        next-call : (a : Return) → Release-stack t i (suc k) (frame (ancestor t i (suc k)) (record-at t i (suc k)) a ∷ frame L R back ∷ fs) →
+            Corresponds t i (released-at (ancestor t i (suc k)) (256 + L) a (frame L R back ∷ fs)) (release-place (ancestor t i (suc k)))
+        next-call a y = unfold record-at in released (suc k) a (frame L R back ∷ fs) b y _ refl
+    check-by back fs x false true e f =
+        let p = release-place (ancestor t i (suc k)) in
+        let same = check-alone t i L R back fs (memory-of s) e f in
+        rw (own-record-at t 𝓐 i h k (omega arith), e, f, ancestor-parent-of t 𝓐 i h k b)
+        (together t 𝓐 i h s room (record { thread = released-at (ancestor t i (suc k)) (256 + L) behind-41 (frame L R back ∷ fs); memory = memory-of s }) p
+        (rw (ancestor-parent-of t 𝓐 i h k b) at same) refl (moved refl) (next-call behind-41 (by-41 k (frame L R back ∷ fs) x)))
+      where
+        next-call : (a : Return) → Release-stack t i (suc k) (frame (ancestor t i (suc k)) (record-at t i (suc k)) a ∷ frame L R back ∷ fs) →
+            Corresponds t i (released-at (ancestor t i (suc k)) (256 + L) a (frame L R back ∷ fs)) (release-place (ancestor t i (suc k)))
+        next-call a y = unfold record-at in released (suc k) a (frame L R back ∷ fs) b y _ refl
+    check-by back fs x false false e f =
+        let v = status s R in
+        let n = next s R in
+        let p = Grant L (n - 1) (v + 1) in
+        rw (own-record-at t 𝓐 i h k (omega arith), e, f)
+        (together t 𝓐 i h s room (goes (line-37 v (n - 1)) (frame L R back ∷ fs) (memory-of s)) p (check-passes t i L R back fs (memory-of s) e f) refl
+        (moved refl) (c-pass k v (n - 1) (frame L R back ∷ fs) b x))
+
+    pub check-together : (fs : List Frame) → Release-stack t i k fs → Together t i s (equality-check-row t i L s) (entry t i (standing (control line-25 fs) s))
+    check-together fs x =
+        let y = shaped x in
+        let x′ : Release-stack t i k (frame L R (y .back) ∷ y .callers) = rw (y .shape) at x in
+        rw (y .shape) (check-by (y .back) (y .callers) x′ _ _ refl refl)
+
+    -- PASS
+    pub pass-together : (c r : ℕ) (fs : List Frame) → Release-stack t i k fs → Together t i s (grant-row t i L r (c + 1) s) (entry t i (standing (control (line-37 c r) fs) s))
+    unfolding grant-row memory-of next-line line
+    pass-together c r fs x =
+        let z = ended t i 𝓐 h k fs (store-status r (c + 1) (memory-of s)) (omega arith) x in
+        rw (done-place-at t 𝓐 i h k (omega arith))
+        (together t 𝓐 i h s room (record { thread = z .thread; memory = store-status r (c + 1) (memory-of s) }) (done-at t i k)
+        (begins t i (goes (line-37 c r) fs (memory-of s)) (record { thread = returns fs; memory = store-status r (c + 1) (memory-of s) }) refl ∙ z .same) refl
+        (moved refl) (z .corresponds))
+
+  -- ReleaseHelper
+  module _ (k : ℕ) (l : k ≤ height t i) (back : Return) (fs : List Frame) (x : Release-stack t i k fs) (helps : Helper-back back) where
+    abbrev M : ℕ
+    M = ancestor t i k
+
+    abbrev Q : ℕ
+    Q = record-at t i k
+
+    abbrev W : ℕ
+    W = release-word (ancestor t i k)
+
+    pub help-together : (c : Bool) → eqb (next s Q) 0 ≡ c → Together t i s (help-row t i M s) (entry t i (standing (control (line-53 W) (helper-stack t i k back fs)) s))
+    unfolding help-row memory-of
+    help-together true e =
+        rw (own-record-at t 𝓐 i h k l, e)
+        (together t 𝓐 i h s room (goes (line-57 W) (helper-stack t i k back fs) (memory-of s)) (Cas M) (help-none t i M Q back fs (memory-of s) W e) refl
+        (moved refl) (c-cas k back fs l x helps))
+    help-together false e =
+        let p = Grant M (next s Q - 1) W in
+        rw (own-record-at t 𝓐 i h k l, e)
+        (together t 𝓐 i h s room (goes (line-55 (next s Q - 1) W) (helper-stack t i k back fs) (memory-of s)) p (help-some t i M Q back fs (memory-of s) W e) refl
+        (moved refl) (c-55 k (next s Q - 1) back fs l x helps))
+
+    pub cas-together : (c : Bool) → eqb (tail s M) (Q + 1) ≡ c → Together t i s (cas-row t i M s) (entry t i (standing (control (line-57 W) (helper-stack t i k back fs)) s))
+    unfolding cas-row memory-of next-line line top-domain top-node
+    cas-together true e =
+        let m = store-lock M none (memory-of s) in
+        let z = ended t i 𝓐 h k fs m l x in
+        rw (own-record-at t 𝓐 i h k l, e, done-place-at t 𝓐 i h k l)
+        (together t 𝓐 i h s room (record { thread = z .thread; memory = m }) (done-at t i k)
+        (begins t i (goes (line-57 W) (helper-stack t i k back fs) (memory-of s)) (record { thread = returns fs; memory = m }) (rw (e, helper-returns M Q fs helps)) ∙ z .same) refl
+        (moved refl) (z .corresponds))
+    cas-together false e =
+        rw (own-record-at t 𝓐 i h k l, e)
+        (together t 𝓐 i h s room (goes (line-58 W) (helper-stack t i k back fs) (memory-of s)) (Linger M) (cas-fails t i M Q back fs (memory-of s) W e) refl
+        (moved refl) (c-linger k back fs l x helps))
+
+    pub linger-together : place s i ≡ Linger M → (c : Bool) → eqb (next s Q) 0 ≡ c → Together t i s (linger-row t i M s) (entry t i (standing (control (line-58 W) (helper-stack t i k back fs)) s))
+    unfolding linger-row memory-of
+    linger-together q true e =
+        rw (own-record-at t 𝓐 i h k l, e)
+        (together t 𝓐 i h s room (goes (line-58 W) (helper-stack t i k back fs) (memory-of s)) (Linger M) (linger-stays t i M Q back fs (memory-of s) W e) refl (stayed refl q)
+        (c-linger k back fs l x helps))
+    linger-together q false e =
+        let p = Grant M (next s Q - 1) W in
+        rw (own-record-at t 𝓐 i h k l, e)
+        (together t 𝓐 i h s room (goes (line-59 (next s Q - 1) W) (helper-stack t i k back fs) (memory-of s)) p (linger-sees t i M Q back fs (memory-of s) W e) refl
+        (moved refl) (c-59 k (next s Q - 1) back fs l x helps))
+
+    pub line-55-together : (r : ℕ) → Together t i s (grant-row t i M r W s) (entry t i (standing (control (line-55 r W) (helper-stack t i k back fs)) s))
+    unfolding grant-row memory-of next-line line
+    line-55-together r =
+        let m = store-status r W (memory-of s) in
+        let z = ended t i 𝓐 h k fs m l x in
+        rw (done-place-at t 𝓐 i h k l)
+        (together t 𝓐 i h s room (record { thread = z .thread; memory = m }) (done-at t i k)
+        (begins t i (goes (line-55 r W) (helper-stack t i k back fs) (memory-of s)) (record { thread = returns fs; memory = m }) (rw (helper-returns M Q fs helps)) ∙ z .same) refl
+        (moved refl) (z .corresponds))
+
+    pub line-59-together : (r : ℕ) → Together t i s (grant-row t i M r W s) (entry t i (standing (control (line-59 r W) (helper-stack t i k back fs)) s))
+    unfolding grant-row memory-of next-line line
+    line-59-together r =
+        let m = store-status r W (memory-of s) in
+        let z = ended t i 𝓐 h k fs m l x in
+        rw (done-place-at t 𝓐 i h k l)
+        (together t 𝓐 i h s room (record { thread = z .thread; memory = m }) (done-at t i k)
+        (begins t i (goes (line-59 r W) (helper-stack t i k back fs) (memory-of s)) (record { thread = returns fs; memory = m }) (rw (helper-returns M Q fs helps)) ∙ z .same) refl
+        (moved refl) (z .corresponds))

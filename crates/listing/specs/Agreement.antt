@@ -1,0 +1,124 @@
+-- How much of the listing one schedule entry takes, by document 01's step table, and that the listing and the table agree. Assumes nothing: these are definitions.
+use mathlib.Core.Path.{_≡_}
+use mathlib.Core.Bool.{Bool, true, false, cond}
+use mathlib.Core.List.{List, [], _∷_}
+use Prim.Native.Nat.{ℕ, zero, suc, _+_, _<_}
+use lib.Dec.{eqb}
+use lib.ListN.{replicate}
+use Rattle.model.specs.declared.Place.{Place}
+use Rattle.model.specs.declared.Place.the-variants.{Idle, Prep, Swap, Link, Wait, Inside, Check, Help, Cas, Linger, Grant, Invalid}
+use Rattle.model.specs.declared.State.{State}
+use Rattle.model.specs.Trees.{Tree}
+use Rattle.model.specs.States.{place, fresh-words}
+use Rattle.model.specs.Runs.{run}
+use Rattle.model.specs.Refusals.{tree-refusal}
+use Rattle.model.specs.Laws.{All-threads, Sixteen-bit}
+use Rattle.listing.specs.Listing.{Memory, Return, from-acquire, from-release, behind-17, behind-29, behind-31, behind-41, behind-43, behind-82, Frame, Point, outside, critical, line-7, line-9, line-10, line-11, line-13, line-14, line-16, line-17, line-25, line-27, line-29, line-31, line-35, line-36, line-37, line-41, line-43, line-53, line-54, line-55, line-57, line-58, line-59, line-66, line-67, line-68, line-69, line-71, line-72, line-82, Control, control, After, top-domain, top-back, next-line}
+
+-- THE TABLE: the place of a thread that stands at a point, in a call with L that returns where it says. At a point where no thread stands between entries, none
+-- line 7 or 66 at home is no such point: Idle does Prep(home) in one entry
+unfoldable pub prep-place : Return → (L : ℕ) → Place
+prep-place from-acquire L = Invalid
+prep-place from-release L = Invalid
+prep-place behind-17 L = Prep L
+prep-place behind-29 L = Invalid
+prep-place behind-31 L = Invalid
+prep-place behind-41 L = Invalid
+prep-place behind-43 L = Invalid
+prep-place behind-82 L = Invalid
+
+unfoldable pub place-at : Point → (L : ℕ) → Return → Place
+place-at outside L b = Idle
+place-at line-7 L b = prep-place b L
+place-at line-66 L b = prep-place b L
+place-at line-9 L b = Swap L
+place-at line-67 L b = Swap L
+place-at (line-11 pred) L b = Link L pred
+place-at (line-71 pred) L b = Link L pred
+place-at line-13 L b = Wait L
+place-at line-72 L b = Wait L
+place-at critical L b = Inside
+place-at line-25 L b = Check L
+place-at (line-37 c succ) L b = Grant L succ (c + 1)
+place-at (line-53 v) L b = Help L
+place-at (line-55 succ v) L b = Grant L succ v
+place-at (line-57 v) L b = Cas L
+place-at (line-58 v) L b = Linger L
+place-at (line-59 succ v) L b = Grant L succ v
+place-at (line-10 pred) L b = Invalid
+place-at (line-14 s) L b = Invalid
+place-at line-16 L b = Invalid
+place-at line-17 L b = Invalid
+place-at (line-27 c) L b = Invalid
+place-at line-29 L b = Invalid
+place-at line-31 L b = Invalid
+place-at (line-35 c) L b = Invalid
+place-at (line-36 c n) L b = Invalid
+place-at line-41 L b = Invalid
+place-at line-43 L b = Invalid
+place-at (line-54 n v) L b = Invalid
+place-at (line-68 pred) L b = Invalid
+place-at line-69 L b = Invalid
+place-at line-82 L b = Invalid
+
+unfoldable pub place-of-control : Control → Place
+place-of-control c = place-at (c .point) (top-domain (c .frames)) (top-back (c .frames))
+
+unfoldable pub is-place : Place → Bool
+is-place Idle = true
+is-place (Prep l) = true
+is-place (Swap l) = true
+is-place (Link l p) = true
+is-place (Wait l) = true
+is-place Inside = true
+is-place (Check l) = true
+is-place (Help l) = true
+is-place (Cas l) = true
+is-place (Linger l) = true
+is-place (Grant l r w) = true
+is-place Invalid = false
+
+-- ONE SCHEDULE ENTRY: one line, and on to the next point at which a thread stands. No entry takes more than eight lines
+unfoldable pub settle : (lines : ℕ) → Tree → (i : ℕ) → After → After
+settle zero t i x = x
+settle (suc n) t i x = let on = settle n t i (next-line t i x) in cond (is-place (place-of-control (x .thread))) x on
+
+unfoldable pub entry : Tree → (i : ℕ) → After → After
+entry t i x = settle 8 t i (next-line t i x)
+
+-- THE LISTING'S STATE: the memory, and each thread's control
+pub record Threads : Type 0 where
+  pub memory : Memory
+  pub controls : (thread : ℕ) → Control
+
+-- at first: no lock held, every thread outside
+unfoldable pub at-first : Threads
+at-first =
+    record {
+      memory = record { locks = replicate 64 0; nexts = replicate 320 0; statuses = replicate 320 0 };
+      controls = λ i. control outside [];
+    }
+
+unfoldable pub turn : Tree → (i : ℕ) → Threads → Threads
+turn t i x =
+    let y = entry t i (record { thread = x .controls i; memory = x .memory }) in
+    record { memory = y .memory; controls = λ j. cond (eqb j i) (y .thread) (x .controls j) }
+
+-- threads take turns by a schedule
+unfoldable pub turns : Tree → (schedule : List ℕ) → Threads → Threads
+turns t [] x = x
+turns t (i ∷ is) x = turns t is (turn t i x)
+
+unfoldable pub memory-of : State → Memory
+memory-of s = record { locks = s .tails; nexts = s .nexts; statuses = s .statuses }
+
+-- AGREEMENT with a state of the step table: the whole memory, and every thread's place, so also who is in the critical section
+pub record Agrees (t : Tree) (x : Threads) (s : State) : Type 0 where
+  pub memory : x .memory ≡ memory-of s
+  pub places : (i : ℕ) → i < t .threads → place-of-control (x .controls i) ≡ place s i
+
+-- after every schedule from fresh, and so after each of its entries
+unfoldable pub Listing-agrees : Type 0
+Listing-agrees =
+    (t : Tree) → Sixteen-bit t → tree-refusal t .number ≡ 0 → (is : List ℕ) → All-threads t is →
+    Agrees t (turns t is at-first) (run t is fresh-words .state)

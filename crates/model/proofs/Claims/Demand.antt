@@ -1,0 +1,63 @@
+-- THE THIRD DEMAND, proved. Assumes nothing.
+use mathlib.Core.Path.{_≡_, refl, sym, ap, _∙_}
+use mathlib.Core.List.{List, [], _++_}
+use Prim.Native.Nat.{ℕ, _%_, _≤_, _<_}
+use native.Mathlib.Omega.{arith}
+use lib.ListN.{take}
+use Rattle.model.specs.declared.TreeWords.{TreeWords}
+use Rattle.model.specs.Trees.{Tree, read-word, tree-of}
+use Rattle.model.specs.States.{fresh-words}
+use Rattle.model.specs.Runs.{steps, state-after, run-of, run}
+use Rattle.model.specs.Refusals.{tree-refusal}
+use Rattle.model.specs.Answers.{fresh-answer}
+use Rattle.model.specs.Laws.{All-threads, Sixteen-bit, Form-law}
+use Rattle.model.specs.Claim.{Call, joined, Names, state-at, Claim, Demand-three}
+use Rattle.model.proofs.Trees.Accepted.{Accepted, accepted}
+use Rattle.model.proofs.Laws.Runs.{steps-take, run-state}
+use Rattle.model.proofs.Laws.Facts.{well-formed-facts}
+use Rattle.model.proofs.Laws.Form.{form-law}
+use Rattle.model.proofs.Claims.Reached.{from-fresh, threads-take}
+use Rattle.model.proofs.Claims.Alone.{alone}
+use Rattle.model.proofs.Claims.Order.{ordered}
+use Rattle.model.proofs.Claims.Bounded.{bounded}
+use Rattle.model.proofs.Claims.Calls.{each-from, stretches-from, joined-threads}
+
+-- a threshold that a call names is a 16-bit number
+pub sixteen-bit : (w : TreeWords) → Sixteen-bit (tree-of w)
+unfolding tree-of
+sixteen-bit w d = omega arith
+
+module _ (t : Tree) (bits : Sixteen-bit t) (ok : tree-refusal t .number ≡ 0) (cs : List Call) (n : Names t cs fresh-words) where
+  -- the list's schedule
+  abbrev S : List ℕ
+  S = joined cs fresh-words
+
+  start : fresh-words ≡ run t [] fresh-words .state
+  unfolding run run-of steps state-after
+  start = refl
+
+  threads : All-threads t S
+  threads = joined-threads t cs [] fresh-words start n
+
+  claim : Claim t cs S
+  unfolding state-at Form-law run run-of
+  claim =
+      let 𝓐 = accepted t ok in
+      let whole = from-fresh t 𝓐 bits S threads in
+      let front : (k : ℕ) → All-threads t (take k S) = λ k. threads-take t k S threads in
+      record {
+        each = each-from t cs [] fresh-words start n;
+        stretches = stretches-from t cs [] fresh-words start n;
+        alone = λ k.
+            let x = from-fresh t 𝓐 bits (take k S) (front k) in
+            let formed = form-law t bits ok .of-run (take k S) fresh-words (front k) (form-law t bits ok .of-fresh) in
+            alone t 𝓐 (run t (take k S) fresh-words .state) (well-formed-facts t _ formed) (x .there);
+        in-order = λ k d.
+            let x = from-fresh t 𝓐 bits (take k S) (front k) in
+            rw (steps-take t k S fresh-words) at (ordered t d (steps t (take k S) fresh-words) (x .there .queues) (x .follows));
+        bounded = bounded t 𝓐 (steps t S fresh-words) (whole .there .queues) (whole .real) (whole .follows);
+      }
+
+pub demand-three : Demand-three
+unfolding Demand-three fresh-answer
+demand-three w cs ok n = claim (tree-of w) (sixteen-bit w) ok cs n

@@ -1,0 +1,8 @@
+-- The laws of the step table and the refusals: runs and counts, refusals and accepted calls, form, kinds, words.
+pub mod Runs
+pub mod Refusals
+pub mod Calls
+pub mod Facts
+pub mod Form
+pub mod Kinds
+pub mod Words

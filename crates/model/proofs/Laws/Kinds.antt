@@ -1,0 +1,244 @@
+-- KINDS. A stay changes nothing, and only a stay; an entry arrives Inside; where root entries and passed entries come from. Assumes nothing.
+use mathlib.Core.Path.{_≡_, refl, sym, ap, _∙_}
+use mathlib.Core.Bool.{true, false, _&&_, _||_, not, false≢true}
+use mathlib.Core.Logic.{_≢_, _⊎_, inl, inr}
+use Prim.Native.Nat.{ℕ, _+_, _-_, _<_}
+use native.Mathlib.Omega.{arith}
+use lib.Dec.{eqb, ltb}
+use borrow.Author.Tests.{eqb-true, eqb-false, not-true}
+use Rattle.model.specs.declared.Place.{Place}
+use Rattle.model.specs.declared.Place.the-variants.{Idle, Prep, Swap, Link, Wait, Inside, Check, Help, Cas, Linger, Grant, Invalid}
+use Rattle.model.specs.declared.State.{State}
+use Rattle.model.specs.Trees.{Tree, on-path, child, own-record}
+use Rattle.model.specs.Places.{words-of}
+use Rattle.model.specs.States.{acquire-parent, wait-word, locked, none, tail, next, status, place, with-place}
+use Rattle.model.specs.Steps.{Kind, stay, other, root-entry, passed-entry, is-root-entry, is-passed-entry, is-entry, Step, climb-place, release-place, done-place, release-word, prep-row, swap-row, link-row, wait-row, leave-row, check-row, help-row, cas-row, linger-row, grant-row, row, step}
+use Rattle.model.specs.WellFormed.{good-place}
+use Rattle.model.specs.Laws.{Tells-kind, Kind-law}
+use Rattle.model.proofs.Tests.{by-test, and-both, or-neither}
+use Rattle.model.proofs.Places.{place-stored}
+use Rattle.model.proofs.Trees.Accepted.{Accepted, accepted}
+use Rattle.model.proofs.Trees.Paths.{path-real}
+use Rattle.model.proofs.Laws.Facts.{Facts, well-formed-facts}
+
+-- a move to another place, not Inside
+abbrev Moves-to : (before after : Place) → Type 0
+Moves-to p q = (q ≢ p) × (q ≢ Inside)
+
+-- places of different rows differ
+moves-to : (p q : Place) → eqb (words-of q .row) (words-of p .row) || eqb (words-of q .row) 5 ≡ false → Moves-to p q
+moves-to p q f =
+    let both = or-neither (eqb (words-of q .row) (words-of p .row)) (eqb (words-of q .row) 5) f in
+    (λ e. eqb-false _ _ (both .0) (ap (λ x. words-of x .row) e), λ e. eqb-false _ _ (both .1) (ap (λ x. words-of x .row) e))
+
+-- what a step of a thread from a place comes to
+pub data Outcome (s : State) (i : ℕ) (p : Place) (x : Step) : Type 0 where
+  stayed : x .kind ≡ stay → x .state ≡ s → Outcome s i p x
+  moved : (q : Place) → x .kind ≡ other → place (x .state) i ≡ q → Moves-to p q → Outcome s i p x
+  entered-root : x .kind ≡ root-entry → place (x .state) i ≡ Inside → (p ≡ Swap 0) ⊎ (p ≡ Wait 0) → Outcome s i p x
+  entered-passed : (l : ℕ) → x .kind ≡ passed-entry → place (x .state) i ≡ Inside → l ≢ 0 → p ≡ Wait l → Outcome s i p x
+
+module _ (t : Tree) (𝓐 : Accepted t) (i : ℕ) (h : i < t .threads) (s : State) (k : Facts t s) where
+  abbrev Of : Place → Step → Type 0
+  Of p x = Outcome s i p x
+
+  -- the stores of a row leave the places alone but for the thread's own
+  stored : (q : Place) → place (with-place i q s) i ≡ q
+  stored q = place-stored i q s (omega (arith, k .typed .places-room, 𝓐 .few-threads))
+
+  release-moves : (p : Place) (d : ℕ) → Moves-to p (Help d) → Moves-to p (Check d) → Moves-to p (release-place d)
+  release-moves p d f g = by-test (Moves-to p) (eqb d 0) (Help d) (Check d) (λ _. f) (λ _. g)
+
+  done-moves : (p : Place) (l : ℕ) → Moves-to p Idle → Moves-to p (Help (child t i l)) → Moves-to p (done-place t i l)
+  done-moves p l f g = by-test (Moves-to p) (eqb l (t .home i)) Idle (Help (child t i l)) (λ _. f) (λ _. g)
+
+  prep-outcome : (p : Place) (l : ℕ) → Moves-to p (Swap l) → Of p (prep-row t i l s)
+  unfolding prep-row
+  prep-outcome p l f = moved (Swap l) refl (stored (Swap l)) f
+
+  swap-outcome : (l : ℕ) → Of (Swap l) (swap-row t i l s)
+  unfolding swap-row
+  swap-outcome l =
+      by-test (Of (Swap l)) (eqb (tail s l) none) _ _
+      (λ e. by-test (Of (Swap l)) (eqb l 0) _ _
+      (λ z. entered-root refl (stored Inside) (inl (ap Swap (eqb-true l 0 z))))
+      (λ z. moved (climb-place t l) refl (stored (climb-place t l)) (moves-to (Swap l) (climb-place t l) refl)))
+      (λ e. moved (Link l (tail s l - 1)) refl (stored (Link l (tail s l - 1))) (moves-to (Swap l) (Link l (tail s l - 1)) refl))
+
+  link-outcome : (l p : ℕ) → Of (Link l p) (link-row t i l p s)
+  unfolding link-row
+  link-outcome l p = moved (Wait l) refl (stored (Wait l)) (moves-to (Link l p) (Wait l) refl)
+
+  wait-outcome : (l : ℕ) → Of (Wait l) (wait-row t i l s)
+  unfolding wait-row
+  wait-outcome l =
+      let v = status s (own-record t i l) in
+      let O = Of (Wait l) in
+      by-test O (eqb l 0) _ _
+      (λ z. by-test O (eqb v locked) _ _ (λ _. stayed refl refl) (λ _. entered-root refl (stored Inside) (inr (ap Wait (eqb-true l 0 z)))))
+      (λ z. by-test O (eqb v wait-word) _ _ (λ _. stayed refl refl)
+      (λ _. by-test O (eqb v acquire-parent) _ _
+      (λ _. moved (climb-place t l) refl (stored (climb-place t l)) (moves-to (Wait l) (climb-place t l) refl))
+      (λ _. entered-passed l refl (stored Inside) (eqb-false l 0 z) refl)))
+
+  leave-outcome : Of Inside (leave-row t i s)
+  unfolding leave-row
+  leave-outcome =
+      let d = t .home i in
+      moved (release-place d) refl (stored (release-place d))
+      (release-moves Inside d (moves-to Inside (Help d) refl) (moves-to Inside (Check d) refl))
+
+  -- a parent is another domain
+  check-outcome : (l : ℕ) → on-path t i l ≡ true → l ≢ 0 → Of (Check l) (check-row t i l s)
+  unfolding check-row
+  check-outcome l o n =
+      let I = own-record t i l in
+      let d = t .parent l in
+      let lower = 𝓐 .parent-lower l (omega arith) (path-real t 𝓐 i h l o) in
+      let to = Grant l (next s I - 1) (status s I + 1) in
+      by-test (Of (Check l)) (ltb (status s I) (t .threshold l) && not (eqb (next s I) none)) _ _
+      (λ _. moved to refl (stored to) (moves-to (Check l) to refl))
+      (λ _. moved (release-place d) refl (stored (release-place d))
+      (release-moves (Check l) d (moves-to (Check l) (Help d) refl)
+      (λ e. let z = ap (λ x. words-of x .domain) e in omega arith, λ e. let z = ap (λ x. words-of x .row) e in omega arith)))
+
+  help-outcome : (l : ℕ) → Of (Help l) (help-row t i l s)
+  unfolding help-row
+  help-outcome l =
+      let n = next s (own-record t i l) in
+      let to = Grant l (n - 1) (release-word l) in
+      by-test (Of (Help l)) (eqb n none) _ _
+      (λ _. moved (Cas l) refl (stored (Cas l)) (moves-to (Help l) (Cas l) refl))
+      (λ _. moved to refl (stored to) (moves-to (Help l) to refl))
+
+  cas-outcome : (l : ℕ) → Of (Cas l) (cas-row t i l s)
+  unfolding cas-row
+  cas-outcome l =
+      let d = child t i l in
+      by-test (Of (Cas l)) (eqb (tail s l) (own-record t i l + 1)) _ _
+      (λ _. moved (done-place t i l) refl (stored (done-place t i l))
+      (done-moves (Cas l) l (moves-to (Cas l) Idle refl) (moves-to (Cas l) (Help d) refl)))
+      (λ _. moved (Linger l) refl (stored (Linger l)) (moves-to (Cas l) (Linger l) refl))
+
+  linger-outcome : (l : ℕ) → Of (Linger l) (linger-row t i l s)
+  unfolding linger-row
+  linger-outcome l =
+      let n = next s (own-record t i l) in
+      let to = Grant l (n - 1) (release-word l) in
+      by-test (Of (Linger l)) (eqb n none) _ _ (λ _. stayed refl refl)
+      (λ _. moved to refl (stored to) (moves-to (Linger l) to refl))
+
+  grant-outcome : (l r w : ℕ) → Of (Grant l r w) (grant-row t i l r w s)
+  unfolding grant-row
+  grant-outcome l r w =
+      let p = Grant l r w in
+      let d = child t i l in
+      moved (done-place t i l) refl (stored (done-place t i l))
+      (done-moves p l (moves-to p Idle refl) (moves-to p (Help d) refl))
+
+  row-outcome : (p : Place) → good-place t i p ≡ true → Of p (row t i p s)
+  unfolding row good-place
+  row-outcome Idle g = prep-outcome Idle (t .home i) (moves-to Idle (Swap (t .home i)) refl)
+  row-outcome (Prep l) g = prep-outcome (Prep l) l (moves-to (Prep l) (Swap l) refl)
+  row-outcome (Swap l) g = swap-outcome l
+  row-outcome (Link l p) g = link-outcome l p
+  row-outcome (Wait l) g = wait-outcome l
+  row-outcome Inside g = leave-outcome
+  row-outcome (Check l) g =
+      let c = and-both (on-path t i l) (not (eqb l 0)) g in
+      check-outcome l (c .0) (eqb-false l 0 (not-true (eqb l 0) (c .1)))
+  row-outcome (Help l) g = help-outcome l
+  row-outcome (Cas l) g = cas-outcome l
+  row-outcome (Linger l) g = linger-outcome l
+  row-outcome (Grant l r w) g = grant-outcome l r w
+  row-outcome Invalid g = absurd (false≢true g)
+
+  pub step-outcome : Outcome s i (place s i) (step t i s)
+  unfolding step
+  step-outcome = row-outcome (place s i) (k .places i .used h)
+
+-- FROM OUTCOMES TO KINDS
+pub entry-kinds : (k : Kind) → is-entry k ≡ true → (k ≡ root-entry) ⊎ (k ≡ passed-entry)
+unfolding is-entry is-root-entry is-passed-entry
+entry-kinds stay e = absurd (false≢true e)
+entry-kinds other e = absurd (false≢true e)
+entry-kinds root-entry e = inl refl
+entry-kinds passed-entry e = inr refl
+
+pub kinds-entry : (k : Kind) → (k ≡ root-entry) ⊎ (k ≡ passed-entry) → is-entry k ≡ true
+unfolding is-entry is-root-entry is-passed-entry
+kinds-entry k (inl e) = rw e
+kinds-entry k (inr e) = rw e
+
+never : {A : Type 0} → _≡_ {A = ℕ} 0 1 → A
+never z = absurd (omega arith)
+
+module _ (t : Tree) (i : ℕ) (s : State) where
+  -- the kind, the place before and the place after
+  abbrev kind : Kind
+  kind = step t i s .kind
+
+  abbrev before : Place
+  before = place s i
+
+  abbrev after : Place
+  after = place (step t i s .state) i
+
+  abbrev From-root : Type 0
+  From-root = (before ≡ Swap 0) ⊎ (before ≡ Wait 0)
+
+  abbrev From-below : Type 0
+  From-below = (l : ℕ) × (l ≢ 0) × (before ≡ Wait l)
+
+  root-not-inside : From-root → before ≡ Inside → _≡_ {A = ℕ} 0 1
+  root-not-inside (inl e) f = cc
+  root-not-inside (inr e) f = cc
+
+  below-not-inside : From-below → before ≡ Inside → _≡_ {A = ℕ} 0 1
+  below-not-inside (l, n, e) f = cc
+
+  root-not-below : From-root → From-below → _≡_ {A = ℕ} 0 1
+  root-not-below (inl e) (l, n, f) = cc
+  root-not-below (inr e) (l, n, f) = let z : l ≡ 0 = cc in absurd (n z)
+
+  not-entry : kind ≢ root-entry → kind ≢ passed-entry → is-entry kind ≢ true
+  not-entry a b e = elim (entry-kinds kind e) [ inl f ↦ a f | inr f ↦ b f ]
+
+  tells : Outcome s i before (step t i s) → Tells-kind t i s
+  tells (stayed e f) =
+      let same : after ≡ before = ap (λ x. place x i) f in
+      let no-root : kind ≢ root-entry = λ g. never (cc) in
+      let no-passed : kind ≢ passed-entry = λ g. never (cc) in
+      record {
+        stays-exactly = (λ _. f, λ _. e);
+        enters-exactly = (λ g. absurd (not-entry no-root no-passed g), λ g. absurd (g .1 (sym same ∙ g .0)));
+        root-exactly = (λ g. absurd (no-root g), λ g. never (root-not-inside (g .1) (sym same ∙ g .0)));
+        passed-exactly = (λ g. absurd (no-passed g), λ g. never (below-not-inside (g .1) (sym same ∙ g .0)));
+      }
+  tells (moved q e f m) =
+      let no-root : kind ≢ root-entry = λ g. never (cc) in
+      let no-passed : kind ≢ passed-entry = λ g. never (cc) in
+      record {
+        stays-exactly = (λ g. never (cc), λ g. absurd (m .0 (sym f ∙ ap (λ x. place x i) g)));
+        enters-exactly = (λ g. absurd (not-entry no-root no-passed g), λ g. absurd (m .1 (sym f ∙ g .0)));
+        root-exactly = (λ g. absurd (no-root g), λ g. absurd (m .1 (sym f ∙ g .0)));
+        passed-exactly = (λ g. absurd (no-passed g), λ g. absurd (m .1 (sym f ∙ g .0)));
+      }
+  tells (entered-root e f m) =
+      record {
+        stays-exactly = (λ g. never (cc), λ g. never (root-not-inside m (sym (ap (λ x. place x i) g) ∙ f)));
+        enters-exactly = (λ _. (f, λ g. never (root-not-inside m g)), λ _. kinds-entry kind (inl e));
+        root-exactly = (λ _. (f, m), λ _. e);
+        passed-exactly = (λ g. never (cc), λ g. never (root-not-below m (g .1)));
+      }
+  tells (entered-passed l e f n m) =
+      record {
+        stays-exactly = (λ g. never (cc), λ g. never (below-not-inside (l, n, m) (sym (ap (λ x. place x i) g) ∙ f)));
+        enters-exactly = (λ _. (f, λ g. never (below-not-inside (l, n, m) g)), λ _. kinds-entry kind (inr e));
+        root-exactly = (λ g. never (cc), λ g. never (root-not-below (g .1) (l, n, m)));
+        passed-exactly = (λ _. (f, (l, n, m)), λ _. e);
+      }
+
+pub kind-law : Kind-law
+unfolding Kind-law
+kind-law t i s e h f = let 𝓐 = accepted t e in tells t i s (step-outcome t 𝓐 i h s (well-formed-facts t s f))

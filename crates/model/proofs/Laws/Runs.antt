@@ -1,0 +1,123 @@
+-- RUNS. A run equals its steps one after another, and its counts add up. Assumes nothing.
+use mathlib.Core.Path.{_≡_, refl, ap, _∙_}
+use mathlib.Core.Bool.{Bool, true, false, cond}
+use mathlib.Core.List.{List, [], _∷_, _++_, append-assoc}
+use Prim.Native.Nat.{ℕ, zero, suc, _+_, _<_}
+use native.Mathlib.Omega.{arith}
+use lib.ListN.{length, take, drop, length-append}
+use Rattle.model.specs.declared.State.{State}
+use Rattle.model.specs.Trees.{Tree}
+use Rattle.model.specs.Steps.{Kind, stay, other, root-entry, passed-entry, is-stay, is-root-entry, is-passed-entry, is-entry, Step, step}
+use Rattle.model.specs.Runs.{steps, state-after, how-many, entering, run-of, run, begun, ended, entries-under}
+use Rattle.model.specs.Laws.{All-threads, then-run, Run-law, Count-law}
+
+-- STEPS of two schedules, the second from the state after the first
+pub steps-join : (t : Tree) (is js : List ℕ) (s : State) → steps t (is ++ js) s ≡ steps t is s ++ steps t js (state-after s (steps t is s))
+unfolding steps state-after
+steps-join t [] js s = refl
+steps-join t (i ∷ is) js s = ap (λ xs. step t i s ∷ xs) (steps-join t is js (step t i s .state))
+
+pub steps-length : (t : Tree) (is : List ℕ) (s : State) → length (steps t is s) ≡ length is
+unfolding steps
+steps-length t [] s = refl
+steps-length t (i ∷ is) s = ap suc (steps-length t is (step t i s .state))
+
+pub steps-take : (t : Tree) (k : ℕ) (is : List ℕ) (s : State) → steps t (take k is) s ≡ take k (steps t is s)
+unfolding steps
+steps-take t zero is s = refl
+steps-take t (suc k) [] s = refl
+steps-take t (suc k) (i ∷ is) s = ap (λ xs. step t i s ∷ xs) (steps-take t k is (step t i s .state))
+
+pub steps-drop : (t : Tree) (k : ℕ) (is : List ℕ) (s : State) → drop k (steps t is s) ≡ steps t (drop k is) (state-after s (steps t (take k is) s))
+unfolding steps state-after
+steps-drop t zero is s = refl
+steps-drop t (suc k) [] s = refl
+steps-drop t (suc k) (i ∷ is) s = steps-drop t k is (step t i s .state)
+
+-- WHAT IS COUNTED of steps behind steps
+pub state-after-join : (s : State) (xs ys : List Step) → state-after s (xs ++ ys) ≡ state-after (state-after s xs) ys
+unfolding state-after
+state-after-join s [] ys = refl
+state-after-join s (x ∷ xs) ys = state-after-join (x .state) xs ys
+
+pub how-many-join : (f : Kind → Bool) (xs ys : List Step) → how-many f (xs ++ ys) ≡ how-many f xs + how-many f ys
+unfolding how-many
+how-many-join f [] ys = omega arith
+how-many-join f (x ∷ xs) ys = omega (arith, how-many-join f xs ys)
+
+pub entering-join : (xs ys : List Step) → entering (xs ++ ys) ≡ entering xs ++ entering ys
+unfolding entering
+entering-join [] ys = refl
+entering-join (x ∷ xs) ys = rw (entering-join xs ys) (simp append-assoc)
+
+pub begun-join : (d : ℕ) (xs ys : List Step) → begun d (xs ++ ys) ≡ begun d xs ++ begun d ys
+unfolding begun
+begun-join d [] ys = refl
+begun-join d (x ∷ xs) ys = rw (begun-join d xs ys) (simp append-assoc)
+
+pub ended-join : (d : ℕ) (xs ys : List Step) → ended d (xs ++ ys) ≡ ended d xs ++ ended d ys
+unfolding ended
+ended-join d [] ys = refl
+ended-join d (x ∷ xs) ys = rw (ended-join d xs ys) (simp append-assoc)
+
+pub entries-under-join : (t : Tree) (q : ℕ) (xs ys : List Step) → entries-under t q (xs ++ ys) ≡ entries-under t q xs + entries-under t q ys
+unfolding entries-under
+entries-under-join t q [] ys = omega arith
+entries-under-join t q (x ∷ xs) ys = omega (arith, entries-under-join t q xs ys)
+
+-- what some steps come to, joined
+pub run-of-join : (s : State) (xs ys : List Step) → run-of s (xs ++ ys) ≡ then-run (run-of s xs) (run-of (state-after s xs) ys)
+unfolding run-of then-run
+run-of-join s xs ys =
+    rw (length-append xs ys, how-many-join is-entry xs ys, how-many-join is-stay xs ys, how-many-join is-root-entry xs ys, how-many-join is-passed-entry xs ys, entering-join xs ys, state-after-join s xs ys)
+
+pub run-state : (t : Tree) (is : List ℕ) (s : State) → run t is s .state ≡ state-after s (steps t is s)
+unfolding run run-of
+run-state t is s = refl
+
+pub run-join : (t : Tree) (is js : List ℕ) (s : State) → run t (is ++ js) s ≡ then-run (run t is s) (run t js (run t is s .state))
+unfolding run run-of
+run-join t is js s = ap (run-of s) (steps-join t is js s) ∙ run-of-join s (steps t is s) (steps t js (state-after s (steps t is s)))
+
+-- a fact that every step keeps is kept by a run
+pub run-keeps :
+    (t : Tree) (P : State → Type 0) → ((i : ℕ) (s : State) → i < t .threads → P s → P (step t i s .state)) → (is : List ℕ) (s : State) →
+    All-threads t is → P s → P (run t is s .state)
+unfolding run run-of steps state-after All-threads
+run-keeps t P keeps [] s all p = p
+run-keeps t P keeps (i ∷ is) s all p = run-keeps t P keeps is (step t i s .state) (all .1) (keeps i s (all .0) p)
+
+pub run-law : Run-law
+unfolding Run-law run steps
+run-law t s = record { none = refl; one = λ i. refl; joined = λ is js. run-join t is js s }
+
+-- COUNTS. Each entry is a root entry or a passed entry
+entry-both : (k : Kind) → cond (is-root-entry k) 1 0 + cond (is-passed-entry k) 1 0 ≡ cond (is-entry k) 1 0
+unfolding is-entry is-root-entry is-passed-entry
+entry-both stay = refl
+entry-both other = refl
+entry-both root-entry = refl
+entry-both passed-entry = refl
+
+entries-both : (xs : List Step) → how-many is-root-entry xs + how-many is-passed-entry xs ≡ how-many is-entry xs
+unfolding how-many
+entries-both [] = refl
+entries-both (x ∷ xs) = omega (arith, entry-both (x .kind), entries-both xs)
+
+entering-length : (xs : List Step) → length (entering xs) ≡ how-many is-entry xs
+unfolding entering how-many
+entering-length [] = refl
+entering-length (x ∷ xs) = length-append (cond (is-entry (x .kind)) (x .thread ∷ []) []) (entering xs) ∙ rw (one (is-entry (x .kind))) (omega (arith, entering-length xs))
+  where
+    one : (b : Bool) → length (cond b (x .thread ∷ []) []) ≡ cond b 1 0
+    one true = refl
+    one false = refl
+
+pub count-law : Count-law
+unfolding Count-law run run-of
+count-law t is s =
+    record {
+      both-entries = entries-both (steps t is s);
+      traced = entering-length (steps t is s);
+      all-steps = steps-length t is s;
+    }

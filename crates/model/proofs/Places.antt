@@ -1,0 +1,90 @@
+-- A place and its four numbers: each gives the other back; a store of a place, read back. Assumes nothing.
+use mathlib.Core.Path.{_≡_, refl, sym, ap, _∙_}
+use mathlib.Core.Bool.{true, false, not, cond, false≢true}
+use mathlib.Core.Logic.{_≢_}
+use Prim.Native.Nat.{ℕ, _<_}
+use lib.Dec.{eqb}
+use lib.ListN.{length}
+use lib.Seq.{getD-set-same, getD-set-other}
+use borrow.Author.Tests.{eqb-true, not-false}
+use Rattle.model.specs.declared.PlaceWords.{PlaceWords}
+use Rattle.model.specs.declared.Place.{Place}
+use Rattle.model.specs.declared.Place.the-variants.{Idle, Prep, Swap, Link, Wait, Inside, Check, Help, Cas, Linger, Grant, Invalid}
+use Rattle.model.specs.declared.State.{State}
+use Rattle.model.specs.Places.{place-words, words-of, plain-place, place-of, is-idle}
+use Rattle.model.specs.States.{place, with-place}
+use Rattle.model.proofs.Tests.{by-test}
+
+-- the place of a place's numbers, Invalid as well
+pub place-of-words : (p : Place) → place-of (words-of p) ≡ p
+unfolding place-of plain-place
+place-of-words Idle = refl
+place-of-words (Prep l) = refl
+place-of-words (Swap l) = refl
+place-of-words (Link l p) = refl
+place-of-words (Wait l) = refl
+place-of-words Inside = refl
+place-of-words (Check l) = refl
+place-of-words (Help l) = refl
+place-of-words (Cas l) = refl
+place-of-words (Linger l) = refl
+place-of-words (Grant l s w) = refl
+place-of-words Invalid = refl
+
+-- the numbers of a place that four numbers give, where they give one
+abbrev Gives-back : (row domain peer word : ℕ) → Place → Type 0
+Gives-back r d x w p = p ≢ Invalid → words-of p ≡ place-words r d x w
+
+invalid : (r d x w : ℕ) → Gives-back r d x w Invalid
+invalid r d x w f = absurd (f refl)
+
+plain-gives-back : (r d : ℕ) → Gives-back r d 0 0 (plain-place r d)
+unfolding plain-place
+plain-gives-back r d =
+    let B = Gives-back r d 0 0 in
+    let row-is : (k : ℕ) (p : Place) → words-of p ≡ place-words k d 0 0 → eqb r k ≡ true → B p = λ k p q e _. rw (eqb-true r k e) q in
+    let bare : (k : ℕ) (p : Place) → words-of p ≡ place-words k 0 0 0 → eqb r k ≡ true → B (cond (eqb d 0) p Invalid) =
+    λ k p q e. by-test B (eqb d 0) p Invalid (λ z _. rw (eqb-true r k e, eqb-true d 0 z) q) (λ _. invalid r d 0 0) in
+    by-test B (eqb r 0) _ _ (bare 0 Idle refl) (λ _.
+    by-test B (eqb r 1) _ _ (row-is 1 (Prep d) refl) (λ _.
+    by-test B (eqb r 2) _ _ (row-is 2 (Swap d) refl) (λ _.
+    by-test B (eqb r 4) _ _ (row-is 4 (Wait d) refl) (λ _.
+    by-test B (eqb r 5) _ _ (bare 5 Inside refl) (λ _.
+    by-test B (eqb r 6) _ _ (row-is 6 (Check d) refl) (λ _.
+    by-test B (eqb r 7) _ _ (row-is 7 (Help d) refl) (λ _.
+    by-test B (eqb r 8) _ _ (row-is 8 (Cas d) refl) (λ _.
+    by-test B (eqb r 9) _ _ (row-is 9 (Linger d) refl) (λ _. invalid r d 0 0)))))))))
+
+pub words-of-place : (x : PlaceWords) → place-of x ≢ Invalid → words-of (place-of x) ≡ x
+unfolding place-of
+words-of-place x =
+    let B = Gives-back (x .row) (x .domain) (x .peer) (x .word) in
+    by-test B (eqb (x .row) 10) _ _ (λ e _. rw (sym (eqb-true (x .row) 10 e))) (λ _.
+    by-test B (not (eqb (x .word) 0)) _ _ (λ _. invalid _ _ _ _) (λ nw.
+    let w = eqb-true (x .word) 0 (not-false (eqb (x .word) 0) nw) in
+    by-test B (eqb (x .row) 3) _ _ (λ e _. rw (eqb-true (x .row) 3 e, w)) (λ _.
+    by-test B (not (eqb (x .peer) 0)) _ _ (λ _. invalid _ _ _ _) (λ np.
+    let p = eqb-true (x .peer) 0 (not-false (eqb (x .peer) 0) np) in
+    λ f. plain-gives-back (x .row) (x .domain) f ∙ rw (w, p)))))
+
+pub idle-facts : (p : Place) → is-idle p ≡ true → p ≡ Idle
+unfolding is-idle
+idle-facts Idle e = refl
+idle-facts (Prep l) e = absurd (false≢true e)
+idle-facts (Swap l) e = absurd (false≢true e)
+idle-facts (Link l p) e = absurd (false≢true e)
+idle-facts (Wait l) e = absurd (false≢true e)
+idle-facts Inside e = absurd (false≢true e)
+idle-facts (Check l) e = absurd (false≢true e)
+idle-facts (Help l) e = absurd (false≢true e)
+idle-facts (Cas l) e = absurd (false≢true e)
+idle-facts (Linger l) e = absurd (false≢true e)
+idle-facts (Grant l s w) e = absurd (false≢true e)
+idle-facts Invalid e = absurd (false≢true e)
+
+-- STORES of a place
+pub place-stored : (i : ℕ) (p : Place) (s : State) → i < length (s .places) → place (with-place i p s) i ≡ p
+place-stored i p s h = rw (getD-set-same (s .places) i (words-of p) (place-words 0 0 0 0) h) (place-of-words p)
+
+pub place-elsewhere : (i j : ℕ) (p : Place) (s : State) → j ≢ i → place (with-place i p s) j ≡ place s j
+place-elsewhere i j p s n = ap place-of (getD-set-other (s .places) i j (words-of p) (place-words 0 0 0 0) n)

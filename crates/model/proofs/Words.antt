@@ -1,0 +1,12 @@
+-- How a domain's words stand for its queue, and that each row of the step table is a move of the queues.
+pub mod Links
+pub mod View
+pub mod Represents
+pub mod Frame
+pub mod Joining
+pub mod Releasing
+pub mod Granting
+pub mod Outcome
+pub mod Acquiring
+pub mod Leaving
+pub mod Steps

@@ -1,0 +1,96 @@
+-- One thread's step: what the others keep, and how a new state is put together. Assumes nothing.
+use mathlib.Core.Path.{_≡_, refl, sym, ap, _∙_}
+use mathlib.Core.List.{List}
+use mathlib.Core.Logic.{_≢_}
+use Prim.Native.Nat.{ℕ, suc, _+_, _≤_, _<_}
+use native.Mathlib.Omega.{arith}
+use Rattle.model.specs.declared.Place.{Place}
+use Rattle.model.specs.Trees.{Tree}
+use Rattle.model.proofs.Trees.Index.{ancestor, height, record-at}
+use Rattle.model.proofs.Trees.Accepted.{Accepted}
+use Rattle.model.proofs.Trees.Records.{record-injective}
+use Rattle.model.proofs.Queues.Lists.{same-or, put, put-same, put-other, count}
+use Rattle.model.proofs.Queues.Moves.{Stage, climb, queued, low, State}
+use Rattle.model.proofs.Queues.Invariant.{Inv, Below, same-user}
+use Rattle.model.proofs.Words.Links.{after}
+use Rattle.model.proofs.Words.View.{Words, place-to}
+use Rattle.model.proofs.Words.Represents.{Linked, Counted, Fits, Represents, Apart, left-alone}
+
+-- all that a state represents, but for what thread i's place says
+pub record Others (t : Tree) (w : Words) (g : State) (i : ℕ) : Type 0 where
+  pub invariant : Inv t g
+  pub linked : (d : ℕ) → Linked w (g .queue d) d
+  pub others : (j : ℕ) → j < t .threads → j ≢ i → Fits t w g j (w .places j) (g .stage j)
+
+pub others-of : {t : Tree} {w : Words} {g : State} → Represents t w g → (i : ℕ) → Others t w g i
+others-of r i = record { invariant = r .invariant; linked = r .linked; others = λ j h n. r .fits j h }
+
+module _ (t : Tree) (𝓐 : Accepted t) (w : Words) (g : State) (i : ℕ) (h : i < t .threads) (o : Others t w g i) where
+  -- a thread's records, up to where it is first, are its own
+  pub below-low : (j k : ℕ) → k ≤ low (height t j) (g .stage j) → Below t (g .queue) j k
+  below-low j k b n l = o .invariant .threads j .heads n (omega arith)
+
+  pub other-record :
+      (j k l : ℕ) → j < t .threads → j ≢ i → k ≤ low (height t i) (g .stage i) → l ≤ low (height t j) (g .stage j) → record-at t j l ≢ record-at t i k
+  other-record j k l hj n a b e =
+      let f = 𝓐 .few-threads in
+      n (same-user t (g .queue) j i (omega arith) (omega arith) l k (below-low j l b) (below-low i k a) e .0)
+
+  pub lower-record : (k m : ℕ) → k ≤ height t i → m < k → record-at t i m ≢ record-at t i k
+  lower-record k m a b e = let z = record-injective t 𝓐 i h m k (omega arith) a e in omega arith
+
+  -- counts below an index, where statuses and counts change at the record there alone
+  pub counted-below :
+      (w′ : Words) (g′ : State) (k : ℕ) → k ≤ height t i → ((r : ℕ) → r ≢ record-at t i k → w′ .statuses r ≡ w .statuses r) →
+      ((r : ℕ) → r ≢ record-at t i k → g′ .tally r ≡ g .tally r) → Counted t w g i k → Counted t w′ g′ i k
+  counted-below w′ g′ k a st ta c m b l =
+      let n = lower-record k m a b in
+      st (record-at t i m) n ∙ c m b l ∙ sym (ta (record-at t i m) n)
+
+  -- and up to it, where the new status is the new count
+  pub counted-through :
+      (w′ : Words) (g′ : State) (k : ℕ) → Counted t w′ g′ i k → w′ .statuses (record-at t i k) ≡ g′ .tally (record-at t i k) → Counted t w′ g′ i (suc k)
+  counted-through w′ g′ k c e m b l =
+      same-or m k _ (λ z. rw z e) (λ z. c m (omega arith) l)
+
+  -- the others are left alone by a step that changes words at its own record there alone
+  pub apart :
+      (w′ : Words) (g′ : State) (k : ℕ) → k ≤ low (height t i) (g .stage i) → (j : ℕ) → j < t .threads → j ≢ i → w′ .places j ≡ w .places j →
+      g′ .stage j ≡ g .stage j → ((r : ℕ) → r ≢ record-at t i k → w′ .statuses r ≡ w .statuses r) →
+      ((r : ℕ) → r ≢ record-at t i k → g′ .tally r ≡ g .tally r) → ((r : ℕ) → r ≢ record-at t i k → w′ .nexts r ≡ w .nexts r) →
+      ((n p : ℕ) → g .stage j ≡ queued n → after (g .queue (ancestor t j n)) p ≡ suc (record-at t j n) → w .nexts p ≡ 0 →
+      (after (g′ .queue (ancestor t j n)) p ≡ suc (record-at t j n)) × (w′ .nexts p ≡ 0)) →
+      Apart t w g w′ g′ j
+  unfolding low
+  apart w′ g′ k a j hj n pl sg st ta nx lk =
+      let far : (l : ℕ) → l ≤ low (height t j) (g .stage j) → record-at t j l ≢ record-at t i k = λ l b. other-record j k l hj n a b in
+      record {
+        same-place = pl;
+        same-stage = sg;
+        same-status = λ l b. st (record-at t j l) (far l b);
+        same-tally = λ l b. ta (record-at t j l) (far l (omega arith));
+        next-set = λ l r b e. nx (record-at t j l) (far l (omega arith)) ∙ e;
+        next-none = λ l e z. let b : l ≤ low (height t j) (g .stage j) = rw e (omega arith) in nx (record-at t j l) (far l b) ∙ z;
+        same-link = lk;
+      }
+
+  -- a new state, from its parts
+  pub assembled :
+      (w′ : Words) (g′ : State) (p : Place) (x : Stage) → Inv t g′ → ((d : ℕ) → Linked w′ (g′ .queue d) d) → w′ .places i ≡ p → g′ .stage i ≡ x →
+      Fits t w′ g′ i p x → ((j : ℕ) → j < t .threads → j ≢ i → Apart t w g w′ g′ j) → Represents t w′ g′
+  assembled w′ g′ p x inv′ ln ep ex f ap′ =
+      record {
+        invariant = inv′;
+        linked = ln;
+        fits = λ j hj. same-or j i _ (λ z. rw z (rw (ep, ex) f)) (λ z. left-alone (ap′ j hj z) (o .others j hj z));
+      }
+
+  -- only the thread's place, and its stage, are new
+  pub replaced :
+      (g′ : State) (p : Place) (x : Stage) → Inv t g′ → g′ .queue ≡ g .queue → g′ .tally ≡ g .tally → g′ .stage i ≡ x →
+      ((j : ℕ) → j ≢ i → g′ .stage j ≡ g .stage j) → Fits t (place-to i p w) g′ i p x → Represents t (place-to i p w) g′
+  replaced g′ p x inv′ qu ta sx sg f =
+      assembled (place-to i p w) g′ p x inv′ (λ d. rw qu (record { last = o .linked d .last; chain = o .linked d .chain }))
+      (put-same (w .places) i p i refl) sx f
+      (λ j hj n. apart (place-to i p w) g′ 0 (omega arith) j hj n (put-other (w .places) i p j n) (sg j n) (λ r e. refl) (λ r e. ap (λ (f : ℕ → ℕ). f r) ta)
+      (λ r e. refl) (λ m q e a z. (rw qu a, z)))

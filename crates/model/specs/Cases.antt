@@ -1,0 +1,153 @@
+-- Document 01, "Ladder of cases": those marked *, and a case on three levels, in one table. Assumes nothing: these are definitions.
+use mathlib.Core.Bool.{Bool, true, false, _&&_}
+use mathlib.Core.List.{List, [], _∷_, _++_}
+use Prim.Native.Nat.{ℕ, zero, suc, _+_, _-_}
+use lib.Dec.{eqb}
+use lib.ListN.{length, drop, replicate}
+use Rattle.model.specs.declared.TreeWords.{TreeWords}
+use Rattle.model.specs.declared.PlaceWords.{PlaceWords}
+use Rattle.model.specs.declared.Place.the-variants.{Inside, Check}
+use Rattle.model.specs.declared.State.{State}
+use Rattle.model.specs.declared.RunReply.{RunReply}
+use Rattle.model.specs.States.{fresh-words, with-place}
+use Rattle.model.specs.Answers.{fresh-answer, step-answer, run-answer, trace-answer}
+
+-- INPUTS. A tree by its numbers of domains and threads, its parents, thresholds and homes; the room behind them is 0
+unfoldable pub padded : (room : ℕ) → List ℕ → List ℕ
+padded n xs = xs ++ replicate (n - length xs) 0
+
+unfoldable pub tree : (domains threads : ℕ) → (parents thresholds homes : List ℕ) → TreeWords
+tree d t ps hs is = record { domains = d; threads = t; parents = padded 64 ps; thresholds = padded 64 hs; homes = padded 256 is }
+
+-- as many numbers from one on, each one more
+unfoldable pub count-up : (from many : ℕ) → List ℕ
+count-up k zero = []
+count-up k (suc n) = k ∷ count-up (suc k) n
+
+-- ANSWERS, as the program prints them: ok with steps, entries, stays, root entries, passed entries and the trace; or refused with number and place
+pub record Expected : Type 0 where
+  pub number : ℕ
+  pub place : ℕ
+  pub steps : ℕ
+  pub entries : ℕ
+  pub stays : ℕ
+  pub root : ℕ
+  pub passed : ℕ
+  pub trace : List ℕ
+
+unfoldable pub ok : (steps entries stays root passed : ℕ) → (trace : List ℕ) → Expected
+ok a b c d e tr = record { number = 0; place = 0; steps = a; entries = b; stays = c; root = d; passed = e; trace = tr }
+
+unfoldable pub refused : (number place : ℕ) → Expected
+refused n p = record { number = n; place = p; steps = 0; entries = 0; stays = 0; root = 0; passed = 0; trace = [] }
+
+-- accepted, with nothing counted
+unfoldable pub passes : Expected
+passes = ok 0 0 0 0 0 []
+
+-- THE TABLE'S LINES. What a fresh call of a tree, a step in a state, and a run in a state with a trace buffer as long as the schedule are expected to answer
+pub data Case : Type 0 where
+  fresh-call : TreeWords → Expected → Case
+  step-call : TreeWords → State → (thread : ℕ) → Expected → Case
+  run-call : TreeWords → State → (schedule : List ℕ) → Expected → Case
+
+-- the tree of document 01's input: two domains below the root, thresholds 2 and 16; two threads in the first, one in the second
+unfoldable pub two-homes : TreeWords
+two-homes = tree 3 3 (0 ∷ 0 ∷ 0 ∷ []) (0 ∷ 2 ∷ 16 ∷ []) (1 ∷ 1 ∷ 2 ∷ [])
+
+-- its 22 entries but for the last
+unfoldable pub first-entries : List ℕ
+first-entries = 0 ∷ 0 ∷ 0 ∷ 0 ∷ 1 ∷ 1 ∷ 1 ∷ 1 ∷ 0 ∷ 0 ∷ 0 ∷ 1 ∷ 2 ∷ 2 ∷ 2 ∷ 2 ∷ 2 ∷ 1 ∷ 1 ∷ 1 ∷ 1 ∷ []
+
+-- one domain, one thread
+unfoldable pub root-alone : TreeWords
+root-alone = tree 1 1 (0 ∷ []) (0 ∷ []) (0 ∷ [])
+
+-- two threads in one domain below the root, threshold 2
+unfoldable pub one-home : TreeWords
+one-home = tree 2 2 (0 ∷ 0 ∷ []) (0 ∷ 2 ∷ []) (1 ∷ 1 ∷ [])
+
+-- three levels: below the root domain 1, threshold 2; below it two domains with a thread each, thresholds 1
+unfoldable pub three-levels : TreeWords
+three-levels = tree 4 2 (0 ∷ 0 ∷ 1 ∷ 1 ∷ []) (0 ∷ 2 ∷ 1 ∷ 1 ∷ []) (2 ∷ 3 ∷ [])
+
+unfoldable pub cases : List Case
+cases =
+    -- the 22 entries
+    run-call two-homes fresh-words (first-entries ++ 2 ∷ []) (ok 22 3 1 2 1 (0 ∷ 1 ∷ 2 ∷ []))
+    -- no domains
+    ∷ fresh-call (tree 0 1 [] [] (0 ∷ [])) (refused 4 0)
+    -- 64 domains, a thread in every leaf
+    ∷ fresh-call (tree 64 63 (replicate 64 0) (replicate 64 1) (count-up 1 63)) passes
+    -- 65 domains
+    ∷ fresh-call (tree 65 63 (replicate 64 0) (replicate 64 1) (count-up 1 63)) (refused 4 0)
+    -- 256 threads
+    ∷ fresh-call (tree 2 256 (0 ∷ 0 ∷ []) (0 ∷ 1 ∷ []) (replicate 256 1)) passes
+    -- 257 threads
+    ∷ fresh-call (tree 2 257 (0 ∷ 0 ∷ []) (0 ∷ 1 ∷ []) (replicate 256 1)) (refused 5 0)
+    -- a chain of 6 domains
+    ∷ fresh-call (tree 6 1 (0 ∷ count-up 0 5) (0 ∷ replicate 5 1) (5 ∷ [])) passes
+    -- a chain of 7 domains
+    ∷ fresh-call (tree 7 1 (0 ∷ count-up 0 6) (0 ∷ replicate 6 1) (6 ∷ [])) (refused 7 6)
+    -- threshold 0 at domain 1 together with parent 2 at domain 2
+    ∷ fresh-call (tree 3 1 (0 ∷ 0 ∷ 2 ∷ []) (0 ∷ 0 ∷ 1 ∷ []) (1 ∷ [])) (refused 6 2)
+    -- one domain, one thread, entries 0 0
+    ∷ run-call root-alone fresh-words (0 ∷ 0 ∷ []) (ok 2 1 0 1 0 (0 ∷ []))
+    -- the empty schedule: all counts 0
+    ∷ run-call root-alone fresh-words [] passes
+    -- 0 four times, 1 twice, 0 seven times, then 1 0 0 1 1 1
+    ∷ run-call one-home fresh-words (replicate 4 0 ++ replicate 2 1 ++ replicate 7 0 ++ 1 ∷ 0 ∷ 0 ∷ 1 ∷ 1 ∷ 1 ∷ []) (ok 19 2 1 2 0 (0 ∷ 1 ∷ []))
+    -- the 22 entries, the last changed to 3
+    ∷ run-call two-homes fresh-words (first-entries ++ 3 ∷ []) (refused 12 21)
+    -- Check at the root in a handed-in state
+    ∷ step-call root-alone (with-place 0 (Check 0) fresh-words) 0 (refused 10 0)
+    -- Inside in unused room
+    ∷ step-call root-alone (with-place 1 Inside fresh-words) 0 (refused 10 0)
+    -- three levels: 0 six times, 1 six times, 0 four times, 1 once
+    ∷ run-call three-levels fresh-words (replicate 6 0 ++ replicate 6 1 ++ replicate 4 0 ++ 1 ∷ []) (ok 17 2 1 1 1 (0 ∷ 1 ∷ []))
+    ∷ []
+
+-- WHEN A LINE HOLDS
+unfoldable pub same-numbers : List ℕ → List ℕ → Bool
+same-numbers [] [] = true
+same-numbers [] (y ∷ ys) = false
+same-numbers (x ∷ xs) [] = false
+same-numbers (x ∷ xs) (y ∷ ys) = eqb x y && same-numbers xs ys
+
+unfoldable pub place-numbers : List PlaceWords → List ℕ
+place-numbers [] = []
+place-numbers (p ∷ ps) = p .row ∷ p .domain ∷ p .peer ∷ p .word ∷ place-numbers ps
+
+unfoldable pub same-state : State → State → Bool
+same-state a b =
+    (same-numbers (a .tails) (b .tails) && same-numbers (a .nexts) (b .nexts))
+    && (same-numbers (a .statuses) (b .statuses) && same-numbers (place-numbers (a .places)) (place-numbers (b .places)))
+
+unfoldable pub gives : (number place : ℕ) → Expected → Bool
+gives n p x = eqb n (x .number) && eqb p (x .place)
+
+unfoldable pub counts : RunReply → Expected → Bool
+counts r x =
+    (eqb (r .steps) (x .steps) && eqb (r .entries) (x .entries))
+    && (eqb (r .stays) (x .stays) && (eqb (r .root) (x .root) && eqb (r .passed) (x .passed)))
+
+-- where refused, the state is as it came
+unfoldable pub kept : (refused : ℕ) → (before after : State) → Bool
+kept zero s n = true
+kept (suc r) s n = same-state n s
+
+-- number, place, counts, state and the whole trace buffer
+unfoldable pub run-holds : TreeWords → State → (schedule buffer : List ℕ) → Expected → Bool
+run-holds w s is b x =
+    let r = run-answer w s is b in
+    (gives (r .number) (r .place) x && counts r x)
+    && (kept (x .number) s (r .state) && same-numbers (trace-answer w s is b) (x .trace ++ drop (length (x .trace)) b))
+
+unfoldable pub holds : Case → Bool
+holds (fresh-call w x) = let r = fresh-answer w in gives (r .number) (r .place) x && same-state (r .state) fresh-words
+holds (step-call w s i x) = let r = step-answer w s i in gives (r .number) (r .place) x && kept (x .number) s (r .state)
+holds (run-call w s is x) = run-holds w s is (replicate (length is) 999) x
+
+unfoldable pub all-hold : List Case → Bool
+all-hold [] = true
+all-hold (c ∷ cs) = holds c && all-hold cs

@@ -1,0 +1,96 @@
+-- WHAT HOLDS IN EVERY STATE REACHED FROM FRESH, beside the claim. Each is a statement; proofs/ has its proof. Assumes nothing.
+use mathlib.Core.Path.{_≡_}
+use mathlib.Core.Bool.{true, _&&_, not, cond}
+use mathlib.Core.List.{List, [], _∷_, _++_}
+use mathlib.Core.Logic.{_≢_}
+use Prim.Native.Nat.{ℕ, suc, _+_, _-_, _≤_, _<_}
+use lib.Dec.{eqb}
+use lib.ListN.{length, drop}
+use Rattle.model.specs.declared.TreeWords.{TreeWords}
+use Rattle.model.specs.declared.State.{State}
+use Rattle.model.specs.declared.Place.the-variants.{Check, Grant}
+use Rattle.model.specs.Trees.{Tree, tree-of, own-record, is-member}
+use Rattle.model.specs.States.{none, tail, next, status, place, fresh-words, with-place}
+use Rattle.model.specs.Steps.{moves, release-place, Step, step}
+use Rattle.model.specs.Runs.{steps, run, begun, ended, occurrences}
+use Rattle.model.specs.Acts.{acts}
+use Rattle.model.specs.Refusals.{accepted, tree-refusal}
+use Rattle.model.specs.Answers.{fresh-answer}
+use Rattle.model.specs.Laws.{All-threads, Sixteen-bit}
+use Rattle.model.specs.Claim.{Ask, one-step, a-run, Call, state-in, answer, call-refusal, joined, Names, Claim}
+
+-- NOT EMPTY: in a list, a call that names the tree and existing threads, with room, is accepted
+-- the state that the last call of a list returned
+unfoldable pub last-state : List Call → State → State
+last-state [] s = s
+last-state (c ∷ cs) s = last-state cs (state-in (answer c s))
+
+-- existing threads, no more entries than are allowed, and room for the trace
+unfoldable pub Asks-well : Tree → Ask → Type 0
+Asks-well t (one-step i) = i < t .threads
+Asks-well t (a-run is b) = All-threads t is × (length is ≤ 65536) × (length is ≤ length b)
+
+unfoldable pub Never-refused : Type 0
+Never-refused =
+    (w : TreeWords) (cs : List Call) → fresh-answer w .number ≡ 0 → Names (tree-of w) cs (fresh-answer w .state) →
+    (c : Call) → tree-of (c .tree) ≡ tree-of w → Asks-well (tree-of w) (c .ask) → call-refusal c (last-state cs (fresh-answer w .state)) ≡ accepted
+
+-- THE LISTING'S TEST. Check as the listing has it, by equality with the threshold
+unfoldable pub equality-check-row : Tree → (thread domain : ℕ) → State → Step
+equality-check-row t i l s =
+    let I = own-record t i l in
+    let v = status s I in
+    let n = next s I in
+    cond (not (eqb v (t .threshold l)) && not (eqb n none))
+    (moves i l (with-place i (Grant l (n - 1) (v + 1)) s))
+    (moves i l (with-place i (release-place (t .parent l)) s))
+
+-- at every Check the status is a count from 1 to the threshold, so both tests give the same step
+pub record Counts-at-check (t : Tree) (s : State) (i l : ℕ) : Type 0 where
+  pub started : 1 ≤ status s (own-record t i l)
+  pub within : status s (own-record t i l) ≤ t .threshold l
+  pub same-step : step t i s ≡ equality-check-row t i l s
+
+unfoldable pub Equality-law : Type 0
+Equality-law =
+    (t : Tree) → Sixteen-bit t → tree-refusal t .number ≡ 0 → (is : List ℕ) → All-threads t is → (i l : ℕ) → i < t .threads →
+    place (run t is fresh-words .state) i ≡ Check l → Counts-at-check t (run t is fresh-words .state) i l
+
+-- QUEUES. One more than the last of a list, or none
+unfoldable pub last-or-none : List ℕ → ℕ
+last-or-none [] = none
+last-or-none (m ∷ []) = suc m
+last-or-none (m ∷ n ∷ ms) = last-or-none (n ∷ ms)
+
+-- thread i acts for the record m at the domain d
+pub record Acts-for (t : Tree) (s : State) (d m i : ℕ) : Type 0 where
+  pub real : i < t .threads
+  pub acting : acts t s i d ≡ true
+  pub record-there : own-record t i d ≡ m
+
+pub record Acted-once (t : Tree) (s : State) (d m : ℕ) : Type 0 where
+  pub thread : ℕ
+  pub acting : Acts-for t s d m thread
+  pub only : (j : ℕ) → Acts-for t s d m j → j ≡ thread
+
+-- each domain has a queue of members, none twice: the tail names its last; behind its first are those who stand ungranted, in order; and exactly one thread acts for each of its members, and none for a member that is not in it
+pub record Has-queues (t : Tree) (S : List ℕ) (s : State) : Type 0 where
+  pub queue : (domain : ℕ) → List ℕ
+  pub tails : (d : ℕ) → tail s d ≡ last-or-none (queue d)
+  pub standing : (d : ℕ) → begun d (steps t S fresh-words) ≡ ended d (steps t S fresh-words) ++ drop 1 (queue d)
+  pub members : (d m : ℕ) → 1 ≤ occurrences m (queue d) → is-member t d m ≡ true
+  pub once : (d m : ℕ) → occurrences m (queue d) ≤ 1
+  pub acted : (d m : ℕ) → 1 ≤ occurrences m (queue d) → Acted-once t s d m
+  pub acted-only : (d m i : ℕ) → Acts-for t s d m i → 1 ≤ occurrences m (queue d)
+
+unfoldable pub Queue-law : Type 0
+Queue-law =
+    (t : Tree) → Sixteen-bit t → tree-refusal t .number ≡ 0 → (is : List ℕ) → All-threads t is → Has-queues t is (run t is fresh-words .state)
+
+-- A RUN ON A LOCK OF ITS OWN, as the file call makes it, is such a list
+abbrev pub lone-run : TreeWords → (schedule buffer : List ℕ) → Call
+lone-run w is b = record { tree = w; ask = a-run is b }
+
+unfoldable pub Lone-run-law : Type 0
+Lone-run-law =
+    (w : TreeWords) (is b : List ℕ) → fresh-answer w .number ≡ 0 → Claim (tree-of w) (lone-run w is b ∷ []) (joined (lone-run w is b ∷ []) fresh-words)

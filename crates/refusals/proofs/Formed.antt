@@ -1,0 +1,108 @@
+-- The tests by the table of owners together: a state passes them exactly if it is well formed. Assumes nothing.
+use mathlib.Core.Path.{_≡_, refl, sym, ap, _∙_}
+use mathlib.Core.Bool.{Bool, true, false, _&&_, not, cond}
+use mathlib.Core.List.{List, []}
+use Prim.Native.Nat.{ℕ, zero, suc, _≤_, _<_}
+use native.Mathlib.Omega.{arith}
+use native.Mathlib.Decide.{decLt}
+use lib.Dec.{ltb}
+use lib.ListN.{getD}
+use borrow.Author.Tests.{lt-ltb, le-ltb}
+use Rattle.model.specs.declared.TreeWords.{TreeWords}
+use Rattle.model.specs.declared.State.{State}
+use Rattle.model.specs.declared.PlaceWords.{PlaceWords}
+use Rattle.model.specs.Scans.{all-below}
+use Rattle.model.specs.Places.{place-words}
+use Rattle.model.specs.States.{tail, next, status, place}
+use Rattle.model.specs.Trees.{Tree, tree-of, is-record, owner-domain, meets}
+use Rattle.model.specs.WellFormed.{good-tail, good-next, good-status, good-thread, well-formed}
+use Rattle.model.proofs.Trees.Accepted.{Accepted}
+use Rattle.refusals.specs.Arrays.{tree-in, parents-in, Lower}
+use Rattle.refusals.specs.Tables.{Owners, Homes-real, next-in, record-in, place-in, idle-in, thread-in}
+use Rattle.refusals.proofs.Reading.{parent-in, home-in}
+use Rattle.refusals.proofs.Meeting.{meets-same}
+use Rattle.refusals.proofs.Members.{tail-is, record-is}
+use Rattle.refusals.proofs.PlaceTests.{place-is, idle-is}
+
+all-same : (n : ℕ) (f g : ℕ → Bool) → ((j : ℕ) → j < n → f j ≡ g j) → all-below n f ≡ all-below n g
+unfolding all-below
+all-same zero f g h = refl
+all-same (suc n) f g h = rw (all-same n f g (λ j l. h j (omega arith)), h n (omega arith))
+
+all-both : (n : ℕ) (f g : ℕ → Bool) → all-below n (λ j. f j && g j) ≡ all-below n f && all-below n g
+unfolding all-below
+all-both zero f g = refl
+all-both (suc n) f g = rw (all-both n f g) (regroup (all-below n f) (all-below n g) (f n) (g n))
+  where
+    regroup : (a b c d : Bool) → (a && b) && (c && d) ≡ (a && c) && (b && d)
+    regroup true true c d = refl
+    regroup true false true d = refl
+    regroup true false false d = refl
+    regroup false b c d = refl
+
+-- a place's test reads the parents alone
+place-same : (t u : Tree) (os : List ℕ) (h : ℕ) (q : PlaceWords) → ((e : ℕ) → t .parent e ≡ u .parent e) → place-in t os h q ≡ place-in u os h q
+unfolding place-in
+place-same t u os h q f = rw (meets-same 6 t u h (q .domain) f)
+
+-- an accepted tree, as the words say it
+pub lower : (w : TreeWords) → Accepted (tree-of w) → Lower (w .domains) (w .parents)
+unfolding tree-of
+lower w 𝓐 =
+    record { lower = λ d p q. rw (parent-in (w .domains) (w .threads) (w .parents) (w .thresholds) (w .homes) d p q) at (𝓐 .parent-lower d p q) }
+
+module _ (w : TreeWords) (𝓐 : Accepted (tree-of w)) (os : List ℕ) (𝓞 : Owners (tree-in (w .domains) (w .threads) (w .parents) [] (w .homes)) os) where
+  -- members do not depend on thresholds
+  owners : Owners (tree-of w) os
+  unfolding is-record owner-domain tree-of
+  owners = record { owner = λ r l. 𝓞 .owner r l }
+
+  owner-home : (i : ℕ) → i < w .threads → getD os i 0 ≡ tree-of w .home i
+  unfolding is-record owner-domain tree-of
+  owner-home i l =
+      let few = 𝓐 .few-threads in
+      owners .owner i (omega arith) ∙ rw (lt-ltb i 256 (omega arith), lt-ltb i (w .threads) l)
+
+  pub homes-real : Homes-real (w .domains) (w .threads) os
+  unfolding tree-of
+  homes-real = record { real = λ i l. rw (owner-home i l) (𝓐 .home-real i l) }
+
+  module _ (s : State) where
+    abbrev place-at : ℕ → Bool
+    place-at i = thread-in (parents-in (w .domains) (w .parents)) os (w .threads) i (getD (s .places) i (place-words 0 0 0 0))
+
+    thread-is : (i : ℕ) → place-at i ≡ good-thread (tree-of w) s i
+    unfolding thread-in good-thread tree-of
+    thread-is i =
+        let q = getD (s .places) i (place-words 0 0 0 0) in
+        elim (decLt i (w .threads)) [
+          | yes l ↦
+              rw (lt-ltb i (w .threads) l, owner-home i l)
+              (place-same (parents-in (w .domains) (w .parents)) (tree-of w) os (tree-of w .home i) q (λ e. refl)
+              ∙ place-is (tree-of w) 𝓐 os owners i l (q .row) (q .domain) (q .peer) (q .word))
+          | no l ↦ rw (le-ltb i (w .threads) (omega arith)) (idle-is (q .row) (q .domain) (q .peer) (q .word))
+        ]
+
+    tails-is : all-below 64 (λ d. next-in os d (tail s d)) ≡ all-below 64 (good-tail (tree-of w) s)
+    tails-is = all-same 64 (λ d. next-in os d (tail s d)) (good-tail (tree-of w) s) (λ d l. tail-is (tree-of w) 𝓐 os owners s d l)
+
+    records-are :
+        all-below 320 (λ r. record-in os r (next s r) (status s r))
+        ≡ all-below 320 (good-next (tree-of w) s) && all-below 320 (good-status (tree-of w) s)
+    records-are =
+        all-same 320 (λ r. record-in os r (next s r) (status s r)) (λ r. good-next (tree-of w) s r && good-status (tree-of w) s r)
+        (λ r l. record-is (tree-of w) 𝓐 os owners s r l)
+        ∙ all-both 320 (good-next (tree-of w) s) (good-status (tree-of w) s)
+
+    pub formed-is :
+        well-formed (tree-of w) s
+        ≡ all-below 64 (λ d. next-in os d (tail s d)) && (all-below 320 (λ r. record-in os r (next s r) (status s r)) && all-below 256 place-at)
+    unfolding well-formed
+    formed-is =
+        rw (tails-is, records-are, all-same 256 place-at (good-thread (tree-of w) s) (λ i l. thread-is i))
+        (regroup (all-below 64 (good-tail (tree-of w) s)) (all-below 320 (good-next (tree-of w) s)) (all-below 320 (good-status (tree-of w) s)) (all-below 256 (good-thread (tree-of w) s)))
+      where
+        regroup : (a b c d : Bool) → (a && b) && (c && d) ≡ a && ((b && c) && d)
+        regroup true true c d = refl
+        regroup true false c d = refl
+        regroup false b c d = refl

@@ -1,0 +1,93 @@
+-- Levels in one pass: each domain's from its parent's. Assumes nothing.
+use mathlib.Core.Path.{_≡_, refl, sym, ap, _∙_}
+use mathlib.Core.Bool.{true, false}
+use mathlib.Core.List.{List, []}
+use Prim.Native.Nat.{ℕ, zero, suc, _+_, _≤_, _<_}
+use native.Mathlib.Omega.{arith}
+use native.Mathlib.Decide.{ℕ-discrete}
+use lib.ListN.{getD, set, length, replicate, length-set}
+use lib.Seq.{getD-set-same, getD-set-other}
+use borrow.Author.Tests.{eq-eqb, ne-eqb, le-ltb, lt-ltb}
+use Rattle.model.specs.Trees.{Tree, tree-of, depth-from, depth, level}
+use Rattle.model.specs.Refusals.{too-deep}
+use Rattle.refusals.specs.Arrays.{parents-in, Lower}
+use Rattle.refusals.proofs.Reading.{parent-in}
+
+depth-root : (f : ℕ) (t : Tree) (d : ℕ) → d ≡ 0 → depth-from f t d ≡ 0
+unfolding depth-from
+depth-root zero t d e = refl
+depth-root (suc f) t d e = rw (eq-eqb d 0 e)
+
+depth-step : (f : ℕ) (t : Tree) (d : ℕ) → 0 < d → depth-from (suc f) t d ≡ suc (depth-from f t (t .parent d))
+unfolding depth-from
+depth-step f t d h = rw (ne-eqb d 0 (omega arith))
+
+module _ (n : ℕ) (ps : List ℕ) (low : Lower n ps) where
+  -- any fuel that is not below the domain's number gives the same depth
+  depth-fuel : (f g d : ℕ) → d < n → d ≤ f → d ≤ g → depth-from f (parents-in n ps) d ≡ depth-from g (parents-in n ps) d
+  depth-fuel zero g d s a b = let z : d ≡ 0 = omega arith in depth-root 0 _ d z ∙ sym (depth-root g _ d z)
+  depth-fuel (suc f) zero d s a b = let z : d ≡ 0 = omega arith in depth-root (suc f) _ d z ∙ sym (depth-root 0 _ d z)
+  depth-fuel (suc f) (suc g) d s a b =
+      elim (ℕ-discrete d 0) [
+        | yes z ↦ depth-root (suc f) _ d z ∙ sym (depth-root (suc g) _ d z)
+        | no z ↦
+            let p : 0 < d = omega arith in
+            let l = low .lower d p s in
+            rw (depth-step f (parents-in n ps) d p, depth-step g (parents-in n ps) d p, parent-in n 0 ps [] [] d p s)
+            (ap suc (depth-fuel f g (getD ps d 0) (omega arith) (omega arith) (omega arith)))
+      ]
+
+  level-child : (d : ℕ) → 0 < d → d < n → level (parents-in n ps) d ≡ suc (level (parents-in n ps) (getD ps d 0))
+  unfolding level depth tree-of
+  level-child d p s =
+      let l = low .lower d p s in
+      ap suc (depth-fuel n (suc n) d s (omega arith) (omega arith) ∙ depth-step n (parents-in n ps) d p ∙ rw (parent-in n 0 ps [] [] d p s))
+
+  level-root : level (parents-in n ps) 0 ≡ 1
+  unfolding level depth tree-of
+  level-root = ap suc (depth-root n (parents-in n ps) 0 refl)
+
+  -- the levels of the domains below d are known, and are few
+  pub record Levels (ls : List ℕ) (d : ℕ) : Type 0 where
+    pub room : length ls ≡ 64
+    pub level-is : (j : ℕ) → j < d → getD ls j 0 ≡ level (parents-in n ps) j
+    pub few : (j : ℕ) → j < d → getD ls j 0 ≤ 6
+
+  pub levels-first : Levels (replicate 64 1) 1
+  levels-first =
+      record {
+        room = refl;
+        level-is = λ j l. let z : j ≡ 0 = omega arith in rw z (sym level-root);
+        few = λ j l. let z : j ≡ 0 = omega arith in rw z (omega arith);
+      }
+
+  pub level-next : (ls : List ℕ) (d : ℕ) → Levels ls d → 0 < d → d < n → level (parents-in n ps) d ≡ getD ls (getD ps d 0) 0 + 1
+  level-next ls d L p s =
+      let e = level-child d p s in
+      let f = L .level-is (getD ps d 0) (low .lower d p s) in
+      omega arith
+
+  pub levels-next : (ls : List ℕ) (d : ℕ) → n ≤ 64 → Levels ls d → 0 < d → d < n → getD ls (getD ps d 0) 0 + 1 ≤ 6 → Levels (set ls d (getD ls (getD ps d 0) 0 + 1)) (d + 1)
+  levels-next ls d w L p s h =
+      let v = getD ls (getD ps d 0) 0 + 1 in
+      record {
+        room = length-set ls d v ∙ L .room;
+        level-is = λ j l.
+            elim (ℕ-discrete j d) [
+              | yes q ↦ rw q (getD-set-same ls d v 0 (omega (arith, L .room)) ∙ sym (level-next ls d L p s))
+              | no q ↦ getD-set-other ls d j v 0 q ∙ L .level-is j (omega arith)
+            ];
+        few = λ j l.
+            elim (ℕ-discrete j d) [
+              | yes q ↦ rw (q, getD-set-same ls d v 0 (omega (arith, L .room))) h
+              | no q ↦ rw (getD-set-other ls d j v 0 q) (L .few j (omega arith))
+            ];
+      }
+
+  pub level-passes : (ls : List ℕ) (d : ℕ) → Levels ls d → (j : ℕ) → j < d → too-deep (parents-in n ps) j ≡ false
+  unfolding too-deep
+  level-passes ls d L j l = rw (← L .level-is j l) (le-ltb 6 (getD ls j 0) (L .few j l))
+
+  pub level-fails : (ls : List ℕ) (d : ℕ) → Levels ls d → 0 < d → d < n → 6 < getD ls (getD ps d 0) 0 + 1 → too-deep (parents-in n ps) d ≡ true
+  unfolding too-deep
+  level-fails ls d L p s h = rw (level-next ls d L p s) (lt-ltb 6 (getD ls (getD ps d 0) 0 + 1) h)

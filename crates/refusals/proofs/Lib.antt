@@ -1,0 +1,13 @@
+pub mod Reading
+pub mod Scanning
+pub mod Levels
+pub mod Children
+pub mod Meeting
+pub mod Owning
+pub mod Members
+pub mod PlaceTests
+pub mod Formed
+pub mod TreeTests
+pub mod ScheduleTests
+pub mod Joining
+pub mod StateTests

@@ -1,0 +1,32 @@
+-- A tree by its arrays: where a word is read, it is the array's. Assumes nothing.
+use mathlib.Core.Path.{_≡_, refl, _∙_}
+use mathlib.Core.Bool.{Bool, true, false, not}
+use mathlib.Core.List.{List}
+use Prim.Native.Nat.{ℕ, _≤_, _<_, _%_}
+use native.Mathlib.Omega.{arith}
+use native.Mathlib.Nat.{mod-eq-of-lt}
+use lib.ListN.{getD}
+use borrow.Author.Tests.{le-leb, lt-ltb}
+use Rattle.model.specs.Trees.{read-word, tree-of}
+use Rattle.refusals.specs.Arrays.{tree-in}
+
+pub read-in : (a b : ℕ) (ws : List ℕ) (k : ℕ) → a ≤ k → k < b → read-word a b ws k ≡ getD ws k 0
+unfolding read-word
+read-in a b ws k p q = rw (le-leb a k p, lt-ltb k b q)
+
+module _ (n m : ℕ) (ps ts hs : List ℕ) where
+  pub parent-in : (d : ℕ) → 0 < d → d < n → tree-in n m ps ts hs .parent d ≡ getD ps d 0
+  unfolding tree-of
+  parent-in d p q = read-in 1 n ps d (omega arith) q
+
+  pub threshold-in : (d : ℕ) → 0 < d → d < n → getD ts d 0 < 65536 → tree-in n m ps ts hs .threshold d ≡ getD ts d 0
+  unfolding tree-of
+  threshold-in d p q f = rw (read-in 1 n ts d (omega arith) q) (mod-eq-of-lt f)
+
+  pub home-in : (i : ℕ) → i < m → tree-in n m ps ts hs .home i ≡ getD hs i 0
+  unfolding tree-of
+  home-in i q = read-in 0 m hs i (omega arith) q
+
+pub not-not : (b : Bool) → not (not b) ≡ b
+not-not true = refl
+not-not false = refl

@@ -1,0 +1,62 @@
+-- Scans: one place more, and what the lowest bad place is to a list of tests. Assumes nothing.
+use mathlib.Core.Path.{_≡_, refl, sym, _∙_}
+use mathlib.Core.Bool.{Bool, true, false, _&&_, cond}
+use mathlib.Core.List.{List, [], _∷_, _++_}
+use Prim.Native.Nat.{ℕ, zero, suc, _+_, _≤_, _<_}
+use native.Mathlib.Omega.{arith}
+use native.Mathlib.Nat.{add-zero}
+use native.Mathlib.Decide.{ℕ-discrete}
+use Rattle.model.specs.Scans.{all-below}
+use Rattle.model.specs.Refusals.{Refusal, refusal, Test, lowest-bad, first-refusal}
+use Rattle.model.proofs.Refusing.{test-skipped, lowest-none}
+use Rattle.refusals.specs.Lowest.{Lowest}
+
+-- what holds below d and at d holds below d + 1
+pub one-more : (f : ℕ → Bool) (b : Bool) (d : ℕ) → ((j : ℕ) → j < d → f j ≡ b) → f d ≡ b → (j : ℕ) → j < d + 1 → f j ≡ b
+one-more f b d h e j l = elim (ℕ-discrete j d) [ yes p ↦ rw p e | no p ↦ h j (omega arith) ]
+
+-- a place that fails
+pub all-fails : (n : ℕ) (f : ℕ → Bool) (j : ℕ) → j < n → f j ≡ false → all-below n f ≡ false
+unfolding all-below
+all-fails zero f j l e = absurd (omega arith)
+all-fails (suc n) f j l e =
+    elim (ℕ-discrete j n) [ yes p ↦ rw (sym (rw p at e)) (and-false (all-below n f) (f n) (rw p at e)) | no p ↦ rw (all-fails n f j (omega arith) e) ]
+  where
+    and-false : (a b : Bool) → b ≡ false → a && b ≡ b
+    and-false true b q = refl
+    and-false false b q = sym q
+
+-- the lowest bad place p, from place a on
+lowest-hit :
+    (n : ℕ) (f : ℕ → Bool) (k a p : ℕ) (r : Refusal) → a ≤ p → p < a + k → ((j : ℕ) → j < p → f j ≡ false) → f p ≡ true →
+    lowest-bad n f k a r ≡ refusal n p
+unfolding lowest-bad
+lowest-hit n f zero a p r l h g e = absurd (omega arith)
+lowest-hit n f (suc k) a p r l h g e =
+    elim (ℕ-discrete a p) [
+      | yes q ↦ let z : f a ≡ true = rw q e in rw z (rw q)
+      | no q ↦
+          let z : f a ≡ false = g a (omega arith) in
+          rw z (lowest-hit n f k (suc a) p r (omega arith) (omega arith) g e)
+    ]
+
+pub test-hit : (x : Test) (xs : List Test) (p : ℕ) → Lowest (x .places) (x .bad) p → p < x .places → first-refusal (x ∷ xs) ≡ refusal (x .number) p
+unfolding first-refusal
+test-hit x xs p L h = lowest-hit (x .number) (x .bad) (x .places) 0 p (first-refusal xs) (omega arith) (omega arith) (L .passed) (L .fails h)
+
+pub test-missed : (x : Test) (xs : List Test) (p : ℕ) → Lowest (x .places) (x .bad) p → x .places ≤ p → first-refusal (x ∷ xs) ≡ first-refusal xs
+test-missed x xs p L h = test-skipped x xs (λ j l. L .passed j (omega arith))
+
+-- a test of one place
+pub single : (f : ℕ → Bool) (b : Bool) → f 0 ≡ b → (p : ℕ) → p < 1 → f p ≡ b
+single f b e p l = let z : p ≡ 0 = omega arith in rw z e
+
+pub single-hit : (x : Test) (xs : List Test) → x .places ≡ 1 → x .bad 0 ≡ true → first-refusal (x ∷ xs) ≡ refusal (x .number) 0
+single-hit x xs e h = test-hit x xs 0 (record { within = omega arith; passed = λ j l. absurd (omega arith); fails = λ _. h }) (omega arith)
+
+pub single-missed : (x : Test) (xs : List Test) → x .places ≡ 1 → x .bad 0 ≡ false → first-refusal (x ∷ xs) ≡ first-refusal xs
+single-missed x xs e h = test-skipped x xs (λ p l. single (x .bad) false h p (omega arith))
+
+-- what a test that a function computes is, by its answer
+pub by-answer : (r : Bool) {x : Bool} (b : Bool) → r ≡ x → r ≡ b → x ≡ b
+by-answer r b p q = sym p ∙ q

@@ -1,0 +1,145 @@
+-- The tests of a tree in order: what the scans answer is the tree's refusal. Assumes nothing.
+use mathlib.Core.Path.{_≡_, refl, sym, _∙_}
+use mathlib.Core.Bool.{Bool, true, false, _||_, not, _&&_}
+use mathlib.Core.List.{List, [], _∷_}
+use Prim.Native.Nat.{ℕ, zero, suc, _≤_, _<_}
+use native.Mathlib.Omega.{arith}
+use lib.Dec.{eqb, leb, ltb}
+use lib.ListN.{getD}
+use borrow.Author.Tests.{eq-eqb, ne-eqb, lt-ltb, le-ltb, leb-false}
+use Rattle.model.specs.declared.TreeWords.{TreeWords}
+use Rattle.model.specs.Scans.{any-below}
+use Rattle.model.specs.Trees.{Tree, tree-of, depth-from, depth, level, is-child, is-leaf}
+use Rattle.model.specs.Refusals.{Refusal, refusal, accepted, Test, test, first-refusal, tree-tests, tree-refusal, bad-domains, bad-threads, bad-parent, too-deep, no-threshold, bad-home}
+use Rattle.model.proofs.Trees.Accepted.{but-zero}
+use Rattle.refusals.specs.Arrays.{tree-in, parents-in, Lower}
+use Rattle.refusals.specs.Lowest.{Lowest}
+use Rattle.refusals.proofs.Reading.{parent-in}
+use Rattle.refusals.proofs.Scanning.{single-hit, single-missed, test-hit, test-missed}
+
+-- what 4 and 5 leave
+pub record Counts (w : TreeWords) : Type 0 where
+  pub some-domain : w .domains ≡ 0 → ⊥
+  pub few-domains : w .domains ≤ 64
+  pub some-thread : w .threads ≡ 0 → ⊥
+  pub few-threads : w .threads ≤ 256
+
+pub counts : (w : TreeWords) → (w .domains ≡ 0 → ⊥) → w .domains ≤ 64 → (w .threads ≡ 0 → ⊥) → w .threads ≤ 256 → Counts w
+counts w a b c d = record { some-domain = a; few-domains = b; some-thread = c; few-threads = d }
+
+lowest-same : (n : ℕ) (f g : ℕ → Bool) (p : ℕ) → ((j : ℕ) → f j ≡ g j) → Lowest n f p → Lowest n g p
+lowest-same n f g p h L =
+    record { within = L .within; passed = λ j l. sym (h j) ∙ L .passed j l; fails = λ l. sym (h p) ∙ L .fails l }
+
+depth-same : (k : ℕ) (t u : Tree) (d : ℕ) → ((e : ℕ) → t .parent e ≡ u .parent e) → depth-from k t d ≡ depth-from k u d
+unfolding depth-from
+depth-same zero t u d h = refl
+depth-same (suc k) t u d h = rw (h d, depth-same k t u (u .parent d) h)
+
+pub lower-by : (n : ℕ) (ps : List ℕ) (p : ℕ) → Lowest n (bad-parent (parents-in n ps)) p → n ≤ p → Lower n ps
+unfolding bad-parent
+lower-by n ps p L h =
+    record {
+      lower = λ d a b.
+          rw (parent-in n 0 ps [] [] d a b) at (leb-false d (parents-in n ps .parent d) (but-zero d _ (L .passed d (omega arith)) a));
+    }
+
+module _ (w : TreeWords) where
+  abbrev t : Tree
+  t = tree-of w
+
+  abbrev six : Test
+  six = test 6 (t .domains) (bad-parent t)
+
+  abbrev seven : Test
+  seven = test 7 (t .domains) (too-deep t)
+
+  abbrev eight : Test
+  eight = test 8 (t .domains) (no-threshold t)
+
+  abbrev nine : Test
+  nine = test 9 (t .threads) (bad-home t)
+
+  -- what each scan answers, of the whole tree
+  parents-of : (p : ℕ) → Lowest (w .domains) (bad-parent (parents-in (w .domains) (w .parents))) p → Lowest (t .domains) (bad-parent t) p
+  unfolding bad-parent tree-of
+  parents-of p L = lowest-same (w .domains) (bad-parent (parents-in (w .domains) (w .parents))) (bad-parent t) p (λ j. refl) L
+
+  levels-of : (p : ℕ) → Lowest (w .domains) (too-deep (parents-in (w .domains) (w .parents))) p → Lowest (t .domains) (too-deep t) p
+  unfolding too-deep level depth tree-of
+  levels-of p L =
+      lowest-same (w .domains) (too-deep (parents-in (w .domains) (w .parents))) (too-deep t) p
+      (λ j. rw (depth-same (w .domains) (parents-in (w .domains) (w .parents)) t j (λ e. refl))) L
+
+  thresholds-of : (p : ℕ) → Lowest (w .domains) (no-threshold (tree-in (w .domains) 0 [] (w .thresholds) [])) p → Lowest (t .domains) (no-threshold t) p
+  unfolding no-threshold tree-of
+  thresholds-of p L = lowest-same (w .domains) (no-threshold (tree-in (w .domains) 0 [] (w .thresholds) [])) (no-threshold t) p (λ j. refl) L
+
+  homes-of : (p : ℕ) → Lowest (w .threads) (bad-home (tree-in (w .domains) (w .threads) (w .parents) [] (w .homes))) p → Lowest (t .threads) (bad-home t) p
+  unfolding bad-home is-leaf is-child tree-of
+  homes-of p L =
+      lowest-same (w .threads) (bad-home (tree-in (w .domains) (w .threads) (w .parents) [] (w .homes))) (bad-home t) p (λ j. refl) L
+
+  -- 4 and 5
+  pub no-domains : w .domains ≡ 0 → tree-refusal t ≡ refusal 4 0
+  unfolding tree-refusal tree-tests bad-domains tree-of
+  no-domains e = single-hit (test 4 1 (bad-domains t)) _ refl (rw (eq-eqb (w .domains) 0 e))
+
+  pub many-domains : (w .domains ≡ 0 → ⊥) → 64 < w .domains → tree-refusal t ≡ refusal 4 0
+  unfolding tree-refusal tree-tests bad-domains tree-of
+  many-domains n e = single-hit (test 4 1 (bad-domains t)) _ refl (rw (ne-eqb (w .domains) 0 n, lt-ltb 64 (w .domains) e))
+
+  after-four : (w .domains ≡ 0 → ⊥) → w .domains ≤ 64 → tree-refusal t ≡ first-refusal (test 5 1 (bad-threads t) ∷ six ∷ seven ∷ eight ∷ nine ∷ [])
+  unfolding tree-refusal tree-tests bad-domains tree-of
+  after-four n e = single-missed (test 4 1 (bad-domains t)) _ refl (rw (ne-eqb (w .domains) 0 n, le-ltb 64 (w .domains) e))
+
+  pub no-threads : (w .domains ≡ 0 → ⊥) → w .domains ≤ 64 → w .threads ≡ 0 → tree-refusal t ≡ refusal 5 0
+  unfolding bad-threads tree-of
+  no-threads n e f = after-four n e ∙ single-hit (test 5 1 (bad-threads t)) _ refl (rw (eq-eqb (w .threads) 0 f))
+
+  pub many-threads : (w .domains ≡ 0 → ⊥) → w .domains ≤ 64 → (w .threads ≡ 0 → ⊥) → 256 < w .threads → tree-refusal t ≡ refusal 5 0
+  unfolding bad-threads tree-of
+  many-threads n e m f = after-four n e ∙ single-hit (test 5 1 (bad-threads t)) _ refl (rw (ne-eqb (w .threads) 0 m, lt-ltb 256 (w .threads) f))
+
+  after-five : Counts w → tree-refusal t ≡ first-refusal (six ∷ seven ∷ eight ∷ nine ∷ [])
+  unfolding bad-threads tree-of
+  after-five c =
+      after-four (c .some-domain) (c .few-domains)
+      ∙ single-missed (test 5 1 (bad-threads t)) _ refl (rw (ne-eqb (w .threads) 0 (c .some-thread), le-ltb 256 (w .threads) (c .few-threads)))
+
+  -- 6 to 9
+  module _ (c : Counts w) (p₆ : ℕ) (L₆ : Lowest (w .domains) (bad-parent (parents-in (w .domains) (w .parents))) p₆) where
+    pub parent-refused : p₆ < w .domains → tree-refusal t ≡ refusal 6 p₆
+    unfolding tree-of
+    parent-refused h = after-five c ∙ test-hit six _ p₆ (parents-of p₆ L₆) h
+
+    after-six : w .domains ≤ p₆ → tree-refusal t ≡ first-refusal (seven ∷ eight ∷ nine ∷ [])
+    unfolding tree-of
+    after-six h = after-five c ∙ test-missed six _ p₆ (parents-of p₆ L₆) h
+
+    module _ (h₆ : w .domains ≤ p₆) (p₇ : ℕ) (L₇ : Lowest (w .domains) (too-deep (parents-in (w .domains) (w .parents))) p₇) where
+      pub level-refused : p₇ < w .domains → tree-refusal t ≡ refusal 7 p₇
+      unfolding tree-of
+      level-refused h = after-six h₆ ∙ test-hit seven _ p₇ (levels-of p₇ L₇) h
+
+      after-seven : w .domains ≤ p₇ → tree-refusal t ≡ first-refusal (eight ∷ nine ∷ [])
+      unfolding tree-of
+      after-seven h = after-six h₆ ∙ test-missed seven _ p₇ (levels-of p₇ L₇) h
+
+      module _ (h₇ : w .domains ≤ p₇) (p₈ : ℕ) (L₈ : Lowest (w .domains) (no-threshold (tree-in (w .domains) 0 [] (w .thresholds) [])) p₈) where
+        pub threshold-refused : p₈ < w .domains → tree-refusal t ≡ refusal 8 p₈
+        unfolding tree-of
+        threshold-refused h = after-seven h₇ ∙ test-hit eight _ p₈ (thresholds-of p₈ L₈) h
+
+        after-eight : w .domains ≤ p₈ → tree-refusal t ≡ first-refusal (nine ∷ [])
+        unfolding tree-of
+        after-eight h = after-seven h₇ ∙ test-missed eight _ p₈ (thresholds-of p₈ L₈) h
+
+        module _ (h₈ : w .domains ≤ p₈) (p₉ : ℕ) (L₉ : Lowest (w .threads) (bad-home (tree-in (w .domains) (w .threads) (w .parents) [] (w .homes))) p₉) where
+          pub home-refused : p₉ < w .threads → tree-refusal t ≡ refusal 9 p₉
+          unfolding tree-of
+          home-refused h = after-eight h₈ ∙ test-hit nine _ p₉ (homes-of p₉ L₉) h
+
+          pub tree-passes : w .threads ≤ p₉ → tree-refusal t ≡ accepted
+          unfolding tree-of first-refusal
+          tree-passes h = after-eight h₈ ∙ test-missed nine [] p₉ (homes-of p₉ L₉) h

@@ -1,0 +1,59 @@
+-- `refusals::states::good_place_at` meets its contract. Assumes nothing.
+use mathlib.Core.Bool.{true, false}
+use borrow.Author.Tests.{eq-eqb, ne-eqb, lt-ltb, le-ltb}
+use Rattle.refusals.specs.Tables.{place-in}
+use Rattle.refusals.proofs.Scanning.{by-answer}
+use borrow.Author.Needs.{needs}
+use Rattle.refusals.proofs.states.good_place_at.Statement.{statement}
+use Rattle.refusals.proofs.states.good_place_at.Tie as tie
+
+returns : tie.Need-returns
+unfolding place-in
+returns c = rw (lt-ltb _ _ (c .if1 .taken))
+
+has-spare-word-requires : tie.Need-has-spare-word-requires
+has-spare-word-requires c κs = search needs
+
+returns-2 : tie.Need-returns-2
+unfolding place-in
+returns-2 c = rw (le-ltb _ _ (c .before .before .if1 .left), by-answer _ true (c .before .has-spare-word .ensures) (c .if2 .taken))
+
+names-no-domain-requires : tie.Need-names-no-domain-requires
+names-no-domain-requires c κs = search needs
+
+returns-3 : tie.Need-returns-3
+unfolding place-in
+returns-3 c =
+    let a = by-answer _ false (c .before .before .before .before .has-spare-word .ensures) (c .before .before .before .if2 .left) in
+    let b = by-answer _ true (c .before .before .names-no-domain .ensures) (c .before .if3 .taken) in
+    rw (le-ltb _ _ (c .before .before .before .before .before .if1 .left), a, b, ne-eqb _ _ (c .if4 .taken))
+
+returns-4 : tie.Need-returns-4
+unfolding place-in
+returns-4 c =
+    let a = by-answer _ false (c .before .before .before .before .has-spare-word .ensures) (c .before .before .before .if2 .left) in
+    let b = by-answer _ true (c .before .before .names-no-domain .ensures) (c .before .if3 .taken) in
+    rw (le-ltb _ _ (c .before .before .before .before .before .if1 .left), a, b, eq-eqb _ _ (c .if4 .left))
+
+good-domain-at-requires : tie.Need-good-domain-at-requires
+good-domain-at-requires c κs = search needs
+
+returns-5 : tie.Need-returns-5
+unfolding place-in
+returns-5 c =
+    let a = by-answer _ false (c .before .before .before .before .has-spare-word .ensures) (c .before .before .before .if2 .left) in
+    let b = by-answer _ false (c .before .before .names-no-domain .ensures) (c .before .if3 .left) in
+    rw (c .good-domain-at .ensures, le-ltb _ _ (c .before .before .before .before .before .if1 .left), a, b)
+
+pub good-place-at-spec : {M : Type 1} → statement M
+good-place-at-spec =
+    tie.close
+    (tie.spec
+    returns
+    has-spare-word-requires
+    returns-2
+    names-no-domain-requires
+    returns-3
+    returns-4
+    good-domain-at-requires
+    returns-5)

@@ -1,0 +1,13 @@
+-- `refusals::states::is_root_check` meets its contract. Assumes nothing.
+use borrow.Author.Tests.{eq-eqb, ne-eqb}
+use Rattle.refusals.proofs.states.is_root_check.Statement.{statement}
+use Rattle.refusals.proofs.states.is_root_check.Tie as tie
+
+returns : tie.Need-returns
+returns c = rw (ne-eqb _ _ (c .if1 .taken))
+
+returns-2 : tie.Need-returns-2
+returns-2 c = rw (eq-eqb _ _ (c .if1 .left))
+
+pub is-root-check-spec : {M : Type 1} → statement M
+is-root-check-spec = tie.close (tie.spec returns returns-2)

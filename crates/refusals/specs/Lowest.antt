@@ -1,0 +1,10 @@
+-- What a scan answers. Assumes nothing: these are definitions.
+use mathlib.Core.Path.{_≡_}
+use mathlib.Core.Bool.{Bool, true, false}
+use Prim.Native.Nat.{ℕ, _≤_, _<_}
+
+-- the lowest of n places that is bad; n where none is
+pub record Lowest (n : ℕ) (bad : ℕ → Bool) (found : ℕ) : Type 0 where
+  pub within : found ≤ n
+  pub passed : (j : ℕ) → j < found → bad j ≡ false
+  pub fails : found < n → bad found ≡ true

@@ -1,0 +1,54 @@
+-- The tests of a state by a table of the records' owners. proofs/ shows that they are document 01's. Assumes nothing: these are definitions.
+use mathlib.Core.Path.{_≡_}
+use mathlib.Core.Bool.{Bool, _&&_, _||_, not, cond}
+use mathlib.Core.List.{List}
+use Prim.Native.Nat.{ℕ, _-_, _<_}
+use lib.Dec.{eqb, ltb}
+use lib.ListN.{getD, length}
+use Rattle.model.specs.declared.PlaceWords.{PlaceWords}
+use Rattle.model.specs.Places.{place-words}
+use Rattle.model.specs.Trees.{Tree, meets, is-record, owner-domain}
+
+-- a thread's record: its home, or 255 where there is no such thread
+abbrev pub thread-owner : (threads : ℕ) → (homes : List ℕ) → (number : ℕ) → ℕ
+thread-owner m hs r = cond (ltb r m) (getD hs r 0) 255
+
+pub record Thread-owners (threads : ℕ) (homes owners : List ℕ) : Type 0 where
+  pub room : length owners ≡ 320
+  pub owner : (r : ℕ) → r < 320 → getD owners r 0 ≡ thread-owner threads homes r
+
+-- of each record, the domain whose member owns it, or 255 where no member does
+pub record Owners (t : Tree) (owners : List ℕ) : Type 0 where
+  pub owner : (r : ℕ) → r < 320 → getD owners r 0 ≡ cond (is-record t r) (owner-domain t r) 255
+
+pub record Homes-real (domains threads : ℕ) (owners : List ℕ) : Type 0 where
+  pub real : (i : ℕ) → i < threads → getD owners i 0 < domains
+
+-- the owner is the domain: of a member's record
+abbrev pub member-in : (owners : List ℕ) → (domain number : ℕ) → Bool
+member-in os d r = ltb r 320 && eqb (getD os r 0) d
+
+-- a tail of the domain, or a next of a record of its members
+abbrev pub next-in : (owners : List ℕ) → (domain next : ℕ) → Bool
+next-in os d n = eqb n 0 || member-in os d (n - 1)
+
+abbrev pub record-in : (owners : List ℕ) → (number next status : ℕ) → Bool
+record-in os r n v = cond (eqb (getD os r 0) 255) (eqb n 0 && eqb v 0) (next-in os (getD os r 0) n)
+
+abbrev pub peer-in : (owners : List ℕ) → (row domain peer : ℕ) → Bool
+peer-in os r l p = cond (eqb r 3 || eqb r 10) (member-in os l p) (eqb p 0)
+
+-- a domain on the path from a home, never the root in Check, and a record or none as the row asks
+abbrev pub domain-in : Tree → (owners : List ℕ) → (home row domain peer : ℕ) → Bool
+domain-in t os h r l p = not (eqb r 6 && eqb l 0) && (meets 6 t h l && peer-in os r l p)
+
+unfoldable pub place-in : Tree → (owners : List ℕ) → (home : ℕ) → PlaceWords → Bool
+place-in t os h q =
+    not (ltb 10 (q .row)) && (not (not (eqb (q .word) 0) && not (eqb (q .row) 10))
+    && cond (eqb (q .row) 0 || eqb (q .row) 5) (eqb (q .domain) 0 && eqb (q .peer) 0) (domain-in t os h (q .row) (q .domain) (q .peer)))
+
+abbrev pub idle-in : PlaceWords → Bool
+idle-in q = eqb (q .row) 0 && (eqb (q .domain) 0 && (eqb (q .peer) 0 && eqb (q .word) 0))
+
+unfoldable pub thread-in : Tree → (owners : List ℕ) → (threads thread : ℕ) → PlaceWords → Bool
+thread-in t os m i q = cond (ltb i m) (place-in t os (getD os i 0) q) (idle-in q)

@@ -1,0 +1,151 @@
+// The refusals of the calls, numbers 4 to 13, each test over everything before the next.
+ghost use mathlib.Core.Path.{_≡_};
+ghost use mathlib.Core.List.{[], _∷_, _++_};
+ghost use Prim.Native.Nat.{ℕ, _<_, _≤_};
+ghost use lib.ListN.{length};
+ghost use Rattle.model.specs.Trees.{tree-of};
+ghost use Rattle.model.specs.Refusals.{test, first-refusal, tree-tests, tree-refusal, bad-state, bad-entry};
+ghost use Rattle.refusals.specs.Arrays.{tree-in, told, schedule-tests};
+ghost use Rattle.refusals.specs.Lowest.{Lowest};
+
+mod states;
+mod trees;
+
+use model::State;
+use model::TreeWords;
+
+// An answer's number and place; 0 and 0 for accepted.
+pub struct Refusal {
+    pub number: u32,
+    pub place: u32,
+}
+
+// Making a fresh lock meets 4 to 9.
+pub fn tree_refusal_of(tree: TreeWords) -> Refusal
+    ensures { λ r. ⌜ r ≡ told (tree-refusal (tree-of tree)) ⌝ }
+{
+    let domains = tree.domains;
+    let threads = tree.threads;
+    if domains == 0 {
+        return Refusal {
+            number: 4,
+            place: 0,
+        };
+    }
+    if 64 < domains {
+        return Refusal {
+            number: 4,
+            place: 0,
+        };
+    }
+    if threads == 0 {
+        return Refusal {
+            number: 5,
+            place: 0,
+        };
+    }
+    if 256 < threads {
+        return Refusal {
+            number: 5,
+            place: 0,
+        };
+    }
+    let d = trees::lowest_bad_parent(&tree.parents, domains);
+    if d < domains {
+        return Refusal {
+            number: 6,
+            place: d,
+        };
+    }
+    let d = trees::lowest_too_deep(&tree.parents, domains);
+    if d < domains {
+        return Refusal {
+            number: 7,
+            place: d,
+        };
+    }
+    let d = trees::lowest_no_threshold(&tree.thresholds, domains);
+    if d < domains {
+        return Refusal {
+            number: 8,
+            place: d,
+        };
+    }
+    let inner = trees::inner_domains(&tree.parents, domains);
+    let i = trees::lowest_bad_home(&tree.parents, &inner, &tree.homes, domains, threads);
+    if i < threads {
+        return Refusal {
+            number: 9,
+            place: i,
+        };
+    }
+    Refusal {
+        number: 0,
+        place: 0,
+    }
+}
+
+// A state handed in meets 4 to 10.
+pub fn state_refusal_of(tree: TreeWords, state: State) -> Refusal
+    ensures { λ r. ⌜ r ≡ told (first-refusal (tree-tests (tree-of tree) ++ (test 10 1 (bad-state (tree-of tree) state) ∷ []))) ⌝ }
+{
+    let r = tree_refusal_of(tree);
+    if r.number != 0 {
+        return r;
+    }
+    if states::good_state_of(tree, state) {
+        return Refusal {
+            number: 0,
+            place: 0,
+        };
+    }
+    Refusal {
+        number: 10,
+        place: 0,
+    }
+}
+
+fn lowest_bad_entry(schedule: &[u16], threads: u32) -> u32
+    requires { ⌜ length (now schedule) ≤ 65536 ⌝ }
+    ensures { λ r. ⌜ Lowest (length (now (schedule .entry))) (bad-entry (tree-in 0 threads [] [] []) (now (schedule .entry))) r ⌝ }
+{
+    let mut k: u32 = 0;
+    while (k as usize) < schedule.len() {
+        let at = k as usize;
+        let i = schedule[at] as u32;
+        if threads <= i {
+            return k;
+        }
+        k += 1;
+    }
+    k
+}
+
+// A run's schedule meets 11 to 13.
+pub fn schedule_refusal_of(threads: u32, schedule: &[u16], room: usize) -> Refusal
+    ensures { λ r. ⌜ r ≡ told (first-refusal (schedule-tests threads (now (schedule .entry)) room)) ⌝ }
+{
+    if 65536 < schedule.len() {
+        return Refusal {
+            number: 11,
+            place: 0,
+        };
+    }
+    let k = lowest_bad_entry(schedule, threads);
+    if (k as usize) < schedule.len() {
+        return Refusal {
+            number: 12,
+            place: k,
+        };
+    }
+    if room < schedule.len() {
+        return Refusal {
+            number: 13,
+            place: 0,
+        };
+    }
+    Refusal {
+        number: 0,
+        place: 0,
+    }
+}

@@ -1,0 +1,304 @@
+// The tests of a state that is handed in, in an accepted tree.
+ghost use mathlib.Core.Path.{_≡_};
+ghost use mathlib.Core.Bool.{_&&_, _||_, not};
+ghost use mathlib.Core.List.{[]};
+ghost use Prim.Native.Nat.{ℕ, _<_, _≤_};
+ghost use lib.Dec.{eqb};
+ghost use lib.ListN.{getD};
+ghost use Rattle.model.specs.Scans.{all-below};
+ghost use Rattle.model.specs.Trees.{meets, tree-of};
+ghost use Rattle.model.specs.Refusals.{tree-refusal};
+ghost use Rattle.model.specs.WellFormed.{well-formed};
+ghost use Rattle.refusals.specs.Arrays.{tree-in, parents-in, Lower};
+ghost use Rattle.refusals.specs.Tables.{thread-owner, Owners, Homes-real, Thread-owners, member-in, next-in, record-in, peer-in, domain-in, place-in, idle-in, thread-in};
+use model::PlaceWords;
+use model::State;
+use model::TreeWords;
+
+// The homes of the threads, at their records; 255 in all other room.
+fn thread_owners(homes: &[u8; 256], threads: u32) -> [u8; 320]
+    requires { ⌜ threads ≤ 256 ⌝ }
+    ensures { λ r. ⌜ Thread-owners threads (now (homes .entry)) r ⌝ }
+{
+    let mut owners = [255u8; 320];
+    let mut i: u32 = 0;
+    while i < threads {
+        let at = i as usize;
+        let h = homes[at];
+        owners[at] = h;
+        i += 1;
+    }
+    owners
+}
+
+// Of each record, the domain whose member owns it; 255 where no member does.
+fn owners_of<'a>(
+    parents: &'a [u8; 64],
+    homes: &'a [u8; 256],
+    domains: u32,
+    threads: u32,
+) -> [u8; 320]
+    requires { ⌜ (0 < domains) × (domains ≤ 64) × (threads ≤ 256) ⌝ }
+    ensures { λ r. ⌜ Owners (tree-in domains threads (now (parents .entry)) [] (now (homes .entry))) r ⌝ }
+{
+    let mut owners = thread_owners(homes, threads);
+    let mut d: u32 = 1;
+    while d < domains {
+        let at = d as usize;
+        let p = parents[at];
+        let r = 256 + at;
+        owners[r] = p;
+        d += 1;
+    }
+    owners
+}
+
+fn is_member_at(owners: &[u8; 320], d: u8, r: u16) -> bool
+    ensures { λ q. ⌜ q ≡ member-in (now (owners .entry)) d r ⌝ }
+{
+    let at = r as usize;
+    if 320 <= at {
+        return false;
+    }
+    owners[at] == d
+}
+
+fn good_next_at(owners: &[u8; 320], d: u8, next: u16) -> bool
+    ensures { λ q. ⌜ q ≡ next-in (now (owners .entry)) d next ⌝ }
+{
+    if next == 0 {
+        return true;
+    }
+    is_member_at(owners, d, next - 1)
+}
+
+fn good_tails(owners: &[u8; 320], tails: &[u16; 64]) -> bool
+    ensures { λ q. ⌜ q ≡ all-below 64 (λ d. next-in (now (owners .entry)) d (getD (now (tails .entry)) d 0)) ⌝ }
+{
+    let mut d: u8 = 0;
+    while d < 64 {
+        let at = d as usize;
+        let tail = tails[at];
+        if !good_next_at(owners, d, tail) {
+            return false;
+        }
+        d += 1;
+    }
+    true
+}
+
+// Unused room and record 256 are fresh; a next of a member's record is none or a record of a member of the same domain.
+fn good_record_at(owners: &[u8; 320], r: u16, next: u16, status: u64) -> bool
+    requires { ⌜ r < 320 ⌝ }
+    ensures { λ q. ⌜ q ≡ record-in (now (owners .entry)) r next status ⌝ }
+{
+    let at = r as usize;
+    let d = owners[at];
+    if d == 255 {
+        return next == 0 && status == 0;
+    }
+    good_next_at(owners, d, next)
+}
+
+fn good_records<'s>(owners: &[u8; 320], nexts: &'s [u16; 320], statuses: &'s [u64; 320]) -> bool
+    ensures { λ q. ⌜ q ≡ all-below 320 (λ r. record-in (now (owners .entry)) r (getD (now (nexts .entry)) r 0) (getD (now (statuses .entry)) r 0)) ⌝ }
+{
+    let mut r: u16 = 0;
+    while r < 320 {
+        let at = r as usize;
+        let next = nexts[at];
+        let status = statuses[at];
+        if !good_record_at(owners, r, next, status) {
+            return false;
+        }
+        r += 1;
+    }
+    true
+}
+
+// Whether the way up from a domain meets another.
+fn meets_at(parents: &[u8; 64], domains: u32, from: u8, d: u8) -> bool
+    requires { ⌜ domains ≤ 64 ⌝ }
+    requires { ⌜ Lower domains (now parents) ⌝ }
+    requires { ⌜ from < domains ⌝ }
+    ensures { λ r. ⌜ r ≡ meets 6 (parents-in domains (now (parents .entry))) from d ⌝ }
+{
+    let mut c = from;
+    let mut left: u32 = 6;
+    while 0 < left {
+        if c == d {
+            return true;
+        }
+        if c == 0 {
+            return false;
+        }
+        let at = c as usize;
+        c = parents[at];
+        left -= 1;
+    }
+    c == d
+}
+
+// Link and Grant name a record; no other row does.
+fn names_peer(row: u8) -> bool
+    ensures { λ q. ⌜ q ≡ eqb row 3 || eqb row 10 ⌝ }
+{
+    if row == 3 {
+        return true;
+    }
+    row == 10
+}
+
+// Idle and Inside name no domain.
+fn names_no_domain(row: u8) -> bool
+    ensures { λ q. ⌜ q ≡ eqb row 0 || eqb row 5 ⌝ }
+{
+    if row == 0 {
+        return true;
+    }
+    row == 5
+}
+
+// Check at the root.
+fn is_root_check(row: u8, l: u8) -> bool
+    ensures { λ q. ⌜ q ≡ eqb row 6 && eqb l 0 ⌝ }
+{
+    if row != 6 {
+        return false;
+    }
+    l == 0
+}
+
+// A word where the row is not Grant.
+fn has_spare_word(row: u8, word: u64) -> bool
+    ensures { λ q. ⌜ q ≡ not (eqb word 0) && not (eqb row 10) ⌝ }
+{
+    if word == 0 {
+        return false;
+    }
+    row != 10
+}
+
+fn good_peer_at(owners: &[u8; 320], row: u8, l: u8, peer: u16) -> bool
+    ensures { λ q. ⌜ q ≡ peer-in (now (owners .entry)) row l peer ⌝ }
+{
+    if names_peer(row) {
+        return is_member_at(owners, l, peer);
+    }
+    peer == 0
+}
+
+fn good_domain_at<'a>(
+    parents: &'a [u8; 64],
+    owners: &'a [u8; 320],
+    domains: u32,
+    home: u8,
+    row: u8,
+    l: u8,
+    peer: u16,
+) -> bool
+    requires { ⌜ domains ≤ 64 ⌝ }
+    requires { ⌜ Lower domains (now parents) ⌝ }
+    requires { ⌜ home < domains ⌝ }
+    ensures { λ r. ⌜ r ≡ domain-in (parents-in domains (now (parents .entry))) (now (owners .entry)) home row l peer ⌝ }
+{
+    if is_root_check(row, l) {
+        return false;
+    }
+    if !meets_at(parents, domains, home, l) {
+        return false;
+    }
+    good_peer_at(owners, row, l, peer)
+}
+
+fn good_place_at<'a>(
+    parents: &'a [u8; 64],
+    owners: &'a [u8; 320],
+    domains: u32,
+    home: u8,
+    q: PlaceWords,
+) -> bool
+    requires { ⌜ domains ≤ 64 ⌝ }
+    requires { ⌜ Lower domains (now parents) ⌝ }
+    requires { ⌜ home < domains ⌝ }
+    ensures { λ r. ⌜ r ≡ place-in (parents-in domains (now (parents .entry))) (now (owners .entry)) home q ⌝ }
+{
+    let row = q.row;
+    let l = q.domain;
+    let peer = q.peer;
+    if 10 < row {
+        return false;
+    }
+    if has_spare_word(row, q.word) {
+        return false;
+    }
+    if names_no_domain(row) {
+        if l != 0 {
+            return false;
+        }
+        return peer == 0;
+    }
+    good_domain_at(parents, owners, domains, home, row, l, peer)
+}
+
+fn is_idle_at(q: PlaceWords) -> bool
+    ensures { λ r. ⌜ r ≡ idle-in q ⌝ }
+{
+    if q.row != 0 {
+        return false;
+    }
+    if q.domain != 0 {
+        return false;
+    }
+    if q.peer != 0 {
+        return false;
+    }
+    q.word == 0
+}
+
+fn good_thread_at<'a>(
+    parents: &'a [u8; 64],
+    owners: &'a [u8; 320],
+    domains: u32,
+    threads: u32,
+    i: u16,
+    q: PlaceWords,
+) -> bool
+    requires { ⌜ (domains ≤ 64) × (threads ≤ 256) ⌝ }
+    requires { ⌜ Lower domains (now parents) ⌝ }
+    requires { ⌜ Homes-real domains threads (now owners) ⌝ }
+    ensures { λ r. ⌜ r ≡ thread-in (parents-in domains (now (parents .entry))) (now (owners .entry)) threads i q ⌝ }
+{
+    if (i as u32) < threads {
+        let at = i as usize;
+        let home = owners[at];
+        return good_place_at(parents, owners, domains, home, q);
+    }
+    is_idle_at(q)
+}
+
+// The state is well formed.
+pub(crate) fn good_state_of(tree: TreeWords, state: State) -> bool
+    requires { ⌜ tree-refusal (tree-of tree) .number ≡ 0 ⌝ }
+    ensures { λ r. ⌜ r ≡ well-formed (tree-of tree) state ⌝ }
+{
+    let domains = tree.domains;
+    let threads = tree.threads;
+    let owners = owners_of(&tree.parents, &tree.homes, domains, threads);
+    if !good_tails(&owners, &state.tails) {
+        return false;
+    }
+    if !good_records(&owners, &state.nexts, &state.statuses) {
+        return false;
+    }
+    let mut i: u16 = 0;
+    while i < 256 {
+        let at = i as usize;
+        let q = state.places[at];
+        if !good_thread_at(&tree.parents, &owners, domains, threads, i, q) {
+            return false;
+        }
+        i += 1;
+    }
+    true
+}
