@@ -1,8 +1,8 @@
 -- The file call's run in buffers that are longer than it needs: the same answer, and its trace at the front. Assumes nothing.
 use mathlib.Core.Path.{_≡_, refl, _∙_, ap}
 use mathlib.Core.Bool.{Bool, true, false, cond}
-use mathlib.Core.List.{List, [], _∷_, _++_}
-use Prim.Native.Nat.{ℕ, suc, _+_, _-_, _/_, _≤_}
+use mathlib.Core.List.{List, [], _∷_}
+use Prim.Native.Nat.{ℕ, _-_, _/_, _≤_}
 use native.Mathlib.Omega.{arith}
 use lib.Dec.{eqb}
 use lib.ListN.{length, take, drop, replicate, length-replicate}
@@ -10,14 +10,17 @@ use lib.Seq.{sets, take-at}
 use borrow.Author.Tests.{le-ltb}
 use Rattle.model.specs.declared.TreeWords.{TreeWords}
 use Rattle.model.specs.declared.State.{State}
+use Rattle.model.specs.declared.FreshReply.{FreshReply}
 use Rattle.model.specs.declared.RunReply.{RunReply}
 use Rattle.model.specs.Trees.{Tree, tree-of}
 use Rattle.model.specs.States.{fresh-words}
-use Rattle.model.specs.Steps.{is-entry, Step, step}
-use Rattle.model.specs.Runs.{Run, steps, how-many, entering, run-of, run}
+use Rattle.model.specs.Steps.{is-entry, Step}
+use Rattle.model.specs.Runs.{Run, steps, how-many, run-of, run}
 use Rattle.model.specs.Refusals.{Refusal, lowest-bad, first-refusal, bad-room, tree-tests, run-tests, run-refusal}
-use Rattle.model.specs.Answers.{run-accepted, run-refused, run-reply, run-buffer, run-answer, trace-answer}
+use Rattle.model.specs.Answers.{fresh-answer, run-accepted, run-refused, run-reply, run-buffer, run-answer, trace-answer}
+use Rattle.model.specs.Laws.{Count-law}
 use Rattle.model.proofs.Tests.{by-test}
+use Rattle.model.proofs.Laws.Runs.{steps-length, count-law}
 use Rattle.lock_file.specs.Reading.{entries-from, entries-at}
 use Rattle.lock_file.specs.FileAnswers.{run-outcome, file-run, file-trace}
 use Rattle.lock_file.proofs.Writing.{sets-front}
@@ -31,18 +34,7 @@ schedule-front bs n at l h =
     let long = entries-length bs n at in
     rw (sets-front l is (omega arith)) (take-at is (drop (length is) l) n long)
 
--- the trace has as many elements as there are entries, and no more than the schedule
-entering-length : (xs : List Step) → length (entering xs) ≡ how-many is-entry xs
-unfolding entering how-many
-entering-length [] = refl
-entering-length (x ∷ xs) = by (is-entry (x .kind)) (entering-length xs)
-  where
-    by :
-        (b : Bool) → length (entering xs) ≡ how-many is-entry xs →
-        length (cond b (x .thread ∷ []) [] ++ entering xs) ≡ cond b 1 0 + how-many is-entry xs
-    by true e = omega arith
-    by false e = omega arith
-
+-- a run enters at most once a step
 counted-within : (xs : List Step) → how-many is-entry xs ≤ length xs
 unfolding how-many
 counted-within [] = omega arith
@@ -50,15 +42,6 @@ counted-within (x ∷ xs) =
     let rest = counted-within xs in
     let one : cond (is-entry (x .kind)) 1 0 ≤ 1 = by-test (λ n. n ≤ 1) (is-entry (x .kind)) 1 0 (λ e. omega arith) (λ e. omega arith) in
     omega arith
-
-steps-length : (t : Tree) (is : List ℕ) (s : State) → length (steps t is s) ≡ length is
-unfolding steps
-steps-length t [] s = refl
-steps-length t (i ∷ is) s = ap suc (steps-length t is (step t i s .state))
-
-pub run-traced : (t : Tree) (is : List ℕ) (s : State) → length (run t is s .trace) ≡ run t is s .entries
-unfolding run run-of
-run-traced t is s = entering-length (steps t is s)
 
 pub entries-within : (t : Tree) (is : List ℕ) (s : State) → run t is s .entries ≤ length is
 unfolding run run-of
@@ -96,10 +79,10 @@ pub run-listed :
     (w : TreeWords) (is buffer : List ℕ) (room : ℕ) → length is ≤ length buffer →
     run-outcome (run-answer w fresh-words is buffer) (take (run-answer w fresh-words is buffer .entries) (trace-answer w fresh-words is buffer)) room
     ≡ run-outcome (file-run w is) (file-trace w is) room
-unfolding run-answer trace-answer file-trace
+unfolding run-answer trace-answer file-trace Count-law
 run-listed w is buffer room h =
     front-listed (run-refusal (tree-of w) fresh-words is (length buffer)) fresh-words (run (tree-of w) is fresh-words) buffer room
-    (run-traced (tree-of w) is fresh-words)
+    (count-law (tree-of w) is fresh-words .traced)
     ∙ ap (λ r. run-outcome r (run (tree-of w) is fresh-words .trace) room) (run-same w is buffer h)
 
 -- a run's entries are no more than its schedule's
@@ -109,6 +92,11 @@ replied-within w is buffer =
     by-test (λ r. r .entries ≤ length is) (eqb (run-refusal (tree-of w) fresh-words is (length buffer) .number) 0)
     (run-accepted (run (tree-of w) is fresh-words)) (run-refused (run-refusal (tree-of w) fresh-words is (length buffer)) fresh-words)
     (λ e. entries-within (tree-of w) is fresh-words) (λ e. omega arith)
+
+-- a fresh call returns the fresh words, accepted or refused
+pub fresh-state : (w : TreeWords) (r : FreshReply) → r ≡ fresh-answer w → r .state ≡ fresh-words
+unfolding fresh-answer
+fresh-state w r e = rw e
 
 -- what the code has in its buffers, put together
 pub run-in-buffers :
