@@ -1,4 +1,9 @@
 // The three calls on a lock, by value: each answers as the model says, for every input.
+ghost use mathlib.Core.Path.{_≡_};
+ghost use Rattle.model.specs.States.{fresh-words};
+ghost use Rattle.model.specs.Refusals.{refusal};
+ghost use Rattle.model.specs.Answers.{fresh-answer, step-answer, run-refused, run-answer, trace-answer};
+
 mod rows;
 mod run;
 
@@ -9,7 +14,9 @@ use model::State;
 use model::StepReply;
 use model::TreeWords;
 
-fn fresh_state() -> State {
+fn fresh_state() -> State
+    ensures { λ r. ⌜ r ≡ fresh-words ⌝ }
+{
     let place = PlaceWords {
         row: 0,
         domain: 0,
@@ -28,7 +35,10 @@ fn fresh_state() -> State {
     }
 }
 
-pub fn fresh_lock(tree: TreeWords) -> FreshReply {
+// A fresh lock: the fresh words, accepted or refused.
+pub fn fresh_lock(tree: TreeWords) -> FreshReply
+    ensures { λ r. ⌜ r ≡ fresh-answer tree ⌝ }
+{
     let r = refusals::tree_refusal_of(tree);
     let state = fresh_state();
     FreshReply {
@@ -38,7 +48,10 @@ pub fn fresh_lock(tree: TreeWords) -> FreshReply {
     }
 }
 
-pub fn step_lock(tree: TreeWords, state: State, thread: u16) -> StepReply {
+// One step of a thread: the state after it; refused, the state as it came.
+pub fn step_lock(tree: TreeWords, state: State, thread: u16) -> StepReply
+    ensures { λ r. ⌜ r ≡ step-answer tree state thread ⌝ }
+{
     let r = refusals::state_refusal_of(tree, state);
     if r.number != 0 {
         return StepReply {
@@ -65,7 +78,9 @@ pub fn step_lock(tree: TreeWords, state: State, thread: u16) -> StepReply {
     }
 }
 
-fn run_refused(number: u32, place: u32, state: State) -> RunReply {
+fn refused(number: u32, place: u32, state: State) -> RunReply
+    ensures { λ r. ⌜ r ≡ run-refused (refusal number place) state ⌝ }
+{
     RunReply {
         number,
         place,
@@ -78,14 +93,18 @@ fn run_refused(number: u32, place: u32, state: State) -> RunReply {
     }
 }
 
-pub fn run_lock(tree: TreeWords, state: State, schedule: &[u16], trace: &mut [u16]) -> RunReply {
+// The steps of a schedule: the state after the last of them and the counts, the entering threads at the front of the trace; refused, the state and the trace as they came.
+pub fn run_lock(tree: TreeWords, state: State, schedule: &[u16], trace: &mut [u16]) -> RunReply
+    ensures { λ r. ⌜ r ≡ run-answer tree state (now (schedule .entry)) (now (trace .entry)) ⌝ }
+    ensures { λ r. ⌜ now (trace .exit) ≡ trace-answer tree state (now (schedule .entry)) (now (trace .entry)) ⌝ }
+{
     let r = refusals::state_refusal_of(tree, state);
     if r.number != 0 {
-        return run_refused(r.number, r.place, state);
+        return refused(r.number, r.place, state);
     }
     let q = refusals::schedule_refusal_of(tree.threads, schedule, trace.len());
     if q.number != 0 {
-        return run_refused(q.number, q.place, state);
+        return refused(q.number, q.place, state);
     }
     run::run_steps(tree, state, schedule, trace)
 }

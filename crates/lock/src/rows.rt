@@ -1,4 +1,15 @@
 // What a row of the step table does, decided from the words that it reads.
+ghost use mathlib.Core.Path.{_≡_};
+ghost use mathlib.Core.List.{[]};
+ghost use Prim.Native.Nat.{ℕ, _<_, _≤_};
+ghost use Rattle.model.specs.States.{root-word};
+ghost use Rattle.model.specs.Places.{words-of};
+ghost use Rattle.model.specs.Trees.{child-from};
+ghost use Rattle.model.specs.Refusals.{tree-refusal};
+ghost use Rattle.model.specs.Steps.{release-place, release-word, prep-row, swap-row, link-row, wait-row, leave-row, check-row, help-row, cas-row, linger-row, grant-row, stays};
+ghost use Rattle.refusals.specs.Arrays.{tree-in, parents-in, Lower};
+ghost use Rattle.lock.specs.Effects.{moved, Effect-of, Inner-effect-of, Within, place-domain, done-at, Read};
+ghost use Rattle.lock.specs.Running.{Ready, Decided};
 use model::Place;
 use model::PlaceWords;
 
@@ -13,22 +24,29 @@ pub(crate) struct Words {
     pub tail: u16,
     pub next: u16,
     pub status: u64,
+    pub place: PlaceWords,
 }
 
-// What a row does: the kind told (0 a stay, 1 another move, 2 a root entry, 3 a passed entry), the thread's place, and at most one store to each array. An index beyond the array is no store.
+// What a row does: its kind (0 a stay, 1 another move, 2 a root entry, 3 a passed entry), the thread's place, and the tail of a domain, the next of a record and the status of a record. An index beyond the array is no store.
 pub(crate) struct Effect {
     pub kind: u8,
-    pub tail_at: u8,
+    pub domain: u8,
     pub tail: u16,
-    pub next_at: u16,
+    pub linked: u16,
     pub next: u16,
-    pub status_at: u16,
+    pub marked: u16,
     pub status: u64,
     pub place: PlaceWords,
 }
 
 // The child of a domain on the path from a home up.
-fn child_at(parents: &[u8; 64], domains: u32, home: u8, l: u8) -> u8 {
+fn child_at(parents: &[u8; 64], domains: u32, home: u8, l: u8) -> u8
+    requires { ⌜ domains ≤ 64 ⌝ }
+    requires { ⌜ Lower domains (now parents) ⌝ }
+    requires { ⌜ home < domains ⌝ }
+    ensures { λ r. ⌜ r ≡ child-from 6 (parents-in domains (now (parents .entry))) l home ⌝ }
+    ensures { λ r. ⌜ r < 64 ⌝ }
+{
     let mut c = home;
     let mut left: u32 = 6;
     while 0 < left {
@@ -46,40 +64,39 @@ fn child_at(parents: &[u8; 64], domains: u32, home: u8, l: u8) -> u8 {
     c
 }
 
-// Another place, and no store.
-fn moves(kind: u8, p: Place) -> Effect {
-    let place = places::words_at(p);
+fn effect_at(kind: u8, place: PlaceWords) -> Effect
+    ensures { λ r. ⌜ r ≡ moved kind place ⌝ }
+{
     Effect {
         kind,
-        tail_at: 64,
+        domain: 64,
         tail: 0,
-        next_at: 320,
+        linked: 320,
         next: 0,
-        status_at: 320,
+        marked: 320,
         status: 0,
         place,
     }
 }
 
-fn stays(place: PlaceWords) -> Effect {
-    Effect {
-        kind: 0,
-        tail_at: 64,
-        tail: 0,
-        next_at: 320,
-        next: 0,
-        status_at: 320,
-        status: 0,
-        place,
-    }
+// Another place, and no store.
+fn moves(kind: u8, p: Place) -> Effect
+    ensures { λ r. ⌜ r ≡ moved kind (words-of p) ⌝ }
+{
+    effect_at(kind, places::words_at(p))
 }
 
 // A word of the root's, or another.
-fn root_word_at(l: u8, at_root: u64, elsewhere: u64) -> u64 {
+fn root_word_at(l: u8, at_root: u64, elsewhere: u64) -> u64
+    ensures { λ r. ⌜ r ≡ root-word l «at_root» elsewhere ⌝ }
+{
     if l == 0 { at_root } else { elsewhere }
 }
 
-fn release_place_at(d: u8) -> Place {
+// Where a domain is released.
+fn release_place_at(d: u8) -> Place
+    ensures { λ r. ⌜ r ≡ release-place d ⌝ }
+{
     if d == 0 {
         Place::Help(d)
     } else {
@@ -87,85 +104,108 @@ fn release_place_at(d: u8) -> Place {
     }
 }
 
-fn done_place_at(w: Words) -> Place {
-    if w.domain == w.home {
-        return Place::Idle;
+// Where a thread goes from a domain that is done.
+fn done_place_at(home: u8, l: u8, child: u8) -> Place
+    ensures { λ r. ⌜ r ≡ done-at home l child ⌝ }
+{
+    if l == home {
+        Place::Idle
+    } else {
+        Place::Help(child)
     }
-    Place::Help(w.child)
 }
 
-fn prep(w: Words) -> Effect {
+fn prep(w: Words) -> Effect
+    requires { ⌜ Within w ⌝ }
+    ensures { λ r. ⌜ Effect-of w (λ t i s. prep-row t i (w .domain) s) r ⌝ }
+{
     let l = w.domain;
-    let mut e = moves(1, Place::Swap(l));
-    e.next_at = w.own;
-    e.status_at = w.own;
     let v = root_word_at(l, 1, 18446744073709551615);
+    let mut e = moves(1, Place::Swap(l));
+    e.linked = w.own;
+    e.marked = w.own;
     e.status = v;
     e
 }
 
-fn swap(w: Words) -> Effect {
+fn swap(w: Words) -> Effect
+    requires { ⌜ Within w ⌝ }
+    ensures { λ r. ⌜ Effect-of w (λ t i s. swap-row t i (w .domain) s) r ⌝ }
+{
     let l = w.domain;
     let old = w.tail;
+    let own = w.own;
     if old != 0 {
         let mut e = moves(1, Place::Link(l, old - 1));
-        e.tail_at = l;
-        e.tail = w.own + 1;
+        e.domain = l;
+        e.tail = own + 1;
         return e;
     }
     if l == 0 {
         let mut e = moves(2, Place::Inside);
-        e.tail_at = l;
-        e.tail = w.own + 1;
-        e.status_at = w.own;
+        e.domain = l;
+        e.tail = own + 1;
+        e.marked = own;
         return e;
     }
     let p = w.parent;
     let mut e = moves(1, Place::Prep(p));
-    e.tail_at = l;
-    e.tail = w.own + 1;
-    e.status_at = w.own;
+    e.domain = l;
+    e.tail = own + 1;
+    e.marked = own;
     e.status = 1;
     e
 }
 
-fn link(w: Words, before: u16) -> Effect {
+fn link(w: Words, before: u16) -> Effect
+    requires { ⌜ Within w ⌝ }
+    requires { ⌜ before < 320 ⌝ }
+    ensures { λ r. ⌜ Effect-of w (λ t i s. link-row t i (w .domain) before s) r ⌝ }
+{
     let l = w.domain;
+    let own = w.own;
     let mut e = moves(1, Place::Wait(l));
-    e.next_at = before;
-    e.next = w.own + 1;
+    e.linked = before;
+    e.next = own + 1;
     e
 }
 
-fn wait(w: Words, place: PlaceWords) -> Effect {
+fn wait(w: Words) -> Effect
+    requires { ⌜ Within w ⌝ }
+    ensures { λ r. ⌜ Effect-of w (λ t i s. wait-row t i (w .domain) s) r ⌝ }
+{
     let l = w.domain;
     let v = w.status;
+    let place = w.place;
     if l == 0 {
         if v == 1 {
-            return stays(place);
+            return effect_at(0, place);
         }
         return moves(2, Place::Inside);
     }
     if v == 18446744073709551615 {
-        return stays(place);
+        return effect_at(0, place);
     }
     if v == 18446744073709551614 {
         let p = w.parent;
         let mut e = moves(1, Place::Prep(p));
-        e.status_at = w.own;
+        e.marked = w.own;
         e.status = 1;
         return e;
     }
     moves(3, Place::Inside)
 }
 
-fn leave(w: Words) -> Effect {
+fn leave(w: Words) -> Effect
+    ensures { λ r. ⌜ Effect-of w (λ t i s. leave-row t i s) r ⌝ }
+{
     let home = w.home;
-    let p = release_place_at(home);
-    moves(1, p)
+    moves(1, release_place_at(home))
 }
 
-fn check(w: Words) -> Effect {
+fn check(w: Words) -> Effect
+    ensures { λ r. ⌜ Inner-effect-of w (λ t i s. check-row t i (w .domain) s) r ⌝ }
+{
     let l = w.domain;
     let v = w.status;
     let n = w.next;
@@ -180,47 +220,61 @@ fn check(w: Words) -> Effect {
     moves(1, Place::Grant(l, n - 1, v + 1))
 }
 
-fn grants_next(w: Words) -> Effect {
+fn help(w: Words) -> Effect
+    ensures { λ r. ⌜ Effect-of w (λ t i s. help-row t i (w .domain) s) r ⌝ }
+{
     let l = w.domain;
     let n = w.next;
+    if n == 0 {
+        return moves(1, Place::Cas(l));
+    }
     let v = root_word_at(l, 0, 18446744073709551614);
     moves(1, Place::Grant(l, n - 1, v))
 }
 
-fn help(w: Words) -> Effect {
+fn cas(w: Words) -> Effect
+    requires { ⌜ Within w ⌝ }
+    ensures { λ r. ⌜ Effect-of w (λ t i s. cas-row t i (w .domain) s) r ⌝ }
+{
     let l = w.domain;
-    if w.next == 0 {
-        return moves(1, Place::Cas(l));
+    let old = w.tail;
+    let mine = w.own + 1;
+    if old != mine {
+        return moves(1, Place::Linger(l));
     }
-    grants_next(w)
+    let mut e = moves(1, done_place_at(w.home, l, w.child));
+    e.domain = l;
+    e
 }
 
-fn cas(w: Words) -> Effect {
+fn linger(w: Words) -> Effect
+    ensures { λ r. ⌜ Effect-of w (λ t i s. linger-row t i (w .domain) s) r ⌝ }
+{
     let l = w.domain;
-    if w.tail == w.own + 1 {
-        let mut e = moves(1, done_place_at(w));
-        e.tail_at = l;
-        return e;
+    let n = w.next;
+    let place = w.place;
+    if n == 0 {
+        return effect_at(0, place);
     }
-    moves(1, Place::Linger(l))
+    let v = root_word_at(l, 0, 18446744073709551614);
+    moves(1, Place::Grant(l, n - 1, v))
 }
 
-fn linger(w: Words, place: PlaceWords) -> Effect {
-    if w.next == 0 {
-        return stays(place);
-    }
-    grants_next(w)
-}
-
-fn grant(w: Words, to: u16, word: u64) -> Effect {
-    let mut e = moves(1, done_place_at(w));
-    e.status_at = to;
+fn grant(w: Words, to: u16, word: u64) -> Effect
+    requires { ⌜ to < 320 ⌝ }
+    ensures { λ r. ⌜ Effect-of w (λ t i s. grant-row t i (w .domain) to word s) r ⌝ }
+{
+    let l = w.domain;
+    let mut e = moves(1, done_place_at(w.home, l, w.child));
+    e.marked = to;
     e.status = word;
     e
 }
 
 // The domain of a place; Idle and Inside are at home.
-fn domain_at(home: u8, p: Place) -> u8 {
+fn domain_at(home: u8, p: Place) -> u8
+    ensures { λ r. ⌜ r ≡ place-domain home p ⌝ }
+{
     match p {
         Place::Idle => home,
         Place::Prep(l) => l,
@@ -237,48 +291,66 @@ fn domain_at(home: u8, p: Place) -> u8 {
     }
 }
 
-fn words_read<'t, 's>(
+// The words of a thread's row at a domain.
+fn words_at<'t, 's>(
     parents: &'t [u8; 64],
     thresholds: &'t [u16; 64],
+    homes: &'t [u8; 256],
     domains: u32,
+    threads: u32,
     tails: &'s [u16; 64],
     nexts: &'s [u16; 320],
     statuses: &'s [u64; 320],
-    home: u8,
     i: u16,
     l: u8,
-) -> Words {
+    place: PlaceWords,
+) -> Words
+    requires { ⌜ tree-refusal (tree-in domains threads (now parents) (now thresholds) (now homes)) .number ≡ 0 ⌝ }
+    requires { ⌜ (i < threads) × (l < domains) ⌝ }
+    ensures { λ r. ⌜ Read (tree-in domains threads (now (parents .entry)) (now (thresholds .entry)) (now (homes .entry))) i l place (now (tails .entry)) (now (nexts .entry)) (now (statuses .entry)) r ⌝ }
+{
+    let k = i as usize;
+    let home = homes[k];
     let d = l as usize;
+    let parent = parents[d];
+    let threshold = thresholds[d];
+    let tail = tails[d];
     if l == home {
-        let r = i as usize;
+        let next = nexts[k];
+        let status = statuses[k];
         return Words {
             home,
             domain: l,
             child: 0,
             own: i,
-            parent: parents[d],
-            threshold: thresholds[d],
-            tail: tails[d],
-            next: nexts[r],
-            status: statuses[r],
+            parent,
+            threshold,
+            tail,
+            next,
+            status,
+            place,
         };
     }
     let child = child_at(parents, domains, home, l);
     let own = 256 + child as u16;
     let r = own as usize;
+    let next = nexts[r];
+    let status = statuses[r];
     Words {
         home,
         domain: l,
         child,
         own,
-        parent: parents[d],
-        threshold: thresholds[d],
-        tail: tails[d],
-        next: nexts[r],
-        status: statuses[r],
+        parent,
+        threshold,
+        tail,
+        next,
+        status,
+        place,
     }
 }
 
+// What a step of a thread does.
 pub(crate) fn decide<'t, 's>(
     parents: &'t [u8; 64],
     thresholds: &'t [u16; 64],
@@ -290,34 +362,39 @@ pub(crate) fn decide<'t, 's>(
     statuses: &'s [u64; 320],
     i: u16,
     place: PlaceWords,
-) -> Effect {
+) -> Effect
+    requires { ⌜ Ready (tree-in domains threads (now parents) (now thresholds) (now homes)) i place ⌝ }
+    ensures { λ r. ⌜ Decided (tree-in domains threads (now (parents .entry)) (now (thresholds .entry)) (now (homes .entry))) i place (now (tails .entry)) (now (nexts .entry)) (now (statuses .entry)) r ⌝ }
+{
     let k = i as usize;
     let home = homes[k];
     let p = places::place_at(place);
     let l = domain_at(home, p);
-    let w = words_read(
+    let w = words_at(
         parents,
         thresholds,
+        homes,
         domains,
+        threads,
         tails,
         nexts,
         statuses,
-        home,
         i,
         l,
+        place,
     );
     match p {
         Place::Idle => prep(w),
         Place::Prep(_) => prep(w),
         Place::Swap(_) => swap(w),
         Place::Link(_, b) => link(w, b),
-        Place::Wait(_) => wait(w, place),
+        Place::Wait(_) => wait(w),
         Place::Inside => leave(w),
         Place::Check(_) => check(w),
         Place::Help(_) => help(w),
         Place::Cas(_) => cas(w),
-        Place::Linger(_) => linger(w, place),
+        Place::Linger(_) => linger(w),
         Place::Grant(_, r, v) => grant(w, r, v),
-        Place::Invalid => stays(place),
+        Place::Invalid => effect_at(0, place),
     }
 }

@@ -1,0 +1,9 @@
+pub mod Children
+pub mod Leaving
+pub mod WordsRead
+pub mod Deciding
+pub mod Threads
+pub mod Going
+pub mod Typing
+pub mod Turns
+pub mod Answering

@@ -1,0 +1,98 @@
+-- A row of the step table as an effect: at most one store to each array. Assumes nothing: these are definitions.
+use mathlib.Core.Path.{_≡_}
+use mathlib.Core.Bool.{cond}
+use mathlib.Core.List.{List}
+use mathlib.Core.Logic.{_≢_}
+use Prim.Native.Nat.{ℕ, _<_, _%_}
+use lib.Dec.{ltb, eqb}
+use lib.ListN.{getD, set}
+use Rattle.model.specs.declared.PlaceWords.{PlaceWords}
+use Rattle.model.specs.declared.Place.{Place}
+use Rattle.model.specs.declared.Place.the-variants.{Idle, Prep, Swap, Link, Wait, Inside, Check, Help, Cas, Linger, Grant, Invalid}
+use Rattle.model.specs.declared.State.{State}
+use Rattle.model.specs.Places.{place-words, words-of}
+use Rattle.model.specs.States.{tail, next, status}
+use Rattle.model.specs.Trees.{Tree, child, own-record}
+use Rattle.model.specs.Steps.{Kind, stay, other, root-entry, passed-entry, Step}
+use Rattle.lock.specs.declared.rows.Words.{Words}
+use Rattle.lock.specs.declared.rows.Effect.{Effect}
+
+abbrev pub kind-number : Kind → ℕ
+kind-number stay = 0
+kind-number other = 1
+kind-number root-entry = 2
+kind-number passed-entry = 3
+
+-- the effect that moves to a place and stores nothing else: an index beyond the array is no store
+abbrev pub moved : (kind : ℕ) → PlaceWords → Effect
+moved k q = record { kind = k; domain = 64; tail = 0; linked = 320; next = 0; marked = 320; status = 0; place = q }
+
+-- a store within the room
+abbrev pub stored : (room : ℕ) → List ℕ → (at value : ℕ) → List ℕ
+stored n xs k v = cond (ltb k n) (set xs k v) xs
+
+abbrev pub apply : (thread : ℕ) → Effect → State → State
+apply i e s =
+    record {
+      tails = stored 64 (s .tails) (e .domain) (e .tail);
+      nexts = stored 320 (s .nexts) (e .linked) (e .next);
+      statuses = stored 320 (s .statuses) (e .marked) (e .status);
+      places = set (s .places) i (e .place);
+    }
+
+-- an effect does what a step of the table does
+pub record Does (x : Step) (i : ℕ) (e : Effect) (s : State) : Type 0 where
+  pub kind-told : e .kind ≡ kind-number (x .kind)
+  pub state-left : apply i e s ≡ x .state
+
+-- the words that a row of thread i at a domain reads. Of the root no parent and no threshold is read, at home no child
+pub record Reads (t : Tree) (i : ℕ) (s : State) (w : Words) : Type 0 where
+  pub home-is : w .home ≡ t .home i
+  pub own-is : w .own ≡ own-record t i (w .domain)
+  pub child-is : w .domain ≢ w .home → w .child ≡ child t i (w .domain)
+  pub parent-is : w .domain ≢ 0 → w .parent ≡ t .parent (w .domain)
+  pub threshold-is : w .domain ≢ 0 → w .threshold % 65536 ≡ t .threshold (w .domain)
+  pub tail-is : w .tail ≡ tail s (w .domain)
+  pub next-is : w .next ≡ next s (w .own)
+  pub status-is : w .status ≡ status s (w .own)
+  pub place-is : w .place ≡ getD (s .places) i (place-words 0 0 0 0)
+
+-- in every tree and state that has these words, the effect does what the row does
+pub record Effect-of (w : Words) (row : Tree → (thread : ℕ) → State → Step) (e : Effect) : Type 0 where
+  pub does : (t : Tree) (i : ℕ) (s : State) → Reads t i s w → Does (row t i s) i e s
+
+-- the same of a row that is never at the root
+pub record Inner-effect-of (w : Words) (row : Tree → (thread : ℕ) → State → Step) (e : Effect) : Type 0 where
+  pub does : (t : Tree) (i : ℕ) (s : State) → Reads t i s w → w .domain ≢ 0 → Does (row t i s) i e s
+
+-- the indices that a row stores at are within the arrays
+pub record Within (w : Words) : Type 0 where
+  pub domain-fits : w .domain < 64
+  pub own-fits : w .own < 320
+
+-- the domain of a place; Idle and Inside are at home
+abbrev pub place-domain : (home : ℕ) → Place → ℕ
+place-domain h Idle = h
+place-domain h (Prep l) = l
+place-domain h (Swap l) = l
+place-domain h (Link l p) = l
+place-domain h (Wait l) = l
+place-domain h Inside = h
+place-domain h (Check l) = l
+place-domain h (Help l) = l
+place-domain h (Cas l) = l
+place-domain h (Linger l) = l
+place-domain h (Grant l r w) = l
+place-domain h Invalid = h
+
+abbrev pub done-at : (home domain child : ℕ) → Place
+done-at h l c = cond (eqb l h) Idle (Help c)
+
+abbrev pub state-in : (tails nexts statuses : List ℕ) → List PlaceWords → State
+state-in ts ns vs ps = record { tails = ts; nexts = ns; statuses = vs; places = ps }
+
+-- what is read: whatever the places of the other threads are
+pub record Read (t : Tree) (i l : ℕ) (q : PlaceWords) (tails nexts statuses : List ℕ) (w : Words) : Type 0 where
+  pub domain-is : w .domain ≡ l
+  pub within : Within w
+  pub reads : (ps : List PlaceWords) → getD ps i (place-words 0 0 0 0) ≡ q → Reads t i (state-in tails nexts statuses ps) w
