@@ -2,34 +2,18 @@
 ghost use mathlib.Core.Path.{_≡_};
 ghost use Prim.Native.Nat.{_≤_};
 ghost use lib.ListN.{length, take};
-ghost use Rattle.model.specs.States.{fresh-words};
-ghost use Rattle.lock_file.specs.FileAnswers.{run-outcome, outcome-reply, outcome-output};
+ghost use Rattle.lock_file.specs.Reading.{entries-at};
+ghost use Rattle.lock_file.specs.FileAnswers.{run-outcome, file-run, file-trace, outcome-reply, outcome-output};
 use crate::FileReply;
 use crate::listing;
-use model::PlaceWords;
+use crate::reading;
 use model::RunReply;
-use model::State;
+use model::TreeWords;
 
 fn wide(x: u32) -> usize
     ensures { λ r. ⌜ r ≡ x ⌝ }
 {
     x as usize
-}
-
-fn fresh_state() -> State
-    ensures { λ r. ⌜ r ≡ fresh-words ⌝ }
-{
-    State {
-        tails: [0u16; 64],
-        nexts: [0u16; 320],
-        statuses: [0u64; 320],
-        places: [PlaceWords {
-            row: 0,
-            domain: 0,
-            peer: 0,
-            word: 0,
-        }; 256],
-    }
 }
 
 // What a run replied, as the file call answers it.
@@ -56,4 +40,39 @@ fn answer_run(reply: RunReply, trace: &[u16], output: &mut [u8]) -> FileReply
         &trace[..n],
         output,
     )
+}
+
+// The run, with lent buffers for the schedule and the trace.
+fn run_in(
+    file: &[u8],
+    at: usize,
+    tree: TreeWords,
+    schedule: &mut [u16],
+    trace: &mut [u16],
+    output: &mut [u8],
+) -> FileReply
+    requires { ⌜ at ≤ length (now file) ⌝ }
+    requires { ⌜ length (now file) ≤ 65536 ⌝ }
+    requires { ⌜ (length (now schedule) ≡ 32768) × (length (now trace) ≡ 32768) ⌝ }
+    ensures { λ r. ⌜ r ≡ outcome-reply (run-outcome (file-run tree (entries-at (now (file .entry)) at)) (file-trace tree (entries-at (now (file .entry)) at)) (length (now (output .entry)))) ⌝ }
+    ensures { λ r. ⌜ now (output .exit) ≡ outcome-output (run-outcome (file-run tree (entries-at (now (file .entry)) at)) (file-trace tree (entries-at (now (file .entry)) at)) (length (now (output .entry)))) (now (output .entry)) ⌝ }
+{
+    let n = (file.len() - at) / 2;
+    reading::read_schedule(file, at, n, schedule);
+    let fresh = lock::fresh_lock(tree);
+    let state = fresh.state;
+    let reply = lock::run_lock(tree, state, &schedule[..n], trace);
+    answer_run(reply, trace, output)
+}
+
+// The run of a tree whose schedule starts at a position.
+pub(crate) fn run_tree(file: &[u8], at: usize, tree: TreeWords, output: &mut [u8]) -> FileReply
+    requires { ⌜ at ≤ length (now file) ⌝ }
+    requires { ⌜ length (now file) ≤ 65536 ⌝ }
+    ensures { λ r. ⌜ r ≡ outcome-reply (run-outcome (file-run tree (entries-at (now (file .entry)) at)) (file-trace tree (entries-at (now (file .entry)) at)) (length (now (output .entry)))) ⌝ }
+    ensures { λ r. ⌜ now (output .exit) ≡ outcome-output (run-outcome (file-run tree (entries-at (now (file .entry)) at)) (file-trace tree (entries-at (now (file .entry)) at)) (length (now (output .entry)))) (now (output .entry)) ⌝ }
+{
+    let mut schedule = [0u16; 32768];
+    let mut trace = [0u16; 32768];
+    run_in(file, at, tree, &mut schedule, &mut trace, output)
 }
