@@ -22,7 +22,7 @@ use Rattle.model.specs.Laws.{Count-law}
 use Rattle.model.proofs.Tests.{by-test}
 use Rattle.model.proofs.Laws.Runs.{steps-length, count-law}
 use Rattle.lock_file.specs.Reading.{entries-from, entries-at}
-use Rattle.lock_file.specs.FileAnswers.{run-outcome, file-run, file-trace}
+use Rattle.lock_file.specs.FileAnswers.{tree-outcome, run-outcome, file-run, file-trace}
 use Rattle.lock_file.proofs.Writing.{sets-front}
 use Rattle.lock_file.proofs.FileRefusalLaw.{entries-length}
 
@@ -78,7 +78,7 @@ front-listed r s x buffer room h = by (eqb (r .number) 0) refl
 pub run-listed :
     (w : TreeWords) (is buffer : List ℕ) (room : ℕ) → length is ≤ length buffer →
     run-outcome (run-answer w fresh-words is buffer) (take (run-answer w fresh-words is buffer .entries) (trace-answer w fresh-words is buffer)) room
-    ≡ run-outcome (file-run w is) (file-trace w is) room
+    ≡ tree-outcome w is room
 unfolding run-answer trace-answer file-trace Count-law
 run-listed w is buffer room h =
     front-listed (run-refusal (tree-of w) fresh-words is (length buffer)) fresh-words (run (tree-of w) is fresh-words) buffer room
@@ -106,7 +106,7 @@ pub run-in-buffers :
     r ≡ run-answer w s (take n schedule) buffer → trace ≡ trace-answer w s (take n schedule) buffer →
     (r .entries ≤ n)
     × ((room : ℕ) →
-    run-outcome r (take (r .entries) trace) room ≡ run-outcome (file-run w (entries-at bs at)) (file-trace w (entries-at bs at)) room)
+    run-outcome r (take (r .entries) trace) room ≡ tree-outcome w (entries-at bs at) room)
 unfolding entries-at
 run-in-buffers bs at w s r free schedule buffer trace h g stored fresh replied traced =
     let n = (length bs - at) / 2 in

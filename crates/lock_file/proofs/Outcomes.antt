@@ -8,7 +8,7 @@ use lib.Seq.{sets}
 use borrow.Author.Tests.{lt-ltb, le-ltb}
 use Rattle.model.specs.Refusals.{refusal}
 use Rattle.lock_file.specs.Listing.{number-then, first-line, trace-lines, listing, refusal-line}
-use Rattle.lock_file.specs.FileAnswers.{refused-by, lists, listing-outcome, run-outcome, file-run, file-trace, reading-outcome, file-outcome}
+use Rattle.lock_file.specs.FileAnswers.{tree-outcome, refused-by, lists, listing-outcome, reading-outcome, file-outcome}
 use Rattle.lock_file.specs.declared.Reached.the-variants.{At, Ended, BadMap}
 use Rattle.lock_file.specs.declared.TreeRead.{TreeRead}
 use Rattle.lock_file.specs.Reading.{reached-refusal, tree-read, entries-at, reading-of, file-read}
@@ -62,7 +62,7 @@ file-long bs room h = rw (lt-ltb 65536 (length bs) h)
 module _ (bs : List ℕ) (room : ℕ) (h : length bs ≤ 65536) (t : TreeRead) (read : t ≡ tree-read bs) where
   pub file-at :
       (at : ℕ) → t .reached ≡ At at →
-      file-outcome bs room ≡ run-outcome (file-run (t .tree) (entries-at bs at)) (file-trace (t .tree) (entries-at bs at)) room
+      file-outcome bs room ≡ tree-outcome (t .tree) (entries-at bs at) room
   unfolding file-outcome file-read reading-of reading-outcome
   file-at at e = rw (le-ltb 65536 (length bs) h, ← read, e)
 

@@ -37,9 +37,13 @@ file-run w is = run-answer w fresh-words is (replicate (length is) 0)
 unfoldable pub file-trace : TreeWords → (schedule : List ℕ) → List ℕ
 file-trace w is = run (tree-of w) is fresh-words .trace
 
+abbrev pub tree-outcome : TreeWords → (schedule : List ℕ) → (room : ℕ) → Outcome
+tree-outcome w is room = run-outcome (file-run w is) (file-trace w is) room
+
+-- what reading came to: 2 and 3, or the run
 unfoldable pub reading-outcome : Reading → (room : ℕ) → Outcome
 reading-outcome (refused r) room = refused-by r
-reading-outcome (described w is) room = run-outcome (file-run w is) (file-trace w is) room
+reading-outcome (described w is) room = tree-outcome w is room
 
 -- 1: the lock file is longer than 65,536 bytes
 unfoldable pub file-outcome : (bytes : List ℕ) → (room : ℕ) → Outcome

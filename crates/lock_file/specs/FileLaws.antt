@@ -12,7 +12,7 @@ use Rattle.model.specs.Claim.{Call, a-run, ran, answers, joined, Claim, Demand-
 use Rattle.model.specs.Laws.{_⟺_}
 use Rattle.lock_file.specs.Reading.{described, file-read}
 use Rattle.lock_file.specs.Listing.{numeral}
-use Rattle.lock_file.specs.FileAnswers.{run-outcome, file-run, file-trace, file-outcome, file-answer}
+use Rattle.lock_file.specs.FileAnswers.{file-run, tree-outcome, file-outcome, file-answer}
 use Rattle.lock_file.specs.Format.{Describes}
 
 -- 1. FORMAT. Reading accepts a file, with a tree and a schedule, exactly if the file describes them
@@ -46,7 +46,7 @@ File-refusal-law = (bytes output : List ℕ) → Met (file-answer bytes output .
 unfoldable pub Described-law : Type 0
 Described-law =
     (bytes : List ℕ) (w : TreeWords) (schedule : List ℕ) (room : ℕ) → length bytes ≤ 65536 → Describes bytes w schedule →
-    file-outcome bytes room ≡ run-outcome (file-run w schedule) (file-trace w schedule) room
+    file-outcome bytes room ≡ tree-outcome w schedule room
 
 -- 5. THE THIRD DEMAND. The file call's run is a list of calls, on a lock of its own
 abbrev pub file-call : TreeWords → (schedule : List ℕ) → Call

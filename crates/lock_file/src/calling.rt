@@ -3,7 +3,7 @@ ghost use mathlib.Core.Path.{_≡_};
 ghost use Prim.Native.Nat.{_≤_};
 ghost use lib.ListN.{length, take};
 ghost use Rattle.lock_file.specs.Reading.{entries-at};
-ghost use Rattle.lock_file.specs.FileAnswers.{run-outcome, file-run, file-trace, outcome-reply, outcome-output};
+ghost use Rattle.lock_file.specs.FileAnswers.{run-outcome, tree-outcome, outcome-reply, outcome-output};
 use crate::FileReply;
 use crate::listing;
 use crate::reading;
@@ -54,8 +54,8 @@ fn run_in(
     requires { ⌜ at ≤ length (now file) ⌝ }
     requires { ⌜ length (now file) ≤ 65536 ⌝ }
     requires { ⌜ (length (now schedule) ≡ 32768) × (length (now trace) ≡ 32768) ⌝ }
-    ensures { λ r. ⌜ r ≡ outcome-reply (run-outcome (file-run tree (entries-at (now (file .entry)) at)) (file-trace tree (entries-at (now (file .entry)) at)) (length (now (output .entry)))) ⌝ }
-    ensures { λ r. ⌜ now (output .exit) ≡ outcome-output (run-outcome (file-run tree (entries-at (now (file .entry)) at)) (file-trace tree (entries-at (now (file .entry)) at)) (length (now (output .entry)))) (now (output .entry)) ⌝ }
+    ensures { λ r. ⌜ r ≡ outcome-reply (tree-outcome tree (entries-at (now (file .entry)) at) (length (now (output .entry)))) ⌝ }
+    ensures { λ r. ⌜ now (output .exit) ≡ outcome-output (tree-outcome tree (entries-at (now (file .entry)) at) (length (now (output .entry)))) (now (output .entry)) ⌝ }
 {
     let n = (file.len() - at) / 2;
     reading::read_schedule(file, at, n, schedule);
@@ -69,8 +69,8 @@ fn run_in(
 pub(crate) fn run_tree(file: &[u8], at: usize, tree: TreeWords, output: &mut [u8]) -> FileReply
     requires { ⌜ at ≤ length (now file) ⌝ }
     requires { ⌜ length (now file) ≤ 65536 ⌝ }
-    ensures { λ r. ⌜ r ≡ outcome-reply (run-outcome (file-run tree (entries-at (now (file .entry)) at)) (file-trace tree (entries-at (now (file .entry)) at)) (length (now (output .entry)))) ⌝ }
-    ensures { λ r. ⌜ now (output .exit) ≡ outcome-output (run-outcome (file-run tree (entries-at (now (file .entry)) at)) (file-trace tree (entries-at (now (file .entry)) at)) (length (now (output .entry)))) (now (output .entry)) ⌝ }
+    ensures { λ r. ⌜ r ≡ outcome-reply (tree-outcome tree (entries-at (now (file .entry)) at) (length (now (output .entry)))) ⌝ }
+    ensures { λ r. ⌜ now (output .exit) ≡ outcome-output (tree-outcome tree (entries-at (now (file .entry)) at) (length (now (output .entry)))) (now (output .entry)) ⌝ }
 {
     let mut schedule = [0u16; 32768];
     let mut trace = [0u16; 32768];
