@@ -2,6 +2,7 @@
 ghost use mathlib.Core.Path.{_≡_};
 ghost use Rattle.model.specs.Answers.{fresh-answer, step-answer, run-answer, trace-answer};
 ghost use Rattle.host.specs.InPlace.{fresh-number, step-number};
+ghost use Rattle.lock_file.specs.FileAnswers.{file-answer, output-answer};
 use model::FreshReply;
 use model::RunReply;
 use model::State;
@@ -69,4 +70,18 @@ pub extern "C" fn hmcs_step_in_place(tree: TreeWords, state: &mut State, thread:
         number: r.number,
         place: r.place,
     }
+}
+
+// The file call on the file's bytes and the output buffer. The number is returned; place and length go where the host says.
+#[no_mangle]
+pub extern "C" fn hmcs_run_file(file: &[u8], output: &mut [u8], place: &mut u32, length: &mut u32) -> u32
+    ensures { λ r. ⌜ r ≡ file-answer (now (file .entry)) (now (output .entry)) .number ⌝ }
+    ensures { λ r. ⌜ now (place .exit) ≡ file-answer (now (file .entry)) (now (output .entry)) .place ⌝ }
+    ensures { λ r. ⌜ now (length .exit) ≡ file-answer (now (file .entry)) (now (output .entry)) .length ⌝ }
+    ensures { λ r. ⌜ now (output .exit) ≡ output-answer (now (file .entry)) (now (output .entry)) ⌝ }
+{
+    let r = lock_file::run_file(file, output);
+    *place = r.place;
+    *length = r.length;
+    r.number
 }

@@ -8,7 +8,7 @@ use Rattle.model.specs.declared.TreeWords.{TreeWords}
 use Rattle.model.specs.Trees.{tree-of}
 use Rattle.model.specs.States.{fresh-words}
 use Rattle.model.specs.Answers.{fresh-answer, trace-answer}
-use Rattle.model.specs.Claim.{Call, a-run, ran, answers, joined, Claim, Demand-three}
+use Rattle.model.specs.Claim.{Call, a-run, ran, answers, joined, Claim}
 use Rattle.model.specs.Laws.{_⟺_}
 use Rattle.lock_file.specs.Reading.{described, file-read}
 use Rattle.lock_file.specs.Listing.{numeral}
@@ -59,4 +59,4 @@ pub record One-call (w : TreeWords) (schedule : List ℕ) : Type 0 where
   pub claimed : Claim (tree-of w) (file-call w schedule ∷ []) (joined (file-call w schedule ∷ []) fresh-words)
 
 unfoldable pub File-claim-law : Type 0
-File-claim-law = Demand-three → (w : TreeWords) (schedule : List ℕ) → fresh-answer w .number ≡ 0 → One-call w schedule
+File-claim-law = (w : TreeWords) (schedule : List ℕ) → fresh-answer w .number ≡ 0 → One-call w schedule
