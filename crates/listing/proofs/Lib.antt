@@ -1,3 +1,4 @@
+-- How the listing and the step table are shown to agree.
 pub mod Stacks
 pub mod Entries
 pub mod Acquiring

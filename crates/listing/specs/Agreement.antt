@@ -13,9 +13,9 @@ use Rattle.model.specs.States.{place, fresh-words}
 use Rattle.model.specs.Runs.{run}
 use Rattle.model.specs.Refusals.{tree-refusal}
 use Rattle.model.specs.Laws.{All-threads, Sixteen-bit}
-use Rattle.listing.specs.Listing.{Memory, Return, from-acquire, from-release, behind-17, behind-29, behind-31, behind-41, behind-43, behind-82, Frame, Point, outside, critical, line-7, line-9, line-10, line-11, line-13, line-14, line-16, line-17, line-25, line-27, line-29, line-31, line-35, line-36, line-37, line-41, line-43, line-53, line-54, line-55, line-57, line-58, line-59, line-66, line-67, line-68, line-69, line-71, line-72, line-82, Control, control, After, top-domain, top-back, next-line}
+use Rattle.listing.specs.Listing.{Memory, Return, from-acquire, from-release, behind-17, behind-29, behind-31, behind-41, behind-43, behind-82, Point, outside, critical, line-7, line-9, line-10, line-11, line-13, line-14, line-16, line-17, line-25, line-27, line-29, line-31, line-35, line-36, line-37, line-41, line-43, line-53, line-54, line-55, line-57, line-58, line-59, line-66, line-67, line-68, line-69, line-71, line-72, line-82, Control, control, After, top-domain, top-back, next-line}
 
--- THE TABLE: the place of a thread that stands at a point, in a call with L that returns where it says. At a point where no thread stands between entries, none
+-- THE TABLE: the place of a thread that stands at a point, in a call with L that returns where it says. At a point where no thread stands between entries, Invalid
 -- line 7 or 66 at home is no such point: Idle does Prep(home) in one entry
 unfoldable pub prep-place : Return → (L : ℕ) → Place
 prep-place from-acquire L = Invalid
@@ -78,7 +78,7 @@ is-place (Linger l) = true
 is-place (Grant l r w) = true
 is-place Invalid = false
 
--- ONE SCHEDULE ENTRY: one line, and on to the next point at which a thread stands. No entry takes more than eight lines
+-- ONE SCHEDULE ENTRY: one line, and on to the next point at which a thread stands; eight lines more are enough
 unfoldable pub settle : (lines : ℕ) → Tree → (i : ℕ) → After → After
 settle zero t i x = x
 settle (suc n) t i x = let on = settle n t i (next-line t i x) in cond (is-place (place-of-control (x .thread))) x on

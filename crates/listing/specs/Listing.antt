@@ -1,7 +1,7 @@
 -- Listing 1 of the paper on HMCS locks (source document 000), line by line. Fences are left out; docs/LISTING.md holds the lines beside the step table. Assumes nothing: these are definitions.
-use mathlib.Core.Bool.{Bool, true, false, cond}
+use mathlib.Core.Bool.{cond}
 use mathlib.Core.List.{List, [], _∷_}
-use Prim.Native.Nat.{ℕ, zero, suc, _+_, _-_}
+use Prim.Native.Nat.{ℕ, _+_, _-_}
 use lib.Dec.{eqb, ltb}
 use lib.ListN.{getD, set}
 use Rattle.model.specs.Trees.{Tree}
@@ -98,6 +98,7 @@ goes-back behind-43 c fs = c
 goes-back behind-82 c fs = c
 
 unfoldable pub returns : (calls : List Frame) → Control
+-- no call ends where there is none
 returns [] = control outside []
 returns (f ∷ fs) = goes-back (f .back) (returns fs) fs
 

@@ -6,3 +6,4 @@ pub mod Facts
 pub mod Form
 pub mod Kinds
 pub mod Words
+pub mod Unread

@@ -1,3 +1,4 @@
+-- The proofs: facts, laws of the second demand, the queues and words of the third, and its claim.
 pub mod Tests
 pub mod Refusing
 pub mod Places

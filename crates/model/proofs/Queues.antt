@@ -3,10 +3,10 @@ pub mod Lists
 pub mod Paths
 pub mod Moves
 pub mod Invariant
+pub mod Meeting
+pub mod Joined
 pub mod Keeps
 pub mod Order
-pub mod Left
+pub mod Remaining
 pub mod Allowance
-pub mod Alive
 pub mod Handovers
-pub mod Fair

@@ -6,7 +6,7 @@ use Rattle.model.specs.declared.Place.{Place}
 use Rattle.model.specs.declared.Place.the-variants.{Idle, Prep, Swap, Link, Wait, Inside, Check, Help, Cas, Linger, Grant, Invalid}
 use Rattle.model.specs.declared.State.{State}
 use Rattle.model.specs.Trees.{Tree, on-path, own-record}
-use Rattle.model.specs.States.{acquire-parent, wait-word, locked, status, place}
+use Rattle.model.specs.States.{acquire-parent, locked, status, place}
 
 -- a status that sends a thread in Wait(L) Inside
 unfoldable pub sends-inside : (domain status : ℕ) → Bool

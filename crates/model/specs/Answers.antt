@@ -9,7 +9,7 @@ use Rattle.model.specs.declared.State.{State}
 use Rattle.model.specs.declared.FreshReply.{FreshReply}
 use Rattle.model.specs.declared.StepReply.{StepReply}
 use Rattle.model.specs.declared.RunReply.{RunReply}
-use Rattle.model.specs.Trees.{Tree, tree-of}
+use Rattle.model.specs.Trees.{tree-of}
 use Rattle.model.specs.States.{fresh-words}
 use Rattle.model.specs.Steps.{step}
 use Rattle.model.specs.Runs.{Run, run}

@@ -1,15 +1,17 @@
--- Document 01, "Ladder of cases": those marked *, and a case on three levels, in one table. Assumes nothing: these are definitions.
+-- Document 01, "Ladder of cases": those marked *, Inside in unused room, a case on three levels, and steps with their whole states, in one table; and an allowance that is reached. Assumes nothing: these are definitions.
 use mathlib.Core.Bool.{Bool, true, false, _&&_}
 use mathlib.Core.List.{List, [], _∷_, _++_}
-use Prim.Native.Nat.{ℕ, zero, suc, _+_, _-_}
+use Prim.Native.Nat.{ℕ, zero, suc, _-_}
 use lib.Dec.{eqb}
 use lib.ListN.{length, drop, replicate}
 use Rattle.model.specs.declared.TreeWords.{TreeWords}
 use Rattle.model.specs.declared.PlaceWords.{PlaceWords}
-use Rattle.model.specs.declared.Place.the-variants.{Inside, Check}
+use Rattle.model.specs.declared.Place.the-variants.{Idle, Prep, Swap, Wait, Inside, Check, Help, Grant}
 use Rattle.model.specs.declared.State.{State}
 use Rattle.model.specs.declared.RunReply.{RunReply}
-use Rattle.model.specs.States.{fresh-words, with-place}
+use Rattle.model.specs.Trees.{tree-of, allowance}
+use Rattle.model.specs.States.{wait-word, locked, fresh-words, with-tail, with-next, with-status, with-place}
+use Rattle.model.specs.Runs.{steps, state-after, begun, ended, entries-under, occurrences}
 use Rattle.model.specs.Answers.{fresh-answer, step-answer, run-answer, trace-answer}
 
 -- INPUTS. A tree by its numbers of domains and threads, its parents, thresholds and homes; the room behind them is 0
@@ -49,6 +51,8 @@ passes = ok 0 0 0 0 0 []
 pub data Case : Type 0 where
   fresh-call : TreeWords → Expected → Case
   step-call : TreeWords → State → (thread : ℕ) → Expected → Case
+  -- an accepted step, with the whole state after it
+  step-gives : TreeWords → (before : State) → (thread : ℕ) → (after : State) → Case
   run-call : TreeWords → State → (schedule : List ℕ) → Expected → Case
 
 -- the tree of document 01's input: two domains below the root, thresholds 2 and 16; two threads in the first, one in the second
@@ -62,6 +66,10 @@ first-entries = 0 ∷ 0 ∷ 0 ∷ 0 ∷ 1 ∷ 1 ∷ 1 ∷ 1 ∷ 0 ∷ 0 ∷ 0 �
 -- one domain, one thread
 unfoldable pub root-alone : TreeWords
 root-alone = tree 1 1 (0 ∷ []) (0 ∷ []) (0 ∷ [])
+
+-- one domain, two threads
+unfoldable pub two-in-root : TreeWords
+two-in-root = tree 1 2 (0 ∷ []) (0 ∷ []) (0 ∷ 0 ∷ [])
 
 -- two threads in one domain below the root, threshold 2
 unfoldable pub one-home : TreeWords
@@ -103,6 +111,20 @@ cases =
     ∷ step-call root-alone (with-place 0 (Check 0) fresh-words) 0 (refused 10 0)
     -- Inside in unused room
     ∷ step-call root-alone (with-place 1 Inside fresh-words) 0 (refused 10 0)
+    -- Swap at the root that finds none: UNLOCKED
+    ∷ step-gives root-alone (with-place 0 (Swap 0) (with-status 0 locked fresh-words)) 0 (with-place 0 Inside (with-tail 0 1 fresh-words))
+    -- Wait at the root with a status that no schedule reaches: any but LOCKED goes Inside
+    ∷ step-gives root-alone (with-place 0 (Wait 0) (with-status 0 7 fresh-words)) 0 (with-place 0 Inside (with-status 0 7 fresh-words))
+    -- Check with status 0 passes 1
+    ∷ step-gives one-home (with-place 0 (Check 1) (with-next 0 2 fresh-words)) 0 (with-place 0 (Grant 1 1 1) (with-next 0 2 fresh-words))
+    -- Check with a status above the threshold releases the parent first
+    ∷ step-gives one-home (with-place 0 (Check 1) (with-next 0 2 (with-status 0 900 fresh-words))) 0 (with-place 0 (Help 0) (with-next 0 2 (with-status 0 900 fresh-words)))
+    -- Help at the root: UNLOCKED is granted
+    ∷ step-gives two-in-root (with-place 0 (Help 0) (with-next 0 2 fresh-words)) 0 (with-place 0 (Grant 0 1 0) (with-next 0 2 fresh-words))
+    -- Grant writes the status of its record alone
+    ∷ step-gives two-in-root (with-place 0 (Grant 0 1 0) (with-next 0 2 (with-status 1 locked fresh-words))) 0 (with-place 0 Idle (with-next 0 2 fresh-words))
+    -- Prep at home steps as Idle does
+    ∷ step-gives one-home (with-place 0 (Prep 1) fresh-words) 0 (with-place 0 (Swap 1) (with-status 0 wait-word fresh-words))
     -- three levels: 0 six times, 1 six times, 0 four times, 1 once
     ∷ run-call three-levels fresh-words (replicate 6 0 ++ replicate 6 1 ++ replicate 4 0 ++ 1 ∷ []) (ok 17 2 1 1 1 (0 ∷ 1 ∷ []))
     ∷ []
@@ -136,7 +158,7 @@ unfoldable pub kept : (refused : ℕ) → (before after : State) → Bool
 kept zero s n = true
 kept (suc r) s n = same-state n s
 
--- number, place, counts, state and the whole trace buffer
+-- number, place, counts and the whole trace buffer; refused, also the state
 unfoldable pub run-holds : TreeWords → State → (schedule buffer : List ℕ) → Expected → Bool
 run-holds w s is b x =
     let r = run-answer w s is b in
@@ -146,8 +168,29 @@ run-holds w s is b x =
 unfoldable pub holds : Case → Bool
 holds (fresh-call w x) = let r = fresh-answer w in gives (r .number) (r .place) x && same-state (r .state) fresh-words
 holds (step-call w s i x) = let r = step-answer w s i in gives (r .number) (r .place) x && kept (x .number) s (r .state)
+holds (step-gives w s i n) = let r = step-answer w s i in eqb (r .number) 0 && (eqb (r .place) 0 && same-state (r .state) n)
 holds (run-call w s is x) = run-holds w s is (replicate (length is) 999) x
 
 unfoldable pub all-hold : List Case → Bool
 all-hold [] = true
 all-hold (c ∷ cs) = holds c && all-hold cs
+
+-- THE ALLOWANCE IS REACHED, so no lower bound would hold: three domains below the root, thresholds 2, 1 and 1, with threads 0 and 1, 2, and 3
+unfoldable pub three-homes : TreeWords
+three-homes = tree 4 4 (0 ∷ 0 ∷ 0 ∷ 0 ∷ []) (0 ∷ 2 ∷ 1 ∷ 1 ∷ []) (1 ∷ 1 ∷ 2 ∷ 3 ∷ [])
+
+-- thread 3 is Inside; domain 1 stands in the root's queue, thread 1 in domain 1's; last, domain 2 begins to stand behind domain 1
+unfoldable pub until-standing : List ℕ
+until-standing = replicate 4 3 ++ replicate 5 0 ++ replicate 3 1 ++ replicate 4 2
+
+-- while it stands: thread 3 leaves and grants domain 1; threads 0 and 1 enter
+unfoldable pub while-standing : List ℕ
+while-standing = (2 ∷ []) ++ replicate 4 3 ++ replicate 4 0 ++ (1 ∷ [])
+
+unfoldable pub allowance-reached : Bool
+allowance-reached =
+    let t = tree-of three-homes in
+    let before = steps t until-standing fresh-words in
+    let meanwhile = steps t while-standing (state-after fresh-words before) in
+    (same-numbers (begun 0 before) (257 ∷ 258 ∷ []) && eqb (occurrences 258 (ended 0 meanwhile)) 0)
+    && (eqb (entries-under t 257 meanwhile) 2 && eqb (allowance t 257) 2)

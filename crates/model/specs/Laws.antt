@@ -1,19 +1,20 @@
 -- THE LAWS OF THE STEP TABLE AND THE REFUSALS, for the second demand. Each is a statement; proofs/ has its proof. Assumes nothing.
 use mathlib.Core.Path.{_≡_}
-use mathlib.Core.Bool.{true, false, cond}
+use mathlib.Core.Bool.{true, false}
 use mathlib.Core.List.{List, [], _∷_, _++_}
 use mathlib.Core.Logic.{_≢_, _⊎_}
 use Prim.Native.Nat.{ℕ, _+_, _≤_, _<_}
 use lib.ListN.{length, getD}
+use Rattle.model.specs.declared.TreeWords.{TreeWords}
 use Rattle.model.specs.declared.State.{State}
 use Rattle.model.specs.declared.Place.the-variants.{Swap, Wait, Inside}
-use Rattle.model.specs.Trees.{Tree, is-member}
+use Rattle.model.specs.Trees.{Tree, tree-of, is-member}
 use Rattle.model.specs.Places.{place-words}
 use Rattle.model.specs.States.{acquire-parent, wait-word, status, place, fresh-words}
 use Rattle.model.specs.Steps.{stay, root-entry, passed-entry, is-entry, step}
 use Rattle.model.specs.Runs.{Run, run-of, run}
 use Rattle.model.specs.WellFormed.{well-formed}
-use Rattle.model.specs.Refusals.{refusal, accepted, Test, first-refusal, tree-refusal}
+use Rattle.model.specs.Refusals.{refusal, accepted, Test, first-refusal, tree-tests, step-tests, run-tests, tree-refusal}
 
 -- both ways
 infixl 10 _⟺_
@@ -119,10 +120,30 @@ Numbered (x ∷ xs) = (0 < x .number) × Numbered xs
 pub record Refuses-exactly (xs : List Test) : Type 0 where
   pub refused : (n p : ℕ) → 0 < n → (first-refusal xs ≡ refusal n p) ⟺ Refuses xs n p
   pub passed : (first-refusal xs ≡ accepted) ⟺ All-pass xs
-  pub place-none : first-refusal xs .number ≡ 0 → first-refusal xs ≡ accepted
+  pub zero-accepted : first-refusal xs .number ≡ 0 → first-refusal xs ≡ accepted
 
 unfoldable pub Refusal-law : Type 0
 Refusal-law = (xs : List Test) → Numbered xs → Refuses-exactly xs
+
+-- the tests of the three calls are such lists
+pub record Calls-refuse-exactly (t : Tree) : Type 0 where
+  pub of-fresh : Refuses-exactly (tree-tests t)
+  pub of-step : (s : State) (i : ℕ) → Refuses-exactly (step-tests t s i)
+  pub of-run : (s : State) (is : List ℕ) (room : ℕ) → Refuses-exactly (run-tests t s is room)
+
+unfoldable pub Call-refusal-law : Type 0
+Call-refusal-law = (t : Tree) → Calls-refuse-exactly t
+
+-- UNREAD WORDS tell no trees apart: the root's parent and threshold, and room that the tree lacks
+pub record Read-alike (w v : TreeWords) : Type 0 where
+  pub domains : v .domains ≡ w .domains
+  pub threads : v .threads ≡ w .threads
+  pub parents : (d : ℕ) → 0 < d → d < w .domains → getD (v .parents) d 0 ≡ getD (w .parents) d 0
+  pub thresholds : (d : ℕ) → 0 < d → d < w .domains → getD (v .thresholds) d 0 ≡ getD (w .thresholds) d 0
+  pub homes : (i : ℕ) → i < w .threads → getD (v .homes) i 0 ≡ getD (w .homes) i 0
+
+unfoldable pub Unread-law : Type 0
+Unread-law = (w v : TreeWords) → Read-alike w v → tree-of v ≡ tree-of w
 
 -- 5. WORDS. In every state reached from fresh: the status of a member of a domain other than the root is ACQUIRE_PARENT, WAIT or at most the threshold
 unfoldable pub Word-law : Type 0

@@ -2,7 +2,6 @@
 use mathlib.Core.Path.{_≡_}
 use mathlib.Core.Bool.{true, _&&_, not, cond}
 use mathlib.Core.List.{List, [], _∷_, _++_}
-use mathlib.Core.Logic.{_≢_}
 use Prim.Native.Nat.{ℕ, suc, _+_, _-_, _≤_, _<_}
 use lib.Dec.{eqb}
 use lib.ListN.{length, drop}
@@ -25,7 +24,7 @@ unfoldable pub last-state : List Call → State → State
 last-state [] s = s
 last-state (c ∷ cs) s = last-state cs (state-in (answer c s))
 
--- existing threads, no more entries than are allowed, and room for the trace
+-- existing threads, no more entries than are allowed, and a trace buffer at least as long as the schedule
 unfoldable pub Asks-well : Tree → Ask → Type 0
 Asks-well t (one-step i) = i < t .threads
 Asks-well t (a-run is b) = All-threads t is × (length is ≤ 65536) × (length is ≤ length b)

@@ -56,9 +56,9 @@ moves i l s = record { thread = i; kind = other; domain = l; standing = unchange
 abbrev pub enters : Kind → (thread domain : ℕ) → State → Step
 enters k i l s = record { thread = i; kind = k; domain = l; standing = unchanged; state = with-place i Inside s }
 
--- the place after a domain other than the root is won
-abbrev pub climb-place : Tree → (domain : ℕ) → Place
-climb-place t l = Prep (t .parent l)
+-- the place after a domain other than the root is acquired
+abbrev pub acquired-place : Tree → (domain : ℕ) → Place
+acquired-place t l = Prep (t .parent l)
 
 -- the place from which a domain is released: Help at the root, else Check
 abbrev pub release-place : (domain : ℕ) → Place
@@ -83,7 +83,7 @@ swap-row t i l s =
     cond (eqb old none)
     (cond (eqb l 0)
     (enters root-entry i l (with-status I unlocked swapped))
-    (moves i l (with-place i (climb-place t l) (with-status I cohort-start swapped))))
+    (moves i l (with-place i (acquired-place t l) (with-status I cohort-start swapped))))
     (record { thread = i; kind = other; domain = l; standing = begins I; state = with-place i (Link l (old - 1)) swapped })
 
 -- Link(L, p): next of p becomes I; to Wait(L)
@@ -98,7 +98,7 @@ wait-row t i l s =
     cond (eqb l 0) (cond (eqb v locked) (stays i l s) (enters root-entry i l s))
     (cond (eqb v wait-word) (stays i l s)
     (cond (eqb v acquire-parent)
-    (moves i l (with-place i (climb-place t l) (with-status I cohort-start s)))
+    (moves i l (with-place i (acquired-place t l) (with-status I cohort-start s)))
     (enters passed-entry i l s)))
 
 -- Inside: the thread leaves; to Help(home) if home is the root, else Check(home)

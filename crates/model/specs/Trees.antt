@@ -30,7 +30,7 @@ tree-of w =
       home = read-word 0 (w .threads) (w .homes);
     }
 
--- c is a child domain of d
+-- c, a domain of the tree, is a child domain of d
 unfoldable pub is-child : Tree → (domain child : ℕ) → Bool
 is-child t d c = not (eqb c 0) && eqb (t .parent c) d
 

@@ -24,7 +24,7 @@ use Rattle.model.proofs.Queues.Lists.{rest, is, count, first-in, count-
 use Rattle.model.proofs.Queues.Paths.{laws}
 use Rattle.model.proofs.Queues.Moves.{low, acts, State}
 use Rattle.model.proofs.Queues.Invariant.{Inv, acts-low, unique}
-use Rattle.model.proofs.Queues.Left.{acts-real}
+use Rattle.model.proofs.Queues.Remaining.{acts-real}
 use Rattle.model.proofs.Queues.Order.{in-order}
 use Rattle.model.proofs.Words.Links.{final}
 use Rattle.model.proofs.Words.View.{words-in}

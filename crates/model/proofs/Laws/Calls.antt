@@ -44,7 +44,7 @@ tree-passes t h = ap (λ r. r .number) (tree-refuses-exactly t .passed .1 h) ∙
 
 tree-passed : (t : Tree) → tree-refusal t .number ≡ 0 → All-pass (tree-tests t)
 unfolding tree-refusal
-tree-passed t e = tree-refuses-exactly t .passed .0 (tree-refuses-exactly t .place-none e)
+tree-passed t e = tree-refuses-exactly t .passed .0 (tree-refuses-exactly t .zero-accepted e)
 
 -- entries that are threads
 all-threads : (t : Tree) (is : List ℕ) → ((p : ℕ) → p < length is → bad-entry t is p ≡ false) → All-threads t is
@@ -62,7 +62,7 @@ pub step-facts : (t : Tree) (s : State) (i : ℕ) → step-refusal t s i .number
 unfolding step-refusal step-tests All-pass bad-state bad-entry
 step-facts t s i e =
     let x = step-refuses-exactly t s i in
-    let both = pass-split (tree-tests t) _ (x .passed .0 (x .place-none e)) in
+    let both = pass-split (tree-tests t) _ (x .passed .0 (x .zero-accepted e)) in
     record { tree = tree-passes t (both .0); form = not-false _ (both .1 .0 0 (omega arith)); thread = leb-false _ _ (both .1 .1 .0 0 (omega arith)) }
 
 pub step-accepted : (t : Tree) (s : State) (i : ℕ) → Good-step t s i → step-refusal t s i ≡ accepted
@@ -75,7 +75,7 @@ pub run-facts : (t : Tree) (s : State) (is : List ℕ) (room : ℕ) → run-refu
 unfolding run-refusal run-tests All-pass bad-state bad-length bad-room
 run-facts t s is room e =
     let x = run-refuses-exactly t s is room in
-    let both = pass-split (tree-tests t) _ (x .passed .0 (x .place-none e)) in
+    let both = pass-split (tree-tests t) _ (x .passed .0 (x .zero-accepted e)) in
     record {
       tree = tree-passes t (both .0);
       form = not-false _ (both .1 .0 0 (omega arith));

@@ -13,7 +13,7 @@ use Rattle.model.specs.declared.State.{State}
 use Rattle.model.specs.Trees.{Tree, on-path, child, own-record, is-record, is-member, owner-domain}
 use Rattle.model.specs.Places.{place-words, words-of, place-of}
 use Rattle.model.specs.States.{acquire-parent, wait-word, locked, unlocked, cohort-start, root-word, none, tail, next, status, place, with-place, fresh-words}
-use Rattle.model.specs.Steps.{Step, climb-place, release-place, done-place, release-word, prep-row, swap-row, link-row, wait-row, leave-row, check-row, help-row, cas-row, linger-row, grant-row, row, step}
+use Rattle.model.specs.Steps.{Step, acquired-place, release-place, done-place, release-word, prep-row, swap-row, link-row, wait-row, leave-row, check-row, help-row, cas-row, linger-row, grant-row, row, step}
 use Rattle.model.specs.WellFormed.{good-place}
 use Rattle.model.specs.Laws.{Sixteen-bit, Formed, Form-law}
 use Rattle.model.proofs.Tests.{by-test, and-both}
@@ -80,7 +80,7 @@ module _ (t : Tree) (b : Sixteen-bit t) (𝓐 : Accepted t) (i : ℕ) (h : i < t
   record-good : (l : ℕ) → on-path t i l ≡ true → is-record t (own-record t i l) ≡ true
   record-good l o = member-record t 𝓐 l (own-record t i l) (own-record-member t 𝓐 i h l o)
 
-  climb-fits : (l : ℕ) → l ≢ 0 → on-path t i l ≡ true → Fits t i (climb-place t l)
+  climb-fits : (l : ℕ) → l ≢ 0 → on-path t i l ≡ true → Fits t i (acquired-place t l)
   unfolding good-place
   climb-fits l n o = (on-path-parent t 𝓐 i h l (omega arith) o, omega arith)
 
@@ -128,7 +128,7 @@ module _ (t : Tree) (b : Sixteen-bit t) (𝓐 : Accepted t) (i : ℕ) (h : i < t
         by-test (Kept t) (eqb (tail s l) none) _ _
         (λ e. by-test (Kept t) (eqb l 0) _ _
         (λ z. placed (status-keeps t _ a I unlocked (record-good l o) (omega arith)) Inside (refl, omega arith))
-        (λ z. placed (status-keeps t _ a I cohort-start (record-good l o) (omega arith)) (climb-place t l) (climb-fits l (eqb-false l 0 z) o)))
+        (λ z. placed (status-keeps t _ a I cohort-start (record-good l o) (omega arith)) (acquired-place t l) (climb-fits l (eqb-false l 0 z) o)))
         (λ e. placed a (Link l (tail s l - 1)) (rw (o, some-tail t l (tail s l) (k .tails l) (eqb-false (tail s l) 0 e)), omega arith))
 
     link-keeps : (l p : ℕ) → on-path t i l ≡ true → is-member t l p ≡ true → Kept t (link-row t i l p s)
@@ -148,7 +148,7 @@ module _ (t : Tree) (b : Sixteen-bit t) (𝓐 : Accepted t) (i : ℕ) (h : i < t
         (λ z. by-test (Kept t) (eqb v locked) _ _ (λ _. k) (λ _. placed k Inside (refl, omega arith)))
         (λ z. by-test (Kept t) (eqb v wait-word) _ _ (λ _. k)
         (λ _. by-test (Kept t) (eqb v acquire-parent) _ _
-        (λ _. placed (status-keeps t s k I cohort-start (record-good l o) (omega arith)) (climb-place t l) (climb-fits l (eqb-false l 0 z) o))
+        (λ _. placed (status-keeps t s k I cohort-start (record-good l o) (omega arith)) (acquired-place t l) (climb-fits l (eqb-false l 0 z) o))
         (λ _. placed k Inside (refl, omega arith))))
 
     leave-keeps : Kept t (leave-row t i s)

@@ -12,7 +12,7 @@ use Rattle.model.specs.declared.State.{State}
 use Rattle.model.specs.Trees.{Tree, on-path, child, own-record}
 use Rattle.model.specs.Places.{words-of}
 use Rattle.model.specs.States.{acquire-parent, wait-word, locked, none, tail, next, status, place, with-place}
-use Rattle.model.specs.Steps.{Kind, stay, other, root-entry, passed-entry, is-root-entry, is-passed-entry, is-entry, Step, climb-place, release-place, done-place, release-word, prep-row, swap-row, link-row, wait-row, leave-row, check-row, help-row, cas-row, linger-row, grant-row, row, step}
+use Rattle.model.specs.Steps.{Kind, stay, other, root-entry, passed-entry, is-root-entry, is-passed-entry, is-entry, Step, acquired-place, release-place, done-place, release-word, prep-row, swap-row, link-row, wait-row, leave-row, check-row, help-row, cas-row, linger-row, grant-row, row, step}
 use Rattle.model.specs.WellFormed.{good-place}
 use Rattle.model.specs.Laws.{Tells-kind, Kind-law}
 use Rattle.model.proofs.Tests.{by-test, and-both, or-neither}
@@ -62,7 +62,7 @@ module _ (t : Tree) (𝓐 : Accepted t) (i : ℕ) (h : i < t .threads) (s : Stat
       by-test (Of (Swap l)) (eqb (tail s l) none) _ _
       (λ e. by-test (Of (Swap l)) (eqb l 0) _ _
       (λ z. entered-root refl (stored Inside) (inl (ap Swap (eqb-true l 0 z))))
-      (λ z. moved (climb-place t l) refl (stored (climb-place t l)) (moves-to (Swap l) (climb-place t l) refl)))
+      (λ z. moved (acquired-place t l) refl (stored (acquired-place t l)) (moves-to (Swap l) (acquired-place t l) refl)))
       (λ e. moved (Link l (tail s l - 1)) refl (stored (Link l (tail s l - 1))) (moves-to (Swap l) (Link l (tail s l - 1)) refl))
 
   link-outcome : (l p : ℕ) → Of (Link l p) (link-row t i l p s)
@@ -78,7 +78,7 @@ module _ (t : Tree) (𝓐 : Accepted t) (i : ℕ) (h : i < t .threads) (s : Stat
       (λ z. by-test O (eqb v locked) _ _ (λ _. stayed refl refl) (λ _. entered-root refl (stored Inside) (inr (ap Wait (eqb-true l 0 z)))))
       (λ z. by-test O (eqb v wait-word) _ _ (λ _. stayed refl refl)
       (λ _. by-test O (eqb v acquire-parent) _ _
-      (λ _. moved (climb-place t l) refl (stored (climb-place t l)) (moves-to (Wait l) (climb-place t l) refl))
+      (λ _. moved (acquired-place t l) refl (stored (acquired-place t l)) (moves-to (Wait l) (acquired-place t l) refl))
       (λ _. entered-passed l refl (stored Inside) (eqb-false l 0 z) refl)))
 
   leave-outcome : Of Inside (leave-row t i s)

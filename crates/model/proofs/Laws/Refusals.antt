@@ -10,7 +10,7 @@ use native.Mathlib.Decide.{ℕ-discrete}
 use Rattle.model.specs.declared.State.{State}
 use Rattle.model.specs.Trees.{Tree}
 use Rattle.model.specs.Refusals.{Refusal, refusal, accepted, Test, lowest-bad, first-refusal, tree-tests, step-tests, run-tests}
-use Rattle.model.specs.Laws.{Refuses, here, later, All-pass, Numbered, Refuses-exactly, Refusal-law}
+use Rattle.model.specs.Laws.{Refuses, here, later, All-pass, Numbered, Refuses-exactly, Refusal-law, Call-refusal-law}
 use Rattle.model.proofs.Refusing.{test-skipped}
 
 -- the lowest bad place p of those that are looked at is the answer
@@ -119,7 +119,7 @@ refusal-law xs h =
     record {
       refused = λ n p z. (refused-so xs o n p z, refuses-answer xs n p);
       passed = (λ e. passed-so xs o (ap (λ r. r .number) e ∙ accepted-number), pass-answer xs);
-      place-none = λ e. pass-answer xs (passed-so xs o e);
+      zero-accepted = λ e. pass-answer xs (passed-so xs o e);
     }
 
 -- THE CALLS' TESTS are numbered, so the law speaks of what each call meets
@@ -139,3 +139,7 @@ pub run-refuses-exactly : (t : Tree) (s : State) (is : List ℕ) (room : ℕ) �
 unfolding Refusal-law Numbered run-tests
 run-refuses-exactly t s is room =
     refusal-law (run-tests t s is room) (tree-numbered t _ (omega arith, (omega arith, (omega arith, (omega arith, tt)))))
+
+pub call-refusal-law : Call-refusal-law
+unfolding Call-refusal-law
+call-refusal-law t = record { of-fresh = tree-refuses-exactly t; of-step = step-refuses-exactly t; of-run = run-refuses-exactly t }

@@ -13,7 +13,7 @@ use Rattle.model.specs.declared.State.{State}
 use Rattle.model.specs.Trees.{Tree, on-path, child, own-record, is-member}
 use Rattle.model.specs.Places.{place-words, words-of, place-of}
 use Rattle.model.specs.States.{acquire-parent, wait-word, locked, unlocked, cohort-start, root-word, none, tail, next, status, place, with-tail, with-next, with-status, with-place, fresh-words}
-use Rattle.model.specs.Steps.{Step, climb-place, release-place, done-place, release-word, prep-row, swap-row, link-row, wait-row, leave-row, check-row, help-row, cas-row, linger-row, grant-row, row, step}
+use Rattle.model.specs.Steps.{Step, acquired-place, release-place, done-place, release-word, prep-row, swap-row, link-row, wait-row, leave-row, check-row, help-row, cas-row, linger-row, grant-row, row, step}
 use Rattle.model.specs.Runs.{run}
 use Rattle.model.specs.WellFormed.{good-place}
 use Rattle.model.specs.Laws.{Sixteen-bit, All-threads, Word-law}
@@ -130,7 +130,7 @@ module _ (t : Tree) (𝓐 : Accepted t) (i : ℕ) (h : i < t .threads) where
         by-test (Kept t) (eqb (tail s l) none) _ _
         (λ e. by-test (Kept t) (eqb l 0) _ _
         (λ z. placed (status-store t _ a I unlocked (own-word l unlocked o (λ n. absurd (n (eqb-true l 0 z))))) Inside tt)
-        (λ z. placed (started a l o) (climb-place t l) tt))
+        (λ z. placed (started a l o) (acquired-place t l) tt))
         (λ e. placed a (Link l (tail s l - 1)) tt)
 
     link-keeps : (l p : ℕ) → Kept t (link-row t i l p s)
@@ -144,7 +144,7 @@ module _ (t : Tree) (𝓐 : Accepted t) (i : ℕ) (h : i < t .threads) where
         by-test (Kept t) (eqb l 0) _ _ (λ z. by-test (Kept t) (eqb v locked) _ _ (λ _. k) (λ _. placed k Inside tt))
         (λ z. by-test (Kept t) (eqb v wait-word) _ _ (λ _. k)
         (λ _. by-test (Kept t) (eqb v acquire-parent) _ _
-        (λ _. placed (started k l o) (climb-place t l) tt)
+        (λ _. placed (started k l o) (acquired-place t l) tt)
         (λ _. placed k Inside tt)))
 
     -- Check grants one more than a status below the threshold

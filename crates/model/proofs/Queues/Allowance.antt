@@ -1,4 +1,4 @@
--- While a member stands, the entries under another are at most its allowance.
+-- While a member stands, the entries under another are at most its allowance. Assumes nothing.
 use mathlib.Core.Path.{_≡_, refl, sym, ap, _∙_}
 use mathlib.Core.Bool.{Bool, true, false, cond, false≢true}
 use mathlib.Core.List.{List, [], _∷_, _++_}
@@ -15,7 +15,7 @@ use Rattle.model.proofs.Queues.Moves.{under, under-from, inside, low, S
 use Rattle.model.proofs.Queues.Invariant.{low-acts, acts-reach, Inv, unique}
 use Rattle.model.proofs.Queues.Keeps.{keeps}
 use Rattle.model.proofs.Queues.Order.{hit, Change, stays, opens, grows, moves, closes, change, reached, cut, next-shown, join-runs, begins-stands}
-use Rattle.model.proofs.Queues.Left.{left, left-bound, falls}
+use Rattle.model.proofs.Queues.Remaining.{left, left-bound, falls}
 
 -- AN ENTRY UNDER q
 under-some : (T : Tree) (i n q : ℕ) → under-from T i n q ≡ true → (k : ℕ) × (k < n) × (record-at T i k ≡ q)
@@ -120,7 +120,7 @@ nobody-opens m xs y h = nobody m xs (ap rest y ∙ rest-nil) h
 nobody-closes : (m a : ℕ) (xs : List ℕ) → xs ≡ a ∷ [] → 1 ≤ count m (rest xs) → ⊥
 nobody-closes m a xs y h = nobody m xs (ap rest y ∙ rest-cons a []) h
 
--- the one ends is not m
+-- the one granted is not m
 other-ends : (d m r : ℕ) (e : Event) → given-by d e ≡ r ∷ [] → count m (given-by d e) ≡ 0 → r ≢ m
 other-ends d m r e g o z =
     let o′ : count m (r ∷ []) ≡ 0 = rw g at o in
@@ -146,7 +146,7 @@ still-ahead d m q e xs ys (moves x r zs y z b g n) h o a =
     rw (y, rest-cons x (r ∷ zs)) (ahead-later q m r zs (other-ends d m r e g o) a′)
 still-ahead d m q e xs ys (closes x y z b g) h o a = absurd (nobody-closes m x xs y h)
 
--- whoever is first was first before, or is ends now and stood before m
+-- whoever is first was first before, or is granted now and stood before m
 first-before :
     (d m q : ℕ) (e : Event) (xs ys : List ℕ) (C : Type 0) → Change d e xs ys → 1 ≤ count m (rest xs) → count m (given-by d e) ≡ 0 → q ≢ m → first ys ≡ suc q →
     (first xs ≡ suc q → C) → (1 ≤ ahead q m (rest xs) → ((n : ℕ) → hit e n ≡ 0) → C) → C

@@ -1,113 +1,19 @@
--- Each move keeps the invariant.
+-- Each move keeps the invariant. Assumes nothing.
 use mathlib.Core.Path.{_≡_, refl, sym, ap, _∙_}
 use mathlib.Core.List.{List, [], _∷_, _++_}
 use mathlib.Core.Logic.{_≢_}
 use Prim.Native.Nat.{ℕ, zero, suc, _+_, _-_, _≤_, _<_}
 use native.Mathlib.Omega.{arith}
-use native.Mathlib.Nat.{add-zero, add-suc}
 use Rattle.model.proofs.Queues.Lists.{same-or, less-or, put, put-same, put-other, first, rest, is-same, is-other, count, first-in, first-nil, first-cons, count-cons, rest-snoc, snoc-last, grown, grown-first, grown-rest, grown-count, grown-other, popped-rest, popped-count, popped-other}
 use Rattle.model.specs.Trees.{Tree}
 use Rattle.model.proofs.Trees.Index.{ancestor, record-at, height, above}
 use Rattle.model.proofs.Queues.Paths.{Laws}
 use Rattle.model.proofs.Queues.Moves.{Stage, out, climb, queued, ready, inside, holding, releasing, down, low, acts, reach, State, Event, Last, root, lower, Move, start, join-empty, join-root, join-behind, enter, leave, hand-on, release, let-go}
+use Rattle.model.proofs.Queues.Meeting.{follow, follow-record-at, same-height}
+use Rattle.model.proofs.Queues.Joined.{restaged, joined}
 use Rattle.model.proofs.Queues.Invariant.{low-acts, acts-reach, low-down, acts-down, reach-down, Below, Thread, Acted, Counts, Inv, unique, one-head, one-queue, fresh}
 
--- ON THE PATHS
--- two paths that meet are one from there up
-pub follow : (T : Tree) (s l i j : ℕ) → ancestor T s l ≡ ancestor T i j → (e : ℕ) → ancestor T s (l + e) ≡ ancestor T i (j + e)
-unfolding ancestor
-follow T s l i j h zero = rw (add-zero l, add-zero j) h
-follow T s l i j h (suc e) = rw (add-suc l e, add-suc j e) (ap (above T) (follow T s l i j h e))
-
-pub follow-record-at : (T : Tree) (s l i j : ℕ) → ancestor T s l ≡ ancestor T i j → (e : ℕ) → record-at T s (l + suc e) ≡ record-at T i (j + suc e)
-unfolding record-at
-follow-record-at T s l i j h e = rw (add-suc l e, add-suc j e) (ap (λ d. 256 + d) (follow T s l i j h e))
-
--- and reach the root together
-pub same-height :
-    (T : Tree) → Laws T → (s l i j : ℕ) → s < T .threads → i < T .threads → l ≤ height T s → j ≤ height T i → ancestor T s l ≡ ancestor T i j →
-    height T s + j ≡ height T i + l
-same-height T 𝓛 s l i j hs hi a b e =
-    less-or (height T s + j) (height T i + l) _
-    (λ h. absurd (not-lower s l i j hs hi a (omega arith) e))
-    (λ h. less-or (height T i + l) (height T s + j) _
-    (λ g. absurd (not-lower i j s l hi hs b (omega arith) (sym e)))
-    (λ g. omega arith))
-  where
-    -- the first of the two at the root, and the other not yet
-    not-lower : (s l i j : ℕ) → s < T .threads → i < T .threads → l ≤ height T s → height T s + j < height T i + l → ancestor T s l ≡ ancestor T i j → ⊥
-    not-lower s l i j hs hi a h e =
-        let k = height T s - l in
-        let x : ancestor T s (l + k) ≡ 0 = let z : l + k ≡ height T s = omega arith in rw z (𝓛 .top s hs) in
-        𝓛 .inner i (j + k) hi (omega arith) (sym (follow T s l i j e k) ∙ x)
-
--- ACTING GROWS
-acted-more :
-    (T : Tree) (f g : ℕ → Stage) (d m : ℕ) → ((n : ℕ) → acts (height T n) (f n) ≤ acts (height T n) (g n)) → Acted T f d m → Acted T g d m
-acted-more T f g d m h a =
-    record { thread = a .thread; index = a .index; acting = omega (arith, h (a .thread), a .acting); place = a .place; mine = a .mine }
-
 module _ (T : Tree) (𝓛 : Laws T) (st : State) (inv : Inv T st) where
-  grown-thread : (L m n : ℕ) (x : Stage) → Thread T (st .queue) n x → Thread T (grown (st .queue) L m) n x
-  grown-thread L m n x t =
-      record {
-        real = t .real;
-        range = t .range;
-        heads = λ k h. grown-first (st .queue) L m (ancestor T n k) (record-at T n k) (t .heads k h);
-        stands = λ h. grown-rest (st .queue) L m (ancestor T n (low (height T n) x)) (record-at T n (low (height T n) x)) (t .stands h);
-      }
-
-  -- ONLY A STAGE CHANGES, and with it no number
-  pub restaged :
-      (i : ℕ) (x : Stage) → Thread T (st .queue) i x → acts (height T i) (st .stage i) ≤ acts (height T i) x →
-      Inv T (record { queue = st .queue; stage = put (st .stage) i x; tally = st .tally })
-  restaged i x t a =
-      record {
-        threads = λ n. same-or n i (Thread T (st .queue) n (put (st .stage) i x n))
-            (λ z. rw z (rw (put-same (st .stage) i x i refl) t))
-            (λ z. rw (put-other (st .stage) i x n z) (inv .threads n));
-        acted = λ d m h. acted-more T (st .stage) (put (st .stage) i x) d m
-            (λ n. same-or n i _
-            (λ z. rw z (rw (put-same (st .stage) i x i refl) a))
-            (λ z. rw (put-other (st .stage) i x n z) (omega arith)))
-            (inv .acted d m h);
-        once = inv .once;
-        counts = inv .counts;
-      }
-
-  -- A THREAD JOINS at index j
-  pub joined :
-      (i j : ℕ) (x : Stage) (t : ℕ → ℕ) → st .stage i ≡ climb j → Thread T (grown (st .queue) (ancestor T i j) (record-at T i j)) i x → j < acts (height T i) x →
-      Counts T (grown (st .queue) (ancestor T i j) (record-at T i j)) t →
-      Inv T (record { queue = grown (st .queue) (ancestor T i j) (record-at T i j); stage = put (st .stage) i x; tally = t })
-  unfolding acts
-  joined i j x t e th a c =
-      let L = ancestor T i j in
-      let m = record-at T i j in
-      let f = put (st .stage) i x in
-      let more : (n : ℕ) → acts (height T n) (st .stage n) ≤ acts (height T n) (f n) = λ n. same-or n i _
-      (λ z. rw z (rw (e, put-same (st .stage) i x i refl) (omega arith)))
-      (λ z. rw (put-other (st .stage) i x n z) (omega arith)) in
-      let mine : Acted T f L m = record { thread = i; index = j; acting = rw (put-same (st .stage) i x i refl) a; place = refl; mine = refl } in
-      record {
-        threads = λ n. same-or n i (Thread T (grown (st .queue) L m) n (f n))
-            (λ z. rw z (rw (put-same (st .stage) i x i refl) th))
-            (λ z. rw (put-other (st .stage) i x n z) (grown-thread L m n (st .stage n) (inv .threads n)));
-        acted = λ d r h. same-or d L _
-            (λ z. same-or r m _
-            (λ w. rw (z, w) mine)
-            (λ w. acted-more T (st .stage) f d r more (inv .acted d r (omega (arith, grown-count (st .queue) L m d r z, is-other r m w)))))
-            (λ z. acted-more T (st .stage) f d r more (inv .acted d r (omega (arith, grown-other (st .queue) L m d r z))));
-        once = λ d r. same-or d L _
-            (λ z. same-or r m _
-            (λ w.
-            let o : count r (st .queue d) ≡ 0 = rw w (fresh T 𝓛 st inv i j d e) in
-            omega (arith, grown-count (st .queue) L m d r z, is-same r m w))
-            (λ w. omega (arith, grown-count (st .queue) L m d r z, is-other r m w, inv .once d r)))
-            (λ z. omega (arith, grown-other (st .queue) L m d r z, inv .once d r));
-        counts = c;
-      }
-
   -- A THREAD LETS GO at index j
   -- those who have nothing to do with it
   pub bystander :
@@ -126,9 +32,9 @@ module _ (T : Tree) (𝓛 : Laws T) (st : State) (inv : Inv T st) where
       }
 
   -- the one who lets go
-  leaver :
+  releaser :
       (i j : ℕ) (ys : List ℕ) → j < low (height T i) (st .stage i) → Thread T (put (st .queue) (ancestor T i j) ys) i (down j)
-  leaver i j ys h =
+  releaser i j ys h =
       let L = ancestor T i j in
       let t = inv .threads i in
       let a = low-acts (height T i) (st .stage i) in
@@ -155,7 +61,7 @@ module _ (T : Tree) (𝓛 : Laws T) (st : State) (inv : Inv T st) where
       let m = record-at T i j in
       record {
         threads = λ n. same-or n i (Thread T (put (st .queue) L ys) n (f n))
-            (λ z. rw z (rw fi (leaver i j ys h)))
+            (λ z. rw z (rw fi (releaser i j ys h)))
             (λ z. others n z);
         acted = λ d r g.
             let old : 1 ≤ count r (st .queue d) = same-or d L _
@@ -194,7 +100,7 @@ module _ (T : Tree) (𝓛 : Laws T) (st : State) (inv : Inv T st) where
   keeps-start : (i : ℕ) → i < T .threads → st .stage i ≡ out → Restaged i (climb 0)
   unfolding low acts reach
   keeps-start i h e =
-      restaged i (climb 0)
+      restaged T 𝓛 st inv i (climb 0)
       (record { real = λ g. h; range = omega arith; heads = λ n g. absurd (omega arith); stands = λ g. absurd (omega arith) })
       (rw e (omega arith))
 
@@ -202,13 +108,13 @@ module _ (T : Tree) (𝓛 : Laws T) (st : State) (inv : Inv T st) where
   unfolding low acts reach
   keeps-enter i e =
       let t : Thread T (st .queue) i ready = rw e at (inv .threads i) in
-      restaged i inside (record { real = t .real; range = t .range; heads = t .heads; stands = t .stands }) (rw e (omega arith))
+      restaged T 𝓛 st inv i inside (record { real = t .real; range = t .range; heads = t .heads; stands = t .stands }) (rw e (omega arith))
 
   keeps-leave : (i : ℕ) → st .stage i ≡ inside → Restaged i holding
   unfolding low acts reach
   keeps-leave i e =
       let t : Thread T (st .queue) i inside = rw e at (inv .threads i) in
-      restaged i holding (record { real = t .real; range = t .range; heads = t .heads; stands = t .stands }) (rw e (omega arith))
+      restaged T 𝓛 st inv i holding (record { real = t .real; range = t .range; heads = t .heads; stands = t .stands }) (rw e (omega arith))
 
   -- THE JOINS
   -- what a thread about to join knows
@@ -243,7 +149,7 @@ module _ (T : Tree) (𝓛 : Laws T) (st : State) (inv : Inv T st) where
       let L = ancestor T i j in
       let m = record-at T i j in
       let inner : j < height T i = same-or j (height T i) _ (λ w. absurd (n (ap (ancestor T i) w ∙ 𝓛 .top i (c .0)))) (λ w. omega (arith, c .1)) in
-      joined i j (climb (suc j)) (put (st .tally) m 1) e
+      joined T 𝓛 st inv i j (climb (suc j)) (put (st .tally) m 1) e
       (record { real = λ g. c .0; range = omega arith; heads = first-there i j e z; stands = λ g. absurd (omega arith) })
       (omega arith)
       (λ d r nd h. same-or d L _
@@ -265,7 +171,7 @@ module _ (T : Tree) (𝓛 : Laws T) (st : State) (inv : Inv T st) where
       let L = ancestor T i j in
       let m = record-at T i j in
       let top : j ≡ height T i = less-or j (height T i) _ (λ w. absurd (𝓛 .inner i j (c .0) w r)) (λ w. omega (arith, c .1)) in
-      joined i j inside (st .tally) e
+      joined T 𝓛 st inv i j inside (st .tally) e
       (record { real = λ g. c .0; range = omega arith; heads = λ n h. first-there i j e z n (omega arith); stands = λ g. absurd (omega arith) })
       (omega arith)
       (λ d q nd h. inv .counts d q nd (rw (put-other (st .queue) L (st .queue L ++ (m ∷ [])) d (λ w. nd (w ∙ r))) at h))
@@ -278,7 +184,7 @@ module _ (T : Tree) (𝓛 : Laws T) (st : State) (inv : Inv T st) where
       let c = climber i j e in
       let L = ancestor T i j in
       let m = record-at T i j in
-      joined i j (queued j) (st .tally) e
+      joined T 𝓛 st inv i j (queued j) (st .tally) e
       (record {
         real = λ g. c .0;
         range = omega (arith, c .1);
@@ -295,39 +201,39 @@ module _ (T : Tree) (𝓛 : Laws T) (st : State) (inv : Inv T st) where
   -- THE HAND-OVERS: i lets go at index j, and s, who stands next, is first
   module _ (i j s l : ℕ) (xs : List ℕ) (shape : st .queue (ancestor T i j) ≡ record-at T i j ∷ record-at T s l ∷ xs) (holds : j < low (height T i) (st .stage i))
       (waits : st .stage s ≡ queued l) (meet : ancestor T s l ≡ ancestor T i j) (apart : s ≢ i) where
-    -- what the heir knows
-    heir : (s < T .threads) × (l ≤ height T s) × Below T (st .queue) s l
+    -- what the successor knows
+    successor : (s < T .threads) × (l ≤ height T s) × Below T (st .queue) s l
     unfolding low acts reach
-    heir =
+    successor =
         let t : Thread T (st .queue) s (queued l) = rw waits at (inv .threads s) in
         (t .real (omega arith), omega (arith, t .range), t .heads)
 
-    heir-low : low (height T s) (st .stage s) ≡ l
+    successor-low : low (height T s) (st .stage s) ≡ l
     unfolding low
-    heir-low = rw waits
+    successor-low = rw waits
 
-    heir-acts : acts (height T s) (st .stage s) ≡ suc l
+    successor-acts : acts (height T s) (st .stage s) ≡ suc l
     unfolding acts
-    heir-acts = rw waits
+    successor-acts = rw waits
 
-    heir-heads : Below T (put (st .queue) (ancestor T i j) (record-at T s l ∷ xs)) s (suc l)
-    heir-heads n h =
+    successor-heads : Below T (put (st .queue) (ancestor T i j) (record-at T s l ∷ xs)) s (suc l)
+    successor-heads n h =
         let L = ancestor T i j in
         less-or n l _
         (λ g.
-        rw (put-other (st .queue) L (record-at T s l ∷ xs) (ancestor T s n) (λ z. apart (one-head T 𝓛 st inv s i n j (omega (arith, heir-low)) holds z .0)))
-        (heir .2 n g))
+        rw (put-other (st .queue) L (record-at T s l ∷ xs) (ancestor T s n) (λ z. apart (one-head T 𝓛 st inv s i n j (omega (arith, successor-low)) holds z .0)))
+        (successor .2 n g))
         (λ g.
         let w : n ≡ l = omega arith in
         rw w (rw (put-same (st .queue) L (record-at T s l ∷ xs) (ancestor T s l) meet) (first-cons (record-at T s l) xs)))
 
-    heir-in : 1 ≤ count (record-at T s l) (st .queue (ancestor T i j))
-    heir-in = rw shape (omega (arith, count-cons (record-at T s l) (record-at T i j) (record-at T s l ∷ xs), count-cons (record-at T s l) (record-at T s l) xs, is-same (record-at T s l) (record-at T s l) refl))
+    successor-in : 1 ≤ count (record-at T s l) (st .queue (ancestor T i j))
+    successor-in = rw shape (omega (arith, count-cons (record-at T s l) (record-at T i j) (record-at T s l ∷ xs), count-cons (record-at T s l) (record-at T s l) xs, is-same (record-at T s l) (record-at T s l) refl))
 
-    heir-counts :
+    successor-counts :
         (w : ℕ) → (ancestor T i j ≢ 0 → (1 ≤ w) × (w ≤ T .threshold (ancestor T i j))) →
         Counts T (put (st .queue) (ancestor T i j) (record-at T s l ∷ xs)) (put (st .tally) (record-at T s l) w)
-    heir-counts w ok d r nd h =
+    successor-counts w ok d r nd h =
         let L = ancestor T i j in
         same-or d L _
         (λ z.
@@ -336,7 +242,7 @@ module _ (T : Tree) (𝓛 : Laws T) (st : State) (inv : Inv T st) where
         rw (put-same (st .tally) (record-at T s l) w r q, z) (ok (λ y. nd (z ∙ y))))
         (λ z.
         let old : first (st .queue d) ≡ suc r = rw (put-other (st .queue) L (record-at T s l ∷ xs) d z) at h in
-        let far : r ≢ record-at T s l = λ y. z (one-queue T 𝓛 st inv d L r (first-in r (st .queue d) old) (rw y heir-in)) in
+        let far : r ≢ record-at T s l = λ y. z (one-queue T 𝓛 st inv d L r (first-in r (st .queue d) old) (rw y successor-in)) in
         rw (put-other (st .tally) (record-at T s l) w r far) (inv .counts d r nd old))
 
     handed :
@@ -355,9 +261,9 @@ module _ (T : Tree) (𝓛 : Laws T) (st : State) (inv : Inv T st) where
         (λ z. rw (same n p z) (bystander i j n (record-at T s l ∷ xs) shape holds p
         (λ b y.
         let u : record-at T n (low (height T n) (st .stage n)) ≡ record-at T s l = omega (arith, first-cons (record-at T s l) xs) in
-        z (unique T 𝓛 st inv n s (low (height T n) (st .stage n)) l b (omega (arith, heir-acts)) u .0)))))
+        z (unique T 𝓛 st inv n s (low (height T n) (st .stage n)) l b (omega (arith, successor-acts)) u .0)))))
         (λ n p. same-or n s _
-        (λ z. rw z (rw (put-same f₁ s x s refl) (omega (arith, heir-acts))))
+        (λ z. rw z (rw (put-same f₁ s x s refl) (omega (arith, successor-acts))))
         (λ z. rw (same n p z) (omega arith)))
         above c
 
@@ -373,12 +279,12 @@ module _ (T : Tree) (𝓛 : Laws T) (st : State) (inv : Inv T st) where
         let t : Thread T (st .queue) i (releasing j) = rw e at (inv .threads i) in
         let real : i < T .threads = t .real (omega arith) in
         let h : j < height T i = omega (arith, t .range) in
-        let k = same-height T 𝓛 s l i j (heir .0) real (heir .1) (omega arith) meet in
+        let k = same-height T 𝓛 s l i j (successor .0) real (successor .1) (omega arith) meet in
         handed (climb (suc l)) (put (st .tally) (record-at T s l) 1)
-        (record { real = λ g. heir .0; range = omega arith; heads = heir-heads; stands = λ g. absurd (omega arith) })
+        (record { real = λ g. successor .0; range = omega arith; heads = successor-heads; stands = λ g. absurd (omega arith) })
         (omega arith)
         (λ n g b. let b′ : n < suc j = rw e at b in absurd (omega arith))
-        (heir-counts 1 (λ n. (omega arith, 𝓛 .positive i j real h)))
+        (successor-counts 1 (λ n. (omega arith, 𝓛 .positive i j real h)))
 
     keeps-hand-on :
         st .stage i ≡ holding → j ≤ height T i → (ancestor T i j ≢ 0 → st .tally (record-at T i j) < T .threshold (ancestor T i j)) →
@@ -390,10 +296,10 @@ module _ (T : Tree) (𝓛 : Laws T) (st : State) (inv : Inv T st) where
     unfolding low acts reach
     keeps-hand-on e h ok =
         let real : i < T .threads = inv .threads i .real (rw e (omega arith)) in
-        let k = same-height T 𝓛 s l i j (heir .0) real (heir .1) h meet in
+        let k = same-height T 𝓛 s l i j (successor .0) real (successor .1) h meet in
         let L = ancestor T i j in
         let heads : Below T (put (st .queue) L (record-at T s l ∷ xs)) s (suc (height T s)) = λ n b. less-or n (suc l) _
-        (λ g. heir-heads n g)
+        (λ g. successor-heads n g)
         (λ g.
         let d = n - suc l in
         let nl : n ≡ l + suc d = omega arith in
@@ -402,8 +308,8 @@ module _ (T : Tree) (𝓛 : Laws T) (st : State) (inv : Inv T st) where
         let far : ancestor T i (j + suc d) ≢ L = λ z. let u = one-head T 𝓛 st inv i i (j + suc d) j low-i holds z .1 in omega arith in
         rw (nl, follow T s l i j meet (suc d), follow-record-at T s l i j meet d) (rw (put-other (st .queue) L (record-at T s l ∷ xs) (ancestor T i (j + suc d)) far) old)) in
         handed ready (put (st .tally) (record-at T s l) (suc (st .tally (record-at T i j))))
-        (record { real = λ g. heir .0; range = omega arith; heads = heads; stands = λ g. absurd (omega arith) })
-        (omega (arith, heir .1))
+        (record { real = λ g. successor .0; range = omega arith; heads = heads; stands = λ g. absurd (omega arith) })
+        (omega (arith, successor .1))
         (λ n g b.
         let b′ : n < suc (height T i) = rw e at b in
         let d = n - suc j in
@@ -415,7 +321,7 @@ module _ (T : Tree) (𝓛 : Laws T) (st : State) (inv : Inv T st) where
           place = follow T s l i j meet (suc d) ∙ ap (ancestor T i) (sym nj);
           mine = follow-record-at T s l i j meet d ∙ ap (record-at T i) (sym nj);
         })
-        (heir-counts (suc (st .tally (record-at T i j))) (λ n. (omega arith, ok n)))
+        (successor-counts (suc (st .tally (record-at T i j))) (λ n. (omega arith, ok n)))
 
   -- NOBODY STANDS BEHIND
   pub last-low : (i j : ℕ) → Last T st i j → low (height T i) (st .stage i) ≡ suc j

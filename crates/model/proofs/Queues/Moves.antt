@@ -27,7 +27,7 @@ unfoldable pub down : ℕ → Stage
 down zero = out
 down (suc j) = releasing j
 
--- at how many of its domains, from the home ancestor, the thread's record is first. h is its height
+-- at how many of its domains, from the home up, the thread's record is first. h is its height
 unfoldable pub low : (h : ℕ) → Stage → ℕ
 low h out = 0
 low h (climb j) = j
@@ -160,7 +160,7 @@ entry-by T q (begins e m) = 0
 entry-by T q (ends e m) = 0
 entry-by T q (entered i) = cond (under T i q) 1 0
 
--- the members that began to stand in d, those ends there, the entries under q
+-- the members that began to stand in d, those whose standing ended there, the entries under q
 unfoldable pub begun : ℕ → List Event → List ℕ
 begun d [] = []
 begun d (e ∷ es) = begun-by d e ++ begun d es

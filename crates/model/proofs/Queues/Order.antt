@@ -1,4 +1,4 @@
--- Along a run: the invariant, at most one inside, and grants in the order of the beginnings.
+-- Along a run: the invariant, at most one inside, and grants in the order of the beginnings. Assumes nothing.
 use mathlib.Core.Path.{_≡_, refl, sym, ap, _∙_}
 use mathlib.Core.List.{List, [], _∷_, _++_, append-nil, append-assoc, nil≢cons, head-eq-of-cons-eq, tail-eq-of-cons-eq}
 use mathlib.Core.Logic.{_≢_}
@@ -151,7 +151,7 @@ order T d (more {st = st} {st₁ = st₁} {st₂ = st₂} {e = e} {es = es} m r)
     ∙ append-assoc (given-by d e) (rest (st₁ .queue d)) (begun d es) ∙ ap (λ q. given-by d e ++ q) all
     ∙ sym (append-assoc (given-by d e) (given d es) (rest (st₂ .queue d)))
 
--- from the start: who began to stand is who was ends, in order, and then who still stands
+-- from the start: who began to stand is whose standing ended, in order, and then who still stands
 pub in-order : (T : Tree) (d : ℕ) {st : State} {es : List Event} → Run T empty es st → begun d es ≡ given d es ++ rest (st .queue d)
 unfolding empty rest
 in-order T d r = order T d r

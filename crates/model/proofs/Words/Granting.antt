@@ -13,12 +13,13 @@ use Rattle.model.proofs.Trees.Paths.{ancestor-inner, ancestor-root, anc
 use Rattle.model.proofs.Queues.Lists.{same-or, less-or, put-same}
 use Rattle.model.proofs.Queues.Paths.{laws}
 use Rattle.model.proofs.Queues.Moves.{Stage, climb, queued, ready, holding, releasing, low, acts, State, ends, Move}
-use Rattle.model.proofs.Queues.Keeps.{keeps, follow-record-at, same-height}
+use Rattle.model.proofs.Queues.Meeting.{follow-record-at, same-height}
+use Rattle.model.proofs.Queues.Keeps.{keeps}
 use Rattle.model.proofs.Queues.Handovers.{hands-on, releases}
 use Rattle.model.proofs.Words.View.{Words, status-to, place-to}
 use Rattle.model.proofs.Words.Represents.{Counted, letting-go, letting-go-root, letting-go-lower, letting-go-low, Fits, at-woken, at-ready, Represents}
 use Rattle.model.proofs.Words.Frame.{Others}
-use Rattle.model.proofs.Words.Releasing.{letting-go-acts, rest-two, shape-two, heir, heir-real, heir-within, status-far, tally-far, own-far, done-at, granted-state, grant, firm}
+use Rattle.model.proofs.Words.Releasing.{letting-go-acts, rest-two, shape-two, successor, successor-real, successor-within, status-far, tally-far, own-far, done-at, granted-state, grant, firm}
 
 -- a new state of the queues by a move, with the words that stand for it
 pub record Granted (t : Tree) (g : State) (w′ : Words) (d m : ℕ) : Type 0 where
@@ -29,13 +30,13 @@ pub record Granted (t : Tree) (g : State) (w′ : Words) (d m : ℕ) : Type 0 wh
 module _ (t : Tree) (𝓐 : Accepted t) (w : Words) (g : State) (i : ℕ) (h : i < t .threads) (o : Others t w g i) (k : ℕ) (l : k ≤ height t i)
     (first-there : k < low (height t i) (g .stage i)) (r : ℕ) (own : w .nexts (record-at t i k) ≡ suc r) where
   abbrev S : ℕ
-  S = heir t 𝓐 w g i h o k l first-there r own .thread
+  S = successor t 𝓐 w g i h o k l first-there r own .thread
 
   abbrev N : ℕ
-  N = heir t 𝓐 w g i h o k l first-there r own .index
+  N = successor t 𝓐 w g i h o k l first-there r own .index
 
   meet : ancestor t S N ≡ ancestor t i k
-  meet = heir t 𝓐 w g i h o k l first-there r own .place
+  meet = successor t 𝓐 w g i h o k l first-there r own .place
 
   -- the stage of a thread that grants is no standing
   not-queued : (x : Stage) → g .stage i ≡ x → low (height t i) x ≡ acts (height t i) x → g .stage i ≢ queued N
@@ -62,11 +63,11 @@ module _ (t : Tree) (𝓐 : Accepted t) (w : Words) (g : State) (i : ℕ) (h : i
     unfolding low
     low-i = rw e refl
 
-    -- from where the heir stood up, its records are those of the one who grants
+    -- from where the successor stood up, its records are those of the one who grants
     above-counted : (m : ℕ) → N < m → m < height t S → w′ .statuses (record-at t S m) ≡ g′ .tally (record-at t S m)
     above-counted m b q =
-        let hs = heir-real t 𝓐 w g i h o k l first-there r own in
-        let ns = heir-within t 𝓐 w g i h o k l first-there r own in
+        let hs = successor-real t 𝓐 w g i h o k l first-there r own in
+        let ns = successor-within t 𝓐 w g i h o k l first-there r own in
         let heights = same-height t (laws t 𝓐) S N i k hs h ns l meet in
         let d = m - suc N in
         let zm : m ≡ N + suc d = omega arith in
@@ -77,7 +78,7 @@ module _ (t : Tree) (𝓐 : Accepted t) (w : Words) (g : State) (i : ℕ) (h : i
         ∙ sym (tally-far t 𝓐 w g i h o k l first-there r own v c ready nq (record-at t i (k + suc d)) far))
 
     mine : record-at t S N ≡ r
-    mine = heir t 𝓐 w g i h o k l first-there r own .mine
+    mine = successor t 𝓐 w g i h o k l first-there r own .mine
 
     status-new : w′ .statuses (record-at t S N) ≡ v
     status-new = put-same (w .statuses) r v (record-at t S N) mine
@@ -87,11 +88,11 @@ module _ (t : Tree) (𝓐 : Accepted t) (w : Words) (g : State) (i : ℕ) (h : i
 
     heights : height t S + k ≡ height t i + N
     heights =
-        same-height t (laws t 𝓐) S N i k (heir-real t 𝓐 w g i h o k l first-there r own) h (heir-within t 𝓐 w g i h o k l first-there r own) l meet
+        same-height t (laws t 𝓐) S N i k (successor-real t 𝓐 w g i h o k l first-there r own) h (successor-within t 𝓐 w g i h o k l first-there r own) l meet
 
-    heir-ready : Counted t w′ g′ S N → Fits t w′ g′ S (Wait (ancestor t S N)) ready
-    heir-ready below =
-        at-ready N (heir-within t 𝓐 w g i h o k l first-there r own)
+    successor-ready : Counted t w′ g′ S N → Fits t w′ g′ S (Wait (ancestor t S N)) ready
+    successor-ready below =
+        at-ready N (successor-within t 𝓐 w g i h o k l first-there r own)
         (λ m b q. less-or m N _ (λ z. below m z q)
         (λ z. same-or m N _
         (λ y. rw y (status-new ∙ word (omega (arith, heights)) ∙ sym tally-new))
@@ -100,16 +101,16 @@ module _ (t : Tree) (𝓐 : Accepted t) (w : Words) (g : State) (i : ℕ) (h : i
 
     pub hand-lock : Granted t g w′ (ancestor t i k) r
     hand-lock =
-        let mv = hands-on t g i k S N r (rest-two t 𝓐 w g i h o k l first-there r own) (heir t 𝓐 w g i h o k l first-there r own .waits) meet mine
+        let mv = hands-on t g i k S N r (rest-two t 𝓐 w g i h o k l first-there r own) (successor t 𝓐 w g i h o k l first-there r own .waits) meet mine
         (shape-two t 𝓐 w g i h o k l first-there r own) e l ok in
         record {
           state = g′;
           move = mv;
           represents = grant t 𝓐 w g i h o k l first-there r own v c ready nq (keeps t (laws t 𝓐) g (o .invariant) mv)
-              (λ m b q. counted m (omega arith) q) heir-ready;
+              (λ m b q. counted m (omega arith) q) successor-ready;
         }
 
-  -- ONLY THE DOMAIN: the heir has yet to acquire the parent
+  -- ONLY THE DOMAIN: the successor has yet to acquire the parent
   module _ (e : g .stage i ≡ releasing k) (b : k < height t i) (counted : Counted t w g i k) where
     nq-lower : g .stage i ≢ queued N
     unfolding low acts
@@ -122,14 +123,14 @@ module _ (t : Tree) (𝓐 : Accepted t) (w : Words) (g : State) (i : ℕ) (h : i
     g″ = granted-state t 𝓐 w g i h o k l first-there r own acquire-parent 1 (climb (suc N)) nq-lower
 
     mine-lower : record-at t S N ≡ r
-    mine-lower = heir t 𝓐 w g i h o k l first-there r own .mine
+    mine-lower = successor t 𝓐 w g i h o k l first-there r own .mine
 
     pub hand-domain : Granted t g w″ (ancestor t i k) r
     hand-domain =
-        let hs = heir-real t 𝓐 w g i h o k l first-there r own in
-        let ns = heir-within t 𝓐 w g i h o k l first-there r own in
+        let hs = successor-real t 𝓐 w g i h o k l first-there r own in
+        let ns = successor-within t 𝓐 w g i h o k l first-there r own in
         let hts = same-height t (laws t 𝓐) S N i k hs h ns l meet in
-        let mv = releases t g i k S N r (rest-two t 𝓐 w g i h o k l first-there r own) (heir t 𝓐 w g i h o k l first-there r own .waits) meet mine-lower
+        let mv = releases t g i k S N r (rest-two t 𝓐 w g i h o k l first-there r own) (successor t 𝓐 w g i h o k l first-there r own .waits) meet mine-lower
         (shape-two t 𝓐 w g i h o k l first-there r own) e in
         record {
           state = g″;

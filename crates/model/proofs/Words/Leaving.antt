@@ -24,7 +24,7 @@ use Rattle.model.proofs.Queues.Keeps.{keeps}
 use Rattle.model.proofs.Words.View.{Words, words-in, Room, place-to}
 use Rattle.model.proofs.Words.Represents.{Counted, letting-go, letting-go-root, letting-go-lower, letting-go-low, Fits, at-check, at-pass, at-help, at-cas, at-linger, at-grant, Represents}
 use Rattle.model.proofs.Words.Frame.{Others, replaced}
-use Rattle.model.proofs.Words.Releasing.{done-at, done-place-at, lone, last-there, vacate, heir, heir-real, heir-within}
+use Rattle.model.proofs.Words.Releasing.{done-at, done-place-at, lone, last-there, vacate, successor, successor-real, successor-within}
 use Rattle.model.proofs.Words.Granting.{hand-lock, hand-domain}
 use Rattle.model.proofs.Words.Outcome.{standing-shown, entry-shown, shown, Outcome, outcome, placed, status-placed, tail-placed}
 
@@ -145,10 +145,10 @@ module _ (t : Tree) (𝓐 : Accepted t) (s : WordState) (room : Room s) (g : Sta
     linger-outcome rep = linger-by rep _ refl
 
     -- GRANT of the domain, or of the lock at the root
-    heir-small : (r : ℕ) → w .nexts (record-at t i k) ≡ suc r → r < 320
-    heir-small r own =
-        let x = heir t 𝓐 w g i h o k l first-there r own in
-        rw (x .mine) at (record-small t 𝓐 (x .thread) (heir-real t 𝓐 w g i h o k l first-there r own) (x .index) (heir-within t 𝓐 w g i h o k l first-there r own))
+    successor-small : (r : ℕ) → w .nexts (record-at t i k) ≡ suc r → r < 320
+    successor-small r own =
+        let x = successor t 𝓐 w g i h o k l first-there r own in
+        rw (x .mine) at (record-small t 𝓐 (x .thread) (successor-real t 𝓐 w g i h o k l first-there r own) (x .index) (successor-within t 𝓐 w g i h o k l first-there r own))
 
     grant-by :
         (r : ℕ) → w .nexts (record-at t i k) ≡ suc r → (b : Bool) → eqb (ancestor t i k) 0 ≡ b →
@@ -160,13 +160,13 @@ module _ (t : Tree) (𝓐 : Accepted t) (s : WordState) (room : Room s) (g : Sta
         let x = hand-lock t 𝓐 w g i h o k l first-there r own holds (λ m b q. c m (omega arith) q) unlocked
         (λ n. absurd (n (eqb-true (ancestor t i k) 0 z))) (λ b. absurd (omega arith)) (λ q. refl) in
         rw (done-place-at t 𝓐 i h k l)
-        (outcome _ (x .state) (status-placed s room i few (done-at t i k) r unlocked (heir-small r own)) (x .represents) (more (x .move) done))
+        (outcome _ (x .state) (status-placed s room i few (done-at t i k) r unlocked (successor-small r own)) (x .represents) (more (x .move) done))
     grant-by r own false z =
         let lower = eqb-false k (height t i) (sym (root-test t 𝓐 i h k l) ∙ z) in
         let b : k < height t i = omega arith in
         let x = hand-domain t 𝓐 w g i h o k l first-there r own (e ∙ letting-go-lower (height t i) k b) b (λ m y q. c m (omega arith) q) in
         rw (done-place-at t 𝓐 i h k l)
-        (outcome _ (x .state) (status-placed s room i few (done-at t i k) r acquire-parent (heir-small r own)) (x .represents) (more (x .move) done))
+        (outcome _ (x .state) (status-placed s room i few (done-at t i k) r acquire-parent (successor-small r own)) (x .represents) (more (x .move) done))
 
     pub grant-outcome : (r : ℕ) → w .nexts (record-at t i k) ≡ suc r → Outcome t g i (grant-row t i (ancestor t i k) r (release-word (ancestor t i k)) s)
     grant-outcome r own = grant-by r own _ refl
@@ -180,7 +180,7 @@ module _ (t : Tree) (𝓐 : Accepted t) (s : WordState) (room : Room s) (g : Sta
       let l : k ≤ height t i = omega arith in
       let first : k < low (height t i) (g .stage i) = rw e (omega arith) in
       let x = hand-lock t 𝓐 w g i h o k l first r own e c v (λ n. omega arith) (λ m. q) (λ z. absurd (omega arith)) in
-      let a = heir t 𝓐 w g i h o k l first r own in
-      let small : r < 320 = rw (a .mine) at (record-small t 𝓐 (a .thread) (heir-real t 𝓐 w g i h o k l first r own) (a .index) (heir-within t 𝓐 w g i h o k l first r own)) in
+      let a = successor t 𝓐 w g i h o k l first r own in
+      let small : r < 320 = rw (a .mine) at (record-small t 𝓐 (a .thread) (successor-real t 𝓐 w g i h o k l first r own) (a .index) (successor-within t 𝓐 w g i h o k l first r own)) in
       rw (done-place-at t 𝓐 i h k l)
       (outcome _ (x .state) (status-placed s room i few (done-at t i k) r v small) (x .represents) (more (x .move) done))

@@ -18,7 +18,7 @@ use Rattle.model.proofs.Queues.Paths.{laws}
 use Rattle.model.proofs.Queues.Moves as moves
 use Rattle.model.proofs.Queues.Moves.{State, Event, Run}
 use Rattle.model.proofs.Queues.Invariant.{Inv}
-use Rattle.model.proofs.Queues.Left.{acts-real}
+use Rattle.model.proofs.Queues.Remaining.{acts-real}
 use Rattle.model.proofs.Words.View.{Words, words-in, Room, tail-to, next-to, status-to, place-to, tail-stored, next-stored, status-stored, place-stored, tail-room, next-room, status-room, place-room}
 use Rattle.model.proofs.Words.Represents.{Represents}
 

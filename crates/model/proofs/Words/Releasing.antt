@@ -152,37 +152,37 @@ module _ (t : Tree) (𝓐 : Accepted t) (w : Words) (g : State) (i : ℕ) (h : i
     pub shape-two : g .queue L ≡ R ∷ r ∷ rest-two
     shape-two = first-rest R (g .queue L) head ∙ ap (λ q. R ∷ q) (first-rest r (rest (g .queue L)) behind)
 
-    pub heir : Second t g L r
-    heir = second t g inv L R r rest-two shape-two
+    pub successor : Second t g L r
+    successor = second t g inv L R r rest-two shape-two
 
     abbrev S : ℕ
-    S = heir .thread
+    S = successor .thread
 
     abbrev N : ℕ
-    N = heir .index
+    N = successor .index
 
-    pub heir-real : S < t .threads
+    pub successor-real : S < t .threads
     unfolding reach
-    heir-real = inv .threads S .real (rw (heir .waits) (omega arith))
+    successor-real = inv .threads S .real (rw (successor .waits) (omega arith))
 
-    pub heir-within : N ≤ height t S
+    pub successor-within : N ≤ height t S
     unfolding reach
-    heir-within = let b : suc N ≤ suc (height t S) = rw (heir .waits) at (inv .threads S .range) in omega arith
+    successor-within = let b : suc N ≤ suc (height t S) = rw (successor .waits) at (inv .threads S .range) in omega arith
 
-    pub heir-other : g .stage i ≢ queued N → S ≢ i
-    heir-other n e = n (ap (g .stage) (sym e) ∙ heir .waits)
+    pub successor-other : g .stage i ≢ queued N → S ≢ i
+    successor-other n e = n (ap (g .stage) (sym e) ∙ successor .waits)
 
-    pub heir-low : low (height t S) (g .stage S) ≡ N
+    pub successor-low : low (height t S) (g .stage S) ≡ N
     unfolding low
-    heir-low = rw (heir .waits) refl
+    successor-low = rw (successor .waits) refl
 
-    -- the heir is in Wait: a linking one's predecessor has no next yet
-    pub heir-waits : S ≢ i → (w .places S ≡ Wait (ancestor t S N)) × Counted t w g S N
-    heir-waits n = by (ungranted N (heir .waits) (o .others S heir-real n))
+    -- the successor is in Wait: a linking one's predecessor has no next yet
+    pub successor-waits : S ≢ i → (w .places S ≡ Wait (ancestor t S N)) × Counted t w g S N
+    successor-waits n = by (ungranted N (successor .waits) (o .others S successor-real n))
       where
         by : Ungranted t w g S N (w .places S) → (w .places S ≡ Wait (ancestor t S N)) × Counted t w g S N
         by (linking q a z) =
-            let a′ : after (R ∷ r ∷ rest-two) q ≡ suc r = rw (heir .place, heir .mine, shape-two) at a in
+            let a′ : after (R ∷ r ∷ rest-two) q ≡ suc r = rw (successor .place, successor .mine, shape-two) at a in
             let one : count r (R ∷ r ∷ rest-two) ≤ 1 = rw shape-two at (inv .once L r) in
             let e = before-second q R r rest-two a′ one in
             absurd (let z′ : w .nexts R ≡ 0 = rw e at z in omega arith)
@@ -212,7 +212,7 @@ module _ (t : Tree) (𝓐 : Accepted t) (w : Words) (g : State) (i : ℕ) (h : i
           }))
           (λ z. rw (put-other (g .queue) L (r ∷ rest-two) d z) (record { last = o .linked d .last; chain = o .linked d .chain }))
 
-      -- words at other records than the heir's stay
+      -- words at other records than the successor's stay
       pub status-far : (q : ℕ) → q ≢ r → granted-words .statuses q ≡ w .statuses q
       status-far q e = put-other (w .statuses) r v q e
 
@@ -221,14 +221,14 @@ module _ (t : Tree) (𝓐 : Accepted t) (w : Words) (g : State) (i : ℕ) (h : i
 
       pub own-far : (m : ℕ) → m ≤ low (height t i) (g .stage i) → record-at t i m ≢ r
       own-far m b e =
-          other-record t 𝓐 w g i h o S m N heir-real (heir-other n) b (omega (arith, heir-low)) (heir .mine ∙ sym e)
+          other-record t 𝓐 w g i h o S m N successor-real (successor-other n) b (omega (arith, successor-low)) (successor .mine ∙ sym e)
 
       others-far : (j m : ℕ) → j < t .threads → j ≢ i → j ≢ S → m ≤ low (height t j) (g .stage j) → record-at t j m ≢ r
       others-far j m hj ni ns b e =
           let f = 𝓐 .few-threads in
-          let hs = heir-real in
+          let hs = successor-real in
           ns (same-user t (g .queue) j S (omega arith) (omega arith) m N (below-low t 𝓐 w g i h o j m b)
-          (below-low t 𝓐 w g i h o S N (omega (arith, heir-low))) (e ∙ sym (heir .mine)) .0)
+          (below-low t 𝓐 w g i h o S N (omega (arith, successor-low))) (e ∙ sym (successor .mine)) .0)
 
       granted-apart : (j : ℕ) → j < t .threads → j ≢ i → j ≢ S → Apart t w g granted-words granted-state j
       unfolding low
@@ -252,19 +252,19 @@ module _ (t : Tree) (𝓐 : Accepted t) (w : Words) (g : State) (i : ℕ) (h : i
             );
           }
 
-      -- the heir's counts below where it stood
-      heir-counted : Counted t granted-words granted-state S N
-      heir-counted m b q =
-          let hs = heir-real in
-          let reached : N ≤ height t S = heir-within in
-          let away : record-at t S m ≢ r = λ e. let z = record-injective t 𝓐 S hs m N (omega arith) reached (e ∙ sym (heir .mine)) in omega arith in
-          status-far (record-at t S m) away ∙ heir-waits (heir-other n) .1 m b q ∙ sym (tally-far (record-at t S m) away)
+      -- the successor's counts below where it stood
+      successor-counted : Counted t granted-words granted-state S N
+      successor-counted m b q =
+          let hs = successor-real in
+          let reached : N ≤ height t S = successor-within in
+          let away : record-at t S m ≢ r = λ e. let z = record-injective t 𝓐 S hs m N (omega arith) reached (e ∙ sym (successor .mine)) in omega arith in
+          status-far (record-at t S m) away ∙ successor-waits (successor-other n) .1 m b q ∙ sym (tally-far (record-at t S m) away)
 
       pub grant :
           Inv t granted-state → Counted t w g i k →
           (Counted t granted-words granted-state S N → Fits t granted-words granted-state S (Wait (ancestor t S N)) x) → Represents t granted-words granted-state
       grant inv′ ci fit =
-          let ns = heir-other n in
+          let ns = successor-other n in
           let own-low : k ≤ low (height t i) (g .stage i) = omega (arith, first-there) in
           record {
             invariant = inv′;
@@ -275,6 +275,6 @@ module _ (t : Tree) (𝓐 : Accepted t) (w : Words) (g : State) (i : ℕ) (h : i
                 let away = own-far m (omega arith) in
                 status-far (record-at t i m) away ∙ ci m b q ∙ sym (tally-far (record-at t i m) away))))
                 (λ z. same-or j S _
-                (λ y. rw (y, put-other (w .places) i (done-at t i k) S ns, put-same (put (g .stage) i (down k)) S x S refl, heir-waits ns .0) (fit heir-counted))
+                (λ y. rw (y, put-other (w .places) i (done-at t i k) S ns, put-same (put (g .stage) i (down k)) S x S refl, successor-waits ns .0) (fit successor-counted))
                 (λ y. left-alone (granted-apart j hj z y) (o .others j hj z)));
           }

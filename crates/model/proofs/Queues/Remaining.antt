@@ -1,4 +1,4 @@
--- What a thread's record has left to enter while it is first, and that each move leaves it no more than before.
+-- What a thread's record has left to enter while it is first, and that each move leaves it no more than before. Assumes nothing.
 use mathlib.Core.Path.{_≡_, refl, sym, ap, _∙_}
 use mathlib.Core.List.{List, [], _∷_}
 use mathlib.Core.Logic.{_≢_}
@@ -11,7 +11,8 @@ use Rattle.model.proofs.Trees.Index.{ancestor, record-at, height, membe
 use Rattle.model.proofs.Queues.Paths.{Laws}
 use Rattle.model.proofs.Queues.Moves.{Stage, out, climb, queued, ready, inside, holding, releasing, down, low, acts, reach, pending, State, Event, nothing, begins, ends, entered, Move, start, join-empty, join-root, join-behind, enter, leave, hand-on, release, let-go}
 use Rattle.model.proofs.Queues.Invariant.{low-acts, acts-low, acts-reach, low-down, Thread, Inv, unique, fresh}
-use Rattle.model.proofs.Queues.Keeps.{follow, follow-record-at, same-height, last-low, standing-not}
+use Rattle.model.proofs.Queues.Meeting.{follow, follow-record-at, same-height}
+use Rattle.model.proofs.Queues.Keeps.{last-low, standing-not}
 use Rattle.model.proofs.Queues.Order.{hit}
 
 -- (t - v) tenures of at most M each, and one of x
@@ -34,7 +35,7 @@ next-room t v M x y a c =
     wide : (w : ℕ) → w * M + x ≤ suc w * M + y
     wide w = omega arith
 
--- WHAT IS LEFT: the entries that thread i, first at the indices ancestor to k, and those after it can still make under its record at k
+-- WHAT IS LEFT: the entries that thread i, first at the indices up to k, and those after it can still make under its record at k
 unfoldable pub left : Tree → (tally : ℕ → ℕ) (x : Stage) (i k : ℕ) → ℕ
 left T t x i zero = pending x
 left T t x i (suc k) = (T .threshold (ancestor T i k) - t (record-at T i k)) * member-allowance T (ancestor T i k) + left T t x i k
@@ -194,9 +195,9 @@ module _ (T : Tree) (𝓛 : Laws T) (st : State) (inv : Inv T st) where
   -- A HAND-OVER
   module _ (i j s l : ℕ) (xs : List ℕ) (shape : st .queue (ancestor T i j) ≡ record-at T i j ∷ record-at T s l ∷ xs) (holds : j < low (height T i) (st .stage i))
       (waits : st .stage s ≡ queued l) (meet : ancestor T s l ≡ ancestor T i j) (apart : s ≢ i) where
-    -- the heir's record was not first
-    heir-new : first (st .queue (ancestor T s l)) ≢ suc (record-at T s l)
-    heir-new f =
+    -- the successor's record was not first
+    successor-new : first (st .queue (ancestor T s l)) ≢ suc (record-at T s l)
+    successor-new f =
         let g : first (st .queue (ancestor T i j)) ≡ suc (record-at T i j) = rw shape (first-cons (record-at T i j) (record-at T s l ∷ xs)) in
         let m = ap (λ d. first (st .queue d)) meet in
         standing-far s l waits i j holds (omega arith)
@@ -204,11 +205,11 @@ module _ (T : Tree) (𝓛 : Laws T) (st : State) (inv : Inv T st) where
     kept-tally : (w n k : ℕ) → k < low (height T n) (st .stage n) → put (st .tally) (record-at T s l) w (record-at T n k) ≡ st .tally (record-at T n k)
     kept-tally w n k h = put-other (st .tally) (record-at T s l) w (record-at T n k) (standing-far s l waits n k h)
 
-    -- the heir, at the indices below the one where it stood
-    heir-below :
+    -- the successor, at the indices below the one where it stood
+    successor-below :
         (x : Stage) (w k : ℕ) → pending x ≤ 1 → k < l → Before T st s k (left T (put (st .tally) (record-at T s l) w) x s k + 0)
     unfolding low pending
-    heir-below x w k p h =
+    successor-below x w k p h =
         itself (put (st .tally) (record-at T s l) w) x s k 0 (rw waits h) (rw waits (omega arith))
         (λ n b. kept-tally w s n (rw waits (omega arith)))
 
@@ -242,44 +243,44 @@ module _ (T : Tree) (𝓛 : Laws T) (st : State) (inv : Inv T st) where
     falls-release =
         falls-handed (climb (suc l)) 1
         (λ k h f. less-or k l _
-        (λ b. heir-below (climb (suc l)) 1 k (omega arith) b)
-        (λ b. let z : k ≡ l = omega arith in absurd (heir-new (rw z at f))))
+        (λ b. successor-below (climb (suc l)) 1 k (omega arith) b)
+        (λ b. let z : k ≡ l = omega arith in absurd (successor-new (rw z at f))))
 
-    heir-real : (s < T .threads) × (s < 256) × (l ≤ height T s)
+    successor-real : (s < T .threads) × (s < 256) × (l ≤ height T s)
     unfolding acts
-    heir-real = acts-real T 𝓛 st inv s l (rw waits (omega arith))
+    successor-real = acts-real T 𝓛 st inv s l (rw waits (omega arith))
 
     heights : st .stage i ≡ holding → j ≤ height T i → height T s + j ≡ height T i + l
     unfolding acts
-    heights e h = same-height T 𝓛 s l i j (heir-real .0) (acts-real T 𝓛 st inv i j (rw e (omega arith)) .0) (heir-real .2) h meet
+    heights e h = same-height T 𝓛 s l i j (successor-real .0) (acts-real T 𝓛 st inv i j (rw e (omega arith)) .0) (successor-real .2) h meet
 
-    -- what the heir has left at the index where it stood is less than a tenure
-    heir-left : l < height T s → left T (put (st .tally) (record-at T s l) (suc (st .tally (record-at T i j)))) ready s l ≤ member-allowance T (ancestor T s l)
+    -- what the successor has left at the index where it stood is less than a tenure
+    successor-left : l < height T s → left T (put (st .tally) (record-at T s l) (suc (st .tally (record-at T i j)))) ready s l ≤ member-allowance T (ancestor T s l)
     unfolding acts low pending
-    heir-left b =
+    successor-left b =
         let w = suc (st .tally (record-at T i j)) in
         let x = left-same T (st .tally) (put (st .tally) (record-at T s l) w) (st .stage s) ready s 0 l (rw waits (omega arith)) (λ n g. kept-tally w s n (rw waits g)) in
         let y = left-bound T 𝓛 st inv s l (rw waits (omega arith)) in
-        let z = 𝓛 .at-most s l (heir-real .0) b in
+        let z = 𝓛 .at-most s l (successor-real .0) b in
         omega arith
 
-    -- above that index the heir takes the place of i, with one tenure less
-    heir-above :
+    -- above that index the successor takes the place of i, with one tenure less
+    successor-above :
         st .stage i ≡ holding → j ≤ height T i → (ancestor T i j ≢ 0 → st .tally (record-at T i j) < T .threshold (ancestor T i j)) → (d : ℕ) → l + suc d ≤ height T s →
         left T (put (st .tally) (record-at T s l) (suc (st .tally (record-at T i j)))) ready s (l + suc d) ≤ left T (st .tally) (st .stage i) i (j + suc d)
     unfolding left acts low
-    heir-above e h ok zero b =
+    successor-above e h ok zero b =
         let v = st .tally (record-at T i j) in
         let t′ = put (st .tally) (record-at T s l) (suc v) in
-        let x : left T t′ ready s l ≤ member-allowance T (ancestor T i j) = rw meet at (heir-left (omega arith)) in
-        let ok′ : v < T .threshold (ancestor T i j) = ok (λ z. 𝓛 .inner s l (heir-real .0) (omega arith) (meet ∙ z)) in
+        let x : left T t′ ready s l ≤ member-allowance T (ancestor T i j) = rw meet at (successor-left (omega arith)) in
+        let ok′ : v < T .threshold (ancestor T i j) = ok (λ z. 𝓛 .inner s l (successor-real .0) (omega arith) (meet ∙ z)) in
         let sl : l + 1 ≡ suc l = omega arith in
         let sj : j + 1 ≡ suc j = omega arith in
         rw (sl, sj) (rw (put-same (st .tally) (record-at T s l) (suc v) (record-at T s l) refl, meet)
         (next-room (T .threshold (ancestor T i j)) v (member-allowance T (ancestor T i j)) (left T t′ ready s l) (left T (st .tally) (st .stage i) i j) ok′ x))
-    heir-above e h ok (suc d) b =
+    successor-above e h ok (suc d) b =
         let v = st .tally (record-at T i j) in
-        let ih = heir-above e h ok d (omega arith) in
+        let ih = successor-above e h ok d (omega arith) in
         let low-i : j + suc d < low (height T i) (st .stage i) = rw e (omega (arith, heights e h)) in
         rw (add-suc l (suc d), add-suc j (suc d))
         (rw (follow T s l i j meet (suc d), follow-record-at T s l i j meet d, kept-tally (suc v) i (j + suc d) low-i) (omega arith))
@@ -294,7 +295,7 @@ module _ (T : Tree) (𝓛 : Laws T) (st : State) (inv : Inv T st) where
           index = j + suc d;
           was-first = rw e (omega (arith, heights e h));
           same = sym (follow-record-at T s l i j meet d);
-          falls = omega (arith, heir-above e h ok d (omega arith));
+          falls = omega (arith, successor-above e h ok d (omega arith));
         })
 
     falls-hand-on :
@@ -304,9 +305,9 @@ module _ (T : Tree) (𝓛 : Laws T) (st : State) (inv : Inv T st) where
     falls-hand-on e h ok =
         falls-handed ready (suc (st .tally (record-at T i j)))
         (λ k g f. less-or k l _
-        (λ b. heir-below ready (suc (st .tally (record-at T i j))) k (omega arith) b)
+        (λ b. successor-below ready (suc (st .tally (record-at T i j))) k (omega arith) b)
         (λ b. same-or k l _
-        (λ z. absurd (heir-new (rw z at f)))
+        (λ z. absurd (successor-new (rw z at f)))
         (λ z. falls-above e h ok k (k - suc l) (omega arith) (omega arith))))
 
   pub falls : {e : Event} {st′ : State} → Move T st e st′ → Falls e (st′ .stage) (st′ .tally)

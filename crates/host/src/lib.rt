@@ -1,0 +1,87 @@
+// What a C or C++ host calls; host/include/hmcs.h declares it there. Numbers, arrays and structs of them alone cross.
+ghost use mathlib.Core.Path.{_≡_};
+ghost use Rattle.model.specs.Answers.{fresh-answer, step-answer, run-answer, trace-answer};
+ghost use Rattle.host.specs.InPlace.{fresh-number, step-number};
+ghost use Rattle.lock_file.specs.FileAnswers.{file-answer, output-answer};
+use model::FreshReply;
+use model::RunReply;
+use model::State;
+use model::StepReply;
+use model::TreeWords;
+
+// Number and place of an answer.
+#[repr(C)]
+pub struct Answer {
+    pub number: u32,
+    pub place: u32,
+}
+
+// A fresh lock: the fresh words, accepted or refused.
+#[no_mangle]
+pub extern "C" fn hmcs_fresh(tree: TreeWords) -> FreshReply
+    ensures { λ r. ⌜ r ≡ fresh-answer tree ⌝ }
+{
+    lock::fresh_lock(tree)
+}
+
+// One step by value: the state after it; refused, the state as it came.
+#[no_mangle]
+pub extern "C" fn hmcs_step(tree: TreeWords, state: State, thread: u16) -> StepReply
+    ensures { λ r. ⌜ r ≡ step-answer tree state thread ⌝ }
+{
+    lock::step_lock(tree, state, thread)
+}
+
+// A run by value: the entering threads at the front of the trace; refused, state and trace as they came.
+#[no_mangle]
+pub extern "C" fn hmcs_run(
+    tree: TreeWords,
+    state: State,
+    schedule: &[u16],
+    trace: &mut [u16],
+) -> RunReply
+    ensures { λ r. ⌜ r ≡ run-answer tree state (now (schedule .entry)) (now (trace .entry)) ⌝ }
+    ensures { λ r. ⌜ now (trace .exit) ≡ trace-answer tree state (now (schedule .entry)) (now (trace .entry)) ⌝ }
+{
+    lock::run_lock(tree, state, schedule, trace)
+}
+
+// A fresh lock, written where the host keeps its state.
+#[no_mangle]
+pub extern "C" fn hmcs_fresh_in_place(tree: TreeWords, state: &mut State) -> Answer
+    ensures { λ r. ⌜ (r ≡ fresh-number (fresh-answer tree)) × (now (state .exit) ≡ fresh-answer tree .state) ⌝ }
+{
+    let r = hmcs_fresh(tree);
+    *state = r.state;
+    Answer {
+        number: r.number,
+        place: r.place,
+    }
+}
+
+// One step of the state that the host keeps, where it stands.
+#[no_mangle]
+pub extern "C" fn hmcs_step_in_place(tree: TreeWords, state: &mut State, thread: u16) -> Answer
+    ensures { λ r. ⌜ (r ≡ step-number (step-answer tree (now (state .entry)) thread)) × (now (state .exit) ≡ step-answer tree (now (state .entry)) thread .state) ⌝ }
+{
+    let r = hmcs_step(tree, *state, thread);
+    *state = r.state;
+    Answer {
+        number: r.number,
+        place: r.place,
+    }
+}
+
+// The file call on the file's bytes and the output buffer. The number is returned; place and length go where the host says.
+#[no_mangle]
+pub extern "C" fn hmcs_run_file(file: &[u8], output: &mut [u8], place: &mut u32, length: &mut u32) -> u32
+    ensures { λ r. ⌜ r ≡ file-answer (now (file .entry)) (now (output .entry)) .number ⌝ }
+    ensures { λ r. ⌜ now (place .exit) ≡ file-answer (now (file .entry)) (now (output .entry)) .place ⌝ }
+    ensures { λ r. ⌜ now (length .exit) ≡ file-answer (now (file .entry)) (now (output .entry)) .length ⌝ }
+    ensures { λ r. ⌜ now (output .exit) ≡ output-answer (now (file .entry)) (now (output .entry)) ⌝ }
+{
+    let r = lock_file::run_file(file, output);
+    *place = r.place;
+    *length = r.length;
+    r.number
+}

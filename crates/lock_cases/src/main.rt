@@ -1,0 +1,226 @@
+// Cases of document 01's ladder that are executed: what the calls answer, one line each.
+use model::PlaceWords;
+use model::RunReply;
+use model::State;
+use model::TreeWords;
+
+const OUT: i32 = libc::STDOUT_FILENO;
+
+fn put(text: &[u8]) {
+    io::write_all(OUT, text);
+}
+
+fn number(n: u32) {
+    io::write_all(OUT, b" ");
+    io::print_decimal(OUT, n as u64);
+}
+
+fn byte(n: u8) {
+    number(n as u32);
+}
+
+fn short(n: u16) {
+    number(n as u32);
+}
+
+fn low(n: u64) {
+    number((n % 65536) as u32);
+}
+
+// Two threads in domain 1 below the root.
+fn two_threads(threshold: u16) -> TreeWords {
+    let mut thresholds = [0u16; 64];
+    thresholds[1] = threshold;
+    let mut homes = [0u8; 256];
+    homes[0] = 1;
+    homes[1] = 1;
+    TreeWords {
+        domains: 2,
+        threads: 2,
+        parents: [0u8; 64],
+        thresholds,
+        homes,
+    }
+}
+
+// Two domains below the root, with two threads each.
+fn four_threads(threshold: u16) -> TreeWords {
+    let mut thresholds = [0u16; 64];
+    thresholds[1] = threshold;
+    thresholds[2] = threshold;
+    let mut homes = [0u8; 256];
+    homes[0] = 1;
+    homes[1] = 1;
+    homes[2] = 2;
+    homes[3] = 2;
+    TreeWords {
+        domains: 3,
+        threads: 4,
+        parents: [0u8; 64],
+        thresholds,
+        homes,
+    }
+}
+
+fn fresh(tree: TreeWords) -> State {
+    let r = lock::fresh_lock(tree);
+    r.state
+}
+
+// Number, place and counts of a run, and the first two elements of its trace buffer.
+fn show(r: RunReply, first: u16, second: u16) {
+    number(r.number);
+    number(r.place);
+    put(b":");
+    number(r.steps);
+    number(r.entries);
+    number(r.stays);
+    number(r.root);
+    number(r.passed);
+    put(b"; trace");
+    short(first);
+    short(second);
+    put(b"\n");
+}
+
+// A trace buffer of the schedule's length passes, one less is 13; what is refused leaves the buffer alone.
+fn trace_room() {
+    let tree = two_threads(2);
+    let schedule = [0u16, 0, 0, 0];
+    let mut enough = [77u16; 4];
+    let r = lock::run_lock(tree, fresh(tree), &schedule, &mut enough);
+    put(b"trace of the schedule's length");
+    show(r, enough[0], enough[1]);
+    let mut short = [77u16; 3];
+    let q = lock::run_lock(tree, fresh(tree), &schedule, &mut short);
+    put(b"trace one shorter");
+    show(q, short[0], short[1]);
+}
+
+// A run refused at its last entry has taken no step.
+fn late_entry() {
+    let tree = two_threads(2);
+    let schedule = [0u16, 0, 0, 0, 2];
+    let mut trace = [77u16; 5];
+    let r = lock::run_lock(tree, fresh(tree), &schedule, &mut trace);
+    put(b"last entry no thread");
+    show(r, trace[0], trace[1]);
+    let s = r.state;
+    let p = s.places[0];
+    put(b"its state's first tail, status and row");
+    short(s.tails[1]);
+    low(s.statuses[0]);
+    byte(p.row);
+    put(b"\n");
+}
+
+// Three more turns of a thread that nobody has granted are three stays.
+fn three_stays() {
+    let tree = two_threads(2);
+    let schedule = [0u16, 0, 0, 0, 1, 1, 1, 1, 1, 1];
+    let mut trace = [77u16; 10];
+    let r = lock::run_lock(tree, fresh(tree), &schedule, &mut trace);
+    put(b"three turns of a waiting thread");
+    show(r, trace[0], trace[1]);
+}
+
+// A threshold of 65,535 is accepted.
+fn largest_threshold() {
+    let r = lock::fresh_lock(two_threads(65535));
+    put(b"threshold 65535");
+    number(r.number);
+    number(r.place);
+    put(b"\n");
+}
+
+// Entries of four threads, many times over.
+fn order() -> [u16; 4000] {
+    let mut schedule = [0u16; 4000];
+    for k in 0..4000 {
+        schedule[k] = ((k / 3 + k / 7 + k / 11) % 4) as u16;
+    }
+    schedule
+}
+
+// All threads in turn, many times over: passed entries with thresholds of 2, none with thresholds of 1.
+fn turns(threshold: u16) {
+    let tree = four_threads(threshold);
+    let schedule = order();
+    let mut trace = [77u16; 4000];
+    let r = lock::run_lock(tree, fresh(tree), &schedule, &mut trace);
+    show(r, trace[0], trace[1]);
+}
+
+fn step_line(tree: TreeWords, state: State, thread: u16) {
+    let r = lock::step_lock(tree, state, thread);
+    let s = r.state;
+    let at = (thread % 256) as usize;
+    let p = s.places[at];
+    number(r.number);
+    number(r.place);
+    put(b"; row");
+    byte(p.row);
+    byte(p.domain);
+    short(p.peer);
+    low(p.word);
+    put(b"; tail");
+    short(s.tails[1]);
+    put(b"; next");
+    short(s.nexts[0]);
+    put(b"; status");
+    low(s.statuses[0]);
+    put(b"\n");
+}
+
+fn place(row: u8, domain: u8, peer: u16, word: u64) -> PlaceWords {
+    PlaceWords {
+        row,
+        domain,
+        peer,
+        word,
+    }
+}
+
+// States that a caller hands over and that no schedule reaches.
+fn handed_in() {
+    let tree = two_threads(2);
+    let mut above = fresh(tree);
+    above.statuses[0] = 900;
+    above.nexts[0] = 2;
+    above.places[0] = place(6, 1, 0, 0);
+    put(b"Check with a status above the threshold");
+    step_line(tree, above, 0);
+    let mut itself = fresh(tree);
+    itself.tails[1] = 1;
+    itself.places[0] = place(2, 1, 0, 0);
+    put(b"Swap that finds its own record");
+    step_line(tree, itself, 0);
+    let mut own = fresh(tree);
+    own.places[0] = place(3, 1, 0, 0);
+    put(b"Link to its own record");
+    step_line(tree, own, 0);
+    let mut prep = fresh(tree);
+    prep.places[0] = place(1, 1, 0, 0);
+    put(b"Prep at home");
+    step_line(tree, prep, 0);
+    put(b"Idle");
+    step_line(tree, fresh(tree), 0);
+    let mut root = fresh(tree);
+    root.places[0] = place(6, 0, 0, 0);
+    put(b"Check at the root");
+    step_line(tree, root, 0);
+    put(b"thread 2 of two");
+    step_line(tree, fresh(tree), 2);
+}
+
+fn main() {
+    trace_room();
+    late_entry();
+    three_stays();
+    largest_threshold();
+    put(b"thresholds of 2");
+    turns(2);
+    put(b"thresholds of 1");
+    turns(1);
+    handed_in();
+}

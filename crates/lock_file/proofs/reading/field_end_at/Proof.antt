@@ -1,0 +1,30 @@
+-- `field_end_at` meets its contract. Assumes nothing.
+use Prim.Native.Nat.{_-_, _<_}
+use native.Mathlib.Omega.{arith}
+use lib.ListN.{length}
+use borrow.Author.Tests.{lt-ltb, le-ltb}
+use borrow.Author.Needs.{needs}
+use Rattle.lock_file.specs.Reading.{field-end}
+use Rattle.lock_file.proofs.reading.field_end_at.Statement.{statement}
+use Rattle.lock_file.proofs.reading.field_end_at.Tie as tie
+
+returns : tie.Need-returns
+unfolding field-end
+returns c = let h : length (c .before .args .file .now) - c .before .args .at < c .before .args .size = omega arith in rw (lt-ltb _ _ h)
+
+sub-if2 : tie.Need-sub-if2
+sub-if2 c = search needs
+
+returns-2 : tie.Need-returns-2
+unfolding field-end
+returns-2 c = rw (lt-ltb _ _ (c .if2 .taken))
+
+add-t4 : tie.Need-add-t4
+add-t4 c = search needs
+
+returns-3 : tie.Need-returns-3
+unfolding field-end
+returns-3 c = rw (le-ltb _ _ (c .if2 .left))
+
+pub field-end-at-spec : {M : Type 1} → statement M
+field-end-at-spec = tie.close (tie.spec returns sub-if2 returns-2 add-t4 returns-3)

@@ -1,0 +1,41 @@
+-- `schedule_start_of` meets its contract. Assumes nothing.
+use borrow.Author.Needs.{needs}
+use Rattle.lock_file.specs.Reading.{schedule-start}
+use Rattle.lock_file.proofs.reading.schedule_start_of.Statement.{statement}
+use Rattle.lock_file.proofs.reading.schedule_start_of.Tie as tie
+
+enum-known-reached : tie.Need-enum-known-reached
+enum-known-reached c = search needs
+
+schedule-start-at-requires : tie.Need-schedule-start-at-requires
+schedule-start-at-requires c κs = search needs
+
+enum-told : tie.Need-enum-told
+enum-told c = search needs
+
+enum-known-reached-2 : tie.Need-enum-known-reached-2
+enum-known-reached-2 c = search needs
+
+returns : tie.Need-returns
+unfolding schedule-start
+returns c = rw (c .before .before .reached .given .1, c .schedule-start-at .ensures)
+
+returns-2 : tie.Need-returns-2
+unfolding schedule-start
+returns-2 c = rw (c .enum-told .given .1)
+
+returns-3 : tie.Need-returns-3
+unfolding schedule-start
+returns-3 c = rw (c .before .reached2 .given .1)
+
+pub schedule-start-of-spec : {M : Type 1} → statement M
+schedule-start-of-spec =
+    tie.close
+    (tie.spec
+    enum-known-reached
+    schedule-start-at-requires
+    enum-told
+    enum-known-reached-2
+    returns
+    returns-2
+    returns-3)

@@ -1,0 +1,20 @@
+-- `store_home` meets its contract. Assumes nothing.
+use borrow.Author.Tests.{lt-ltb, le-ltb}
+use borrow.Author.Needs.{needs}
+use Rattle.lock_file.specs.Reading.{stored}
+use Rattle.lock_file.proofs.reading.store_home.Statement.{statement}
+use Rattle.lock_file.proofs.reading.store_home.Tie as tie
+
+element-write-homes : tie.Need-element-write-homes
+element-write-homes c = search needs
+
+returns : tie.Need-returns
+unfolding stored
+returns c = rw (lt-ltb _ _ (c .if1 .taken))
+
+returns-2 : tie.Need-returns-2
+unfolding stored
+returns-2 c = rw (le-ltb _ _ (c .if1 .left))
+
+pub store-home-spec : {M : Type 1} → statement M
+store-home-spec = tie.close (tie.spec element-write-homes returns returns-2)

@@ -1,0 +1,62 @@
+-- THE LAWS OF THE LOCK FILE AND THE LISTING. Each is a statement; proofs/ has its proof. Assumes nothing.
+use mathlib.Core.Path.{_≡_}
+use mathlib.Core.List.{List, [], _∷_}
+use mathlib.Core.Logic.{_≢_, _⊎_}
+use Prim.Native.Nat.{ℕ, _+_, _*_, _-_, _≤_, _<_}
+use lib.ListN.{length, getD, replicate}
+use Rattle.model.specs.declared.TreeWords.{TreeWords}
+use Rattle.model.specs.Trees.{tree-of}
+use Rattle.model.specs.States.{fresh-words}
+use Rattle.model.specs.Answers.{fresh-answer, trace-answer}
+use Rattle.model.specs.Claim.{Call, a-run, ran, answers, joined, Claim}
+use Rattle.model.specs.Laws.{_⟺_}
+use Rattle.lock_file.specs.Reading.{described, file-read}
+use Rattle.lock_file.specs.Listing.{numeral}
+use Rattle.lock_file.specs.FileAnswers.{file-run, tree-outcome, file-outcome, file-answer}
+use Rattle.lock_file.specs.Format.{Describes}
+
+-- 1. FORMAT. Reading accepts a file, with a tree and a schedule, exactly if the file describes them
+unfoldable pub Format-law : Type 0
+Format-law =
+    (bytes : List ℕ) (w : TreeWords) (schedule : List ℕ) → (file-read bytes ≡ described w schedule) ⟺ Describes bytes w schedule
+
+-- 2. NUMERALS. The value that decimal digits have, behind those that were read
+unfoldable pub value-from : (value : ℕ) → (digits : List ℕ) → ℕ
+value-from v [] = v
+value-from v (b ∷ bs) = value-from (10 * v + (b - 48)) bs
+
+-- a numeral has digits only, at least one, reads back, and starts with 0 only if it is that of 0
+pub record Decimal (v : ℕ) (bytes : List ℕ) : Type 0 where
+  pub not-empty : 0 < length bytes
+  pub reads-back : value-from 0 bytes ≡ v
+  pub digits-only : (k : ℕ) → k < length bytes → (48 ≤ getD bytes k 0) × (getD bytes k 0 ≤ 57)
+  pub no-leading-zero : v ≢ 0 → getD bytes 0 0 ≢ 48
+
+unfoldable pub Numeral-law : Type 0
+Numeral-law = (v : ℕ) → Decimal v (numeral v)
+
+-- 3. REFUSALS. The file call meets 1 to 9, 12 and 14: it runs from a fresh lock, its schedules are short, its trace buffer has room
+unfoldable pub Met : (number : ℕ) → Type 0
+Met n = (n ≤ 9) ⊎ ((n ≡ 12) ⊎ (n ≡ 14))
+
+unfoldable pub File-refusal-law : Type 0
+File-refusal-law = (bytes output : List ℕ) → Met (file-answer bytes output .number)
+
+-- 4. FILES. For a file that describes a tree and a schedule the file call answers what a run of them from fresh answers
+unfoldable pub Described-law : Type 0
+Described-law =
+    (bytes : List ℕ) (w : TreeWords) (schedule : List ℕ) (room : ℕ) → length bytes ≤ 65536 → Describes bytes w schedule →
+    file-outcome bytes room ≡ tree-outcome w schedule room
+
+-- 5. THE THIRD DEMAND. The file call's run is a list of calls, on a lock of its own
+abbrev pub file-call : TreeWords → (schedule : List ℕ) → Call
+file-call w is = record { tree = w; ask = a-run is (replicate (length is) 0) }
+
+pub record One-call (w : TreeWords) (schedule : List ℕ) : Type 0 where
+  pub answered :
+      answers (file-call w schedule ∷ []) fresh-words
+      ≡ ran (file-run w schedule) (trace-answer w fresh-words schedule (replicate (length schedule) 0)) ∷ []
+  pub claimed : Claim (tree-of w) (file-call w schedule ∷ []) (joined (file-call w schedule ∷ []) fresh-words)
+
+unfoldable pub File-claim-law : Type 0
+File-claim-law = (w : TreeWords) (schedule : List ℕ) → fresh-answer w .number ≡ 0 → One-call w schedule

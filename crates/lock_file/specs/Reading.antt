@@ -1,0 +1,165 @@
+-- Document 01, "The lock file": reading it from left to right, with refusals 2 and 3. Assumes nothing: these are definitions.
+use mathlib.Core.Bool.{cond}
+use mathlib.Core.List.{List, [], _∷_}
+use Prim.Native.Nat.{ℕ, zero, suc, _+_, _*_, _-_, _/_, _%_}
+use lib.Dec.{ltb, leb, eqb}
+use lib.ListN.{length, getD, set, replicate}
+use Rattle.model.specs.declared.TreeWords.{TreeWords}
+use Rattle.model.specs.Refusals.{Refusal, refusal, accepted}
+use Rattle.lock_file.specs.declared.Reached.{Reached}
+use Rattle.lock_file.specs.declared.Reached.the-variants.{At, Ended, BadMap}
+use Rattle.lock_file.specs.declared.DomainsRead.{DomainsRead}
+use Rattle.lock_file.specs.declared.ThreadsRead.{ThreadsRead}
+use Rattle.lock_file.specs.declared.TreeRead.{TreeRead}
+
+-- document 01's number and place for each way that reading goes: 2 at the file's length, 3 at the bit map
+unfoldable pub reached-refusal : (bytes : List ℕ) → Reached → Refusal
+reached-refusal bs (At at) = accepted
+reached-refusal bs Ended = refusal 2 (length bs)
+reached-refusal bs (BadMap p) = refusal 3 p
+
+-- the byte at a position
+abbrev pub byte : (bytes : List ℕ) → (at : ℕ) → ℕ
+byte bs at = getD bs at 0
+
+-- two bytes, low byte first
+abbrev pub low-first : (low high : ℕ) → ℕ
+low-first l h = l + 256 * h
+
+abbrev pub two-bytes : (bytes : List ℕ) → (at : ℕ) → ℕ
+two-bytes bs at = low-first (byte bs at) (byte bs (at + 1))
+
+-- the bits of a bit map, each 0 or 1
+abbrev pub bit-0 : (map : ℕ) → ℕ
+bit-0 m = m % 2
+
+abbrev pub bit-1 : (map : ℕ) → ℕ
+bit-1 m = m / 2 % 2
+
+-- behind a field or an entry of some size; ended where the file ends inside it or where it is still due
+unfoldable pub field-end : (bytes : List ℕ) → (at size : ℕ) → Reached
+field-end bs at size = cond (ltb (length bs - at) size) Ended (At (at + size))
+
+-- behind an entry that starts with a bit map; a map above the largest has a bit set that has no meaning
+unfoldable pub entry-end : (bytes : List ℕ) → (largest at size : ℕ) → Reached
+entry-end bs largest at size = cond (leb (length bs) at) Ended (cond (ltb largest (byte bs at)) (BadMap at) (field-end bs at size))
+
+-- a domain's entry: a bit map, then only the fields whose bit is set: bit 0 the parent, one byte, bit 1 the threshold, two bytes
+unfoldable pub domain-size : (map : ℕ) → ℕ
+domain-size m = 1 + bit-0 m + 2 * bit-1 m
+
+unfoldable pub domain-end : (bytes : List ℕ) → (at : ℕ) → Reached
+domain-end bs at = entry-end bs 3 at (domain-size (byte bs at))
+
+-- the parent in a domain's entry; else 0
+unfoldable pub parent-at : (bytes : List ℕ) → (at : ℕ) → ℕ
+parent-at bs at = cond (eqb (bit-0 (byte bs at)) 1) (byte bs (at + 1)) 0
+
+-- the threshold in a domain's entry; else 16
+unfoldable pub threshold-at : (bytes : List ℕ) → (at : ℕ) → ℕ
+threshold-at bs at = cond (eqb (bit-1 (byte bs at)) 1) (two-bytes bs (at + 1 + bit-0 (byte bs at))) 16
+
+abbrev pub domains-at : Reached → (parents thresholds : List ℕ) → DomainsRead
+domains-at r ps hs = record { reached = r; parents = ps; thresholds = hs }
+
+-- a word is stored where there is room
+unfoldable pub stored : (room : ℕ) → (words : List ℕ) → (at word : ℕ) → List ℕ
+stored room ws k v = cond (ltb k room) (set ws k v) ws
+
+-- the entries of the domains from one on, as many as are left; there is room for 64
+unfoldable pub domains-from : (bytes : List ℕ) → (left domain at : ℕ) → (parents thresholds : List ℕ) → DomainsRead
+domains-from bs zero d at ps hs = domains-at (At at) ps hs
+domains-from bs (suc k) d at ps hs =
+    elim (domain-end bs at) [
+      | At next ↦ domains-from bs k (d + 1) next (stored 64 ps d (parent-at bs at)) (stored 64 hs d (threshold-at bs at))
+      | Ended ↦ domains-at Ended ps hs
+      | BadMap p ↦ domains-at (BadMap p) ps hs
+    ]
+
+-- D in a byte, then the domains 1 to D − 1; D of 0 or 1 has no domain entry
+unfoldable pub domains-read : (bytes : List ℕ) → DomainsRead
+domains-read bs =
+    cond (eqb (length bs) 0) (domains-at Ended (replicate 64 0) (replicate 64 0))
+    (domains-from bs (byte bs 0 - 1) 1 1 (replicate 64 0) (replicate 64 0))
+
+-- a thread's entry: a bit map, and if its bit 0 is set the home, one byte
+unfoldable pub thread-end : (bytes : List ℕ) → (at : ℕ) → Reached
+thread-end bs at = entry-end bs 1 at (1 + bit-0 (byte bs at))
+
+-- the home in a thread's entry; else the home of the thread before
+unfoldable pub home-at : (bytes : List ℕ) → (before at : ℕ) → ℕ
+home-at bs before at = cond (eqb (bit-0 (byte bs at)) 1) (byte bs (at + 1)) before
+
+abbrev pub threads-at : Reached → (homes : List ℕ) → ThreadsRead
+threads-at r hs = record { reached = r; homes = hs }
+
+-- the entries of the threads from one on, as many as are left; there is room for 256
+unfoldable pub threads-from : (bytes : List ℕ) → (left thread before at : ℕ) → (homes : List ℕ) → ThreadsRead
+threads-from bs zero i before at hs = threads-at (At at) hs
+threads-from bs (suc k) i before at hs =
+    let h = home-at bs before at in
+    elim (thread-end bs at) [
+      | At next ↦ threads-from bs k (i + 1) h next (stored 256 hs i h)
+      | Ended ↦ threads-at Ended hs
+      | BadMap p ↦ threads-at (BadMap p) hs
+    ]
+
+-- T in two bytes at a position, then the threads 0 to T − 1; the home before the first is 0
+unfoldable pub threads-behind : (bytes : List ℕ) → (at : ℕ) → Reached → ThreadsRead
+threads-behind bs at (At next) = threads-from bs (two-bytes bs at) 0 0 next (replicate 256 0)
+threads-behind bs at Ended = threads-at Ended (replicate 256 0)
+threads-behind bs at (BadMap p) = threads-at (BadMap p) (replicate 256 0)
+
+unfoldable pub threads-read : (bytes : List ℕ) → Reached → ThreadsRead
+threads-read bs (At at) = threads-behind bs at (field-end bs at 2)
+threads-read bs Ended = threads-at Ended (replicate 256 0)
+threads-read bs (BadMap p) = threads-at (BadMap p) (replicate 256 0)
+
+unfoldable pub thread-count : (bytes : List ℕ) → Reached → ℕ
+thread-count bs (At at) = two-bytes bs at
+thread-count bs Ended = 0
+thread-count bs (BadMap p) = 0
+
+-- the rest is the schedule, two bytes an entry: with an odd rest the file ends inside one
+unfoldable pub schedule-start : (bytes : List ℕ) → Reached → Reached
+schedule-start bs (At at) = cond (eqb ((length bs - at) % 2) 0) (At at) Ended
+schedule-start bs Ended = Ended
+schedule-start bs (BadMap p) = BadMap p
+
+-- the tree as it was read, and where the schedule starts
+unfoldable pub tree-read : (bytes : List ℕ) → TreeRead
+tree-read bs =
+    let domains = domains-read bs in
+    let threads = threads-read bs (domains .reached) in
+    record {
+      reached = schedule-start bs (threads .reached);
+      tree =
+          record {
+            domains = byte bs 0;
+            threads = thread-count bs (domains .reached);
+            parents = domains .parents;
+            thresholds = domains .thresholds;
+            homes = threads .homes;
+          };
+    }
+
+-- the schedule's entries from a position, as many as are left
+unfoldable pub entries-from : (bytes : List ℕ) → (left at : ℕ) → List ℕ
+entries-from bs zero at = []
+entries-from bs (suc k) at = two-bytes bs at ∷ entries-from bs k (at + 2)
+
+unfoldable pub entries-at : (bytes : List ℕ) → (at : ℕ) → List ℕ
+entries-at bs at = entries-from bs ((length bs - at) / 2) at
+
+-- what a file comes to: refused by 2 or 3, or a tree with a schedule
+pub data Reading : Type 0 where
+  refused : Refusal → Reading
+  described : TreeWords → (schedule : List ℕ) → Reading
+
+unfoldable pub reading-of : (bytes : List ℕ) → Reached → TreeWords → Reading
+reading-of bs (At at) w = described w (entries-at bs at)
+reading-of bs Ended w = refused (reached-refusal bs Ended)
+reading-of bs (BadMap p) w = refused (reached-refusal bs (BadMap p))
+
+unfoldable pub file-read : (bytes : List ℕ) → Reading
+file-read bs = reading-of bs (tree-read bs .reached) (tree-read bs .tree)

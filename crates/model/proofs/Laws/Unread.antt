@@ -1,0 +1,28 @@
+-- Words that are not read tell no trees apart. Assumes nothing.
+use mathlib.Core.Path.{_≡_, refl, ap, fun-ext}
+use mathlib.Core.Bool.{Bool, true, false, _&&_, cond}
+use mathlib.Core.List.{List}
+use Prim.Native.Nat.{ℕ, _%_, _≤_, _<_}
+use lib.Dec.{leb, ltb}
+use lib.ListN.{getD}
+use borrow.Author.Tests.{leb-true, ltb-true}
+use Rattle.model.specs.Trees.{Tree, read-word, tree-of}
+use Rattle.model.specs.Laws.{Unread-law}
+use Rattle.model.proofs.Tests.{and-both}
+
+-- words that agree where they are read
+read-alike : (first end : ℕ) (xs ys : List ℕ) (k : ℕ) → (first ≤ k → k < end → getD ys k 0 ≡ getD xs k 0) → read-word first end ys k ≡ read-word first end xs k
+unfolding read-word
+read-alike first end xs ys k h = by (leb first k && ltb k end) refl
+  where
+    by : (b : Bool) → leb first k && ltb k end ≡ b → cond (leb first k && ltb k end) (getD ys k 0) 0 ≡ cond (leb first k && ltb k end) (getD xs k 0) 0
+    by true e = let both = and-both (leb first k) (ltb k end) e in rw (h (leb-true _ _ (both .0)) (ltb-true _ _ (both .1)))
+    by false e = rw e
+
+pub unread-law : Unread-law
+unfolding Unread-law tree-of
+unread-law w v a =
+    let parents = fun-ext (λ d. read-alike 1 (w .domains) (w .parents) (v .parents) d (a .parents d)) in
+    let thresholds = fun-ext (λ d. ap (λ n. n % 65536) (read-alike 1 (w .domains) (w .thresholds) (v .thresholds) d (a .thresholds d))) in
+    let homes = fun-ext (λ i. read-alike 0 (w .threads) (w .homes) (v .homes) i (λ b. a .homes i)) in
+    rw (a .domains, a .threads, parents, thresholds, homes)

@@ -1,0 +1,35 @@
+// The 22 entries of the specification's example, stepped one by one on a lock that the host keeps: who holds it after each step.
+#include "hmcs.hpp"
+
+#include <cstdio>
+#include <vector>
+
+int main() {
+    hmcs::Tree tree;
+    const auto first = static_cast<std::uint8_t>(tree.add_domain(0, 2));
+    const auto second = static_cast<std::uint8_t>(tree.add_domain(0, 16));
+    tree.add_thread(first);
+    tree.add_thread(first);
+    tree.add_thread(second);
+
+    hmcs::Lock lock(tree);
+    if (lock.refusal()) {
+        std::printf("refused %u at %u: %s\n", lock.refusal().number, lock.refusal().place, lock.refusal().text());
+        return 1;
+    }
+    const std::vector<std::uint16_t> schedule = {0, 0, 0, 0, 1, 1, 1, 1, 0, 0, 0, 1, 2, 2, 2, 2, 2, 1, 1, 1, 1, 2};
+    for (std::size_t k = 0; k < schedule.size(); ++k) {
+        const hmcs::Refusal refusal = lock.step(schedule[k]);
+        if (refusal) {
+            std::printf("refused %u at %u: %s\n", refusal.number, refusal.place, refusal.text());
+            return 1;
+        }
+        const auto holder = lock.holder();
+        if (holder) {
+            std::printf("%2zu thread %u steps; thread %u is inside\n", k, schedule[k], *holder);
+        } else {
+            std::printf("%2zu thread %u steps; nobody is inside\n", k, schedule[k]);
+        }
+    }
+    return 0;
+}

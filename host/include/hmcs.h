@@ -1,0 +1,168 @@
+/* Lyumadeon: a proved step model of the hierarchical MCS lock, for C and C++.
+ *
+ * Link with libhost.a (`rt staticlib host` writes target/staticlib/libhost.a). Every function returns for every input, writes only what
+ * its description names, and keeps nothing: no allocation, no globals, no locks. The words below are compared field by field, never by
+ * memcmp: struct hmcs_place has padding.
+ */
+#ifndef HMCS_H
+#define HMCS_H
+
+#include <stddef.h>
+#include <stdint.h>
+
+#ifdef __cplusplus
+extern "C" {
+#endif
+
+enum {
+    HMCS_DOMAINS = 64,  /* room for domains; domain 0 is the root */
+    HMCS_THREADS = 256, /* room for threads */
+    HMCS_RECORDS = 320  /* a thread's record has the thread's number, domain d's is 256 + d */
+};
+
+/* A tree with its threads. Room that the tree lacks, and the root's parent and threshold, are not read. */
+typedef struct hmcs_tree {
+    uint32_t domains;                  /* 1 to 64 */
+    uint32_t threads;                  /* 1 to 256 */
+    uint8_t parents[HMCS_DOMAINS];     /* of each domain but the root, one with a lower number */
+    uint16_t thresholds[HMCS_DOMAINS]; /* of each domain but the root, 1 to 65,535 */
+    uint8_t homes[HMCS_THREADS];       /* of each thread, a domain without child domains */
+} hmcs_tree;
+
+/* Rows of the step table, as a thread's place names them. */
+enum hmcs_row {
+    HMCS_IDLE = 0,
+    HMCS_PREP = 1,
+    HMCS_SWAP = 2,
+    HMCS_LINK = 3,
+    HMCS_WAIT = 4,
+    HMCS_INSIDE = 5,
+    HMCS_CHECK = 6,
+    HMCS_HELP = 7,
+    HMCS_CAS = 8,
+    HMCS_LINGER = 9,
+    HMCS_GRANT = 10
+};
+
+/* A thread's place. A part that the row lacks is 0. */
+typedef struct hmcs_place {
+    uint8_t row;    /* enum hmcs_row */
+    uint8_t domain; /* 0 for Idle and Inside */
+    uint16_t peer;  /* Link: the record before; Grant: the record that is granted */
+    uint64_t word;  /* Grant: the word that is granted */
+} hmcs_place;
+
+/* A lock state. A tail or a next is 0 for none, else a record's number + 1. All zero is the fresh state. */
+typedef struct hmcs_state {
+    uint16_t tails[HMCS_DOMAINS];
+    uint16_t nexts[HMCS_RECORDS];
+    uint64_t statuses[HMCS_RECORDS];
+    hmcs_place places[HMCS_THREADS];
+} hmcs_state;
+
+/* Status words. */
+#define HMCS_COHORT_START UINT64_C(1)
+#define HMCS_ACQUIRE_PARENT (UINT64_MAX - 1)
+#define HMCS_WAIT_WORD UINT64_MAX
+#define HMCS_UNLOCKED UINT64_C(0) /* at the root */
+#define HMCS_LOCKED UINT64_C(1)   /* at the root */
+
+/* What an answer's number means. 0 is accepted. A place that is not named is 0. */
+enum hmcs_refusal {
+    HMCS_ACCEPTED = 0,
+    HMCS_FILE_TOO_LONG = 1,    /* The lock file is longer than 65,536 bytes. */
+    HMCS_FILE_CUT = 2,         /* The lock file ends inside a field or where one is still due, the place being its length. */
+    HMCS_FILE_BIT = 3,         /* A bit map has a bit set that has no meaning, the place being its byte. */
+    HMCS_BAD_DOMAINS = 4,      /* There are no domains, or more than 64. */
+    HMCS_BAD_THREADS = 5,      /* There are no threads, or more than 256. */
+    HMCS_BAD_PARENT = 6,       /* A domain other than 0 has a parent not below its own number, the place being the domain. */
+    HMCS_TOO_DEEP = 7,         /* A domain lies deeper than level 6, the place being the domain. */
+    HMCS_NO_THRESHOLD = 8,     /* A domain other than 0 has threshold 0, the place being the domain. */
+    HMCS_BAD_HOME = 9,         /* A home is no domain of the tree or has child domains, the place being the thread. */
+    HMCS_BAD_STATE = 10,       /* The state handed in is not well formed. */
+    HMCS_SCHEDULE_LONG = 11,   /* The schedule has more than 65,536 entries. */
+    HMCS_BAD_ENTRY = 12,       /* A schedule entry is not below the number of threads, the place being its position from 0. */
+    HMCS_TRACE_SHORT = 13,     /* The trace buffer has fewer elements than the schedule. */
+    HMCS_OUTPUT_SHORT = 14     /* The output buffer is shorter than the listing. */
+};
+
+/* The sentence of a refusal number, for people. */
+static inline const char *hmcs_refusal_text(uint32_t number) {
+    switch (number) {
+    case HMCS_ACCEPTED: return "accepted";
+    case HMCS_FILE_TOO_LONG: return "the lock file is longer than 65,536 bytes";
+    case HMCS_FILE_CUT: return "the lock file ends inside a field or where one is still due";
+    case HMCS_FILE_BIT: return "a bit map has a bit set that has no meaning";
+    case HMCS_BAD_DOMAINS: return "there are no domains, or more than 64";
+    case HMCS_BAD_THREADS: return "there are no threads, or more than 256";
+    case HMCS_BAD_PARENT: return "a domain other than 0 has a parent not below its own number";
+    case HMCS_TOO_DEEP: return "a domain lies deeper than level 6";
+    case HMCS_NO_THRESHOLD: return "a domain other than 0 has threshold 0";
+    case HMCS_BAD_HOME: return "a home is no domain of the tree or has child domains";
+    case HMCS_BAD_STATE: return "the state handed in is not well formed";
+    case HMCS_SCHEDULE_LONG: return "the schedule has more than 65,536 entries";
+    case HMCS_BAD_ENTRY: return "a schedule entry is not below the number of threads";
+    case HMCS_TRACE_SHORT: return "the trace buffer has fewer elements than the schedule";
+    case HMCS_OUTPUT_SHORT: return "the output buffer is shorter than the listing";
+    default: return "no refusal has this number";
+    }
+}
+
+/* Number and place alone. */
+typedef struct hmcs_answer {
+    uint32_t number;
+    uint32_t place;
+} hmcs_answer;
+
+/* What the fresh call and a step return. */
+typedef struct hmcs_fresh_reply {
+    uint32_t number;
+    uint32_t place;
+    hmcs_state state;
+} hmcs_fresh_reply;
+
+typedef struct hmcs_step_reply {
+    uint32_t number;
+    uint32_t place;
+    hmcs_state state;
+} hmcs_step_reply;
+
+/* What a run returns: its steps (stays among them), entries, stays, root entries and passed entries; all 0 where it is refused. */
+typedef struct hmcs_run_reply {
+    uint32_t number;
+    uint32_t place;
+    uint32_t steps;
+    uint32_t entries;
+    uint32_t stays;
+    uint32_t root;
+    uint32_t passed;
+    hmcs_state state;
+} hmcs_run_reply;
+
+/* A fresh lock of the tree. Refused by 4 to 9. The state is fresh, accepted or refused. */
+hmcs_fresh_reply hmcs_fresh(hmcs_tree tree);
+
+/* One step of a thread. Refused by 4 to 10 and 12; then the state is as it came. */
+hmcs_step_reply hmcs_step(hmcs_tree tree, hmcs_state state, uint16_t thread);
+
+/* The steps of a schedule, one after another. Refused by 4 to 13; then no step is taken, the counts are 0, and state and trace are as they
+ * came. Accepted, the entering threads are written at the front of the trace, reply.entries of them, and nothing behind them. The trace must
+ * have room for as many elements as the schedule has. */
+hmcs_run_reply hmcs_run(hmcs_tree tree, hmcs_state state, const uint16_t *schedule, size_t schedule_length, uint16_t *trace, size_t trace_length);
+
+/* A fresh lock, written where the host keeps its state: the fresh words, accepted or refused. */
+hmcs_answer hmcs_fresh_in_place(hmcs_tree tree, hmcs_state *state);
+
+/* One step of the state that the host keeps, where it stands: the same as hmcs_step. Refused, the state is as it was. */
+hmcs_answer hmcs_step_in_place(hmcs_tree tree, hmcs_state *state, uint16_t thread);
+
+/* The file call: reads a lock file, runs its schedule from a fresh lock, and writes the listing at the front of the output. Returns the
+ * number; *place is its place, *length the listing's length, 0 where it is refused. Refused by 1 to 9, 12 and 14; then the output is as it
+ * came. */
+uint32_t hmcs_run_file(const uint8_t *file, size_t file_length, uint8_t *output, size_t output_length, uint32_t *place, uint32_t *length);
+
+#ifdef __cplusplus
+}
+#endif
+
+#endif

@@ -1,0 +1,141 @@
+// Lyumadeon for C++17: a lock that the host keeps and steps, runs and lock files. No exceptions are thrown but by the allocator.
+#ifndef HMCS_HPP
+#define HMCS_HPP
+
+#include "hmcs.h"
+
+#include <cstddef>
+#include <cstdint>
+#include <optional>
+#include <string>
+#include <vector>
+
+namespace hmcs {
+
+static_assert(sizeof(hmcs_tree) == 456 && alignof(hmcs_tree) == 4, "layout of hmcs_tree");
+static_assert(offsetof(hmcs_tree, parents) == 8 && offsetof(hmcs_tree, thresholds) == 72 && offsetof(hmcs_tree, homes) == 200, "layout of hmcs_tree");
+static_assert(sizeof(hmcs_place) == 16 && offsetof(hmcs_place, peer) == 2 && offsetof(hmcs_place, word) == 8, "layout of hmcs_place");
+static_assert(sizeof(hmcs_state) == 7424 && offsetof(hmcs_state, nexts) == 128, "layout of hmcs_state");
+static_assert(offsetof(hmcs_state, statuses) == 768 && offsetof(hmcs_state, places) == 3328, "layout of hmcs_state");
+static_assert(sizeof(hmcs_step_reply) == 7432 && offsetof(hmcs_step_reply, state) == 8, "layout of hmcs_step_reply");
+static_assert(sizeof(hmcs_fresh_reply) == 7432 && offsetof(hmcs_fresh_reply, state) == 8, "layout of hmcs_fresh_reply");
+static_assert(sizeof(hmcs_run_reply) == 7456 && offsetof(hmcs_run_reply, state) == 32, "layout of hmcs_run_reply");
+
+// Number and place of an answer.
+struct Refusal {
+    std::uint32_t number = 0;
+    std::uint32_t place = 0;
+
+    explicit operator bool() const { return number != 0; }
+    const char *text() const { return hmcs_refusal_text(number); }
+};
+
+// A tree that grows domain by domain and thread by thread. What does not fit the room is counted and not stored, so that the calls refuse it.
+class Tree {
+public:
+    Tree() : words_{} { words_.domains = 1; }
+
+    // A domain below another; its number.
+    std::uint32_t add_domain(std::uint8_t parent, std::uint16_t threshold) {
+        const std::uint32_t d = words_.domains++;
+        if (d < HMCS_DOMAINS) {
+            words_.parents[d] = parent;
+            words_.thresholds[d] = threshold;
+        }
+        return d;
+    }
+
+    // A thread in a domain; its number.
+    std::uint32_t add_thread(std::uint8_t home) {
+        const std::uint32_t i = words_.threads++;
+        if (i < HMCS_THREADS) {
+            words_.homes[i] = home;
+        }
+        return i;
+    }
+
+    const hmcs_tree &words() const { return words_; }
+
+private:
+    hmcs_tree words_;
+};
+
+// The counts of a run.
+struct Counts {
+    std::uint32_t steps = 0, entries = 0, stays = 0, root = 0, passed = 0;
+};
+
+struct RunResult {
+    Refusal refusal;
+    Counts counts;
+    std::vector<std::uint16_t> trace; // the entering threads
+};
+
+// A lock that the host keeps: a tree and a state, stepped where it stands.
+class Lock {
+public:
+    // A fresh lock. refusal() tells whether the tree was accepted.
+    explicit Lock(const Tree &tree) : tree_(tree.words()), state_{} { refusal_ = of(hmcs_fresh_in_place(tree_, &state_)); }
+
+    const Refusal &refusal() const { return refusal_; }
+    const hmcs_state &state() const { return state_; }
+    const hmcs_tree &tree() const { return tree_; }
+
+    // One step of a thread. Refused, the state is as it was.
+    Refusal step(std::uint16_t thread) { return of(hmcs_step_in_place(tree_, &state_, thread)); }
+
+    // A schedule. Refused, the state is as it was and no step is taken.
+    RunResult run(const std::uint16_t *schedule, std::size_t length) {
+        RunResult result;
+        result.trace.resize(length);
+        const hmcs_run_reply reply = hmcs_run(tree_, state_, schedule, length, result.trace.data(), length);
+        state_ = reply.state;
+        result.refusal = Refusal{reply.number, reply.place};
+        result.counts = Counts{reply.steps, reply.entries, reply.stays, reply.root, reply.passed};
+        result.trace.resize(reply.entries);
+        return result;
+    }
+
+    RunResult run(const std::vector<std::uint16_t> &schedule) { return run(schedule.data(), schedule.size()); }
+
+    // The thread that is Inside, where there is one.
+    std::optional<std::uint16_t> holder() const {
+        for (std::size_t i = 0; i < HMCS_THREADS; ++i) {
+            if (state_.places[i].row == HMCS_INSIDE) {
+                return static_cast<std::uint16_t>(i);
+            }
+        }
+        return std::nullopt;
+    }
+
+private:
+    static Refusal of(hmcs_answer a) { return Refusal{a.number, a.place}; }
+
+    hmcs_tree tree_;
+    hmcs_state state_;
+    Refusal refusal_;
+};
+
+struct FileResult {
+    Refusal refusal;
+    std::string listing;
+};
+
+// The file call, with as much room for the listing as it can need.
+inline FileResult run_file(const std::uint8_t *file, std::size_t length) {
+    FileResult result;
+    result.listing.resize(262144);
+    std::uint32_t place = 0;
+    std::uint32_t written = 0;
+    const std::uint32_t number =
+        hmcs_run_file(file, length, reinterpret_cast<std::uint8_t *>(result.listing.data()), result.listing.size(), &place, &written);
+    result.refusal = Refusal{number, place};
+    result.listing.resize(written);
+    return result;
+}
+
+inline FileResult run_file(const std::vector<std::uint8_t> &file) { return run_file(file.data(), file.size()); }
+
+} // namespace hmcs
+
+#endif

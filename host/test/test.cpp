@@ -1,0 +1,268 @@
+// The C boundary as a host uses it: layouts by round trips, the specification's cases, and that nothing outside the buffers is touched.
+#include "hmcs.hpp"
+
+#include <sys/mman.h>
+#include <unistd.h>
+
+#include <cstdio>
+#include <cstdlib>
+#include <cstring>
+#include <memory>
+#include <string>
+#include <vector>
+
+namespace {
+
+int checks = 0;
+int failures = 0;
+
+void check(bool holds, const char *what, int line) {
+    ++checks;
+    if (!holds) {
+        ++failures;
+        std::printf("line %d: not so: %s\n", line, what);
+    }
+}
+#define CHECK(x) check((x), #x, __LINE__)
+
+// Memory with pages before and behind it that nobody may read or write.
+class Guarded {
+public:
+    // The bytes end where the guard behind begins, or begin where the guard before ends.
+    Guarded(std::size_t size, bool at_end) : size_(size) {
+        const std::size_t page = static_cast<std::size_t>(sysconf(_SC_PAGESIZE));
+        const std::size_t inner = (size + page - 1) / page * page + (size == 0 ? page : 0);
+        whole_ = inner + 2 * page;
+        base_ = static_cast<unsigned char *>(mmap(nullptr, whole_, PROT_NONE, MAP_PRIVATE | MAP_ANONYMOUS, -1, 0));
+        if (base_ == MAP_FAILED || mprotect(base_ + page, inner, PROT_READ | PROT_WRITE) != 0) {
+            std::perror("guard pages");
+            std::exit(2);
+        }
+        bytes_ = at_end ? base_ + page + inner - size : base_ + page;
+    }
+    Guarded(const Guarded &) = delete;
+    Guarded &operator=(const Guarded &) = delete;
+    ~Guarded() { munmap(base_, whole_); }
+
+    template <typename T> T *as() { return reinterpret_cast<T *>(bytes_); }
+    std::size_t size() const { return size_; }
+
+private:
+    std::size_t size_;
+    std::size_t whole_;
+    unsigned char *base_;
+    unsigned char *bytes_;
+};
+
+bool same(const hmcs_state &a, const hmcs_state &b) {
+    if (std::memcmp(a.tails, b.tails, sizeof a.tails) != 0 || std::memcmp(a.nexts, b.nexts, sizeof a.nexts) != 0 ||
+        std::memcmp(a.statuses, b.statuses, sizeof a.statuses) != 0) {
+        return false;
+    }
+    for (int i = 0; i < HMCS_THREADS; ++i) {
+        const hmcs_place &p = a.places[i];
+        const hmcs_place &q = b.places[i];
+        if (p.row != q.row || p.domain != q.domain || p.peer != q.peer || p.word != q.word) {
+            return false;
+        }
+    }
+    return true;
+}
+
+const std::vector<std::uint16_t> schedule22 = {0, 0, 0, 0, 1, 1, 1, 1, 0, 0, 0, 1, 2, 2, 2, 2, 2, 1, 1, 1, 1, 2};
+
+hmcs::Tree example_tree() {
+    hmcs::Tree tree;
+    tree.add_domain(0, 2);
+    tree.add_domain(0, 16);
+    tree.add_thread(1);
+    tree.add_thread(1);
+    tree.add_thread(2);
+    return tree;
+}
+
+std::vector<std::uint8_t> example_file() {
+    std::vector<std::uint8_t> file = {0x03, 0x02, 0x02, 0x00, 0x00, 0x03, 0x00, 0x01, 0x01, 0x00, 0x01, 0x02};
+    for (std::uint16_t i : schedule22) {
+        file.push_back(static_cast<std::uint8_t>(i & 255));
+        file.push_back(static_cast<std::uint8_t>(i >> 8));
+    }
+    return file;
+}
+
+// Every word of a state, each different, comes back from a refused step: the layouts agree.
+void layouts() {
+    auto state = std::make_unique<hmcs_state>();
+    std::memset(state.get(), 0, sizeof *state);
+    for (int d = 0; d < HMCS_DOMAINS; ++d) state->tails[d] = static_cast<std::uint16_t>(1000 + d);
+    for (int r = 0; r < HMCS_RECORDS; ++r) {
+        state->nexts[r] = static_cast<std::uint16_t>(2000 + r);
+        state->statuses[r] = UINT64_C(0x0102030405060000) + static_cast<std::uint64_t>(r);
+    }
+    for (int i = 0; i < HMCS_THREADS; ++i) {
+        state->places[i].row = static_cast<std::uint8_t>(i);
+        state->places[i].domain = static_cast<std::uint8_t>(255 - i);
+        state->places[i].peer = static_cast<std::uint16_t>(3000 + i);
+        state->places[i].word = UINT64_C(0xf0e0d0c0b0a00000) + static_cast<std::uint64_t>(i);
+    }
+    const hmcs::Tree tree = example_tree();
+    const hmcs_step_reply step = hmcs_step(tree.words(), *state, 0);
+    CHECK(step.number == HMCS_BAD_STATE && step.place == 0);
+    CHECK(same(step.state, *state));
+    std::uint16_t trace[1] = {77};
+    const std::uint16_t schedule[1] = {0};
+    const hmcs_run_reply run = hmcs_run(tree.words(), *state, schedule, 1, trace, 1);
+    CHECK(run.number == HMCS_BAD_STATE && run.place == 0 && run.steps == 0 && run.entries == 0 && run.stays == 0 && run.root == 0 && run.passed == 0);
+    CHECK(same(run.state, *state) && trace[0] == 77);
+    auto kept = std::make_unique<hmcs_state>(*state);
+    const hmcs_answer answer = hmcs_step_in_place(tree.words(), kept.get(), 0);
+    CHECK(answer.number == HMCS_BAD_STATE && answer.place == 0 && same(*kept, *state));
+}
+
+// The last elements of a tree's arrays are read where the library expects them.
+void tree_layout() {
+    hmcs_tree t;
+    std::memset(&t, 0, sizeof t);
+    t.domains = 64;
+    t.threads = 256;
+    for (int d = 0; d < 64; ++d) t.thresholds[d] = 1;
+    for (int i = 0; i < 256; ++i) t.homes[i] = static_cast<std::uint8_t>(1 + i % 63);
+    CHECK(hmcs_fresh(t).number == 0);
+    hmcs_tree u = t;
+    u.parents[63] = 63;
+    hmcs_fresh_reply r = hmcs_fresh(u);
+    CHECK(r.number == HMCS_BAD_PARENT && r.place == 63);
+    u = t;
+    u.thresholds[63] = 0;
+    r = hmcs_fresh(u);
+    CHECK(r.number == HMCS_NO_THRESHOLD && r.place == 63);
+    u = t;
+    u.homes[255] = 0;
+    r = hmcs_fresh(u);
+    CHECK(r.number == HMCS_BAD_HOME && r.place == 255);
+    u = t;
+    u.domains = 65;
+    CHECK(hmcs_fresh(u).number == HMCS_BAD_DOMAINS);
+    u = t;
+    u.threads = 257;
+    CHECK(hmcs_fresh(u).number == HMCS_BAD_THREADS);
+    u = t;
+    u.parents[0] = 200; // the root's words are not read
+    u.thresholds[0] = 0;
+    CHECK(hmcs_fresh(u).number == 0);
+}
+
+// By value, in place and as a run, the 22 entries lead to one state.
+void example() {
+    const hmcs::Tree tree = example_tree();
+    const hmcs_fresh_reply fresh = hmcs_fresh(tree.words());
+    CHECK(fresh.number == 0 && fresh.place == 0);
+    hmcs_state by_value = fresh.state;
+    Guarded kept(sizeof(hmcs_state), true);
+    hmcs_state *in_place = kept.as<hmcs_state>();
+    std::memset(in_place, 0x5a, sizeof *in_place);
+    const hmcs_answer made = hmcs_fresh_in_place(tree.words(), in_place);
+    CHECK(made.number == 0 && made.place == 0 && same(*in_place, fresh.state));
+    for (std::uint16_t i : schedule22) {
+        const hmcs_step_reply r = hmcs_step(tree.words(), by_value, i);
+        CHECK(r.number == 0 && r.place == 0);
+        by_value = r.state;
+        const hmcs_answer a = hmcs_step_in_place(tree.words(), in_place, i);
+        CHECK(a.number == 0 && a.place == 0 && same(*in_place, by_value));
+    }
+    for (bool at_end : {false, true}) {
+        Guarded schedule(schedule22.size() * 2, at_end);
+        Guarded trace(schedule22.size() * 2, at_end);
+        std::memcpy(schedule.as<void>(), schedule22.data(), schedule.size());
+        std::memset(trace.as<void>(), 0x77, trace.size());
+        const hmcs_run_reply r = hmcs_run(tree.words(), fresh.state, schedule.as<std::uint16_t>(), 22, trace.as<std::uint16_t>(), 22);
+        CHECK(r.number == 0 && r.steps == 22 && r.entries == 3 && r.stays == 1 && r.root == 2 && r.passed == 1);
+        CHECK(same(r.state, by_value));
+        const std::uint16_t *t = trace.as<std::uint16_t>();
+        CHECK(t[0] == 0 && t[1] == 1 && t[2] == 2);
+        for (int k = 3; k < 22; ++k) CHECK(t[k] == 0x7777);
+        const hmcs_run_reply s = hmcs_run(tree.words(), fresh.state, schedule.as<std::uint16_t>(), 22, trace.as<std::uint16_t>(), 21);
+        CHECK(s.number == HMCS_TRACE_SHORT && s.steps == 0 && same(s.state, fresh.state));
+    }
+    const hmcs_answer refused = hmcs_step_in_place(tree.words(), in_place, 3);
+    CHECK(refused.number == HMCS_BAD_ENTRY && refused.place == 0 && same(*in_place, by_value));
+    hmcs_tree bad = tree.words();
+    bad.domains = 0;
+    CHECK(hmcs_fresh_in_place(bad, in_place).number == HMCS_BAD_DOMAINS && same(*in_place, fresh.state));
+}
+
+// The wrapper's run and a refused one.
+void wrapper() {
+    hmcs::Lock lock(example_tree());
+    CHECK(!lock.refusal() && !lock.holder());
+    const hmcs::RunResult run = lock.run(schedule22);
+    CHECK(!run.refusal && run.counts.steps == 22 && run.trace == (std::vector<std::uint16_t>{0, 1, 2}));
+    CHECK(lock.holder() == std::optional<std::uint16_t>(2));
+    const hmcs_state before = lock.state();
+    std::vector<std::uint16_t> late = schedule22;
+    late.push_back(3);
+    const hmcs::RunResult refused = lock.run(late);
+    CHECK(refused.refusal.number == 12 && refused.refusal.place == 22 && refused.trace.empty() && same(lock.state(), before));
+    CHECK(std::string(refused.refusal.text()) == "a schedule entry is not below the number of threads");
+    const hmcs::FileResult file = hmcs::run_file(example_file());
+    CHECK(!file.refusal && file.listing == "ok 22 3 1 2 1\n0\n1\n2\n");
+}
+
+// The file call between guard pages, with each length of output about the listing's.
+void files() {
+    const std::vector<std::uint8_t> bytes = example_file();
+    const std::string listing = "ok 22 3 1 2 1\n0\n1\n2\n";
+    for (bool at_end : {false, true}) {
+        for (std::size_t room = listing.size() - 2; room <= listing.size() + 2; ++room) {
+            Guarded file(bytes.size(), at_end);
+            Guarded output(room, at_end);
+            std::memcpy(file.as<void>(), bytes.data(), bytes.size());
+            std::memset(output.as<void>(), 0x33, room);
+            std::uint32_t place = 9, length = 9;
+            const std::uint32_t number = hmcs_run_file(file.as<std::uint8_t>(), file.size(), output.as<std::uint8_t>(), room, &place, &length);
+            const bool fits = listing.size() <= room;
+            CHECK(number == (fits ? 0u : static_cast<std::uint32_t>(HMCS_OUTPUT_SHORT)) && place == 0);
+            CHECK(length == (fits ? listing.size() : 0));
+            for (std::size_t k = 0; k < room; ++k) {
+                const unsigned char wanted = fits && k < listing.size() ? static_cast<unsigned char>(listing[k]) : 0x33;
+                CHECK(output.as<unsigned char>()[k] == wanted);
+            }
+        }
+        for (std::size_t cut = 0; cut < bytes.size(); ++cut) {
+            Guarded file(cut, at_end);
+            Guarded output(64, at_end);
+            if (cut != 0) std::memcpy(file.as<void>(), bytes.data(), cut);
+            std::uint32_t place = 9, length = 9;
+            const std::uint32_t number = hmcs_run_file(file.as<std::uint8_t>(), cut, output.as<std::uint8_t>(), 64, &place, &length);
+            CHECK(number == 0 || (number == HMCS_FILE_CUT && place == cut && length == 0));
+        }
+    }
+    Guarded longest(65537, true);
+    std::uint32_t place = 9, length = 9;
+    CHECK(hmcs_run_file(longest.as<std::uint8_t>(), 65537, nullptr, 0, &place, &length) == HMCS_FILE_TOO_LONG && place == 0 && length == 0);
+}
+
+// A null pointer with length 0 is an empty slice.
+void null_pointers() {
+    std::uint32_t place = 9, length = 9;
+    CHECK(hmcs_run_file(nullptr, 0, nullptr, 0, &place, &length) == HMCS_FILE_CUT && place == 0 && length == 0);
+    const hmcs::Tree tree = example_tree();
+    const hmcs_fresh_reply fresh = hmcs_fresh(tree.words());
+    const hmcs_run_reply run = hmcs_run(tree.words(), fresh.state, nullptr, 0, nullptr, 0);
+    CHECK(run.number == 0 && run.steps == 0 && same(run.state, fresh.state));
+    const std::uint16_t one[1] = {0};
+    CHECK(hmcs_run(tree.words(), fresh.state, one, 1, nullptr, 0).number == HMCS_TRACE_SHORT);
+}
+
+} // namespace
+
+int main() {
+    layouts();
+    tree_layout();
+    example();
+    wrapper();
+    files();
+    null_pointers();
+    std::printf("host: %d checks, %d failures\n", checks, failures);
+    return failures == 0 ? 0 : 1;
+}

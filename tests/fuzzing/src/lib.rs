@@ -1,0 +1,13 @@
+//! The step table's file call under the C form of the library's, for the fuzzer.
+
+use std::slice;
+
+/// # Safety
+/// The pointers are valid for their lengths.
+#[no_mangle]
+pub unsafe extern "C" fn reference_run_file(file: *const u8, file_length: usize, output: *mut u8, output_length: usize, place: *mut u32, length: *mut u32) -> u32 {
+    let answer = reference::lock_file::run_file(slice::from_raw_parts(file, file_length), slice::from_raw_parts_mut(output, output_length));
+    *place = answer.place;
+    *length = answer.length;
+    answer.number
+}

@@ -1,0 +1,86 @@
+//! The file call: whole files, and what each step adds to a call without entries.
+
+use crate::{draft_with_schedule, print_line, time, ROUNDS, SCHEDULES, TREES};
+use reference::library::{self, RunFile};
+use reference::lock_file::{self, LONGEST_FILE};
+use reference::random::Random;
+use reference::schedules::Style;
+use std::hint::black_box;
+
+const ENTRIES: usize = 32_000;
+
+/// The same file with its schedule and without.
+struct Pair {
+    full: Vec<u8>,
+    empty: Vec<u8>,
+}
+
+/// Nanoseconds of a call on each of the two.
+struct Cost {
+    full: f64,
+    empty: f64,
+}
+
+impl Cost {
+    /// Microseconds a file and nanoseconds a step.
+    fn columns(&self) -> [f64; 2] {
+        [self.full / 1000.0, (self.full - self.empty) / ENTRIES as f64]
+    }
+}
+
+fn pair(tree: (usize, usize), style: Style) -> Pair {
+    let mut draft = draft_with_schedule(tree, style, ENTRIES);
+    let full = draft.write(&mut Random::new(1));
+    draft.schedule.clear();
+    Pair { full, empty: draft.write(&mut Random::new(1)) }
+}
+
+/// The best of the rounds, in each of which every file call has its turn.
+fn costs(calls: &[RunFile], pair: &Pair) -> Vec<Cost> {
+    let mut output = vec![0; LONGEST_FILE];
+    let mut measure = |call: RunFile, file: &[u8]| time(|| assert_eq!(call(black_box(file), &mut output).number, 0));
+    let mut best: Vec<Cost> = calls.iter().map(|_| Cost { full: f64::MAX, empty: f64::MAX }).collect();
+    for _ in 0..ROUNDS {
+        for (call, cost) in calls.iter().zip(&mut best) {
+            cost.full = cost.full.min(measure(*call, &pair.full));
+            cost.empty = cost.empty.min(measure(*call, &pair.empty));
+        }
+    }
+    best
+}
+
+/// What a call costs before its first step, in microseconds; it stays out of the ratios.
+fn print_empty(tree: (usize, usize), costs: &[Cost]) {
+    let empty: Vec<String> = costs.iter().map(|cost| format!("{:>9.2}", cost.empty / 1000.0)).collect();
+    println!("{:<14} {:>7} {:>7}  {}", "no entries", tree.0, tree.1, empty.join(&" ".repeat(10)));
+}
+
+fn same_answers(calls: &[RunFile], file: &[u8]) -> bool {
+    let answer = |call: &RunFile| {
+        let mut output = vec![0; LONGEST_FILE];
+        (call(file, &mut output), output)
+    };
+    calls.iter().all(|call| answer(call) == answer(&calls[0]))
+}
+
+fn print_schedule(calls: &[RunFile], tree: (usize, usize), name: &str, style: Style) -> (Vec<Cost>, Vec<f64>) {
+    let pair = pair(tree, style);
+    assert!(same_answers(calls, &pair.full), "the answers differ");
+    let costs = costs(calls, &pair);
+    let columns: Vec<[f64; 2]> = costs.iter().map(Cost::columns).collect();
+    let ratios = print_line(name, tree, &columns);
+    (costs, ratios)
+}
+
+/// Prints the table and returns its ratios.
+pub fn print() -> Vec<f64> {
+    let calls: Vec<RunFile> = std::iter::once(lock_file::run_file as RunFile).chain(library::run_file()).collect();
+    println!("file call, {ENTRIES} entries: microseconds a file and nanoseconds a step, of the step table and the library; their ratios");
+    let mut ratios = Vec::new();
+    for tree in TREES {
+        let lines = SCHEDULES.map(|(name, style)| print_schedule(&calls, tree, name, style));
+        ratios.extend(lines.iter().flat_map(|(_, ratios)| ratios));
+        print_empty(tree, &lines[0].0);
+    }
+    ratios
+}

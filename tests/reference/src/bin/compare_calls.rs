@@ -1,0 +1,162 @@
+//! Compares the library's calls on a caller's tree and state with the step table's; without the library it only counts what the cases meet.
+
+use reference::calls::{Calls, TABLE};
+use reference::library;
+use reference::met::Met;
+use reference::options::Options;
+use reference::random::Random;
+use reference::random_file::{broken_draft, valid_draft};
+use reference::random_state::{random_state, spoil, tree_words};
+use reference::refusals::{accept_tree, LONGEST_SCHEDULE};
+use reference::words::*;
+use std::process::exit;
+
+const CANARY: usize = 16;
+const REFUSALS: [usize; 10] = [4, 5, 6, 7, 8, 9, 10, 11, 12, 13];
+
+#[derive(Clone, Copy, Debug)]
+enum Call {
+    Fresh,
+    Step,
+    StepInPlace,
+    Run,
+}
+
+/// What one call is given; the trace buffer stands between canaries.
+struct Case {
+    call: Call,
+    tree: TreeWords,
+    state: StateWords,
+    schedule: Vec<u16>,
+    trace: Vec<u16>,
+}
+
+/// What a call returned and left in its buffers; a call that is no run has no counts.
+#[derive(PartialEq, Eq)]
+struct Left {
+    reply: RunReply,
+    trace: Vec<u16>,
+}
+
+fn random_case(random: &mut Random) -> Case {
+    let call = random.pick(&[Call::Fresh, Call::Step, Call::StepInPlace, Call::Run, Call::Run, Call::Run]);
+    let draft = if random.one_in(5) { broken_draft(random) } else { valid_draft(random) };
+    let tree = tree_words(random, &draft);
+    let state = case_state(random, &tree);
+    let schedule = case_schedule(random, draft.schedule, tree.threads);
+    let room = match random.below(6) {
+        0 => schedule.len().saturating_sub(random.between(1, 2)),
+        1..=3 => schedule.len(),
+        _ => schedule.len() + random.below(20),
+    };
+    let trace = (0..CANARY + room + CANARY).map(|_| random.below(65_536) as u16).collect();
+    Case { call, tree, state, schedule, trace }
+}
+
+fn case_state(random: &mut Random, words: &TreeWords) -> StateWords {
+    let tree = words.tree();
+    if accept_tree(&tree).is_err() {
+        let mut state = StateWords::fresh();
+        state.places[255].row = random.pick(&[0, 11]);
+        return state;
+    }
+    let mut state = random_state(random, &tree);
+    if random.one_in(4) {
+        spoil(random, &tree, &mut state);
+    }
+    state
+}
+
+/// At times too long, at times with an entry that names no thread; never empty, for a step takes its first entry.
+fn case_schedule(random: &mut Random, mut schedule: Vec<u16>, threads: u32) -> Vec<u16> {
+    if random.one_in(500) {
+        schedule.resize(LONGEST_SCHEDULE + random.below(2), 0);
+    }
+    if schedule.is_empty() {
+        schedule.push(0);
+    }
+    if random.one_in(10) {
+        let position = random.below(schedule.len());
+        schedule[position] = random.pick(&[threads as u16, 256, 65_535]);
+    }
+    schedule
+}
+
+fn make(calls: Calls, case: &Case) -> Left {
+    let (mut state, mut trace) = (case.state, case.trace.clone());
+    let reply = match case.call {
+        Call::Fresh => without_counts((calls.fresh)(&case.tree)),
+        Call::Step => without_counts((calls.step)(&case.tree, &state, case.schedule[0])),
+        Call::StepInPlace => {
+            let (number, place) = (calls.step_in_place)(&case.tree, &mut state, case.schedule[0]);
+            without_counts(Reply { number, place, state })
+        }
+        Call::Run => {
+            let end = trace.len() - CANARY;
+            (calls.run)(&case.tree, &state, &case.schedule, &mut trace[CANARY..end])
+        }
+    };
+    Left { reply, trace }
+}
+
+fn without_counts(Reply { number, place, state }: Reply) -> RunReply {
+    RunReply { number, place, steps: 0, entries: 0, stays: 0, root: 0, passed: 0, state }
+}
+
+fn main() {
+    let options = Options::read(100_000, 1_000_000);
+    let library = library::calls();
+    let subject =
+        if library.is_some() { "the library's calls against the step table" } else { "no library with these calls named, cases only counted" };
+    println!("{subject}: {} cases, seed {}", options.count, options.seed);
+    let mut random = Random::new(options.seed);
+    let mut met = Met::new(&REFUSALS);
+    for number in 0..options.count {
+        let case = random_case(&mut random);
+        let table = make(TABLE, &case);
+        if let Some(other) = library.map(|calls| make(calls, &case)).filter(|other| *other != table) {
+            println!("case {number} differs");
+            report(&case, &table, &other);
+            exit(1);
+        }
+        met.count(table.reply.number);
+    }
+    met.print();
+    if !met.complete() {
+        println!("a number was never met");
+        exit(1);
+    }
+    println!("{}", if library.is_some() { "no difference" } else { "nothing compared" });
+}
+
+fn report(case: &Case, table: &Left, other: &Left) {
+    let (domains, threads) = ((case.tree.domains as usize).min(64), (case.tree.threads as usize).min(256));
+    println!("{:?}, trace buffer of {} elements, schedule {:?}", case.call, case.trace.len() - 2 * CANARY, case.schedule);
+    println!("{} domains, parents {:?}, thresholds {:?}", case.tree.domains, &case.tree.parents[..domains], &case.tree.thresholds[..domains]);
+    println!("{} threads, homes {:?}", case.tree.threads, &case.tree.homes[..threads]);
+    let fresh = StateWords::fresh();
+    println!("handed in, where not fresh: {}", differences(&fresh, &case.state));
+    println!("step table: {}", summary(table));
+    println!("library:    {}", summary(other));
+    println!("state, step table's and library's where they differ: {}", differences(&table.reply.state, &other.reply.state));
+    println!("trace buffers are {}", if table.trace == other.trace { "the same" } else { "not the same" });
+}
+
+fn summary(Left { reply, .. }: &Left) -> String {
+    let RunReply { number, place, steps, entries, stays, root, passed, .. } = reply;
+    format!("number {number} place {place} steps {steps} entries {entries} stays {stays} root {root} passed {passed}")
+}
+
+fn differences(one: &StateWords, other: &StateWords) -> String {
+    let mut found = Vec::new();
+    list(&mut found, "tail", &one.tails, &other.tails);
+    list(&mut found, "next", &one.nexts, &other.nexts);
+    list(&mut found, "status", &one.statuses, &other.statuses);
+    list(&mut found, "place", &one.places, &other.places);
+    found.join(", ")
+}
+
+fn list<T: PartialEq + std::fmt::Debug>(found: &mut Vec<String>, name: &str, one: &[T], other: &[T]) {
+    let pairs = one.iter().zip(other).enumerate().filter(|(_, (one, other))| one != other);
+    found.extend(pairs.map(|(number, (one, other))| format!("{name} {number}: {one:?} / {other:?}")));
+}

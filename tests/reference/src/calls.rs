@@ -1,0 +1,67 @@
+//! The fresh call, the single step, the step in place and the run on words, by the step table.
+
+use crate::refusals::*;
+use crate::table::*;
+use crate::words::*;
+
+/// The calls of one program, the step table's or the library's.
+#[derive(Clone, Copy)]
+pub struct Calls {
+    pub fresh: fn(&TreeWords) -> Reply,
+    pub step: fn(&TreeWords, &StateWords, u16) -> Reply,
+    pub step_in_place: fn(&TreeWords, &mut StateWords, u16) -> (u32, u32),
+    pub run: fn(&TreeWords, &StateWords, &[u16], &mut [u16]) -> RunReply,
+}
+
+pub const TABLE: Calls = Calls { fresh, step: step_words, step_in_place, run: run_words };
+
+fn number_and_place<T>(outcome: &Outcome<T>) -> (u32, u32) {
+    match outcome {
+        Ok(_) => (0, 0),
+        Err(refusal) => (refusal.number, refusal.place),
+    }
+}
+
+/// Words that name no state are refused by 10, once the tree is accepted.
+fn read_state(tree: &Tree, words: &StateWords) -> Outcome<State> {
+    accept_tree(tree)?;
+    match words.state() {
+        Some(state) => Ok(state),
+        None => refuse(10, 0),
+    }
+}
+
+fn fresh(tree: &TreeWords) -> Reply {
+    let (outcome, state) = fresh_lock(&tree.tree());
+    let (number, place) = number_and_place(&outcome);
+    Reply { number, place, state: StateWords::of(&state) }
+}
+
+/// A refused step leaves the words as they came.
+fn step_in_place(tree: &TreeWords, words: &mut StateWords, thread: u16) -> (u32, u32) {
+    let tree = tree.tree();
+    let outcome = read_state(&tree, words).and_then(|mut state| {
+        step_lock(&tree, &mut state, thread)?;
+        *words = StateWords::of(&state);
+        Ok(())
+    });
+    number_and_place(&outcome)
+}
+
+fn step_words(tree: &TreeWords, words: &StateWords, thread: u16) -> Reply {
+    let mut state = *words;
+    let (number, place) = step_in_place(tree, &mut state, thread);
+    Reply { number, place, state }
+}
+
+fn run_words(tree: &TreeWords, words: &StateWords, schedule: &[u16], trace: &mut [u16]) -> RunReply {
+    let tree = tree.tree();
+    let outcome = read_state(&tree, words).and_then(|mut state| {
+        let counts = run_lock(&tree, &mut state, schedule, trace)?;
+        Ok((counts, StateWords::of(&state)))
+    });
+    let (number, place) = number_and_place(&outcome);
+    let (counts, state) = outcome.unwrap_or((Counts::default(), *words));
+    let Counts { steps, entries, stays, root, passed } = counts;
+    RunReply { number, place, steps, entries, stays, root, passed, state }
+}

@@ -1,0 +1,19 @@
+//! Programs of the hierarchical MCS lock that share no code with the crates, and what compares them.
+
+pub mod calls;
+pub mod draft;
+pub mod library;
+pub mod listing;
+pub mod lock_file;
+pub mod met;
+pub mod options;
+pub mod random;
+pub mod random_file;
+pub mod random_state;
+pub mod refusals;
+pub mod schedules;
+pub mod shrink;
+pub mod side_by_side;
+pub mod table;
+pub mod turnstile;
+pub mod words;

@@ -1,0 +1,84 @@
+//! The entries of the static library; no other file declares one, and nothing checks the declarations but the comparison.
+
+use crate::calls::Calls;
+use crate::lock_file::FileAnswer;
+
+/// The form of the file call, the step table's and the library's.
+pub type RunFile = fn(&[u8], &mut [u8]) -> FileAnswer;
+
+#[cfg(library)]
+mod entries {
+    use super::FileAnswer;
+
+    extern "C" {
+        fn hmcs_run_file(file: *const u8, file_len: usize, output: *mut u8, output_len: usize, place: *mut u32, length: *mut u32) -> u32;
+    }
+
+    /// Place and length hold other words before the call, so that words left unwritten show.
+    pub fn run_file(file: &[u8], output: &mut [u8]) -> FileAnswer {
+        let (mut place, mut length) = (0x5A5A_5A5A, 0xA5A5_A5A5);
+        // The pointers are valid for their lengths, and nothing else uses what they point to during the call.
+        let number = unsafe { hmcs_run_file(file.as_ptr(), file.len(), output.as_mut_ptr(), output.len(), &mut place, &mut length) };
+        FileAnswer { number, place, length }
+    }
+}
+
+/// The library's file call, if the program was built with the library.
+#[cfg(library)]
+pub fn run_file() -> Option<RunFile> {
+    Some(entries::run_file)
+}
+
+#[cfg(not(library))]
+pub fn run_file() -> Option<RunFile> {
+    None
+}
+
+/// The calls on a caller's tree and state; built only where HMCS_CALLS says that the library has them.
+#[cfg(calls)]
+mod call_entries {
+    use crate::words::*;
+
+    /// Number and place alone.
+    #[repr(C)]
+    struct Answer {
+        number: u32,
+        place: u32,
+    }
+
+    extern "C" {
+        fn hmcs_fresh(tree: TreeWords) -> Reply;
+        fn hmcs_step(tree: TreeWords, state: StateWords, thread: u16) -> Reply;
+        fn hmcs_step_in_place(tree: TreeWords, state: *mut StateWords, thread: u16) -> Answer;
+        fn hmcs_run(tree: TreeWords, state: StateWords, schedule: *const u16, schedule_len: usize, trace: *mut u16, trace_len: usize) -> RunReply;
+    }
+
+    pub fn fresh(tree: &TreeWords) -> Reply {
+        unsafe { hmcs_fresh(*tree) }
+    }
+
+    pub fn step(tree: &TreeWords, state: &StateWords, thread: u16) -> Reply {
+        unsafe { hmcs_step(*tree, *state, thread) }
+    }
+
+    pub fn step_in_place(tree: &TreeWords, state: &mut StateWords, thread: u16) -> (u32, u32) {
+        let answer = unsafe { hmcs_step_in_place(*tree, state, thread) };
+        (answer.number, answer.place)
+    }
+
+    pub fn run(tree: &TreeWords, state: &StateWords, schedule: &[u16], trace: &mut [u16]) -> RunReply {
+        unsafe { hmcs_run(*tree, *state, schedule.as_ptr(), schedule.len(), trace.as_mut_ptr(), trace.len()) }
+    }
+}
+
+/// The library's calls on a caller's tree and state, if the program was built with them.
+#[cfg(calls)]
+pub fn calls() -> Option<Calls> {
+    use call_entries::*;
+    Some(Calls { fresh, step, step_in_place, run })
+}
+
+#[cfg(not(calls))]
+pub fn calls() -> Option<Calls> {
+    None
+}

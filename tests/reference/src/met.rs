@@ -1,0 +1,28 @@
+//! How often a comparison met each number, and whether it met all that it must.
+
+const NUMBERS: usize = 15;
+
+pub struct Met {
+    must: &'static [usize],
+    times: [u64; NUMBERS],
+}
+
+impl Met {
+    /// These refusals must be met, and acceptance.
+    pub fn new(must: &'static [usize]) -> Met {
+        Met { must, times: [0; NUMBERS] }
+    }
+
+    pub fn count(&mut self, number: u32) {
+        self.times[number as usize] += 1;
+    }
+
+    pub fn print(&self) {
+        let refused: Vec<String> = self.must.iter().map(|&number| format!("{number}: {}", self.times[number])).collect();
+        println!("accepted: {}, refused {}", self.times[0], refused.join(", "));
+    }
+
+    pub fn complete(&self) -> bool {
+        self.times[0] > 0 && self.must.iter().all(|&number| self.times[number] > 0)
+    }
+}

@@ -1,0 +1,172 @@
+//! Refusals 4 to 13 of document 01, and the fresh call, the single step and the run that meet them.
+
+use crate::table::*;
+
+pub const LONGEST_SCHEDULE: usize = 65_536;
+
+#[derive(Clone, Copy, Debug, PartialEq, Eq)]
+pub struct Refusal {
+    pub number: u32,
+    pub place: u32,
+}
+
+pub type Outcome<T> = Result<T, Refusal>;
+
+pub fn refuse<T>(number: u32, place: usize) -> Outcome<T> {
+    Err(Refusal { number, place: place as u32 })
+}
+
+/// Refused with the lowest place that the test is true of.
+fn refuse_first(number: u32, mut places: impl Iterator<Item = usize>, bad: impl Fn(usize) -> bool) -> Outcome<()> {
+    match places.find(|&place| bad(place)) {
+        Some(place) => refuse(number, place),
+        None => Ok(()),
+    }
+}
+
+fn refuse_if(number: u32, bad: bool) -> Outcome<()> {
+    if bad {
+        refuse(number, 0)
+    } else {
+        Ok(())
+    }
+}
+
+/// 4 to 9, each over the whole tree before the next.
+pub fn accept_tree(tree: &Tree) -> Outcome<()> {
+    refuse_if(4, tree.domains == 0 || tree.domains > DOMAIN_ROOM)?;
+    refuse_if(5, tree.threads == 0 || tree.threads > THREAD_ROOM)?;
+    refuse_first(6, 1..tree.domains, |domain| tree.parent(domain) >= domain)?;
+    let levels = levels(tree);
+    refuse_first(7, 0..tree.domains, |domain| levels[domain] > DEEPEST_LEVEL)?;
+    refuse_first(8, 1..tree.domains, |domain| tree.thresholds[domain] == 0)?;
+    let leaves = leaves(tree);
+    refuse_first(9, 0..tree.threads, |thread| tree.home(thread) >= tree.domains || !leaves[tree.home(thread)])
+}
+
+/// The level of each domain, the root's being 1; every parent is below its child's number.
+pub fn levels(tree: &Tree) -> [u8; DOMAIN_ROOM] {
+    let mut levels = [1; DOMAIN_ROOM];
+    for domain in 1..tree.domains {
+        levels[domain] = levels[tree.parent(domain)] + 1;
+    }
+    levels
+}
+
+/// Which domains have no child domains.
+pub fn leaves(tree: &Tree) -> [bool; DOMAIN_ROOM] {
+    let mut leaves = [true; DOMAIN_ROOM];
+    for domain in 1..tree.domains {
+        leaves[tree.parent(domain)] = false;
+    }
+    leaves
+}
+
+/// The domain whose member owns the record, if a member owns it.
+fn domain_of_record(tree: &Tree, record: usize) -> Option<usize> {
+    if record < tree.threads {
+        Some(tree.home(record))
+    } else if record > domain_record(ROOT) && record < domain_record(tree.domains) {
+        Some(tree.parent(record - THREAD_ROOM))
+    } else {
+        None
+    }
+}
+
+fn belongs(tree: &Tree, record: u16, domain: usize) -> bool {
+    domain_of_record(tree, record as usize) == Some(domain)
+}
+
+fn on_path(tree: &Tree, thread: usize, domain: usize) -> bool {
+    let mut above = tree.home(thread);
+    while above != domain && above != ROOT {
+        above = tree.parent(above);
+    }
+    above == domain
+}
+
+fn tail_well_formed(tree: &Tree, state: &State, domain: usize) -> bool {
+    match state.tails[domain] {
+        None => true,
+        Some(record) => domain < tree.domains && belongs(tree, record, domain),
+    }
+}
+
+fn record_well_formed(tree: &Tree, state: &State, record: usize) -> bool {
+    match (domain_of_record(tree, record), state.nexts[record]) {
+        (Some(domain), Some(next)) => belongs(tree, next, domain),
+        (Some(_), None) => true,
+        (None, next) => next.is_none() && state.statuses[record] == 0,
+    }
+}
+
+fn place_well_formed(tree: &Tree, state: &State, thread: usize) -> bool {
+    if thread >= tree.threads {
+        return state.places[thread] == Place::Idle;
+    }
+    match state.places[thread] {
+        Place::Idle | Place::Inside => true,
+        Place::Check(domain) => domain as usize != ROOT && on_path(tree, thread, domain as usize),
+        Place::Prep(domain) | Place::Swap(domain) | Place::Wait(domain) | Place::Help(domain) | Place::Cas(domain) | Place::Linger(domain) => {
+            on_path(tree, thread, domain as usize)
+        }
+        Place::Link(domain, record) | Place::Grant(domain, record, _) => {
+            on_path(tree, thread, domain as usize) && belongs(tree, record, domain as usize)
+        }
+    }
+}
+
+pub fn well_formed(tree: &Tree, state: &State) -> bool {
+    (0..DOMAIN_ROOM).all(|domain| tail_well_formed(tree, state, domain))
+        && (0..RECORD_ROOM).all(|record| record_well_formed(tree, state, record))
+        && (0..THREAD_ROOM).all(|thread| place_well_formed(tree, state, thread))
+}
+
+/// 10.
+fn accept_state(tree: &Tree, state: &State) -> Outcome<()> {
+    refuse_if(10, !well_formed(tree, state))
+}
+
+/// 12.
+pub fn accept_entries(tree: &Tree, schedule: impl Iterator<Item = u16>) -> Outcome<()> {
+    for (position, thread) in schedule.enumerate() {
+        if thread as usize >= tree.threads {
+            return refuse(12, position);
+        }
+    }
+    Ok(())
+}
+
+fn accept_step(tree: &Tree, state: &State, thread: u16) -> Outcome<()> {
+    accept_tree(tree)?;
+    accept_state(tree, state)?;
+    accept_entries(tree, std::iter::once(thread))
+}
+
+fn accept_run(tree: &Tree, state: &State, schedule: &[u16], trace: &[u16]) -> Outcome<()> {
+    accept_tree(tree)?;
+    accept_state(tree, state)?;
+    refuse_if(11, schedule.len() > LONGEST_SCHEDULE)?;
+    accept_entries(tree, schedule.iter().copied())?;
+    refuse_if(13, trace.len() < schedule.len())
+}
+
+/// The fresh words, accepted or refused.
+pub fn fresh_lock(tree: &Tree) -> (Outcome<()>, State) {
+    (accept_tree(tree), State::fresh())
+}
+
+/// One step; a refused one leaves the state as it came.
+pub fn step_lock(tree: &Tree, state: &mut State, thread: u16) -> Outcome<Kind> {
+    accept_step(tree, state, thread)?;
+    Ok(step(tree, state, thread as usize))
+}
+
+/// A run; a refused one has taken no step and leaves state and trace buffer as they came.
+pub fn run_lock(tree: &Tree, state: &mut State, schedule: &[u16], trace: &mut [u16]) -> Outcome<Counts> {
+    accept_run(tree, state, schedule, trace)?;
+    let mut entered = Vec::new();
+    let counts = run(tree, state, schedule.iter().copied(), &mut entered);
+    trace[..entered.len()].copy_from_slice(&entered);
+    Ok(counts)
+}

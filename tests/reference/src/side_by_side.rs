@@ -1,0 +1,142 @@
+//! Step table and Listing 1 side by side: the same words after every schedule entry, and the thread at the same line.
+
+use crate::listing::{HNode, Lock, QNode, Worker, CRITICAL_SECTION};
+use crate::table::*;
+use crate::turnstile::{Scheduler, Turnstile};
+use std::collections::BTreeMap;
+use std::sync::atomic::{AtomicBool, Ordering::SeqCst};
+use std::thread;
+
+const STACK: usize = 64 * 1024;
+
+/// From each line that begins a step, the lines at which the same thread's next step may begin.
+pub const WAYS: [(u32, &[u32]); 16] = [
+    (CRITICAL_SECTION, &[25, 53]),
+    (7, &[9]),
+    (9, &[7, 11, 66]),
+    (11, &[13]),
+    (13, &[CRITICAL_SECTION, 7, 13, 66]),
+    (25, &[25, 37, 53]),
+    (37, &[7, 53]),
+    (53, &[55, 57]),
+    (55, &[7, 53, 66]),
+    (57, &[7, 53, 58, 66]),
+    (58, &[58, 59]),
+    (59, &[7, 53, 66]),
+    (66, &[67]),
+    (67, &[CRITICAL_SECTION, 71]),
+    (71, &[72]),
+    (72, &[CRITICAL_SECTION, 72]),
+];
+
+/// How often each way was taken, and how often a threshold kept a successor from being passed to.
+#[derive(Default)]
+pub struct Coverage {
+    pub entries: u64,
+    pub ways: BTreeMap<(u32, u32), u64>,
+    pub thresholds_reached: u64,
+}
+
+impl Coverage {
+    fn count(&mut self, from: u32, to: u32) {
+        self.entries += 1;
+        *self.ways.entry((from, to)).or_insert(0) += 1;
+    }
+
+    /// Every way was taken, and a threshold was reached.
+    pub fn complete(&self) -> bool {
+        let taken = |from: u32, to: &u32| self.ways.contains_key(&(from, *to));
+        WAYS.iter().all(|&(from, lines)| lines.iter().all(|to| taken(from, to))) && self.thresholds_reached > 0
+    }
+}
+
+/// The first schedule entry after which the two differ, and in what.
+#[derive(Debug)]
+pub struct Difference {
+    pub position: usize,
+    pub text: String,
+}
+
+/// Runs the listing by threads and the table beside it; the tree is one that is accepted.
+pub fn compare(tree: &Tree, schedule: &[u16], coverage: &mut Coverage) -> Result<State, Difference> {
+    let lock = new_lock(tree);
+    let turnstile = Turnstile::new();
+    thread::scope(|scope| {
+        let mut scheduler = turnstile.scheduler();
+        for number in 0..tree.threads {
+            let worker = Worker::new(&lock, turnstile.turn(number));
+            let work = move || worker.work(number, tree.home(number));
+            let started = thread::Builder::new().stack_size(STACK).spawn_scoped(scope, work).expect("a thread starts");
+            scheduler.add(started.thread().clone());
+        }
+        take_steps(tree, schedule, &lock, &scheduler, coverage)
+    })
+}
+
+fn new_lock(tree: &Tree) -> Lock {
+    let parent = |domain| if domain == ROOT { None } else { Some(tree.parent(domain)) };
+    Lock {
+        qnodes: (0..RECORD_ROOM).map(|_| QNode::new()).collect(),
+        hnodes: (0..tree.domains).map(|domain| HNode::new(parent(domain), domain_record(domain), tree.thresholds[domain] as u64)).collect(),
+        inside: (0..tree.threads).map(|_| AtomicBool::new(false)).collect(),
+    }
+}
+
+fn take_steps(tree: &Tree, schedule: &[u16], lock: &Lock, scheduler: &Scheduler, coverage: &mut Coverage) -> Result<State, Difference> {
+    let mut state = State::fresh();
+    let mut lines: Vec<u32> = (0..tree.threads).map(|thread| lines_of(tree, thread, Place::Idle)[0]).collect();
+    for (position, &thread) in schedule.iter().enumerate() {
+        let thread = thread as usize;
+        coverage.thresholds_reached += threshold_reached(tree, &state, thread) as u64;
+        step(tree, &mut state, thread);
+        let line = scheduler.pass(thread);
+        if let Some(text) = difference(tree, &state, lock, thread, line) {
+            return Err(Difference { position, text });
+        }
+        coverage.count(lines[thread], line);
+        lines[thread] = line;
+    }
+    Ok(state)
+}
+
+fn threshold_reached(tree: &Tree, state: &State, thread: usize) -> bool {
+    match state.places[thread] {
+        Place::Check(domain) => {
+            let record = tree.record(thread, domain as usize);
+            state.nexts[record].is_some() && state.statuses[record] >= tree.thresholds[domain as usize] as u64
+        }
+        _ => false,
+    }
+}
+
+/// Where a thread in this place stands in the listing.
+fn lines_of(tree: &Tree, thread: usize, place: Place) -> &'static [u32] {
+    let at = |domain: usize, root: &'static [u32], below: &'static [u32]| if domain == ROOT { root } else { below };
+    match place {
+        Place::Idle => at(tree.home(thread), &[66], &[7]),
+        Place::Prep(domain) => at(domain as usize, &[66], &[7]),
+        Place::Swap(domain) => at(domain as usize, &[67], &[9]),
+        Place::Link(domain, _) => at(domain as usize, &[71], &[11]),
+        Place::Wait(domain) => at(domain as usize, &[72], &[13]),
+        Place::Inside => &[CRITICAL_SECTION],
+        Place::Check(_) => &[25],
+        Place::Help(_) => &[53],
+        Place::Cas(_) => &[57],
+        Place::Linger(_) => &[58],
+        Place::Grant(_, _, _) => &[37, 55, 59],
+    }
+}
+
+/// The first thing that differs, in words.
+fn difference(tree: &Tree, state: &State, lock: &Lock, thread: usize, line: u32) -> Option<String> {
+    let number = |record: Option<u16>| record.map(|record| record as usize);
+    let place = state.places[thread];
+    let tail = (0..tree.domains).find(|&domain| lock.hnodes[domain].tail() != number(state.tails[domain]));
+    let next = (0..RECORD_ROOM).find(|&record| lock.qnodes[record].next() != number(state.nexts[record]));
+    let status = (0..RECORD_ROOM).find(|&record| lock.qnodes[record].status() != state.statuses[record]);
+    let inside = (0..tree.threads).find(|&thread| lock.inside[thread].load(SeqCst) != (state.places[thread] == Place::Inside));
+    let line = Some(line as usize).filter(|_| !lines_of(tree, thread, place).contains(&line));
+    [("tail of domain", tail), ("next of record", next), ("status of record", status), ("inside of thread", inside), ("line", line)]
+        .iter()
+        .find_map(|&(what, number)| number.map(|number| format!("{what} {number}, thread {thread} at {place:?}")))
+}

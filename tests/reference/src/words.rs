@@ -1,0 +1,130 @@
+//! The words that cross a call, laid out as C lays them out, and the tree and state that they mean.
+
+use crate::table::*;
+
+#[repr(C)]
+#[derive(Clone, Copy, Debug, PartialEq, Eq)]
+pub struct TreeWords {
+    pub domains: u32,
+    pub threads: u32,
+    pub parents: [u8; DOMAIN_ROOM],
+    pub thresholds: [u16; DOMAIN_ROOM],
+    pub homes: [u8; THREAD_ROOM],
+}
+
+/// A row of the step table, 0 Idle to 10 Grant; a part that the row lacks is 0.
+#[repr(C)]
+#[derive(Clone, Copy, Debug, Default, PartialEq, Eq)]
+pub struct PlaceWords {
+    pub row: u8,
+    pub domain: u8,
+    pub peer: u16,
+    pub word: u64,
+}
+
+/// A tail or a next is 0 for none, else the record's number and 1.
+#[repr(C)]
+#[derive(Clone, Copy, Debug, PartialEq, Eq)]
+pub struct StateWords {
+    pub tails: [u16; DOMAIN_ROOM],
+    pub nexts: [u16; RECORD_ROOM],
+    pub statuses: [u64; RECORD_ROOM],
+    pub places: [PlaceWords; THREAD_ROOM],
+}
+
+#[repr(C)]
+#[derive(Clone, Copy, Debug, PartialEq, Eq)]
+pub struct Reply {
+    pub number: u32,
+    pub place: u32,
+    pub state: StateWords,
+}
+
+#[repr(C)]
+#[derive(Clone, Copy, Debug, PartialEq, Eq)]
+pub struct RunReply {
+    pub number: u32,
+    pub place: u32,
+    pub steps: u32,
+    pub entries: u32,
+    pub stays: u32,
+    pub root: u32,
+    pub passed: u32,
+    pub state: StateWords,
+}
+
+impl TreeWords {
+    pub fn tree(&self) -> Tree {
+        Tree { domains: self.domains as usize, threads: self.threads as usize, parents: self.parents, thresholds: self.thresholds, homes: self.homes }
+    }
+}
+
+impl PlaceWords {
+    /// None where the four numbers are no place.
+    pub fn place(self) -> Option<Place> {
+        let PlaceWords { row, domain, peer, word } = self;
+        match (row, domain, peer, word) {
+            (0, 0, 0, 0) => Some(Place::Idle),
+            (1, _, 0, 0) => Some(Place::Prep(domain)),
+            (2, _, 0, 0) => Some(Place::Swap(domain)),
+            (3, _, _, 0) => Some(Place::Link(domain, peer)),
+            (4, _, 0, 0) => Some(Place::Wait(domain)),
+            (5, 0, 0, 0) => Some(Place::Inside),
+            (6, _, 0, 0) => Some(Place::Check(domain)),
+            (7, _, 0, 0) => Some(Place::Help(domain)),
+            (8, _, 0, 0) => Some(Place::Cas(domain)),
+            (9, _, 0, 0) => Some(Place::Linger(domain)),
+            (10, _, _, _) => Some(Place::Grant(domain, peer, word)),
+            _ => None,
+        }
+    }
+
+    pub fn of(place: Place) -> PlaceWords {
+        let (row, domain, peer, word) = match place {
+            Place::Idle => (0, 0, 0, 0),
+            Place::Prep(domain) => (1, domain, 0, 0),
+            Place::Swap(domain) => (2, domain, 0, 0),
+            Place::Link(domain, peer) => (3, domain, peer, 0),
+            Place::Wait(domain) => (4, domain, 0, 0),
+            Place::Inside => (5, 0, 0, 0),
+            Place::Check(domain) => (6, domain, 0, 0),
+            Place::Help(domain) => (7, domain, 0, 0),
+            Place::Cas(domain) => (8, domain, 0, 0),
+            Place::Linger(domain) => (9, domain, 0, 0),
+            Place::Grant(domain, peer, word) => (10, domain, peer, word),
+        };
+        PlaceWords { row, domain, peer, word }
+    }
+}
+
+fn record(word: u16) -> Option<u16> {
+    word.checked_sub(1)
+}
+
+fn record_word(record: Option<u16>) -> u16 {
+    record.map_or(0, |record| record + 1)
+}
+
+impl StateWords {
+    pub fn fresh() -> StateWords {
+        StateWords::of(&State::fresh())
+    }
+
+    /// None where a place's numbers are no place.
+    pub fn state(&self) -> Option<State> {
+        let mut places = [Place::Idle; THREAD_ROOM];
+        for (place, words) in places.iter_mut().zip(self.places) {
+            *place = words.place()?;
+        }
+        Some(State { tails: self.tails.map(record), nexts: self.nexts.map(record), statuses: self.statuses, places })
+    }
+
+    pub fn of(state: &State) -> StateWords {
+        StateWords {
+            tails: state.tails.map(record_word),
+            nexts: state.nexts.map(record_word),
+            statuses: state.statuses,
+            places: state.places.map(PlaceWords::of),
+        }
+    }
+}

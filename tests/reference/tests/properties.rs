@@ -1,0 +1,70 @@
+//! What document 01 says of single steps, on random states that a caller may hand in.
+
+use reference::random::Random;
+use reference::random_file::valid_draft;
+use reference::random_state::{random_state, tree_words};
+use reference::refusals::well_formed;
+use reference::table::*;
+use reference::words::*;
+
+/// Each random tree with a random well-formed state and a thread.
+fn each(check: impl Fn(&Tree, &State, usize)) {
+    let mut random = Random::new(1);
+    for _ in 0..5000 {
+        let draft = valid_draft(&mut random);
+        let tree = tree_words(&mut random, &draft).tree();
+        let state = random_state(&mut random, &tree).state().expect("a well-formed state");
+        for _ in 0..4 {
+            check(&tree, &state, random.below(tree.threads));
+        }
+    }
+}
+
+#[test]
+fn steps_keep_a_state_well_formed() {
+    each(|tree, state, thread| {
+        let mut after = state.clone();
+        step(tree, &mut after, thread);
+        assert!(well_formed(tree, state) && well_formed(tree, &after));
+    });
+}
+
+#[test]
+fn a_stay_is_a_step_that_changes_nothing() {
+    each(|tree, state, thread| {
+        let mut after = state.clone();
+        let kind = step(tree, &mut after, thread);
+        assert_eq!(kind == Kind::Stay, after == *state);
+    });
+}
+
+#[test]
+fn an_entry_is_a_step_that_arrives_inside() {
+    each(|tree, state, thread| {
+        let mut after = state.clone();
+        let kind = step(tree, &mut after, thread);
+        assert_eq!(kind.is_entry(), after.places[thread] == Place::Inside && state.places[thread] != Place::Inside);
+        let at_the_root = matches!(state.places[thread], Place::Swap(0) | Place::Wait(0));
+        assert_eq!(kind == Kind::RootEntry, kind.is_entry() && at_the_root);
+    });
+}
+
+#[test]
+fn a_step_moves_no_other_thread() {
+    each(|tree, state, thread| {
+        let mut after = state.clone();
+        step(tree, &mut after, thread);
+        assert!((0..THREAD_ROOM).all(|other| other == thread || after.places[other] == state.places[other]));
+    });
+}
+
+#[test]
+fn words_and_states_give_each_other_back() {
+    each(|_, state, _| assert_eq!(StateWords::of(state).state().as_ref(), Some(state)));
+    for row in 0..=255 {
+        for (domain, peer, word) in [(0, 0, 0), (1, 0, 0), (0, 1, 0), (0, 0, 1), (1, 1, 0), (1, 1, 1)] {
+            let words = PlaceWords { row, domain, peer, word };
+            assert!(words.place().is_none_or(|place| PlaceWords::of(place) == words));
+        }
+    }
+}
