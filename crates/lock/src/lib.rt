@@ -4,6 +4,7 @@ ghost use Rattle.model.specs.States.{fresh-words};
 ghost use Rattle.model.specs.Refusals.{refusal};
 ghost use Rattle.model.specs.Answers.{fresh-answer, step-answer, run-refused, run-answer, trace-answer};
 
+mod places;
 mod rows;
 mod run;
 

@@ -3,15 +3,14 @@ ghost use mathlib.Core.Path.{_≡_};
 ghost use mathlib.Core.List.{[]};
 ghost use Prim.Native.Nat.{ℕ, _<_, _≤_};
 ghost use Rattle.model.specs.States.{root-word};
-ghost use mathlib.Core.Logic.{_≢_};
-ghost use Rattle.model.specs.declared.Place.the-variants.{Invalid};
-ghost use Rattle.model.specs.Places.{words-of, place-of};
+ghost use Rattle.model.specs.Places.{words-of};
 ghost use Rattle.model.specs.Trees.{child-from};
 ghost use Rattle.model.specs.Refusals.{tree-refusal};
-ghost use Rattle.model.specs.Steps.{release-place, release-word, prep-row, swap-row, link-row, wait-row, leave-row, check-row, help-row, cas-row, linger-row, grant-row, stays};
+ghost use Rattle.model.specs.Steps.{prep-row, swap-row, link-row, wait-row, leave-row, check-row, help-row, cas-row, linger-row, grant-row};
 ghost use Rattle.refusals.specs.Arrays.{tree-in, parents-in, Lower};
-ghost use Rattle.lock.specs.Effects.{moved, Effect-of, Inner-effect-of, Within, place-domain, done-at, Read};
+ghost use Rattle.lock.specs.Effects.{moved, Effect-of, Inner-effect-of, Within, Read};
 ghost use Rattle.lock.specs.Running.{Ready, Decided};
+use crate::places;
 use model::Place;
 use model::PlaceWords;
 
@@ -93,28 +92,6 @@ fn root_word_at(l: u8, at_root: u64, elsewhere: u64) -> u64
     ensures { λ r. ⌜ r ≡ root-word l «at_root» elsewhere ⌝ }
 {
     if l == 0 { at_root } else { elsewhere }
-}
-
-// Where a domain is released.
-fn release_place_at(d: u8) -> Place
-    ensures { λ r. ⌜ r ≡ release-place d ⌝ }
-{
-    if d == 0 {
-        Place::Help(d)
-    } else {
-        Place::Check(d)
-    }
-}
-
-// Where a thread goes from a domain that is done.
-fn done_place_at(home: u8, l: u8, child: u8) -> Place
-    ensures { λ r. ⌜ r ≡ done-at home l child ⌝ }
-{
-    if l == home {
-        Place::Idle
-    } else {
-        Place::Help(child)
-    }
 }
 
 fn prep(w: Words) -> Effect
@@ -202,7 +179,7 @@ fn leave(w: Words) -> Effect
     ensures { λ r. ⌜ Effect-of w (λ t i s. leave-row t i s) r ⌝ }
 {
     let home = w.home;
-    moves(1, release_place_at(home))
+    moves(1, places::release_place_at(home))
 }
 
 fn check(w: Words) -> Effect
@@ -214,10 +191,10 @@ fn check(w: Words) -> Effect
     let parent = w.parent;
     let h = w.threshold as u64;
     if h <= v {
-        return moves(1, release_place_at(parent));
+        return moves(1, places::release_place_at(parent));
     }
     if n == 0 {
-        return moves(1, release_place_at(parent));
+        return moves(1, places::release_place_at(parent));
     }
     moves(1, Place::Grant(l, n - 1, v + 1))
 }
@@ -244,7 +221,7 @@ fn cas(w: Words) -> Effect
     if old != mine {
         return moves(1, Place::Linger(l));
     }
-    let mut e = moves(1, done_place_at(w.home, l, w.child));
+    let mut e = moves(1, places::done_place_at(w.home, l, w.child));
     e.domain = l;
     e
 }
@@ -267,53 +244,10 @@ fn grant(w: Words, to: u16, word: u64) -> Effect
     ensures { λ r. ⌜ Effect-of w (λ t i s. grant-row t i (w .domain) to word s) r ⌝ }
 {
     let l = w.domain;
-    let mut e = moves(1, done_place_at(w.home, l, w.child));
+    let mut e = moves(1, places::done_place_at(w.home, l, w.child));
     e.marked = to;
     e.status = word;
     e
-}
-
-// The domain of a place; Idle and Inside are at home.
-fn domain_at(home: u8, p: Place) -> u8
-    ensures { λ r. ⌜ r ≡ place-domain home p ⌝ }
-{
-    match p {
-        Place::Idle => home,
-        Place::Prep(l) => l,
-        Place::Swap(l) => l,
-        Place::Link(l, _) => l,
-        Place::Wait(l) => l,
-        Place::Inside => home,
-        Place::Check(l) => l,
-        Place::Help(l) => l,
-        Place::Cas(l) => l,
-        Place::Linger(l) => l,
-        Place::Grant(l, _, _) => l,
-        Place::Invalid => home,
-    }
-}
-
-// The place of four numbers that give one: its row alone decides.
-fn place_by_row(words: PlaceWords) -> Place
-    requires { ⌜ place-of words ≢ Invalid ⌝ }
-    ensures { λ r. ⌜ r ≡ place-of words ⌝ }
-{
-    let l = words.domain;
-    let row = words.row;
-    match row {
-        0 => Place::Idle,
-        1 => Place::Prep(l),
-        2 => Place::Swap(l),
-        3 => Place::Link(l, words.peer),
-        4 => Place::Wait(l),
-        5 => Place::Inside,
-        6 => Place::Check(l),
-        7 => Place::Help(l),
-        8 => Place::Cas(l),
-        9 => Place::Linger(l),
-        10 => Place::Grant(l, words.peer, words.word),
-        _ => Place::Invalid,
-    }
 }
 
 // The words of a thread's row at a domain.
@@ -393,8 +327,8 @@ pub(crate) fn decide<'t, 's>(
 {
     let k = i as usize;
     let home = homes[k];
-    let p = place_by_row(place);
-    let l = domain_at(home, p);
+    let p = places::place_by_row(place);
+    let l = places::domain_at(home, p);
     let w = words_at(
         parents,
         thresholds,

@@ -1,10 +1,10 @@
--- `lock::rows::place_by_row` meets its contract, row by row. Assumes nothing.
+-- `lock::places::place_by_row` meets its contract, row by row. Assumes nothing.
 use mathlib.Core.Path.{refl}
 use Rattle.model.specs.declared.Place.the-variants.{Idle, Prep, Swap, Wait, Inside, Check, Help, Cas, Linger}
 use Rattle.model.specs.Places.{plain-place}
 use Rattle.lock.proofs.RowPlaces.{at-home, at-domain, at-link, at-grant, no-row}
-use Rattle.lock.proofs.rows.place_by_row.Statement.{statement}
-use Rattle.lock.proofs.rows.place_by_row.Tie as tie
+use Rattle.lock.proofs.places.place_by_row.Statement.{statement}
+use Rattle.lock.proofs.places.place_by_row.Tie as tie
 
 returns : tie.Need-returns
 unfolding plain-place

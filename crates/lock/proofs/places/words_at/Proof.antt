@@ -1,7 +1,7 @@
--- `places::words_at` meets its contract, place by place. Assumes nothing.
+-- `lock::places::words_at` meets its contract, place by place. Assumes nothing.
 use borrow.Author.Needs.{needs}
-use Rattle.places.proofs.words_at.Statement.{statement}
-use Rattle.places.proofs.words_at.Tie as tie
+use Rattle.lock.proofs.places.words_at.Statement.{statement}
+use Rattle.lock.proofs.places.words_at.Tie as tie
 
 enum-told : tie.Need-enum-told
 enum-told c = search needs

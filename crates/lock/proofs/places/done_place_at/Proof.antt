@@ -1,7 +1,7 @@
--- `lock::rows::done_place_at` meets its contract. Assumes nothing.
+-- `lock::places::done_place_at` meets its contract. Assumes nothing.
 use borrow.Author.Tests.{eq-eqb, ne-eqb}
-use Rattle.lock.proofs.rows.done_place_at.Statement.{statement}
-use Rattle.lock.proofs.rows.done_place_at.Tie as tie
+use Rattle.lock.proofs.places.done_place_at.Statement.{statement}
+use Rattle.lock.proofs.places.done_place_at.Tie as tie
 
 returns : tie.Need-returns
 returns c = rw (eq-eqb _ _ (c .if1 .taken))

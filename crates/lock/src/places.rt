@@ -1,0 +1,105 @@
+// A thread's place: from its four numbers and back, its domain, and where releases lead.
+ghost use mathlib.Core.Path.{_≡_};
+ghost use mathlib.Core.Logic.{_≢_};
+ghost use Rattle.model.specs.declared.Place.the-variants.{Invalid};
+ghost use Rattle.model.specs.Places.{place-words, words-of, place-of};
+ghost use Rattle.model.specs.Steps.{release-place};
+ghost use Rattle.lock.specs.Effects.{place-domain, done-at};
+use model::Place;
+use model::PlaceWords;
+
+// The place of four numbers that give one: its row alone decides.
+pub(crate) fn place_by_row(words: PlaceWords) -> Place
+    requires { ⌜ place-of words ≢ Invalid ⌝ }
+    ensures { λ r. ⌜ r ≡ place-of words ⌝ }
+{
+    let l = words.domain;
+    let row = words.row;
+    match row {
+        0 => Place::Idle,
+        1 => Place::Prep(l),
+        2 => Place::Swap(l),
+        3 => Place::Link(l, words.peer),
+        4 => Place::Wait(l),
+        5 => Place::Inside,
+        6 => Place::Check(l),
+        7 => Place::Help(l),
+        8 => Place::Cas(l),
+        9 => Place::Linger(l),
+        10 => Place::Grant(l, words.peer, words.word),
+        _ => Place::Invalid,
+    }
+}
+
+fn words_from(row: u8, domain: u8, peer: u16, word: u64) -> PlaceWords
+    ensures { λ r. ⌜ r ≡ place-words row domain peer word ⌝ }
+{
+    PlaceWords {
+        row,
+        domain,
+        peer,
+        word,
+    }
+}
+
+// The numbers of a place.
+pub(crate) fn words_at(place: Place) -> PlaceWords
+    ensures { λ r. ⌜ r ≡ words-of place ⌝ }
+{
+    match place {
+        Place::Idle => words_from(0, 0, 0, 0),
+        Place::Prep(l) => words_from(1, l, 0, 0),
+        Place::Swap(l) => words_from(2, l, 0, 0),
+        Place::Link(l, p) => words_from(3, l, p, 0),
+        Place::Wait(l) => words_from(4, l, 0, 0),
+        Place::Inside => words_from(5, 0, 0, 0),
+        Place::Check(l) => words_from(6, l, 0, 0),
+        Place::Help(l) => words_from(7, l, 0, 0),
+        Place::Cas(l) => words_from(8, l, 0, 0),
+        Place::Linger(l) => words_from(9, l, 0, 0),
+        Place::Grant(l, s, w) => words_from(10, l, s, w),
+        Place::Invalid => words_from(11, 0, 0, 0),
+    }
+}
+
+// Where a domain is released.
+pub(crate) fn release_place_at(d: u8) -> Place
+    ensures { λ r. ⌜ r ≡ release-place d ⌝ }
+{
+    if d == 0 {
+        Place::Help(d)
+    } else {
+        Place::Check(d)
+    }
+}
+
+// Where a thread goes from a domain that is done.
+pub(crate) fn done_place_at(home: u8, l: u8, child: u8) -> Place
+    ensures { λ r. ⌜ r ≡ done-at home l child ⌝ }
+{
+    if l == home {
+        Place::Idle
+    } else {
+        Place::Help(child)
+    }
+}
+
+// The domain of a place; Idle and Inside are at home.
+pub(crate) fn domain_at(home: u8, p: Place) -> u8
+    ensures { λ r. ⌜ r ≡ place-domain home p ⌝ }
+{
+    match p {
+        Place::Idle => home,
+        Place::Prep(l) => l,
+        Place::Swap(l) => l,
+        Place::Link(l, _) => l,
+        Place::Wait(l) => l,
+        Place::Inside => home,
+        Place::Check(l) => l,
+        Place::Help(l) => l,
+        Place::Cas(l) => l,
+        Place::Linger(l) => l,
+        Place::Grant(l, _, _) => l,
+        Place::Invalid => home,
+    }
+}
