@@ -74,7 +74,12 @@ pub extern "C" fn hmcs_step_in_place(tree: TreeWords, state: &mut State, thread:
 
 // The file call on the file's bytes and the output buffer. The number is returned; place and length go where the host says.
 #[no_mangle]
-pub extern "C" fn hmcs_run_file(file: &[u8], output: &mut [u8], place: &mut u32, length: &mut u32) -> u32
+pub extern "C" fn hmcs_run_file(
+    file: &[u8],
+    output: &mut [u8],
+    place: &mut u32,
+    length: &mut u32,
+) -> u32
     ensures { λ r. ⌜ r ≡ file-answer (now (file .entry)) (now (output .entry)) .number ⌝ }
     ensures { λ r. ⌜ now (place .exit) ≡ file-answer (now (file .entry)) (now (output .entry)) .place ⌝ }
     ensures { λ r. ⌜ now (length .exit) ≡ file-answer (now (file .entry)) (now (output .entry)) .length ⌝ }
