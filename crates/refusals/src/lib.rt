@@ -4,7 +4,7 @@ ghost use mathlib.Core.List.{[], _∷_, _++_};
 ghost use Prim.Native.Nat.{ℕ, _<_, _≤_};
 ghost use lib.ListN.{length};
 ghost use Rattle.model.specs.Trees.{tree-of};
-ghost use Rattle.model.specs.Refusals.{test, first-refusal, tree-tests, tree-refusal, bad-state, bad-entry};
+ghost use Rattle.model.specs.Refusals.{refusal, test, first-refusal, tree-tests, tree-refusal, bad-state, bad-entry};
 ghost use Rattle.refusals.specs.Arrays.{tree-in, told, schedule-tests};
 ghost use Rattle.refusals.specs.Lowest.{Lowest};
 
@@ -20,6 +20,12 @@ pub struct Refusal {
     pub place: u32,
 }
 
+fn refusal_at(number: u32, place: u32) -> Refusal
+    ensures { λ r. ⌜ r ≡ told (refusal number place) ⌝ }
+{
+    Refusal { number, place }
+}
+
 // Making a fresh lock meets 4 to 9.
 pub fn tree_refusal_of(tree: TreeWords) -> Refusal
     ensures { λ r. ⌜ r ≡ told (tree-refusal (tree-of tree)) ⌝ }
@@ -27,62 +33,35 @@ pub fn tree_refusal_of(tree: TreeWords) -> Refusal
     let domains = tree.domains;
     let threads = tree.threads;
     if domains == 0 {
-        return Refusal {
-            number: 4,
-            place: 0,
-        };
+        return refusal_at(4, 0);
     }
     if 64 < domains {
-        return Refusal {
-            number: 4,
-            place: 0,
-        };
+        return refusal_at(4, 0);
     }
     if threads == 0 {
-        return Refusal {
-            number: 5,
-            place: 0,
-        };
+        return refusal_at(5, 0);
     }
     if 256 < threads {
-        return Refusal {
-            number: 5,
-            place: 0,
-        };
+        return refusal_at(5, 0);
     }
     let d = trees::lowest_bad_parent(&tree.parents, domains);
     if d < domains {
-        return Refusal {
-            number: 6,
-            place: d,
-        };
+        return refusal_at(6, d);
     }
     let d = trees::lowest_too_deep(&tree.parents, domains);
     if d < domains {
-        return Refusal {
-            number: 7,
-            place: d,
-        };
+        return refusal_at(7, d);
     }
     let d = trees::lowest_no_threshold(&tree.thresholds, domains);
     if d < domains {
-        return Refusal {
-            number: 8,
-            place: d,
-        };
+        return refusal_at(8, d);
     }
     let inner = trees::inner_domains(&tree.parents, domains);
     let i = trees::lowest_bad_home(&tree.parents, &inner, &tree.homes, domains, threads);
     if i < threads {
-        return Refusal {
-            number: 9,
-            place: i,
-        };
+        return refusal_at(9, i);
     }
-    Refusal {
-        number: 0,
-        place: 0,
-    }
+    refusal_at(0, 0)
 }
 
 // A state handed in meets 4 to 10.
