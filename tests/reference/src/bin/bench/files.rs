@@ -84,3 +84,14 @@ pub fn print() -> Vec<f64> {
     }
     ratios
 }
+
+/// The file call of the step table or the library, as often as is said, on one schedule of one tree: for counting instructions.
+pub fn repeat(library: bool, schedule: usize, tree: usize, times: usize) {
+    let calls: Vec<RunFile> = std::iter::once(lock_file::run_file as RunFile).chain(library::run_file()).collect();
+    let call = calls[usize::from(library)];
+    let pair = pair(TREES[tree], SCHEDULES[schedule].1);
+    let mut output = vec![0; LONGEST_FILE];
+    for _ in 0..times {
+        assert_eq!(call(black_box(&pair.full), &mut output).number, 0);
+    }
+}

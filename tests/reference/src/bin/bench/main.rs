@@ -56,6 +56,11 @@ fn print_line(name: &str, tree: (usize, usize), costs: &[[f64; 2]]) -> Vec<f64> 
 }
 
 fn main() {
+    let numbers: Vec<usize> = std::env::args().skip(1).map(|word| word.parse().expect("a number")).collect();
+    if let [library, schedule, tree, times] = numbers[..] {
+        files::repeat(library != 0, schedule, tree, times);
+        return;
+    }
     println!("best of {ROUNDS} rounds; buffers are not cleared between calls");
     let ratios = [files::print(), calls::print()].concat();
     match ratios.into_iter().reduce(f64::max) {
