@@ -1,8 +1,13 @@
 /* Lyumadeon: a proved step model of the hierarchical MCS lock, for C and C++.
  *
- * Link with libhost.a (`rt staticlib host` writes target/staticlib/libhost.a). Every function returns for every input, writes only what
- * its description names, and keeps nothing: no allocation, no globals, no locks. The words below are compared field by field, never by
- * memcmp: struct hmcs_place has padding.
+ * Link with libhost.a (`rt staticlib host` writes target/staticlib/libhost.a, for x86-64 Linux). Every function returns for every input,
+ * writes only what its description names, and keeps nothing: no allocation, no globals, no locks.
+ *
+ * Pointers are the one thing that no function can test. A buffer must be valid for its length, and may be null where the length is 0; the
+ * pointers to a state, a place or a length must be valid, aligned and not null. The buffers of one call must not overlap, and two threads
+ * that call at the same time must write to different ones. hmcs_run_file needs 163 KB of stack, every other function at most 38 KB.
+ *
+ * Compare two states field by field, never by memcmp: struct hmcs_place and struct hmcs_run_reply have padding.
  */
 #ifndef HMCS_H
 #define HMCS_H
@@ -29,7 +34,7 @@ typedef struct hmcs_tree {
     uint8_t homes[HMCS_THREADS];       /* of each thread, a domain without child domains */
 } hmcs_tree;
 
-/* Rows of the step table, as a thread's place names them. */
+/* Rows of the step table (crates/model/specs/Steps.antt), as a thread's place names them. */
 enum hmcs_row {
     HMCS_IDLE = 0,
     HMCS_PREP = 1,
@@ -44,11 +49,11 @@ enum hmcs_row {
     HMCS_GRANT = 10
 };
 
-/* A thread's place. A part that the row lacks is 0. */
+/* Where a thread stands. A part that the row lacks is 0. */
 typedef struct hmcs_place {
     uint8_t row;    /* enum hmcs_row */
     uint8_t domain; /* 0 for Idle and Inside */
-    uint16_t peer;  /* Link: the record before; Grant: the record that is granted */
+    uint16_t peer;  /* Link: the record before; Grant: the record that is granted. The record's number itself, not + 1 */
     uint64_t word;  /* Grant: the word that is granted */
 } hmcs_place;
 
@@ -67,7 +72,7 @@ typedef struct hmcs_state {
 #define HMCS_UNLOCKED UINT64_C(0) /* at the root */
 #define HMCS_LOCKED UINT64_C(1)   /* at the root */
 
-/* What an answer's number means. 0 is accepted. A place that is not named is 0. */
+/* What an answer's number means. 0 is accepted. An answer's place is what the sentence says, else 0. */
 enum hmcs_refusal {
     HMCS_ACCEPTED = 0,
     HMCS_FILE_TOO_LONG = 1,    /* The lock file is longer than 65,536 bytes. */
@@ -76,10 +81,10 @@ enum hmcs_refusal {
     HMCS_BAD_DOMAINS = 4,      /* There are no domains, or more than 64. */
     HMCS_BAD_THREADS = 5,      /* There are no threads, or more than 256. */
     HMCS_BAD_PARENT = 6,       /* A domain other than 0 has a parent not below its own number, the place being the domain. */
-    HMCS_TOO_DEEP = 7,         /* A domain lies deeper than level 6, the place being the domain. */
+    HMCS_TOO_DEEP = 7,         /* A domain lies deeper than level 6, the root being level 1, the place being the domain. */
     HMCS_NO_THRESHOLD = 8,     /* A domain other than 0 has threshold 0, the place being the domain. */
     HMCS_BAD_HOME = 9,         /* A home is no domain of the tree or has child domains, the place being the thread. */
-    HMCS_BAD_STATE = 10,       /* The state handed in is not well formed. */
+    HMCS_BAD_STATE = 10,       /* The state handed in is not well formed (crates/model/specs/WellFormed.antt). */
     HMCS_SCHEDULE_LONG = 11,   /* The schedule has more than 65,536 entries. */
     HMCS_BAD_ENTRY = 12,       /* A schedule entry is not below the number of threads, the place being its position from 0. */
     HMCS_TRACE_SHORT = 13,     /* The trace buffer has fewer elements than the schedule. */
@@ -153,7 +158,7 @@ hmcs_run_reply hmcs_run(hmcs_tree tree, hmcs_state state, const uint16_t *schedu
 /* A fresh lock, written where the host keeps its state: the fresh words, accepted or refused. */
 hmcs_answer hmcs_fresh_in_place(hmcs_tree tree, hmcs_state *state);
 
-/* One step of the state that the host keeps, where it stands: the same as hmcs_step. Refused, the state is as it was. */
+/* One step of the state that the host keeps, in place: the same as hmcs_step. Refused, the state is as it was. */
 hmcs_answer hmcs_step_in_place(hmcs_tree tree, hmcs_state *state, uint16_t thread);
 
 /* The file call: reads a lock file, runs its schedule from a fresh lock, and writes the listing at the front of the output. Returns the

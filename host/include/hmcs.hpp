@@ -4,6 +4,7 @@
 
 #include "hmcs.h"
 
+#include <algorithm>
 #include <cstddef>
 #include <cstdint>
 #include <optional>
@@ -35,21 +36,21 @@ class Tree {
 public:
     Tree() : words_{} { words_.domains = 1; }
 
-    // A domain below another; its number.
-    std::uint32_t add_domain(std::uint8_t parent, std::uint16_t threshold) {
+    // A domain below another; its number. A parent above 255 is refused as one (6), a threshold above 65,535 as none (8).
+    std::uint32_t add_domain(std::uint32_t parent, std::uint32_t threshold) {
         const std::uint32_t d = words_.domains++;
         if (d < HMCS_DOMAINS) {
-            words_.parents[d] = parent;
-            words_.thresholds[d] = threshold;
+            words_.parents[d] = byte_of(parent);
+            words_.thresholds[d] = threshold <= 65535 ? static_cast<std::uint16_t>(threshold) : std::uint16_t{0};
         }
         return d;
     }
 
-    // A thread in a domain; its number.
-    std::uint32_t add_thread(std::uint8_t home) {
+    // A thread in a domain; its number. A home above 255 is refused as one (9).
+    std::uint32_t add_thread(std::uint32_t home) {
         const std::uint32_t i = words_.threads++;
         if (i < HMCS_THREADS) {
-            words_.homes[i] = home;
+            words_.homes[i] = byte_of(home);
         }
         return i;
     }
@@ -57,6 +58,9 @@ public:
     const hmcs_tree &words() const { return words_; }
 
 private:
+    // No domain has the number 255, so that a number which does not fit is refused and not cut.
+    static std::uint8_t byte_of(std::uint32_t domain) { return static_cast<std::uint8_t>(std::min<std::uint32_t>(domain, 255)); }
+
     hmcs_tree words_;
 };
 
@@ -81,14 +85,14 @@ public:
     const hmcs_state &state() const { return state_; }
     const hmcs_tree &tree() const { return tree_; }
 
-    // One step of a thread. Refused, the state is as it was.
-    Refusal step(std::uint16_t thread) { return of(hmcs_step_in_place(tree_, &state_, thread)); }
+    // One step of a thread. Refused, the state is as it was. A thread above 65,535 is no thread, as 65,535 is none.
+    Refusal step(std::uint32_t thread) { return of(hmcs_step_in_place(tree_, &state_, static_cast<std::uint16_t>(std::min<std::uint32_t>(thread, 65535)))); }
 
     // A schedule. Refused, the state is as it was and no step is taken.
     RunResult run(const std::uint16_t *schedule, std::size_t length) {
         RunResult result;
-        result.trace.resize(length);
-        const hmcs_run_reply reply = hmcs_run(tree_, state_, schedule, length, result.trace.data(), length);
+        result.trace.resize(std::min<std::size_t>(length, 65536)); // a longer schedule is refused (11) before the trace is looked at
+        const hmcs_run_reply reply = hmcs_run(tree_, state_, schedule, length, result.trace.data(), result.trace.size());
         state_ = reply.state;
         result.refusal = Refusal{reply.number, reply.place};
         result.counts = Counts{reply.steps, reply.entries, reply.stays, reply.root, reply.passed};

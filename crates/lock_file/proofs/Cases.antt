@@ -1,10 +1,6 @@
--- Computed cases of reading and of the file call: the printed example's bytes, 1 to 5, 9, 12 and 14 at their places. Assumes nothing.
+-- The cases of reading and of the file call hold, by computation. Assumes nothing.
 use mathlib.Core.Path.{_≡_, refl}
-use mathlib.Core.Bool.{Bool, true, false, _&&_}
-use mathlib.Core.List.{List, [], _∷_, _++_}
-use Prim.Native.Nat.{ℕ, suc}
-use lib.Dec.{eqb}
-use lib.ListN.{replicate}
+use mathlib.Core.Bool.{true}
 use Rattle.model.specs.Scans.{any-below, all-below}
 use Rattle.model.specs.Trees.{read-word, tree-of, is-child, is-leaf, depth-from, depth, level, meets, on-path, child-from, child, own-record, is-record, is-member, owner-domain}
 use Rattle.model.specs.Places.{plain-place, place-of, is-idle}
@@ -14,94 +10,10 @@ use Rattle.model.specs.Runs.{steps, state-after, how-many, entering, run-of, ru
 use Rattle.model.specs.WellFormed.{good-tail, good-next, good-status, good-place, good-thread, well-formed}
 use Rattle.model.specs.Refusals.{refusal, accepted, lowest-bad, first-refusal, bad-domains, bad-threads, bad-parent, too-deep, no-threshold, bad-home, tree-tests, bad-state, bad-length, bad-entry, bad-room, run-tests, tree-refusal, run-refusal}
 use Rattle.model.specs.Answers.{run-reply, run-answer}
-use Rattle.lock_file.specs.declared.FileReply.{FileReply}
-use Rattle.lock_file.specs.Reading.{Reading, refused, described, reached-refusal, field-end, entry-end, domain-size, domain-end, parent-at, threshold-at, stored, domains-from, domains-read, thread-end, home-at, threads-from, threads-behind, threads-read, thread-count, schedule-start, tree-read, entries-from, entries-at, reading-of, file-read}
+use Rattle.lock_file.specs.Reading.{reached-refusal, field-end, entry-end, domain-size, domain-end, parent-at, threshold-at, stored, domains-from, domains-read, thread-end, home-at, threads-from, threads-behind, threads-read, thread-count, schedule-start, tree-read, entries-from, entries-at, reading-of, file-read}
 use Rattle.lock_file.specs.Listing.{digits, numeral, number-then, trace-lines, first-line, listing, refusal-line}
 use Rattle.lock_file.specs.FileAnswers.{listing-outcome, run-outcome, file-run, file-trace, reading-outcome, file-outcome, outcome-reply, outcome-output, file-answer, output-answer}
-
-abbrev pub same : List ℕ → List ℕ → Bool
-same [] [] = true
-same [] (y ∷ ys) = false
-same (x ∷ xs) [] = false
-same (x ∷ xs) (y ∷ ys) = eqb x y && same xs ys
-
-abbrev pub all : List Bool → Bool
-all [] = true
-all (b ∷ bs) = b && all bs
-
-abbrev pub replies : (number place length : ℕ) → FileReply → Bool
-replies n p l r = eqb (r .number) n && eqb (r .place) p && eqb (r .length) l
-
-abbrev pub refuses : (number place : ℕ) → Reading → Bool
-refuses n p (refused r) = eqb (r .number) n && eqb (r .place) p
-refuses n p (described w is) = false
-
-abbrev pub gives : (domains threads : ℕ) → (parents thresholds homes schedule : List ℕ) → Reading → Bool
-gives d t ps hs ms js (refused r) = false
-gives d t ps hs ms js (described w is) =
-    eqb (w .domains) d && eqb (w .threads) t && same (w .parents) ps && same (w .thresholds) hs && same (w .homes) ms && same is js
-
--- schedule entries below 256, two bytes each
-abbrev pub pairs : List ℕ → List ℕ
-pairs [] = []
-pairs (i ∷ is) = i ∷ 0 ∷ pairs is
-
-abbrev pub example-tree : List ℕ
-example-tree = 3 ∷ 2 ∷ 2 ∷ 0 ∷ 0 ∷ 3 ∷ 0 ∷ 1 ∷ 1 ∷ 0 ∷ 1 ∷ 2 ∷ []
-
-abbrev pub example-schedule : List ℕ
-example-schedule = 0 ∷ 0 ∷ 0 ∷ 0 ∷ 1 ∷ 1 ∷ 1 ∷ 1 ∷ 0 ∷ 0 ∷ 0 ∷ 1 ∷ 2 ∷ 2 ∷ 2 ∷ 2 ∷ 2 ∷ 1 ∷ 1 ∷ 1 ∷ 1 ∷ []
-
--- the printed example, up to its last entry
-abbrev pub example : (last : ℕ) → List ℕ
-example l = example-tree ++ pairs (example-schedule ++ (l ∷ []))
-
--- "ok 22 3 1 2 1", then 0, 1 and 2
-abbrev pub example-listing : List ℕ
-example-listing = 111 ∷ 107 ∷ 32 ∷ 50 ∷ 50 ∷ 32 ∷ 51 ∷ 32 ∷ 49 ∷ 32 ∷ 50 ∷ 32 ∷ 49 ∷ 10 ∷ 48 ∷ 10 ∷ 49 ∷ 10 ∷ 50 ∷ 10 ∷ []
-
--- domains and threads without fields, and no schedule
-abbrev pub plain : (domains threads-low threads-high threads : ℕ) → List ℕ
-plain d l h t = (suc d ∷ replicate d 0) ++ (l ∷ h ∷ replicate t 0)
-
-pub cases : List Bool
-cases =
-    -- the printed example: read, listed, and the buffer behind the listing as it came
-    gives 3 3 (replicate 64 0) (0 ∷ 2 ∷ 16 ∷ replicate 61 0) (1 ∷ 1 ∷ 2 ∷ replicate 253 0) (example-schedule ++ (2 ∷ [])) (file-read (example 2))
-    ∷ replies 0 0 20 (file-answer (example 2) (replicate 20 7))
-    ∷ same (output-answer (example 2) (replicate 23 7)) (example-listing ++ (7 ∷ 7 ∷ 7 ∷ []))
-    -- one byte too few for the listing
-    ∷ replies 14 0 0 (file-answer (example 2) (replicate 19 7))
-    ∷ same (output-answer (example 2) (replicate 19 7)) (replicate 19 7)
-    ∷ replies 12 21 0 (file-answer (example 3) (replicate 20 7))
-    -- the file ends: nothing there, inside a threshold, before T, inside T, before a home, an odd rest
-    ∷ refuses 2 0 (file-read [])
-    ∷ refuses 2 3 (file-read (3 ∷ 2 ∷ 2 ∷ []))
-    ∷ refuses 2 1 (file-read (1 ∷ []))
-    ∷ refuses 2 2 (file-read (1 ∷ 1 ∷ []))
-    ∷ refuses 2 4 (file-read (1 ∷ 1 ∷ 0 ∷ 1 ∷ []))
-    ∷ refuses 2 5 (file-read (1 ∷ 1 ∷ 0 ∷ 0 ∷ 0 ∷ []))
-    -- a bit without a meaning: in the last byte, in a domain's map, in a thread's; the first fault from the left counts
-    ∷ refuses 3 1 (file-read (2 ∷ 4 ∷ []))
-    ∷ refuses 3 2 (file-read (3 ∷ 0 ∷ 255 ∷ []))
-    ∷ refuses 3 4 (file-read (1 ∷ 2 ∷ 0 ∷ 0 ∷ 2 ∷ 0 ∷ []))
-    ∷ refuses 2 4 (file-read (2 ∷ 3 ∷ 0 ∷ 1 ∷ []))
-    -- more domains or threads than there is room for are read to the end, and 2 and 3 come before 4 and 5
-    ∷ refuses 2 65 (file-read (65 ∷ replicate 64 0))
-    ∷ replies 4 0 0 (file-answer (plain 64 1 0 1) [])
-    ∷ replies 5 0 0 (file-answer (plain 0 1 1 257) [])
-    ∷ refuses 3 259 (file-read (plain 0 1 1 256 ++ (2 ∷ [])))
-    ∷ gives 255 0 (replicate 64 0) (0 ∷ replicate 63 16) (replicate 256 0) (258 ∷ []) (file-read (plain 254 0 0 0 ++ (2 ∷ 1 ∷ [])))
-    -- D of 0 or 1 has no domain entry; without threads the rest is schedule
-    ∷ replies 4 0 0 (file-answer (0 ∷ 0 ∷ 0 ∷ []) [])
-    ∷ replies 5 0 0 (file-answer (1 ∷ 0 ∷ 0 ∷ 0 ∷ 0 ∷ []) [])
-    -- the home of the thread before, even one that is no domain; 9 at the first
-    ∷ gives 1 3 (replicate 64 0) (replicate 64 0) (0 ∷ 9 ∷ 9 ∷ replicate 253 0) [] (file-read (1 ∷ 3 ∷ 0 ∷ 0 ∷ 1 ∷ 9 ∷ 0 ∷ []))
-    ∷ replies 9 1 0 (file-answer (1 ∷ 3 ∷ 0 ∷ 0 ∷ 1 ∷ 9 ∷ 0 ∷ []) [])
-    -- "refused 8 1", and an empty schedule's listing "ok 0 0 0 0 0"
-    ∷ same (refusal-line 8 1) (114 ∷ 101 ∷ 102 ∷ 117 ∷ 115 ∷ 101 ∷ 100 ∷ 32 ∷ 56 ∷ 32 ∷ 49 ∷ 10 ∷ [])
-    ∷ same (output-answer (1 ∷ 1 ∷ 0 ∷ 0 ∷ []) (replicate 13 0)) (111 ∷ 107 ∷ 32 ∷ 48 ∷ 32 ∷ 48 ∷ 32 ∷ 48 ∷ 32 ∷ 48 ∷ 32 ∷ 48 ∷ 10 ∷ [])
-    ∷ same (numeral 65535) (54 ∷ 53 ∷ 53 ∷ 51 ∷ 53 ∷ []) ∷ same (numeral 10) (49 ∷ 48 ∷ []) ∷ []
+use Rattle.lock_file.specs.Cases.{all, cases}
 
 pub cases-hold : all cases ≡ true
 unfolding any-below all-below read-word tree-of is-child is-leaf depth-from depth level meets on-path child-from child own-record is-record is-member owner-domain plain-place place-of is-idle fresh-words is-stay is-root-entry is-passed-entry is-entry prep-row swap-row link-row wait-row leave-row check-row help-row cas-row linger-row grant-row row step steps state-after how-many entering run-of run good-tail good-next good-status good-place good-thread well-formed refusal accepted lowest-bad first-refusal bad-domains bad-threads bad-parent too-deep no-threshold bad-home tree-tests bad-state bad-length bad-entry bad-room run-tests tree-refusal run-refusal run-reply run-answer reached-refusal field-end entry-end domain-size domain-end parent-at threshold-at stored domains-from domains-read thread-end home-at threads-from threads-behind threads-read thread-count schedule-start tree-read entries-from entries-at reading-of file-read digits numeral number-then trace-lines first-line listing refusal-line listing-outcome run-outcome file-run file-trace reading-outcome file-outcome outcome-reply outcome-output file-answer output-answer cases

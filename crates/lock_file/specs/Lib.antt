@@ -4,3 +4,4 @@ pub mod Listing
 pub mod FileAnswers
 pub mod Format
 pub mod FileLaws
+pub mod Cases

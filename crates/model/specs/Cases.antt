@@ -99,6 +99,8 @@ cases =
     ∷ fresh-call (tree 7 1 (0 ∷ count-up 0 6) (0 ∷ replicate 6 1) (6 ∷ [])) (refused 7 6)
     -- threshold 0 at domain 1 together with parent 2 at domain 2
     ∷ fresh-call (tree 3 1 (0 ∷ 0 ∷ 2 ∷ []) (0 ∷ 0 ∷ 1 ∷ []) (1 ∷ [])) (refused 6 2)
+    -- a parent not below its domain comes before the level that it would give
+    ∷ fresh-call (tree 8 1 (replicate 7 0 ++ 7 ∷ []) (0 ∷ replicate 7 1) (1 ∷ [])) (refused 6 7)
     -- one domain, one thread, entries 0 0
     ∷ run-call root-alone fresh-words (0 ∷ 0 ∷ []) (ok 2 1 0 1 0 (0 ∷ []))
     -- the empty schedule: all counts 0

@@ -6,7 +6,9 @@ use std::slice;
 /// The pointers are valid for their lengths.
 #[no_mangle]
 pub unsafe extern "C" fn reference_run_file(file: *const u8, file_length: usize, output: *mut u8, output_length: usize, place: *mut u32, length: *mut u32) -> u32 {
-    let answer = reference::lock_file::run_file(slice::from_raw_parts(file, file_length), slice::from_raw_parts_mut(output, output_length));
+    let file = if file_length == 0 { &[] } else { slice::from_raw_parts(file, file_length) };
+    let output = if output_length == 0 { &mut [] } else { slice::from_raw_parts_mut(output, output_length) };
+    let answer = reference::lock_file::run_file(file, output);
     *place = answer.place;
     *length = answer.length;
     answer.number

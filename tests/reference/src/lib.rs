@@ -6,6 +6,7 @@ pub mod library;
 pub mod listing;
 pub mod lock_file;
 pub mod met;
+pub mod opaque;
 pub mod options;
 pub mod random;
 pub mod random_file;

@@ -95,7 +95,7 @@ pub fn read(file: &[u8]) -> Outcome<(Tree, &[u8])> {
     reader.domains(&mut tree)?;
     reader.threads(&mut tree)?;
     let schedule = &file[reader.position..];
-    if !schedule.len().is_multiple_of(2) {
+    if schedule.len() % 2 != 0 {
         return refuse(2, file.len());
     }
     Ok((tree, schedule))

@@ -36,7 +36,7 @@ fn bursts(random: &mut Random, threads: usize, length: usize) -> Vec<u16> {
     while schedule.len() < length {
         let thread = random.below(threads) as u16;
         let burst = random.between(1, 40).min(length - schedule.len());
-        schedule.extend(std::iter::repeat_n(thread, burst));
+        schedule.extend(std::iter::repeat(thread).take(burst));
     }
     schedule
 }

@@ -67,10 +67,15 @@ fn take_away_counted(file: &mut Vec<u8>, differs: &impl Fn(&[u8]) -> bool) -> bo
 
 /// Long stretches of one byte are written once, with their length.
 pub fn hexadecimal(file: &[u8]) -> String {
-    let stretches = file.chunk_by(|byte, next| byte == next);
-    let text = |stretch: &[u8]| match stretch.len() {
-        1..=64 => vec![format!("{:02x}", stretch[0]); stretch.len()].join(" "),
-        times => format!("{:02x} ({times} times)", stretch[0]),
-    };
-    stretches.map(text).collect::<Vec<_>>().join(" ")
+    let mut texts = Vec::new();
+    let mut rest = file;
+    while let Some(&byte) = rest.first() {
+        let times = rest.iter().take_while(|&&other| other == byte).count();
+        texts.push(match times {
+            1..=64 => vec![format!("{byte:02x}"); times].join(" "),
+            _ => format!("{byte:02x} ({times} times)"),
+        });
+        rest = &rest[times..];
+    }
+    texts.join(" ")
 }

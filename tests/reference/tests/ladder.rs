@@ -21,7 +21,7 @@ fn printed_head() -> Vec<u8> {
 }
 
 fn repeated(parts: &[(u16, usize)]) -> Vec<u16> {
-    parts.iter().flat_map(|&(thread, times)| std::iter::repeat_n(thread, times)).collect()
+    parts.iter().flat_map(|&(thread, times)| std::iter::repeat(thread).take(times)).collect()
 }
 
 fn prints(file: &[u8], text: &str) {

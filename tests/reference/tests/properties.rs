@@ -64,7 +64,7 @@ fn words_and_states_give_each_other_back() {
     for row in 0..=255 {
         for (domain, peer, word) in [(0, 0, 0), (1, 0, 0), (0, 1, 0), (0, 0, 1), (1, 1, 0), (1, 1, 1)] {
             let words = PlaceWords { row, domain, peer, word };
-            assert!(words.place().is_none_or(|place| PlaceWords::of(place) == words));
+            assert!(words.place().map_or(true, |place| PlaceWords::of(place) == words));
         }
     }
 }

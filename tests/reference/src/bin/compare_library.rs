@@ -88,6 +88,10 @@ fn main() {
         println!("a number was never met");
         exit(1);
     }
+    if library.is_none() && std::env::var("HMCS_LIBRARY").is_ok() {
+        println!("a library is named, but not linked");
+        exit(1);
+    }
     println!("{}", if library.is_some() { "no difference" } else { "nothing compared" });
 }
 

@@ -16,14 +16,18 @@ fn printed(program: &str, file: &[u8]) -> Vec<u8> {
     let _ = input.write_all(file);
     drop(input);
     let output = child.wait_with_output().expect("the program ends");
+    assert!(output.status.success(), "the program ends with {}", output.status);
     output.stdout
 }
 
 fn main() {
     let options = Options::read(2_000, 20_000);
-    let Ok(program) = env::var("HMCS_PROGRAM") else {
-        println!("no program named: its comparison is left out");
-        return;
+    let program = match env::var("HMCS_PROGRAM") {
+        Ok(program) => program,
+        Err(_) => {
+            println!("no program named: its comparison is left out");
+            return;
+        }
     };
     println!("{program} against the step table: {} files, seed {}", options.count, options.seed);
     let mut random = Random::new(options.seed);

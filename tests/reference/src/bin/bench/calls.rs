@@ -3,12 +3,12 @@
 use crate::{draft_with_schedule, print_line, time, ROUNDS, SCHEDULES, TREES};
 use reference::calls::{Calls, TABLE};
 use reference::library;
+use reference::opaque::opaque;
 use reference::random::Random;
 use reference::random_state::tree_words;
 use reference::refusals::LONGEST_SCHEDULE;
 use reference::schedules::Style;
 use reference::words::{StateWords, TreeWords};
-use std::hint::black_box;
 
 /// Nanoseconds of a whole run, of a run of one entry, of a single step and of a step in place.
 #[derive(Clone, Copy)]
@@ -34,11 +34,11 @@ impl Cost {
 fn round(calls: Calls, tree: &TreeWords, schedule: &[u16], trace: &mut [u16]) -> Cost {
     let fresh = StateWords::fresh();
     let mut state = fresh;
-    let mut run = |schedule: &[u16]| time(|| assert_eq!((calls.run)(tree, black_box(&fresh), schedule, trace).number, 0));
+    let mut run = |schedule: &[u16]| time(|| assert_eq!((calls.run)(tree, opaque(&fresh), schedule, trace).number, 0));
     Cost {
         run: run(schedule),
         one: run(&schedule[..1]),
-        step: time(|| assert_eq!((calls.step)(tree, black_box(&fresh), schedule[0]).number, 0)),
+        step: time(|| assert_eq!((calls.step)(tree, opaque(&fresh), schedule[0]).number, 0)),
         in_place: time(|| assert_eq!((calls.step_in_place)(tree, &mut state, schedule[0]), (0, 0))),
     }
 }
@@ -74,7 +74,10 @@ fn print_schedule(programs: &[Calls], tree: (usize, usize), name: &str, style: S
 
 /// Prints the table and returns its ratios; nothing where the library lacks these calls.
 pub fn print() -> Vec<f64> {
-    let Some(library) = library::calls() else { return Vec::new() };
+    let library = match library::calls() {
+        Some(library) => library,
+        None => return Vec::new(),
+    };
     println!("run on a caller's state, {LONGEST_SCHEDULE} entries: microseconds a run and nanoseconds a step, of the step table and the library; their ratios");
     let mut ratios = Vec::new();
     for tree in TREES {

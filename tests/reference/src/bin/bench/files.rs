@@ -3,9 +3,9 @@
 use crate::{draft_with_schedule, print_line, time, ROUNDS, SCHEDULES, TREES};
 use reference::library::{self, RunFile};
 use reference::lock_file::{self, LONGEST_FILE};
+use reference::opaque::opaque;
 use reference::random::Random;
 use reference::schedules::Style;
-use std::hint::black_box;
 
 const ENTRIES: usize = 32_000;
 
@@ -38,7 +38,7 @@ fn pair(tree: (usize, usize), style: Style) -> Pair {
 /// The best of the rounds, in each of which every file call has its turn.
 fn costs(calls: &[RunFile], pair: &Pair) -> Vec<Cost> {
     let mut output = vec![0; LONGEST_FILE];
-    let mut measure = |call: RunFile, file: &[u8]| time(|| assert_eq!(call(black_box(file), &mut output).number, 0));
+    let mut measure = |call: RunFile, file: &[u8]| time(|| assert_eq!(call(opaque(file), &mut output).number, 0));
     let mut best: Vec<Cost> = calls.iter().map(|_| Cost { full: f64::MAX, empty: f64::MAX }).collect();
     for _ in 0..ROUNDS {
         for (call, cost) in calls.iter().zip(&mut best) {
@@ -92,6 +92,6 @@ pub fn repeat(library: bool, schedule: usize, tree: usize, times: usize) {
     let pair = pair(TREES[tree], SCHEDULES[schedule].1);
     let mut output = vec![0; LONGEST_FILE];
     for _ in 0..times {
-        assert_eq!(call(black_box(&pair.full), &mut output).number, 0);
+        assert_eq!(call(opaque(&pair.full), &mut output).number, 0);
     }
 }
