@@ -6,8 +6,8 @@
 
 int main() {
     hmcs::Tree tree;
-    const auto first = static_cast<std::uint8_t>(tree.add_domain(0, 2));
-    const auto second = static_cast<std::uint8_t>(tree.add_domain(0, 16));
+    const auto first = tree.add_domain(0, 2);
+    const auto second = tree.add_domain(0, 16);
     tree.add_thread(first);
     tree.add_thread(first);
     tree.add_thread(second);

@@ -243,6 +243,26 @@ void files() {
 }
 
 // A null pointer with length 0 is an empty slice.
+// Numbers that do not fit a word are refused, not cut.
+void wide_numbers() {
+    hmcs::Tree parent;
+    parent.add_domain(256, 1);
+    parent.add_thread(1);
+    CHECK(hmcs::Lock(parent).refusal().number == HMCS_BAD_PARENT && hmcs::Lock(parent).refusal().place == 1);
+    hmcs::Tree threshold;
+    threshold.add_domain(0, 65537);
+    threshold.add_thread(1);
+    CHECK(hmcs::Lock(threshold).refusal().number == HMCS_NO_THRESHOLD && hmcs::Lock(threshold).refusal().place == 1);
+    hmcs::Tree home;
+    home.add_domain(0, 1);
+    home.add_thread(257);
+    CHECK(hmcs::Lock(home).refusal().number == HMCS_BAD_HOME && hmcs::Lock(home).refusal().place == 0);
+    hmcs::Lock lock(example_tree());
+    CHECK(lock.step(65536).number == HMCS_BAD_ENTRY);
+    CHECK(lock.run(std::vector<std::uint16_t>(65537, 0)).refusal.number == HMCS_SCHEDULE_LONG);
+    CHECK(!lock.run(std::vector<std::uint16_t>(65536, 0)).refusal);
+}
+
 void null_pointers() {
     std::uint32_t place = 9, length = 9;
     CHECK(hmcs_run_file(nullptr, 0, nullptr, 0, &place, &length) == HMCS_FILE_CUT && place == 0 && length == 0);
@@ -262,6 +282,7 @@ int main() {
     example();
     wrapper();
     files();
+    wide_numbers();
     null_pointers();
     std::printf("host: %d checks, %d failures\n", checks, failures);
     return failures == 0 ? 0 : 1;
