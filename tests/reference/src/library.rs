@@ -1,4 +1,4 @@
-//! The entries of the static library; no other file declares one, and nothing checks the declarations but the comparison.
+//! The entries of the static library; no other Rust file declares one, and nothing checks the declarations but the comparison.
 
 use crate::calls::Calls;
 use crate::lock_file::FileAnswer;
