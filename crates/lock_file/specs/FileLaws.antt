@@ -3,7 +3,7 @@ use mathlib.Core.Path.{_≡_}
 use mathlib.Core.List.{List, [], _∷_}
 use mathlib.Core.Logic.{_≢_, _⊎_}
 use Prim.Native.Nat.{ℕ, _+_, _*_, _-_, _≤_, _<_}
-use lib.ListN.{length, getD, replicate}
+use lib.ListN.{length, take, getD, replicate}
 use Rattle.model.specs.declared.TreeWords.{TreeWords}
 use Rattle.model.specs.Trees.{tree-of}
 use Rattle.model.specs.States.{fresh-words}
@@ -12,7 +12,7 @@ use Rattle.model.specs.Claim.{Call, a-run, ran, answers, joined, Claim}
 use Rattle.model.specs.Laws.{_⟺_}
 use Rattle.lock_file.specs.Reading.{described, file-read}
 use Rattle.lock_file.specs.Listing.{numeral}
-use Rattle.lock_file.specs.FileAnswers.{file-run, tree-outcome, file-outcome, file-answer}
+use Rattle.lock_file.specs.FileAnswers.{file-run, file-trace, tree-outcome, file-outcome, file-answer}
 use Rattle.lock_file.specs.Format.{Describes}
 
 -- 1. FORMAT. Reading accepts a file, with a tree and a schedule, exactly if the file describes them
@@ -56,6 +56,10 @@ pub record One-call (w : TreeWords) (schedule : List ℕ) : Type 0 where
   pub answered :
       answers (file-call w schedule ∷ []) fresh-words
       ≡ ran (file-run w schedule) (trace-answer w fresh-words schedule (replicate (length schedule) 0)) ∷ []
+  -- the trace that is listed is what an accepted run leaves at the front of the buffer
+  pub listed :
+      file-run w schedule .number ≡ 0 →
+      take (file-run w schedule .entries) (trace-answer w fresh-words schedule (replicate (length schedule) 0)) ≡ file-trace w schedule
   pub claimed : Claim (tree-of w) (file-call w schedule ∷ []) (joined (file-call w schedule ∷ []) fresh-words)
 
 unfoldable pub File-claim-law : Type 0
