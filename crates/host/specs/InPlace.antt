@@ -19,8 +19,8 @@ step-number r = record { number = r .number; place = r .place }
 abbrev pub with-state : Answer → State → StepReply
 with-state a s = record { number = a .number; place = a .place; state = s }
 
--- what a step in place returns and leaves is the answer of that step as a call of a list, so the third demand's claim speaks of it
+-- whatever a step in place returns and leaves by its contract is the answer of that step as a call of a list, so the third demand's claim speaks of it
 unfoldable pub In-place-law : Type 0
 In-place-law =
-    (w : TreeWords) (s : State) (i : ℕ) →
-    stepped (with-state (step-number (step-answer w s i)) (step-answer w s i .state)) ≡ answer (record { tree = w; ask = one-step i }) s
+    (w : TreeWords) (s : State) (i : ℕ) (returned : Answer) (left : State) → returned ≡ step-number (step-answer w s i) → left ≡ step-answer w s i .state →
+    stepped (with-state returned left) ≡ answer (record { tree = w; ask = one-step i }) s
