@@ -3,7 +3,7 @@ use mathlib.Core.Path.{_≡_, refl, sym, ap, _∙_}
 use mathlib.Core.List.{List, [], _∷_}
 use Prim.Native.Nat.{ℕ, _≤_, _<_}
 use native.Mathlib.Omega.{arith}
-use lib.ListN.{length}
+use lib.ListN.{length, getD}
 use borrow.Author.Tests.{ne-eqb, eq-eqb, le-leb, lt-leb}
 use Rattle.model.specs.declared.TreeWords.{TreeWords}
 use Rattle.model.specs.declared.State.{State}
@@ -21,7 +21,7 @@ use Rattle.refusals.specs.declared.Refusal.{Refusal}
 use Rattle.refusals.specs.Arrays.{told, schedule-tests}
 use Rattle.refusals.proofs.Scanning.{single-hit, single-missed}
 use Rattle.refusals.proofs.Joining.{first-decides, other-decides, state-tests, state-numbered}
-use Rattle.lock.specs.Running.{trace-front}
+use Rattle.lock.specs.Running.{trace-front, counts-of}
 
 -- what was told is 0 exactly if the refusal is
 told-not : (r : Refusal) (x : model.Refusal) → r ≡ told x → (r .number ≡ 0 → ⊥) → x .number ≡ 0 → ⊥
@@ -73,9 +73,9 @@ module _ (w : TreeWords) (s : State) (i : ℕ) (r : Refusal) (e : r ≡ told (fi
           one-thread : calls.Good-step (tree-of w) s i → All-threads (tree-of w) (i ∷ [])
           one-thread g = (g .thread, tt)
 
-      pub step-answered : (x : RunReply) → x ≡ run-accepted (run (tree-of w) (i ∷ []) s) → record { number = 0; place = 0; state = x .state } ≡ step-answer w s i
+      pub step-answered : (n : State) → n ≡ run (tree-of w) (i ∷ []) s .state → record { number = 0; place = 0; state = n } ≡ step-answer w s i
       unfolding step-answer step-reply accepted refusal run run-of steps state-after
-      step-answered x f = rw (f, step-accepted)
+      step-answered n f = rw (f, step-accepted)
 
 -- A RUN
 module _ (w : TreeWords) (s : State) (is b : List ℕ) (r : Refusal) (e : r ≡ told (first-refusal (state-tests (tree-of w) s))) where
@@ -108,9 +108,10 @@ module _ (w : TreeWords) (s : State) (is b : List ℕ) (r : Refusal) (e : r ≡ 
     run-passes y = ap (λ x. x .number) schedule-decides ∙ told-zero q _ f y
 
     pub run-answered :
-        q .number ≡ 0 → (y : RunReply) (b′ : List ℕ) → y ≡ run-accepted (run (tree-of w) is s) → b′ ≡ trace-front b (run (tree-of w) is s) →
-        (y ≡ run-answer w s is b) × (b′ ≡ trace-answer w s is b)
+        q .number ≡ 0 → (n : State) (b′ counts : List ℕ) → n ≡ run (tree-of w) is s .state → b′ ≡ trace-front b (run (tree-of w) is s) → counts ≡ counts-of (run (tree-of w) is s) →
+        (record { number = 0; place = 0; steps = getD counts 0 0; entries = getD counts 1 0; stays = getD counts 2 0; root = getD counts 3 0; passed = getD counts 4 0; state = n } ≡ run-answer w s is b)
+        × (b′ ≡ trace-answer w s is b)
     unfolding run-answer run-reply trace-answer run-buffer
-    run-answered n y b′ g h =
-        let p = eq-eqb (run-refusal (tree-of w) s is (length b) .number) 0 (run-passes n) in
-        (g ∙ rw p, h ∙ rw p)
+    run-answered y n b′ counts g h k =
+        let p = eq-eqb (run-refusal (tree-of w) s is (length b) .number) 0 (run-passes y) in
+        (rw (g, k, p), h ∙ rw p)

@@ -15,14 +15,13 @@ use Rattle.model.specs.Trees.{Tree}
 use Rattle.model.specs.Refusals.{tree-refusal}
 use Rattle.model.specs.Steps.{Kind, stay, other, root-entry, passed-entry, is-stay, is-root-entry, is-passed-entry, is-entry, step}
 use Rattle.model.specs.Runs.{steps, state-after, how-many, entering, Run, run-of, run}
-use Rattle.model.specs.Answers.{run-accepted}
 use Rattle.model.specs.Laws.{All-threads, Sixteen-bit, Formed, Form-law, Count-law, Kind-law, then-run}
 use Rattle.model.proofs.Laws.Runs.{run-join, count-law}
 use Rattle.model.proofs.Laws.Form.{form-law}
 use Rattle.model.proofs.Laws.Kinds.{kind-law}
 use Rattle.lock.specs.declared.rows.Effect.{Effect}
 use Rattle.lock.specs.Effects.{kind-number, apply, Does}
-use Rattle.lock.specs.Running.{one-if, entered, traced-at, trace-front}
+use Rattle.lock.specs.Running.{one-if, entered, traced-at, trace-front, counts-of}
 use Rattle.lock.proofs.Threads.{step-thread}
 
 -- KINDS by their numbers
@@ -210,12 +209,15 @@ module _ (t : Tree) (is b₀ : List ℕ) (s₀ : State) where
   whole k h = ap (λ v. run t v s₀) (take-all k is h)
 
   module _ (b : List ℕ) (s : State) (entries stays root passed k : ℕ) (g : Going b s entries stays root passed k) (h : length is ≤ k) where
-    pub run-ends : record { number = 0; place = 0; steps = k; entries = entries; stays = stays; root = root; passed = passed; state = s } ≡ run-accepted (run t is s₀)
+    pub state-ends : s ≡ run t is s₀ .state
+    state-ends = g .state-is ∙ ap (λ v. v .state) (whole k h)
+
+    pub counts-end : k ∷ entries ∷ stays ∷ root ∷ passed ∷ [] ≡ counts-of (run t is s₀)
     unfolding Count-law
-    run-ends =
+    counts-end =
         let all : run t is s₀ .steps ≡ length is = count-law t is s₀ .all-steps in
         let same : k ≡ run t is s₀ .steps = omega (arith, all, g .within) in
-        rw (same, g .entries-are, g .stays-are, g .root-are, g .passed-are, g .state-is, whole k h)
+        rw (same, g .entries-are, g .stays-are, g .root-are, g .passed-are, whole k h)
 
     pub trace-ends : b ≡ trace-front b₀ (run t is s₀)
     trace-ends = g .trace-is ∙ ap (trace-front b₀) (whole k h)

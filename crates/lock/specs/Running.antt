@@ -1,7 +1,7 @@
 -- A run by its effects: what is decided, stored, counted and traced. Assumes nothing: these are definitions.
 use mathlib.Core.Path.{_≡_}
 use mathlib.Core.Bool.{true, cond}
-use mathlib.Core.List.{List, _++_}
+use mathlib.Core.List.{List, [], _∷_, _++_}
 use Prim.Native.Nat.{ℕ, _<_}
 use lib.Dec.{ltb, eqb}
 use lib.ListN.{getD, set, length, drop}
@@ -40,3 +40,7 @@ traced-at b n k i = cond (ltb k 2) b (set b n i)
 -- the buffer with a run's trace at its front
 abbrev pub trace-front : List ℕ → Run → List ℕ
 trace-front b x = x .trace ++ drop (length (x .trace)) b
+
+-- the counts of a run: steps, entries, stays, root entries, passed entries
+abbrev pub counts-of : Run → List ℕ
+counts-of x = x .steps ∷ x .entries ∷ x .stays ∷ x .root ∷ x .passed ∷ []

@@ -70,8 +70,8 @@ pub fn step_lock(tree: TreeWords, state: State, thread: u16) -> StepReply
     }
     let schedule = [thread];
     let mut trace = [0u16];
-    let x = run::run_steps(tree, state, &schedule, &mut trace);
-    let after = x.state;
+    let mut counts = [0u32; 5];
+    let after = run::run_steps(tree, state, &schedule, &mut trace, &mut counts);
     StepReply {
         number: 0,
         place: 0,
@@ -107,5 +107,21 @@ pub fn run_lock(tree: TreeWords, state: State, schedule: &[u16], trace: &mut [u1
     if q.number != 0 {
         return refused(q.number, q.place, state);
     }
-    run::run_steps(tree, state, schedule, trace)
+    let mut counts = [0u32; 5];
+    let after = run::run_steps(tree, state, schedule, trace, &mut counts);
+    let steps = counts[0];
+    let entries = counts[1];
+    let stays = counts[2];
+    let root = counts[3];
+    let passed = counts[4];
+    RunReply {
+        number: 0,
+        place: 0,
+        steps,
+        entries,
+        stays,
+        root,
+        passed,
+        state: after,
+    }
 }

@@ -5,11 +5,9 @@ ghost use lib.ListN.{length};
 ghost use Rattle.model.specs.Trees.{tree-of};
 ghost use Rattle.model.specs.Refusals.{run-refusal};
 ghost use Rattle.model.specs.Runs.{run};
-ghost use Rattle.model.specs.Answers.{run-accepted};
 ghost use Rattle.lock.specs.Effects.{stored};
-ghost use Rattle.lock.specs.Running.{one-if, entered, traced-at, trace-front};
+ghost use Rattle.lock.specs.Running.{one-if, entered, traced-at, trace-front, counts-of};
 use crate::rows;
-use model::RunReply;
 use model::State;
 use model::TreeWords;
 
@@ -66,16 +64,18 @@ fn trace_at(trace: &mut [u16], at: u32, kind: u8, i: u16) -> u32
     at + 1
 }
 
-// The steps of a schedule, stored one after another into one state, which is copied at the start and at the end alone.
+// The steps of a schedule, stored one after another into one state, which is copied at the start and at the end alone. The counts are lent, so that a step pays for none: steps, entries, stays, root entries, passed entries.
 pub(crate) fn run_steps(
     tree: TreeWords,
     state: State,
     schedule: &[u16],
     trace: &mut [u16],
-) -> RunReply
+    counts: &mut [u32; 5],
+) -> State
     requires { ⌜ run-refusal (tree-of tree) state (now schedule) (length (now trace)) .number ≡ 0 ⌝ }
-    ensures { λ r. ⌜ r ≡ run-accepted (run (tree-of tree) (now (schedule .entry)) state) ⌝ }
+    ensures { λ r. ⌜ r ≡ run (tree-of tree) (now (schedule .entry)) state .state ⌝ }
     ensures { λ r. ⌜ now (trace .exit) ≡ trace-front (now (trace .entry)) (run (tree-of tree) (now (schedule .entry)) state) ⌝ }
+    ensures { λ r. ⌜ now (counts .exit) ≡ counts-of (run (tree-of tree) (now (schedule .entry)) state) ⌝ }
 {
     let domains = tree.domains;
     let threads = tree.threads;
@@ -118,14 +118,6 @@ pub(crate) fn run_steps(
         passed += one_if_at(kind, 3);
         k += 1;
     }
-    RunReply {
-        number: 0,
-        place: 0,
-        steps: k,
-        entries,
-        stays,
-        root,
-        passed,
-        state: n,
-    }
+    *counts = [k, entries, stays, root, passed];
+    n
 }

@@ -23,13 +23,28 @@ returns-2 : tie.Need-returns-2
 returns-2 c = schedule-refuses _ _ _ _ _ (c .before .before .before .before .before .before .state-refusal-of .ensures) (c .before .before .before .before .if1 .left) _ (c .before .before .before .schedule-refusal-of .ensures) _ (c .before .if2 .taken) (c .refused2 .ensures)
 
 run-steps-requires : tie.Need-run-steps-requires
-run-steps-requires c κs = run-passes _ _ _ (c .before .before .before .before .before .before .before .before .before .args .trace .now) _ (c .before .before .before .before .before .before .state-refusal-of .ensures) (c .before .before .before .before .if1 .left) _ (c .before .before .before .schedule-refusal-of .ensures) (c .before .if2 .left)
+run-steps-requires c κs = run-passes _ _ _ (c .before .before .before .before .before .before .before .before .before .before .args .trace .now) _ (c .before .before .before .before .before .before .before .state-refusal-of .ensures) (c .before .before .before .before .before .if1 .left) _ (c .before .before .before .before .schedule-refusal-of .ensures) (c .before .before .if2 .left)
+
+array-read-steps : tie.Need-array-read-steps
+array-read-steps c = search needs
+
+array-read-entries : tie.Need-array-read-entries
+array-read-entries c = search needs
+
+array-read-stays : tie.Need-array-read-stays
+array-read-stays c = search needs
+
+array-read-root : tie.Need-array-read-root
+array-read-root c = search needs
+
+array-read-passed : tie.Need-array-read-passed
+array-read-passed c = search needs
 
 same-length : tie.Need-same-length
 same-length c = search needs
 
 returns-3 : tie.Need-returns-3
-returns-3 c = run-answered _ _ _ _ _ (c .before .before .before .before .before .before .before .before .before .state-refusal-of .ensures) (c .before .before .before .before .before .before .before .if1 .left) _ (c .before .before .before .before .before .before .schedule-refusal-of .ensures) (c .before .before .before .before .if2 .left) _ _ (c .before .before .run-steps .ensures .0) (c .before .before .run-steps .ensures .1)
+returns-3 c = run-answered _ _ _ _ _ (c .before .before .before .before .before .before .before .before .before .before .state-refusal-of .ensures) (c .before .before .before .before .before .before .before .before .if1 .left) _ (c .before .before .before .before .before .before .before .schedule-refusal-of .ensures) (c .before .before .before .before .before .if2 .left) _ _ _ (c .before .before .run-steps .ensures .0) (c .before .before .run-steps .ensures .1 .0) (c .before .before .run-steps .ensures .1 .1)
 
 pub run-lock-spec : {M : Type 1} → statement M
 run-lock-spec =
@@ -42,5 +57,10 @@ run-lock-spec =
     refused-requires-2
     returns-2
     run-steps-requires
+    array-read-steps
+    array-read-entries
+    array-read-stays
+    array-read-root
+    array-read-passed
     same-length
     returns-3)

@@ -21,10 +21,10 @@ slice-aggregate-run-steps-2 : tie.Need-slice-aggregate-run-steps-2
 slice-aggregate-run-steps-2 c = search needs
 
 run-steps-requires : tie.Need-run-steps-requires
-run-steps-requires c κs = one-runs _ _ _ _ (c .before .before .before .before .before .before .state-refusal-of .ensures) (c .before .before .before .before .if1 .left) (c .before .before .if2 .left) _ (omega arith)
+run-steps-requires c κs = one-runs _ _ _ _ (c .before .before .before .before .before .before .before .state-refusal-of .ensures) (c .before .before .before .before .before .if1 .left) (c .before .before .before .if2 .left) _ (omega arith)
 
 returns-3 : tie.Need-returns-3
-returns-3 c = step-answered _ _ _ _ (c .before .before .before .before .before .before .before .before .before .state-refusal-of .ensures) (c .before .before .before .before .before .before .before .if1 .left) (c .before .before .before .before .before .if2 .left) _ (c .before .before .run-steps .ensures .0)
+returns-3 c = step-answered _ _ _ _ (c .before .before .before .before .before .before .before .before .before .state-refusal-of .ensures) (c .before .before .before .before .before .before .before .if1 .left) (c .before .before .before .before .before .if2 .left) _ (c .before .run-steps .ensures .0)
 
 pub step-lock-spec : {M : Type 1} → statement M
 step-lock-spec =

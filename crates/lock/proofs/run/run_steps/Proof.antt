@@ -5,7 +5,7 @@ use native.Mathlib.Omega.{arith}
 use lib.ListN.{length}
 use Rattle.model.specs.Trees.{tree-of}
 use Rattle.model.proofs.Laws.Calls.{run-facts}
-use Rattle.lock.proofs.Going.{Going, start, turn-stay, turn-move, run-ends, trace-ends}
+use Rattle.lock.proofs.Going.{Going, start, turn-stay, turn-move, state-ends, trace-ends, counts-end}
 use Rattle.lock.proofs.Typing.{typed}
 use Rattle.lock.proofs.Turns.{sixteen, thread-small, ready, all-stored}
 use borrow.Author.Needs.{needs}
@@ -13,10 +13,10 @@ use Rattle.lock.proofs.run.run_steps.Statement.{statement}
 use Rattle.lock.proofs.run.run_steps.Tie as tie
 
 abbrev Inv-loop : tie.InvT-loop
-Inv-loop schedule trace₀ tree domains threads n₀ entries₀ stays₀ root₀ passed₀ k₀ trace n entries stays root passed k = Going (tree-of tree) schedule trace₀ n₀ trace n entries stays root passed k
+Inv-loop schedule trace₀ counts₀ tree domains threads n₀ entries₀ stays₀ root₀ passed₀ k₀ trace n entries stays root passed k = Going (tree-of tree) schedule trace₀ n₀ trace n entries stays root passed k
 
 abbrev μ-loop : tie.MeasureT-loop
-μ-loop schedule trace₀ tree domains threads n₀ entries₀ stays₀ root₀ passed₀ k₀ trace n entries stays root passed k = length schedule - k
+μ-loop schedule trace₀ counts₀ tree domains threads n₀ entries₀ stays₀ root₀ passed₀ k₀ trace n entries stays root passed k = length schedule - k
 
 loop-holds : tie.Need-loop-holds Inv-loop μ-loop
 loop-holds c =
@@ -114,10 +114,13 @@ loop-again-2 c =
     (c .before .before .before .before .trace-at .ensures .0) (c .before .before .before .before .trace-at .ensures .1) (c .before .one-if-at .ensures .0) (c .one-if-at2 .ensures .0)
 
 same-length : tie.Need-same-length Inv-loop μ-loop
-same-length c = c .before .loop .inv .long
+same-length c = c .before .before .loop .inv .long
 
 returns : tie.Need-returns Inv-loop μ-loop
-returns c = (run-ends _ _ _ _ _ _ _ _ _ _ _ (c .before .loop .inv) (c .loop-test .left), trace-ends _ _ _ _ _ _ _ _ _ _ _ (c .before .loop .inv) (c .loop-test .left))
+returns c =
+    let g = c .before .before .loop .inv in
+    let e = c .before .loop-test .left in
+    (state-ends _ _ _ _ _ _ _ _ _ _ _ g e, (trace-ends _ _ _ _ _ _ _ _ _ _ _ g e, counts-end _ _ _ _ _ _ _ _ _ _ _ g e))
 
 pub run-steps-spec : {M : Type 1} → statement M
 run-steps-spec =
