@@ -1,12 +1,14 @@
 -- The tests by the table of owners together: a state passes them exactly if it is well formed. Assumes nothing.
-use mathlib.Core.Path.{_≡_, refl, _∙_}
-use mathlib.Core.Bool.{Bool, true, false, _&&_, not}
+use mathlib.Core.Path.{_≡_, refl, sym, ap, _∙_}
+use mathlib.Core.Bool.{Bool, true, false, _&&_, not, cond}
 use mathlib.Core.List.{List, []}
-use Prim.Native.Nat.{ℕ, zero, suc, _<_}
+use Prim.Native.Nat.{ℕ, zero, suc, _+_, _≤_, _<_}
 use native.Mathlib.Omega.{arith}
+use native.Mathlib.Nat.{add-zero, add-suc}
 use native.Mathlib.Decide.{decLt}
+use lib.Dec.{eqb, ltb}
 use lib.ListN.{getD}
-use borrow.Author.Tests.{lt-ltb, le-ltb}
+use borrow.Author.Tests.{ne-eqb, lt-ltb, le-ltb}
 use Rattle.model.specs.declared.TreeWords.{TreeWords}
 use Rattle.model.specs.declared.State.{State}
 use Rattle.model.specs.declared.PlaceWords.{PlaceWords}
@@ -17,7 +19,7 @@ use Rattle.model.specs.Trees.{Tree, tree-of, is-record, owner-domain}
 use Rattle.model.specs.WellFormed.{good-tail, good-next, good-status, good-thread, well-formed}
 use Rattle.model.proofs.Trees.Accepted.{Accepted}
 use Rattle.refusals.specs.Arrays.{tree-in, parents-in, Lower}
-use Rattle.refusals.specs.Tables.{Owners, Homes-real, next-in, record-in, place-in, thread-in}
+use Rattle.refusals.specs.Tables.{Owners, Homes-real, next-in, record-in, domain-words-in, place-in, idle-in, thread-in}
 use Rattle.refusals.proofs.Reading.{parent-in}
 use Rattle.refusals.proofs.Meeting.{meets-same}
 use Rattle.refusals.proofs.Members.{tail-is, record-is}
@@ -38,6 +40,20 @@ all-both (suc n) f g = rw (all-both n f g) (regroup (all-below n f) (all-below n
     regroup true false true d = refl
     regroup true false false d = refl
     regroup false b c d = refl
+
+-- the numbers below n + k: those below n, and k more
+all-split : (n k : ℕ) (f : ℕ → Bool) → all-below (n + k) f ≡ all-below n f && all-below k (λ j. f (n + j))
+unfolding all-below
+all-split n zero f = rw (add-zero n) (sym (and-true (all-below n f)))
+  where
+    and-true : (a : Bool) → a && true ≡ a
+    and-true true = refl
+    and-true false = refl
+all-split n (suc k) f = rw (add-suc n k, all-split n k f) (sym (grouped (all-below n f) (all-below k (λ j. f (n + j))) (f (n + k))))
+  where
+    grouped : (a b c : Bool) → a && (b && c) ≡ (a && b) && c
+    grouped true b c = refl
+    grouped false b c = refl
 
 -- a place's test reads the parents alone
 place-same : (t u : Tree) (os : List ℕ) (h : ℕ) (q : PlaceWords) → ((e : ℕ) → t .parent e ≡ u .parent e) → place-in t os h q ≡ place-in u os h q
@@ -62,17 +78,23 @@ module _ (w : TreeWords) (𝓐 : Accepted (tree-of w)) (os : List ℕ) (𝓞 : O
       let few = 𝓐 .few-threads in
       owners .owner i (omega arith) ∙ rw (lt-ltb i 256 (omega arith), lt-ltb i (w .threads) l)
 
+  no-owner : (i : ℕ) → i < 256 → w .threads ≤ i → getD os i 0 ≡ 255
+  unfolding is-record tree-of
+  no-owner i l h = owners .owner i (omega arith) ∙ rw (lt-ltb i 256 l, le-ltb i (w .threads) h)
+
   pub homes-real : Homes-real (w .domains) (w .threads) os
   unfolding tree-of
   homes-real = record { real = λ i l. rw (owner-home i l) (𝓐 .home-real i l) }
 
   module _ (s : State) where
     abbrev place-at : ℕ → Bool
-    place-at i = thread-in (parents-in (w .domains) (w .parents)) os (w .threads) i (getD (s .places) i (place-words 0 0 0 0))
+    place-at i =
+        let q = getD (s .places) i (place-words 0 0 0 0) in
+        cond (ltb i (w .threads)) (place-in (parents-in (w .domains) (w .parents)) os (getD os i 0) q) (idle-in q)
 
-    thread-is : (i : ℕ) → place-at i ≡ good-thread (tree-of w) s i
-    unfolding thread-in good-thread tree-of
-    thread-is i =
+    place-good : (i : ℕ) → place-at i ≡ good-thread (tree-of w) s i
+    unfolding good-thread tree-of
+    place-good i =
         let q = getD (s .places) i (place-words 0 0 0 0) in
         elim (decLt i (w .threads)) [
           | yes l ↦
@@ -82,26 +104,67 @@ module _ (w : TreeWords) (𝓐 : Accepted (tree-of w)) (os : List ℕ) (𝓞 : O
           | no l ↦ rw (le-ltb i (w .threads) (omega arith)) (idle-is (q .row) (q .domain) (q .peer) (q .word))
         ]
 
+    abbrev domain-at : ℕ → Bool
+    domain-at d = domain-words-in os d (tail s d) (next s (256 + d)) (status s (256 + d))
+
+    abbrev thread-at : ℕ → Bool
+    thread-at i = thread-in (parents-in (w .domains) (w .parents)) os (w .threads) i (getD (s .places) i (place-words 0 0 0 0)) (next s i) (status s i)
+
+    abbrev record-at : ℕ → Bool
+    record-at r = record-in os r (next s r) (status s r)
+
+    -- a thread's words are its record and its place
+    thread-both : (i : ℕ) → i < 256 → thread-at i ≡ record-at i && place-at i
+    unfolding thread-in tree-of
+    thread-both i small =
+        elim (decLt i (w .threads)) [
+          | yes l ↦
+              let h = homes-real .real i l in
+              rw (lt-ltb i (w .threads) l, ne-eqb (getD os i 0) 255 (omega (arith, h, 𝓐 .few-domains)))
+          | no l ↦
+              rw (le-ltb i (w .threads) (omega arith), no-owner i small (omega arith))
+              (swapped (idle-in (getD (s .places) i (place-words 0 0 0 0))) (eqb (next s i) 0 && eqb (status s i) 0))
+        ]
+      where
+        swapped : (a b : Bool) → a && b ≡ b && a
+        swapped true true = refl
+        swapped true false = refl
+        swapped false true = refl
+        swapped false false = refl
+
     tails-is : all-below 64 (λ d. next-in os d (tail s d)) ≡ all-below 64 (good-tail (tree-of w) s)
     tails-is = all-same 64 (λ d. next-in os d (tail s d)) (good-tail (tree-of w) s) (λ d l. tail-is (tree-of w) 𝓐 os owners s d l)
 
-    records-are :
-        all-below 320 (λ r. record-in os r (next s r) (status s r))
-        ≡ all-below 320 (good-next (tree-of w) s) && all-below 320 (good-status (tree-of w) s)
+    records-are : all-below 320 record-at ≡ all-below 320 (good-next (tree-of w) s) && all-below 320 (good-status (tree-of w) s)
     records-are =
-        all-same 320 (λ r. record-in os r (next s r) (status s r)) (λ r. good-next (tree-of w) s r && good-status (tree-of w) s r)
-        (λ r l. record-is (tree-of w) 𝓐 os owners s r l)
+        all-same 320 record-at (λ r. good-next (tree-of w) s r && good-status (tree-of w) s r) (λ r l. record-is (tree-of w) 𝓐 os owners s r l)
         ∙ all-both 320 (good-next (tree-of w) s) (good-status (tree-of w) s)
 
-    pub formed-is :
-        well-formed (tree-of w) s
-        ≡ all-below 64 (λ d. next-in os d (tail s d)) && (all-below 320 (λ r. record-in os r (next s r) (status s r)) && all-below 256 place-at)
+    -- domain by domain and thread by thread
+    pub formed-is : well-formed (tree-of w) s ≡ all-below 64 domain-at && all-below 256 thread-at
     unfolding well-formed
     formed-is =
-        rw (tails-is, records-are, all-same 256 place-at (good-thread (tree-of w) s) (λ i l. thread-is i))
-        (regroup (all-below 64 (good-tail (tree-of w) s)) (all-below 320 (good-next (tree-of w) s)) (all-below 320 (good-status (tree-of w) s)) (all-below 256 (good-thread (tree-of w) s)))
+        rw (
+          all-both 64 (λ d. next-in os d (tail s d)) (λ d. record-at (256 + d)),
+          all-same 256 thread-at (λ i. record-at i && place-at i) thread-both,
+          all-both 256 record-at place-at,
+          tails-is,
+          all-same 256 place-at (good-thread (tree-of w) s) (λ i l. place-good i),
+        )
+        (regroup (all-below 64 (good-tail (tree-of w) s)) (all-below 320 (good-next (tree-of w) s)) (all-below 320 (good-status (tree-of w) s))
+        (all-below 256 (good-thread (tree-of w) s)) (all-below 256 record-at) (all-below 64 (λ d. record-at (256 + d)))
+        (sym records-are ∙ all-split 256 64 record-at))
       where
-        regroup : (a b c d : Bool) → (a && b) && (c && d) ≡ a && ((b && c) && d)
-        regroup true true c d = refl
-        regroup true false c d = refl
-        regroup false b c d = refl
+        before : (a b c d : Bool) → (a && b) && (c && d) ≡ a && ((b && c) && d)
+        before true true c d = refl
+        before true false c d = refl
+        before false b c d = refl
+
+        after : (a d e f : Bool) → a && ((e && f) && d) ≡ (a && f) && (e && d)
+        after true d true f = refl
+        after true d false true = refl
+        after true d false false = refl
+        after false d e f = refl
+
+        regroup : (a b c d e f : Bool) → b && c ≡ e && f → (a && b) && (c && d) ≡ (a && f) && (e && d)
+        regroup a b c d e f h = before a b c d ∙ ap (λ x. a && (x && d)) h ∙ after a d e f

@@ -6,6 +6,7 @@ pub mod Meeting
 pub mod Owning
 pub mod Members
 pub mod PlaceTests
+pub mod Resting
 pub mod Formed
 pub mod TreeTests
 pub mod ScheduleTests

@@ -2,7 +2,7 @@
 use mathlib.Core.Path.{_≡_}
 use mathlib.Core.Bool.{Bool, _&&_, _||_, not, cond}
 use mathlib.Core.List.{List}
-use Prim.Native.Nat.{ℕ, _-_, _<_}
+use Prim.Native.Nat.{ℕ, _+_, _*_, _-_, _<_}
 use lib.Dec.{eqb, ltb}
 use lib.ListN.{getD, length}
 use Rattle.model.specs.declared.PlaceWords.{PlaceWords}
@@ -34,6 +34,10 @@ next-in os d n = eqb n 0 || member-in os d (n - 1)
 abbrev pub record-in : (owners : List ℕ) → (number next status : ℕ) → Bool
 record-in os r n v = cond (eqb (getD os r 0) 255) (eqb n 0 && eqb v 0) (next-in os (getD os r 0) n)
 
+-- what the state has of a domain: its tail, and the next and the status of its record
+abbrev pub domain-words-in : (owners : List ℕ) → (domain tail next status : ℕ) → Bool
+domain-words-in os d b n v = next-in os d b && record-in os (256 + d) n v
+
 abbrev pub peer-in : (owners : List ℕ) → (row domain peer : ℕ) → Bool
 peer-in os r l p = cond (eqb r 3 || eqb r 10) (member-in os l p) (eqb p 0)
 
@@ -49,5 +53,16 @@ place-in t os h q =
 abbrev pub idle-in : PlaceWords → Bool
 idle-in q = eqb (q .row) 0 && (eqb (q .domain) 0 && (eqb (q .peer) 0 && eqb (q .word) 0))
 
-unfoldable pub thread-in : Tree → (owners : List ℕ) → (threads thread : ℕ) → PlaceWords → Bool
-thread-in t os m i q = cond (ltb i m) (place-in t os (getD os i 0) q) (idle-in q)
+-- three numbers of a place in one, none of them lost
+pub record Joined (row domain peer joined : ℕ) : Type 0 where
+  pub row-small : row < 256
+  pub domain-small : domain < 256
+  pub is-sum : joined ≡ row + 256 * domain + 65536 * peer
+
+-- Idle, or Wait at home
+abbrev pub rests-in : (home : ℕ) → PlaceWords → Bool
+rests-in h q = idle-in q || (eqb (q .row) 4 && (eqb (q .domain) h && (eqb (q .peer) 0 && eqb (q .word) 0)))
+
+-- what the state has of a thread: the next and the status of its record, and its place
+unfoldable pub thread-in : Tree → (owners : List ℕ) → (threads thread : ℕ) → PlaceWords → (next status : ℕ) → Bool
+thread-in t os m i q n v = cond (ltb i m) (next-in os (getD os i 0) n && place-in t os (getD os i 0) q) (idle-in q && (eqb n 0 && eqb v 0))

@@ -1,8 +1,8 @@
 // The tests of a state that is handed in, in an accepted tree.
 ghost use mathlib.Core.Path.{_≡_};
-ghost use mathlib.Core.Bool.{_&&_, _||_, not};
+ghost use mathlib.Core.Bool.{true, _&&_, _||_, not};
 ghost use mathlib.Core.List.{[]};
-ghost use Prim.Native.Nat.{ℕ, _<_, _≤_};
+ghost use Prim.Native.Nat.{ℕ, _+_, _<_, _≤_};
 ghost use lib.Dec.{eqb};
 ghost use lib.ListN.{getD};
 ghost use Rattle.model.specs.Scans.{all-below};
@@ -10,7 +10,7 @@ ghost use Rattle.model.specs.Trees.{meets, tree-of};
 ghost use Rattle.model.specs.Refusals.{tree-refusal};
 ghost use Rattle.model.specs.WellFormed.{well-formed};
 ghost use Rattle.refusals.specs.Arrays.{tree-in, parents-in, Lower};
-ghost use Rattle.refusals.specs.Tables.{thread-owner, Owners, Homes-real, Thread-owners, member-in, next-in, record-in, peer-in, domain-in, place-in, idle-in, thread-in};
+ghost use Rattle.refusals.specs.Tables.{thread-owner, Owners, Homes-real, Thread-owners, member-in, next-in, record-in, domain-words-in, peer-in, domain-in, place-in, idle-in, Joined, rests-in, thread-in};
 use model::PlaceWords;
 use model::State;
 use model::TreeWords;
@@ -63,28 +63,19 @@ fn is_member_at(owners: &[u8; 320], d: u8, r: u16) -> bool
     owners[at] == d
 }
 
+// A tail of a domain, or a next of a record of its members: none, or such a record.
 fn good_next_at(owners: &[u8; 320], d: u8, next: u16) -> bool
     ensures { λ q. ⌜ q ≡ next-in (now (owners .entry)) d next ⌝ }
 {
-    if next == 0 {
+    let n = next as usize;
+    if n == 0 {
         return true;
     }
-    is_member_at(owners, d, next - 1)
-}
-
-fn good_tails(owners: &[u8; 320], tails: &[u16; 64]) -> bool
-    ensures { λ q. ⌜ q ≡ all-below 64 (λ d. next-in (now (owners .entry)) d (getD (now (tails .entry)) d 0)) ⌝ }
-{
-    let mut d: u8 = 0;
-    while d < 64 {
-        let at = d as usize;
-        let tail = tails[at];
-        if !good_next_at(owners, d, tail) {
-            return false;
-        }
-        d += 1;
+    if 320 < n {
+        return false;
     }
-    true
+    let at = n - 1;
+    owners[at] == d
 }
 
 // Unused room and record 256 are fresh; a next of a member's record is none or a record of a member of the same domain.
@@ -100,18 +91,37 @@ fn good_record_at(owners: &[u8; 320], r: u16, next: u16, status: u64) -> bool
     good_next_at(owners, d, next)
 }
 
-fn good_records<'s>(owners: &[u8; 320], nexts: &'s [u16; 320], statuses: &'s [u64; 320]) -> bool
-    ensures { λ q. ⌜ q ≡ all-below 320 (λ r. record-in (now (owners .entry)) r (getD (now (nexts .entry)) r 0) (getD (now (statuses .entry)) r 0)) ⌝ }
+// What the state has of a domain: its tail and its record.
+fn good_domain_words_at(owners: &[u8; 320], d: u8, tail: u16, next: u16, status: u64) -> bool
+    requires { ⌜ d < 64 ⌝ }
+    ensures { λ q. ⌜ q ≡ domain-words-in (now (owners .entry)) d tail next status ⌝ }
 {
-    let mut r: u16 = 0;
-    while r < 320 {
-        let at = r as usize;
-        let next = nexts[at];
-        let status = statuses[at];
-        if !good_record_at(owners, r, next, status) {
+    if !good_next_at(owners, d, tail) {
+        return false;
+    }
+    let r = 256 + d as u16;
+    good_record_at(owners, r, next, status)
+}
+
+fn good_domains<'s>(
+    owners: &[u8; 320],
+    tails: &'s [u16; 64],
+    nexts: &'s [u16; 320],
+    statuses: &'s [u64; 320],
+) -> bool
+    ensures { λ q. ⌜ q ≡ all-below 64 (λ d. domain-words-in (now (owners .entry)) d (getD (now (tails .entry)) d 0) (getD (now (nexts .entry)) (256 + d) 0) (getD (now (statuses .entry)) (256 + d) 0)) ⌝ }
+{
+    let mut d: u8 = 0;
+    while d < 64 {
+        let at = d as usize;
+        let tail = tails[at];
+        let r = 256 + at;
+        let next = nexts[r];
+        let status = statuses[r];
+        if !good_domain_words_at(owners, d, tail, next, status) {
             return false;
         }
-        r += 1;
+        d += 1;
     }
     true
 }
@@ -241,21 +251,47 @@ fn good_place_at<'a>(
     good_domain_at(parents, owners, domains, home, row, l, peer)
 }
 
+// The numbers of a place before its word, as one number, so that one comparison tests all three.
+fn joined(row: u8, domain: u8, peer: u16) -> u32
+    ensures { λ r. ⌜ Joined row domain peer r ⌝ }
+{
+    row as u32 + 256 * (domain as u32) + 65536 * (peer as u32)
+}
+
 fn is_idle_at(q: PlaceWords) -> bool
     ensures { λ r. ⌜ r ≡ idle-in q ⌝ }
 {
-    if q.row != 0 {
+    if q.word != 0 {
         return false;
     }
-    if q.domain != 0 {
-        return false;
-    }
-    if q.peer != 0 {
-        return false;
-    }
-    q.word == 0
+    joined(q.row, q.domain, q.peer) == 0
 }
 
+// Idle, or Wait at home, as most threads are: the places that need no further test.
+fn rests_at(home: u8, q: PlaceWords) -> bool
+    ensures { λ r. ⌜ (r ≡ true → rests-in home q ≡ true) ⌝ }
+{
+    if q.word != 0 {
+        return false;
+    }
+    let numbers = joined(q.row, q.domain, q.peer);
+    if numbers == 0 {
+        return true;
+    }
+    numbers == 4 + 256 * (home as u32)
+}
+
+// Unused room is fresh.
+fn is_unused_at(q: PlaceWords, next: u16, status: u64) -> bool
+    ensures { λ r. ⌜ r ≡ idle-in q && (eqb next 0 && eqb status 0) ⌝ }
+{
+    if !is_idle_at(q) {
+        return false;
+    }
+    next == 0 && status == 0
+}
+
+// What the state has of a thread: its record and its place.
 fn good_thread_at<'a>(
     parents: &'a [u8; 64],
     owners: &'a [u8; 320],
@@ -263,18 +299,26 @@ fn good_thread_at<'a>(
     threads: u32,
     i: u16,
     q: PlaceWords,
+    next: u16,
+    status: u64,
 ) -> bool
     requires { ⌜ (domains ≤ 64) × (threads ≤ 256) ⌝ }
     requires { ⌜ Lower domains (now parents) ⌝ }
     requires { ⌜ Homes-real domains threads (now owners) ⌝ }
-    ensures { λ r. ⌜ r ≡ thread-in (parents-in domains (now (parents .entry))) (now (owners .entry)) threads i q ⌝ }
+    ensures { λ r. ⌜ r ≡ thread-in (parents-in domains (now (parents .entry))) (now (owners .entry)) threads i q next status ⌝ }
 {
-    if (i as u32) < threads {
-        let at = i as usize;
-        let home = owners[at];
-        return good_place_at(parents, owners, domains, home, q);
+    if threads <= i as u32 {
+        return is_unused_at(q, next, status);
     }
-    is_idle_at(q)
+    let at = i as usize;
+    let home = owners[at];
+    if !good_next_at(owners, home, next) {
+        return false;
+    }
+    if rests_at(home, q) {
+        return true;
+    }
+    good_place_at(parents, owners, domains, home, q)
 }
 
 // The state is well formed.
@@ -285,17 +329,16 @@ pub(crate) fn good_state_of(tree: TreeWords, state: State) -> bool
     let domains = tree.domains;
     let threads = tree.threads;
     let owners = owners_of(&tree.parents, &tree.homes, domains, threads);
-    if !good_tails(&owners, &state.tails) {
-        return false;
-    }
-    if !good_records(&owners, &state.nexts, &state.statuses) {
+    if !good_domains(&owners, &state.tails, &state.nexts, &state.statuses) {
         return false;
     }
     let mut i: u16 = 0;
     while i < 256 {
         let at = i as usize;
         let q = state.places[at];
-        if !good_thread_at(&tree.parents, &owners, domains, threads, i, q) {
+        let next = state.nexts[at];
+        let status = state.statuses[at];
+        if !good_thread_at(&tree.parents, &owners, domains, threads, i, q, next, status) {
             return false;
         }
         i += 1;

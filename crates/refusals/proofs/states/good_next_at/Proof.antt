@@ -1,5 +1,7 @@
 -- `refusals::states::good_next_at` meets its contract. Assumes nothing.
-use borrow.Author.Tests.{eq-eqb, ne-eqb}
+use Prim.Native.Nat.{_-_}
+use native.Mathlib.Omega.{arith}
+use borrow.Author.Tests.{eq-eqb, ne-eqb, lt-ltb, le-ltb}
 use borrow.Author.Needs.{needs}
 use Rattle.refusals.proofs.states.good_next_at.Statement.{statement}
 use Rattle.refusals.proofs.states.good_next_at.Tie as tie
@@ -7,14 +9,17 @@ use Rattle.refusals.proofs.states.good_next_at.Tie as tie
 returns : tie.Need-returns
 returns c = rw (eq-eqb _ _ (c .if1 .taken))
 
-sub-is-member-at : tie.Need-sub-is-member-at
-sub-is-member-at c = search needs
-
-is-member-at-requires : tie.Need-is-member-at-requires
-is-member-at-requires c κs = search needs
-
 returns-2 : tie.Need-returns-2
-returns-2 c = rw (c .is-member-at .ensures, ne-eqb _ _ (c .before .if1 .left))
+returns-2 c = rw (ne-eqb _ _ (c .before .if1 .left), le-ltb (c .before .before .args .next - 1) 320 (omega arith))
+
+sub-at : tie.Need-sub-at
+sub-at c = search needs
+
+element-copy-out-result : tie.Need-element-copy-out-result
+element-copy-out-result c = search needs
+
+returns-3 : tie.Need-returns-3
+returns-3 c = rw (ne-eqb _ _ (c .before .before .if1 .left), lt-ltb (c .before .before .before .args .next - 1) 320 (omega arith))
 
 pub good-next-at-spec : {M : Type 1} → statement M
-good-next-at-spec = tie.close (tie.spec returns sub-is-member-at is-member-at-requires returns-2)
+good-next-at-spec = tie.close (tie.spec returns returns-2 sub-at element-copy-out-result returns-3)

@@ -18,7 +18,7 @@ use Rattle.refusals.proofs.states.good_state_of.Statement.{statement}
 use Rattle.refusals.proofs.states.good_state_of.Tie as tie
 
 abbrev Inv-loop : tie.InvT-loop
-Inv-loop tree state domains threads owners i₀ i = (i ≤ 256) × ((j : ℕ) → j < i → thread-in (parents-in domains (tree .parents)) owners threads j (getD (state .places) j (place-words 0 0 0 0)) ≡ true)
+Inv-loop tree state domains threads owners i₀ i = (i ≤ 256) × ((j : ℕ) → j < i → thread-in (parents-in domains (tree .parents)) owners threads j (getD (state .places) j (place-words 0 0 0 0)) (getD (state .nexts) j 0) (getD (state .statuses) j 0) ≡ true)
 
 abbrev μ-loop : tie.MeasureT-loop
 μ-loop tree state domains threads owners i₀ i = 256 - i
@@ -29,24 +29,15 @@ owners-of-requires c κs =
     let a = accepted _ (c .before .before .before .pre) in
     (a .some-domain, a .few-domains, a .few-threads)
 
-good-tails-requires : tie.Need-good-tails-requires Inv-loop μ-loop
-good-tails-requires c κs = search needs
+good-domains-requires : tie.Need-good-domains-requires Inv-loop μ-loop
+good-domains-requires c κs = search needs
 
 returns : tie.Need-returns Inv-loop μ-loop
 returns c =
-    let a = accepted _ (c .before .before .before .before .before .before .before .before .before .pre) in
-    let e = by-answer _ false (c .before .good-tails .ensures) (not-true _ (c .if1 .taken)) in
-    sym (formed-is (c .before .before .before .before .before .before .before .before .before .args .t1) a _ (c .before .before .before .before .before .owners-of .ensures) (c .before .before .before .before .before .before .before .before .before .args .t2) ∙ rw e)
-
-good-records-requires : tie.Need-good-records-requires Inv-loop μ-loop
-good-records-requires c κs = search needs
-
-returns-2 : tie.Need-returns-2 Inv-loop μ-loop
-returns-2 c =
-    let a = accepted _ (c .before .before .before .before .before .before .before .before .before .before .before .before .before .before .before .pre) in
-    let e = by-answer _ true (c .before .before .before .before .before .before .before .good-tails .ensures) (not-false _ (c .before .before .before .before .before .before .if1 .left)) in
-    let f = by-answer _ false (c .before .good-records .ensures) (not-true _ (c .if2 .taken)) in
-    sym (formed-is (c .before .before .before .before .before .before .before .before .before .before .before .before .before .before .before .args .t1) a _ (c .before .before .before .before .before .before .before .before .before .before .before .owners-of .ensures) (c .before .before .before .before .before .before .before .before .before .before .before .before .before .before .before .args .t2) ∙ rw (e, f))
+    let s = c .before .before .before .before .before .before .before .before .before .before .before in
+    let a = accepted _ (s .pre) in
+    let e = by-answer _ false (c .before .good-domains .ensures) (not-true _ (c .if1 .taken)) in
+    sym (formed-is (s .args .t1) a _ (c .before .before .before .before .before .before .before .owners-of .ensures) (s .args .t2) ∙ rw e)
 
 loop-holds : tie.Need-loop-holds Inv-loop μ-loop
 loop-holds c = (search needs, λ j l. absurd (omega arith))
@@ -60,19 +51,32 @@ mul-q c = omega arith
 element-copy-out-q : tie.Need-element-copy-out-q Inv-loop μ-loop
 element-copy-out-q c = omega arith
 
+mul-next : tie.Need-mul-next Inv-loop μ-loop
+mul-next c = omega arith
+
+element-copy-out-next : tie.Need-element-copy-out-next Inv-loop μ-loop
+element-copy-out-next c = omega arith
+
+mul-status : tie.Need-mul-status Inv-loop μ-loop
+mul-status c = omega arith
+
+element-copy-out-status : tie.Need-element-copy-out-status Inv-loop μ-loop
+element-copy-out-status c = omega arith
+
 good-thread-at-requires : tie.Need-good-thread-at-requires Inv-loop μ-loop
 unfolding tree-of
 good-thread-at-requires c κs =
-    let a = accepted _ (c .before .before .before .before .before .before .before .before .before .before .before .before .before .before .before .before .before .before .before .before .before .pre) in
-    ((a .few-domains, a .few-threads), (lower (c .before .before .before .before .before .before .before .before .before .before .before .before .before .before .before .before .before .before .before .before .before .args .t1) a, homes-real (c .before .before .before .before .before .before .before .before .before .before .before .before .before .before .before .before .before .before .before .before .before .args .t1) a _ (c .before .before .before .before .before .before .before .before .before .before .before .before .before .before .before .before .before .owners-of .ensures)))
+    let s = c .before .before .before .before .before .before .before .before .before .before .before .before .before .before .before .before .before .before .before in
+    let a = accepted _ (s .pre) in
+    ((a .few-domains, a .few-threads), (lower (s .args .t1) a, homes-real (s .args .t1) a _ (c .before .before .before .before .before .before .before .before .before .before .before .before .before .before .before .owners-of .ensures)))
 
-returns-3 : tie.Need-returns-3 Inv-loop μ-loop
-returns-3 c =
-    let a = accepted _ (c .before .before .before .before .before .before .before .before .before .before .before .before .before .before .before .before .before .before .before .before .before .before .before .pre) in
-    let e = by-answer _ true (c .before .before .before .before .before .before .before .before .before .before .before .before .before .before .before .good-tails .ensures) (not-false _ (c .before .before .before .before .before .before .before .before .before .before .before .before .before .before .if1 .left)) in
-    let f = by-answer _ true (c .before .before .before .before .before .before .before .before .before .good-records .ensures) (not-false _ (c .before .before .before .before .before .before .before .before .if2 .left)) in
-    let g = by-answer _ false (c .before .good-thread-at .ensures) (not-true _ (c .if3 .taken)) in
-    sym (formed-is (c .before .before .before .before .before .before .before .before .before .before .before .before .before .before .before .before .before .before .before .before .before .before .before .args .t1) a _ (c .before .before .before .before .before .before .before .before .before .before .before .before .before .before .before .before .before .before .before .owners-of .ensures) (c .before .before .before .before .before .before .before .before .before .before .before .before .before .before .before .before .before .before .before .before .before .before .before .args .t2) ∙ rw (e, f) (all-fails 256 _ (c .before .before .before .before .before .before .before .loop .i) (c .before .before .before .before .before .before .loop-test .taken) g))
+returns-2 : tie.Need-returns-2 Inv-loop μ-loop
+returns-2 c =
+    let s = c .before .before .before .before .before .before .before .before .before .before .before .before .before .before .before .before .before .before .before .before .before in
+    let a = accepted _ (s .pre) in
+    let e = by-answer _ true (c .before .before .before .before .before .before .before .before .before .before .before .good-domains .ensures) (not-false _ (c .before .before .before .before .before .before .before .before .before .before .if1 .left)) in
+    let g = by-answer _ false (c .before .good-thread-at .ensures) (not-true _ (c .if2 .taken)) in
+    sym (formed-is (s .args .t1) a _ (c .before .before .before .before .before .before .before .before .before .before .before .before .before .before .before .before .before .owners-of .ensures) (s .args .t2) ∙ rw e (all-fails 256 _ (c .before .before .before .before .before .before .before .before .before .loop .i) (c .before .before .before .before .before .before .before .before .loop-test .taken) g))
 
 add-i : tie.Need-add-i Inv-loop μ-loop
 add-i c = omega arith
@@ -81,14 +85,14 @@ loop-less : tie.Need-loop-less Inv-loop μ-loop
 loop-less c = omega arith
 
 loop-again : tie.Need-loop-again Inv-loop μ-loop
-loop-again c = (omega arith, one-more _ true _ (c .before .before .before .before .before .before .before .loop .inv .1) (by-answer _ true (c .before .good-thread-at .ensures) (not-false _ (c .if3 .left))))
+loop-again c = (omega arith, one-more _ true _ (c .before .before .before .before .before .before .before .before .before .loop .inv .1) (by-answer _ true (c .before .good-thread-at .ensures) (not-false _ (c .if2 .left))))
 
-returns-4 : tie.Need-returns-4 Inv-loop μ-loop
-returns-4 c =
-    let a = accepted _ (c .before .before .before .before .before .before .before .before .before .before .before .before .before .before .before .before .before .pre) in
-    let e = by-answer _ true (c .before .before .before .before .before .before .before .before .before .good-tails .ensures) (not-false _ (c .before .before .before .before .before .before .before .before .if1 .left)) in
-    let f = by-answer _ true (c .before .before .before .good-records .ensures) (not-false _ (c .before .before .if2 .left)) in
-    sym (formed-is (c .before .before .before .before .before .before .before .before .before .before .before .before .before .before .before .before .before .args .t1) a _ (c .before .before .before .before .before .before .before .before .before .before .before .before .before .owners-of .ensures) (c .before .before .before .before .before .before .before .before .before .before .before .before .before .before .before .before .before .args .t2) ∙ rw (e, f) (all-true 256 _ (λ j h. c .before .loop .inv .1 j (omega arith))))
+returns-3 : tie.Need-returns-3 Inv-loop μ-loop
+returns-3 c =
+    let s = c .before .before .before .before .before .before .before .before .before .before .before .before .before in
+    let a = accepted _ (s .pre) in
+    let e = by-answer _ true (c .before .before .before .good-domains .ensures) (not-false _ (c .before .before .if1 .left)) in
+    sym (formed-is (s .args .t1) a _ (c .before .before .before .before .before .before .before .before .before .owners-of .ensures) (s .args .t2) ∙ rw e (all-true 256 _ (λ j h. c .before .loop .inv .1 j (omega arith))))
 
 pub good-state-of-spec : {M : Type 1} → statement M
 good-state-of-spec =
@@ -97,17 +101,19 @@ good-state-of-spec =
     Inv-loop
     μ-loop
     owners-of-requires
-    good-tails-requires
+    good-domains-requires
     returns
-    good-records-requires
-    returns-2
     loop-holds
     cast-at
     mul-q
     element-copy-out-q
+    mul-next
+    element-copy-out-next
+    mul-status
+    element-copy-out-status
     good-thread-at-requires
-    returns-3
+    returns-2
     add-i
     loop-less
     loop-again
-    returns-4)
+    returns-3)

@@ -1,19 +1,17 @@
 -- `refusals::states::is_idle_at` meets its contract. Assumes nothing.
-use borrow.Author.Tests.{eq-eqb, ne-eqb}
+use Rattle.refusals.proofs.Resting.{no-word, idle-by}
+use borrow.Author.Needs.{needs}
 use Rattle.refusals.proofs.states.is_idle_at.Statement.{statement}
 use Rattle.refusals.proofs.states.is_idle_at.Tie as tie
 
 returns : tie.Need-returns
-returns c = rw (ne-eqb _ _ (c .if1 .taken))
+returns c = no-word (c .before .before .args .q) (c .if1 .taken)
+
+joined-requires : tie.Need-joined-requires
+joined-requires c κs = search needs
 
 returns-2 : tie.Need-returns-2
-returns-2 c = rw (eq-eqb _ _ (c .before .before .if1 .left), ne-eqb _ _ (c .if2 .taken))
-
-returns-3 : tie.Need-returns-3
-returns-3 c = rw (eq-eqb _ _ (c .before .before .before .before .if1 .left), eq-eqb _ _ (c .before .before .if2 .left), ne-eqb _ _ (c .if3 .taken))
-
-returns-4 : tie.Need-returns-4
-returns-4 c = rw (eq-eqb _ _ (c .before .before .before .before .before .if1 .left), eq-eqb _ _ (c .before .before .before .if2 .left), eq-eqb _ _ (c .before .if3 .left))
+returns-2 c = idle-by _ _ (c .before .if1 .left) (c .joined .ensures)
 
 pub is-idle-at-spec : {M : Type 1} → statement M
-is-idle-at-spec = tie.close (tie.spec returns returns-2 returns-3 returns-4)
+is-idle-at-spec = tie.close (tie.spec returns joined-requires returns-2)

@@ -1,0 +1,74 @@
+-- Three numbers of a place in one; places that need no further test. Assumes nothing.
+use mathlib.Core.Path.{_≡_, refl}
+use mathlib.Core.Bool.{Bool, true, false, _&&_, _||_}
+use mathlib.Core.List.{List}
+use mathlib.Core.Logic.{⊎-elim}
+use Prim.Native.Nat.{ℕ, _+_, _*_, _<_}
+use native.Mathlib.Omega.{arith}
+use native.Mathlib.Decide.{ℕ-discrete}
+use lib.Dec.{eqb}
+use borrow.Author.Tests.{eq-eqb, ne-eqb, eqb-true}
+use Rattle.model.specs.declared.PlaceWords.{PlaceWords}
+use Rattle.model.specs.Trees.{Tree}
+use Rattle.model.proofs.Tests.{and-both, or-cases, or-right}
+use Rattle.refusals.specs.Tables.{place-in, idle-in, Joined, rests-in}
+use Rattle.refusals.proofs.Meeting.{meets-here}
+
+pub no-word : (q : PlaceWords) → (q .word ≡ 0 → ⊥) → false ≡ idle-in q
+no-word q n = by (eqb (q .row) 0) (eqb (q .domain) 0) (eqb (q .peer) 0) (eqb (q .word) 0) (ne-eqb (q .word) 0 n)
+  where
+    by : (a b c d : Bool) → d ≡ false → false ≡ a && (b && (c && d))
+    by true true true d e = rw e
+    by true true false d e = refl
+    by true false c d e = refl
+    by false b c d e = refl
+
+-- the one number is 0 exactly if all three are
+pub idle-by : (q : PlaceWords) (n : ℕ) → q .word ≡ 0 → Joined (q .row) (q .domain) (q .peer) n → eqb n 0 ≡ idle-in q
+idle-by q n w J =
+    elim (ℕ-discrete (q .row) 0) [
+      | yes r ↦
+          elim (ℕ-discrete (q .domain) 0) [
+            | yes d ↦
+                elim (ℕ-discrete (q .peer) 0) [
+                  | yes p ↦ rw (eq-eqb n 0 (omega (arith, J .is-sum)), eq-eqb (q .row) 0 r, eq-eqb (q .domain) 0 d, eq-eqb (q .peer) 0 p, eq-eqb (q .word) 0 w)
+                  | no p ↦ rw (ne-eqb n 0 (λ z. p (omega (arith, J .is-sum))), eq-eqb (q .row) 0 r, eq-eqb (q .domain) 0 d, ne-eqb (q .peer) 0 p)
+                ]
+            | no d ↦ rw (ne-eqb n 0 (λ z. d (omega (arith, J .is-sum))), eq-eqb (q .row) 0 r, ne-eqb (q .domain) 0 d)
+          ]
+      | no r ↦ rw (ne-eqb n 0 (λ z. r (omega (arith, J .is-sum))), ne-eqb (q .row) 0 r)
+    ]
+
+pub idle-rests : (h : ℕ) (q : PlaceWords) → idle-in q ≡ true → rests-in h q ≡ true
+idle-rests h q e = rw e
+
+pub wait-rests : (h : ℕ) (q : PlaceWords) (n : ℕ) → h < 256 → q .word ≡ 0 → Joined (q .row) (q .domain) (q .peer) n → n ≡ 4 + 256 * h → rests-in h q ≡ true
+wait-rests h q n l w J e =
+    or-right (idle-in q) _
+    (rw (
+      eq-eqb (q .row) 4 (omega (arith, J .is-sum, J .row-small, J .domain-small)),
+      eq-eqb (q .domain) h (omega (arith, J .is-sum, J .row-small, J .domain-small)),
+      eq-eqb (q .peer) 0 (omega (arith, J .is-sum, J .row-small, J .domain-small)),
+      eq-eqb (q .word) 0 w,
+    ))
+
+module _ (t : Tree) (os : List ℕ) (h : ℕ) (q : PlaceWords) where
+  idle-good : idle-in q ≡ true → place-in t os h q ≡ true
+  unfolding place-in
+  idle-good e =
+      let a = and-both _ _ e in
+      let b = and-both _ _ (a .1) in
+      let c = and-both _ _ (b .1) in
+      rw (eqb-true (q .row) 0 (a .0), eqb-true (q .domain) 0 (b .0), eqb-true (q .peer) 0 (c .0), eqb-true (q .word) 0 (c .1))
+
+  wait-good : eqb (q .row) 4 && (eqb (q .domain) h && (eqb (q .peer) 0 && eqb (q .word) 0)) ≡ true → place-in t os h q ≡ true
+  unfolding place-in
+  wait-good e =
+      let a = and-both _ _ e in
+      let b = and-both _ _ (a .1) in
+      let c = and-both _ _ (b .1) in
+      rw (eqb-true (q .row) 4 (a .0), eqb-true (q .domain) h (b .0), eqb-true (q .peer) 0 (c .0), eqb-true (q .word) 0 (c .1), meets-here 6 t h h refl)
+
+  -- a place that rests passes every test
+  pub rests-good : rests-in h q ≡ true → place-in t os h q ≡ true
+  rests-good e = ⊎-elim idle-good wait-good (or-cases (idle-in q) _ e)
