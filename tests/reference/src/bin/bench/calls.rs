@@ -10,56 +10,63 @@ use reference::refusals::LONGEST_SCHEDULE;
 use reference::schedules::Style;
 use reference::words::{StateWords, TreeWords};
 
-/// Nanoseconds of a whole run, of a run of one entry, of a single step and of a step in place.
+/// Nanoseconds of a whole run and of its first entry alone, from a fresh state; and, from the state that the whole run leaves, of a run of one entry, a single step and a step in place.
 #[derive(Clone, Copy)]
 struct Cost {
     run: f64,
+    first: f64,
     one: f64,
     step: f64,
     in_place: f64,
 }
 
 impl Cost {
+    const NONE: Cost = Cost { run: f64::MAX, first: f64::MAX, one: f64::MAX, step: f64::MAX, in_place: f64::MAX };
+
     /// Microseconds a run and nanoseconds a step.
     fn columns(&self) -> [f64; 2] {
-        [self.run / 1000.0, (self.run - self.one) / (LONGEST_SCHEDULE - 1) as f64]
+        [self.run / 1000.0, (self.run - self.first) / (LONGEST_SCHEDULE - 1) as f64]
     }
 
     fn least(self, other: Cost) -> Cost {
-        let Cost { run, one, step, in_place } = other;
-        Cost { run: self.run.min(run), one: self.one.min(one), step: self.step.min(step), in_place: self.in_place.min(in_place) }
+        let Cost { run, first, one, step, in_place } = other;
+        Cost { run: self.run.min(run), first: self.first.min(first), one: self.one.min(one), step: self.step.min(step), in_place: self.in_place.min(in_place) }
     }
 }
 
-fn round(calls: Calls, tree: &TreeWords, schedule: &[u16], trace: &mut [u16]) -> Cost {
+fn round(calls: Calls, tree: &TreeWords, schedule: &[u16], left: &StateWords, trace: &mut [u16]) -> Cost {
     let fresh = StateWords::fresh();
-    let mut state = fresh;
-    let mut run = |schedule: &[u16]| time(|| assert_eq!((calls.run)(tree, opaque(&fresh), schedule, trace).number, 0));
+    let mut state = *left;
+    let mut threads = schedule.iter().cycle();
+    let mut next = || *threads.next().expect("an entry");
+    let mut run = |state: &StateWords, schedule: &[u16]| time(|| assert_eq!((calls.run)(tree, opaque(state), schedule, trace).number, 0));
     Cost {
-        run: run(schedule),
-        one: run(&schedule[..1]),
-        step: time(|| assert_eq!((calls.step)(tree, opaque(&fresh), schedule[0]).number, 0)),
-        in_place: time(|| assert_eq!((calls.step_in_place)(tree, &mut state, schedule[0]), (0, 0))),
+        run: run(&fresh, schedule),
+        first: run(&fresh, &schedule[..1]),
+        one: run(left, &schedule[..1]),
+        step: time(|| assert_eq!((calls.step)(tree, opaque(left), next()).number, 0)),
+        in_place: time(|| assert_eq!((calls.step_in_place)(tree, &mut state, next()), (0, 0))),
     }
 }
 
 /// The best of the rounds, in each of which every program has its turn.
 fn costs(programs: &[Calls], tree: &TreeWords, schedule: &[u16]) -> Vec<Cost> {
     let mut trace = vec![0; LONGEST_SCHEDULE];
-    let mut best = vec![Cost { run: f64::MAX, one: f64::MAX, step: f64::MAX, in_place: f64::MAX }; programs.len()];
+    let left = (TABLE.run)(tree, &StateWords::fresh(), schedule, &mut trace).state;
+    let mut best = vec![Cost::NONE; programs.len()];
     for _ in 0..ROUNDS {
         for (calls, cost) in programs.iter().zip(&mut best) {
-            *cost = cost.least(round(*calls, tree, schedule, &mut trace));
+            *cost = cost.least(round(*calls, tree, schedule, &left, &mut trace));
         }
     }
     best
 }
 
 /// The step table turns words into a state and back at each call, so these lines stay out of the ratios.
-fn print_single(tree: (usize, usize), costs: &[Cost]) {
+fn print_single(tree: (usize, usize), schedule: &str, costs: &[Cost]) {
     for (name, cost) in [("step table", costs[0]), ("library", costs[1])] {
         let Cost { one, step, in_place, .. } = cost;
-        println!("{name:<14} {:>7} {:>7}  run of one {one:.0} ns, step {step:.0} ns, step in place {in_place:.0} ns", tree.0, tree.1);
+        println!("{schedule:<14} {:>7} {:>7}  {name}: run of one {one:.0} ns, step {step:.0} ns, step in place {in_place:.0} ns", tree.0, tree.1);
     }
 }
 
@@ -80,10 +87,17 @@ pub fn print() -> Vec<f64> {
     };
     println!("run on a caller's state, {LONGEST_SCHEDULE} entries: microseconds a run and nanoseconds a step, of the step table and the library; their ratios");
     let mut ratios = Vec::new();
+    let mut singles = Vec::new();
     for tree in TREES {
-        let lines = SCHEDULES.map(|(name, style)| print_schedule(&[TABLE, library], tree, name, style));
-        ratios.extend(lines.iter().flat_map(|(_, ratios)| ratios));
-        print_single(tree, &lines[0].0);
+        for (name, style) in SCHEDULES {
+            let (costs, line) = print_schedule(&[TABLE, library], tree, name, style);
+            ratios.extend(line);
+            singles.push((tree, name, costs));
+        }
+    }
+    println!("single calls, from the state that the run leaves");
+    for (tree, name, costs) in &singles {
+        print_single(*tree, name, costs);
     }
     ratios
 }

@@ -11,17 +11,26 @@ use std::time::Instant;
 const ROUNDS: usize = 15;
 const CALLS: usize = 20;
 const SCHEDULES: [(&str, Style); 4] = [("random", Style::Anybody), ("few busy", Style::Few), ("bursts", Style::Bursts), ("one thread", Style::One)];
-const TREES: [(usize, usize); 3] = [(3, 4), (15, 32), (63, 256)];
+const TREES: [(usize, usize); 3] = [(3, 4), (15, 32), (64, 256)];
+
+/// A binary tree; six levels of it have 63 domains, so that the last domain of a full tree hangs at the root.
+fn parent(domain: usize) -> u8 {
+    match domain {
+        63 => 0,
+        _ => (domain.saturating_sub(1) / 2) as u8,
+    }
+}
 
 /// Domains as a binary tree, threads spread over its leaves.
 fn draft(domains: usize, threads: usize) -> Draft {
-    let leaves = domains / 2 + 1;
+    let parents: Vec<u8> = (0..domains).map(parent).collect();
+    let leaves: Vec<u8> = (0..domains as u8).filter(|domain| !parents[1..].contains(domain)).collect();
     Draft {
         domains: domains as u8,
         threads: threads as u16,
-        parents: (0..domains).map(|domain| (domain.saturating_sub(1) / 2) as u8).collect(),
         thresholds: vec![4; domains],
-        homes: (0..threads).map(|thread| (domains / 2 + thread % leaves) as u8).collect(),
+        homes: (0..threads).map(|thread| leaves[thread % leaves.len()]).collect(),
+        parents,
         schedule: Vec::new(),
     }
 }
