@@ -53,7 +53,8 @@ pub fn fresh_lock(tree: TreeWords) -> FreshReply
 pub fn step_lock(tree: TreeWords, state: State, thread: u16) -> StepReply
     ensures { λ r. ⌜ r ≡ step-answer tree state thread ⌝ }
 {
-    let r = refusals::state_refusal_of(tree, state);
+    let schedule = [thread];
+    let r = refusals::run_refusal_of(tree, state, &schedule, 1);
     if r.number != 0 {
         return StepReply {
             number: r.number,
@@ -61,14 +62,6 @@ pub fn step_lock(tree: TreeWords, state: State, thread: u16) -> StepReply
             state,
         };
     }
-    if tree.threads <= thread as u32 {
-        return StepReply {
-            number: 12,
-            place: 0,
-            state,
-        };
-    }
-    let schedule = [thread];
     let mut trace = [0u16];
     let mut counts = [0u32; 5];
     let after = run::run_steps(tree, state, &schedule, &mut trace, &mut counts);
@@ -99,13 +92,9 @@ pub fn run_lock(tree: TreeWords, state: State, schedule: &[u16], trace: &mut [u1
     ensures { λ r. ⌜ r ≡ run-answer tree state (now (schedule .entry)) (now (trace .entry)) ⌝ }
     ensures { λ r. ⌜ now (trace .exit) ≡ trace-answer tree state (now (schedule .entry)) (now (trace .entry)) ⌝ }
 {
-    let r = refusals::state_refusal_of(tree, state);
+    let r = refusals::run_refusal_of(tree, state, schedule, trace.len());
     if r.number != 0 {
         return refused(r.number, r.place, state);
-    }
-    let q = refusals::schedule_refusal_of(tree.threads, schedule, trace.len());
-    if q.number != 0 {
-        return refused(q.number, q.place, state);
     }
     let mut counts = [0u32; 5];
     let after = run::run_steps(tree, state, schedule, trace, &mut counts);

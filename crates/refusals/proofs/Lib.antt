@@ -12,3 +12,4 @@ pub mod TreeTests
 pub mod ScheduleTests
 pub mod Joining
 pub mod StateTests
+pub mod RunTests

@@ -4,7 +4,7 @@ ghost use mathlib.Core.List.{[], _∷_, _++_};
 ghost use Prim.Native.Nat.{ℕ, _<_, _≤_};
 ghost use lib.ListN.{length};
 ghost use Rattle.model.specs.Trees.{tree-of};
-ghost use Rattle.model.specs.Refusals.{refusal, test, first-refusal, tree-tests, tree-refusal, bad-state, bad-entry};
+ghost use Rattle.model.specs.Refusals.{refusal, test, first-refusal, tree-tests, tree-refusal, run-refusal, bad-state, bad-entry};
 ghost use Rattle.refusals.specs.Arrays.{tree-in, told, schedule-tests};
 ghost use Rattle.refusals.specs.Lowest.{Lowest};
 
@@ -65,7 +65,7 @@ pub fn tree_refusal_of(tree: TreeWords) -> Refusal
 }
 
 // A state handed in meets 4 to 10.
-pub fn state_refusal_of(tree: TreeWords, state: State) -> Refusal
+fn state_refusal_of(tree: TreeWords, state: State) -> Refusal
     ensures { λ r. ⌜ r ≡ told (first-refusal (tree-tests (tree-of tree) ++ (test 10 1 (bad-state (tree-of tree) state) ∷ []))) ⌝ }
 {
     let r = tree_refusal_of(tree);
@@ -100,8 +100,8 @@ fn lowest_bad_entry(schedule: &[u16], threads: u32) -> u32
     k
 }
 
-// A run's schedule meets 11 to 13.
-pub fn schedule_refusal_of(threads: u32, schedule: &[u16], room: usize) -> Refusal
+// A run's schedule, and the room for its trace, meet 11 to 13.
+fn schedule_refusal_of(threads: u32, schedule: &[u16], room: usize) -> Refusal
     ensures { λ r. ⌜ r ≡ told (first-refusal (schedule-tests threads (now (schedule .entry)) room)) ⌝ }
 {
     if 65536 < schedule.len() {
@@ -127,4 +127,15 @@ pub fn schedule_refusal_of(threads: u32, schedule: &[u16], room: usize) -> Refus
         number: 0,
         place: 0,
     }
+}
+
+// A run meets 4 to 13. A step is a run of one entry, with room for one.
+pub fn run_refusal_of(tree: TreeWords, state: State, schedule: &[u16], room: usize) -> Refusal
+    ensures { λ r. ⌜ r ≡ told (run-refusal (tree-of tree) state (now (schedule .entry)) room) ⌝ }
+{
+    let r = state_refusal_of(tree, state);
+    if r.number != 0 {
+        return r;
+    }
+    schedule_refusal_of(tree.threads, schedule, room)
 }

@@ -1,29 +1,20 @@
--- `lock::run_lock` meets its contract: refused by its tree, its state or its schedule, or run. Assumes nothing.
-use Rattle.lock.proofs.Answering.{run-refuses, schedule-refuses, run-passes, run-answered}
+-- `lock::run_lock` meets its contract: refused, or run. Assumes nothing.
+use Rattle.lock.proofs.Answering.{run-refuses, run-passes, run-answered}
 use borrow.Author.Needs.{needs}
 use Rattle.lock.proofs.run_lock.Statement.{statement}
 use Rattle.lock.proofs.run_lock.Tie as tie
 
-state-refusal-of-requires : tie.Need-state-refusal-of-requires
-state-refusal-of-requires c κs = search needs
+run-refusal-of-requires : tie.Need-run-refusal-of-requires
+run-refusal-of-requires c κs = search needs
 
 refused-requires : tie.Need-refused-requires
 refused-requires c κs = search needs
 
 returns : tie.Need-returns
-returns c = run-refuses _ _ _ _ _ (c .before .before .before .state-refusal-of .ensures) _ (c .before .if1 .taken) (c .refused .ensures)
-
-schedule-refusal-of-requires : tie.Need-schedule-refusal-of-requires
-schedule-refusal-of-requires c κs = search needs
-
-refused-requires-2 : tie.Need-refused-requires-2
-refused-requires-2 c κs = search needs
-
-returns-2 : tie.Need-returns-2
-returns-2 c = schedule-refuses _ _ _ _ _ (c .before .before .before .before .before .before .state-refusal-of .ensures) (c .before .before .before .before .if1 .left) _ (c .before .before .before .schedule-refusal-of .ensures) _ (c .before .if2 .taken) (c .refused2 .ensures)
+returns c = run-refuses _ _ _ _ _ (c .before .before .before .run-refusal-of .ensures) _ (c .before .if1 .taken) (c .refused .ensures)
 
 run-steps-requires : tie.Need-run-steps-requires
-run-steps-requires c κs = run-passes _ _ _ (c .before .before .before .before .before .before .before .before .before .before .args .trace .now) _ (c .before .before .before .before .before .before .before .state-refusal-of .ensures) (c .before .before .before .before .before .if1 .left) _ (c .before .before .before .before .schedule-refusal-of .ensures) (c .before .before .if2 .left)
+run-steps-requires c κs = run-passes _ _ _ (c .before .before .before .before .before .before .before .args .trace .now) _ (c .before .before .before .before .run-refusal-of .ensures) (c .before .before .if1 .left)
 
 array-read-steps : tie.Need-array-read-steps
 array-read-steps c = search needs
@@ -43,19 +34,16 @@ array-read-passed c = search needs
 same-length : tie.Need-same-length
 same-length c = search needs
 
-returns-3 : tie.Need-returns-3
-returns-3 c = run-answered _ _ _ _ _ (c .before .before .before .before .before .before .before .before .before .before .state-refusal-of .ensures) (c .before .before .before .before .before .before .before .before .if1 .left) _ (c .before .before .before .before .before .before .before .schedule-refusal-of .ensures) (c .before .before .before .before .before .if2 .left) _ _ _ (c .before .before .run-steps .ensures .0) (c .before .before .run-steps .ensures .1 .0) (c .before .before .run-steps .ensures .1 .1)
+returns-2 : tie.Need-returns-2
+returns-2 c = run-answered _ _ _ _ _ (c .before .before .before .before .before .before .before .run-refusal-of .ensures) (c .before .before .before .before .before .if1 .left) _ _ _ (c .before .before .run-steps .ensures .0) (c .before .before .run-steps .ensures .1 .0) (c .before .before .run-steps .ensures .1 .1)
 
 pub run-lock-spec : {M : Type 1} → statement M
 run-lock-spec =
     tie.close
     (tie.spec
-    state-refusal-of-requires
+    run-refusal-of-requires
     refused-requires
     returns
-    schedule-refusal-of-requires
-    refused-requires-2
-    returns-2
     run-steps-requires
     array-read-steps
     array-read-entries
@@ -63,4 +51,4 @@ run-lock-spec =
     array-read-root
     array-read-passed
     same-length
-    returns-3)
+    returns-2)

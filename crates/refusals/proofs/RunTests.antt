@@ -1,0 +1,29 @@
+-- A run's tests: those of its tree and its state, then those of its schedule. Assumes nothing.
+use mathlib.Core.Path.{_≡_, sym, ap, _∙_}
+use mathlib.Core.List.{List}
+use Prim.Native.Nat.{ℕ}
+use Rattle.model.specs.declared.TreeWords.{TreeWords}
+use Rattle.model.specs.declared.State.{State}
+use Rattle.model.specs.Trees.{tree-of}
+use Rattle.model.specs.Refusals as model
+use Rattle.model.specs.Refusals.{first-refusal, tree-tests, bad-entry, run-tests, run-refusal}
+use Rattle.refusals.specs.declared.Refusal.{Refusal}
+use Rattle.refusals.specs.Arrays.{told, schedule-tests}
+use Rattle.refusals.proofs.Joining.{first-decides, other-decides, state-tests, state-numbered}
+
+-- what was told is 0 exactly if the refusal is
+pub told-not : (r : Refusal) (x : model.Refusal) → r ≡ told x → (r .number ≡ 0 → ⊥) → x .number ≡ 0 → ⊥
+told-not r x e n z = n (ap (λ q. q .number) e ∙ z)
+
+pub told-zero : (r : Refusal) (x : model.Refusal) → r ≡ told x → r .number ≡ 0 → x .number ≡ 0
+told-zero r x e z = sym (ap (λ q. q .number) e) ∙ z
+
+module _ (w : TreeWords) (s : State) (is : List ℕ) (room : ℕ) (r : Refusal) (e : r ≡ told (first-refusal (state-tests (tree-of w) s))) where
+  pub state-decides : (r .number ≡ 0 → ⊥) → r ≡ told (run-refusal (tree-of w) s is room)
+  unfolding run-refusal run-tests tree-tests bad-entry tree-of
+  state-decides n = e ∙ ap told (sym (first-decides (state-tests (tree-of w) s) (schedule-tests (w .threads) is room) (told-not r _ e n)))
+
+  pub schedule-decides : r .number ≡ 0 → (q : Refusal) → q ≡ told (first-refusal (schedule-tests (w .threads) is room)) → q ≡ told (run-refusal (tree-of w) s is room)
+  unfolding run-refusal run-tests tree-tests bad-entry tree-of
+  schedule-decides z q f =
+      f ∙ ap told (sym (other-decides (state-tests (tree-of w) s) (schedule-tests (w .threads) is room) (state-numbered (tree-of w) s) (told-zero r _ e z)))
