@@ -13,6 +13,9 @@ pub mod ThreadEntries
 pub mod ScheduleEntries
 pub mod Accepted
 pub mod FormatLaw
+pub mod Parts
+pub mod TreeParts
+pub mod ReadingRefusalLaw
 pub mod NumeralLaw
 pub mod FileRunLaw
 pub mod FileRefusalLaw

@@ -8,12 +8,13 @@ use crate::words::*;
 #[derive(Clone, Copy)]
 pub struct Calls {
     pub fresh: fn(&TreeWords) -> Reply,
+    pub fresh_in_place: fn(&TreeWords, &mut StateWords) -> (u32, u32),
     pub step: fn(&TreeWords, &StateWords, u16) -> Reply,
     pub step_in_place: fn(&TreeWords, &mut StateWords, u16) -> (u32, u32),
     pub run: fn(&TreeWords, &StateWords, &[u16], &mut [u16]) -> RunReply,
 }
 
-pub const TABLE: Calls = Calls { fresh, step: step_words, step_in_place, run: run_words };
+pub const TABLE: Calls = Calls { fresh, fresh_in_place, step: step_words, step_in_place, run: run_words };
 
 fn number_and_place<T>(outcome: &Outcome<T>) -> (u32, u32) {
     match outcome {
@@ -35,6 +36,13 @@ fn fresh(tree: &TreeWords) -> Reply {
     let (outcome, state) = fresh_lock(&tree.tree());
     let (number, place) = number_and_place(&outcome);
     Reply { number, place, state: StateWords::of(&state) }
+}
+
+/// The fresh words are written, accepted or refused.
+fn fresh_in_place(tree: &TreeWords, words: &mut StateWords) -> (u32, u32) {
+    let reply = fresh(tree);
+    *words = reply.state;
+    (reply.number, reply.place)
 }
 
 /// A refused step leaves the words as they came.

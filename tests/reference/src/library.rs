@@ -48,6 +48,7 @@ mod call_entries {
 
     extern "C" {
         fn hmcs_fresh(tree: TreeWords) -> Reply;
+        fn hmcs_fresh_in_place(tree: TreeWords, state: *mut StateWords) -> Answer;
         fn hmcs_step(tree: TreeWords, state: StateWords, thread: u16) -> Reply;
         fn hmcs_step_in_place(tree: TreeWords, state: *mut StateWords, thread: u16) -> Answer;
         fn hmcs_run(tree: TreeWords, state: StateWords, schedule: *const u16, schedule_len: usize, trace: *mut u16, trace_len: usize) -> RunReply;
@@ -55,6 +56,11 @@ mod call_entries {
 
     pub fn fresh(tree: &TreeWords) -> Reply {
         unsafe { hmcs_fresh(*tree) }
+    }
+
+    pub fn fresh_in_place(tree: &TreeWords, state: &mut StateWords) -> (u32, u32) {
+        let answer = unsafe { hmcs_fresh_in_place(*tree, state) };
+        (answer.number, answer.place)
     }
 
     pub fn step(tree: &TreeWords, state: &StateWords, thread: u16) -> Reply {
@@ -75,7 +81,7 @@ mod call_entries {
 #[cfg(calls)]
 pub fn calls() -> Option<Calls> {
     use call_entries::*;
-    Some(Calls { fresh, step, step_in_place, run })
+    Some(Calls { fresh, fresh_in_place, step, step_in_place, run })
 }
 
 #[cfg(not(calls))]

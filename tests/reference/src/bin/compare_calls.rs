@@ -17,6 +17,7 @@ const REFUSALS: [usize; 10] = [4, 5, 6, 7, 8, 9, 10, 11, 12, 13];
 #[derive(Clone, Copy, Debug)]
 enum Call {
     Fresh,
+    FreshInPlace,
     Step,
     StepInPlace,
     Run,
@@ -39,7 +40,7 @@ struct Left {
 }
 
 fn random_case(random: &mut Random) -> Case {
-    let call = random.pick(&[Call::Fresh, Call::Step, Call::StepInPlace, Call::Run, Call::Run, Call::Run]);
+    let call = random.pick(&[Call::Fresh, Call::FreshInPlace, Call::Step, Call::StepInPlace, Call::Run, Call::Run, Call::Run]);
     let draft = if random.one_in(5) { broken_draft(random) } else { valid_draft(random) };
     let tree = tree_words(random, &draft);
     let state = case_state(random, &tree);
@@ -86,6 +87,10 @@ fn make(calls: Calls, case: &Case) -> Left {
     let (mut state, mut trace) = (case.state, case.trace.clone());
     let reply = match case.call {
         Call::Fresh => without_counts((calls.fresh)(&case.tree)),
+        Call::FreshInPlace => {
+            let (number, place) = (calls.fresh_in_place)(&case.tree, &mut state);
+            without_counts(Reply { number, place, state })
+        }
         Call::Step => without_counts((calls.step)(&case.tree, &state, case.schedule[0])),
         Call::StepInPlace => {
             let (number, place) = (calls.step_in_place)(&case.tree, &mut state, case.schedule[0]);
