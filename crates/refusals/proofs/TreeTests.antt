@@ -1,5 +1,5 @@
 -- The tests of a tree in order: what the scans answer is the tree's refusal. Assumes nothing.
-use mathlib.Core.Path.{_≡_, refl, sym, _∙_}
+use mathlib.Core.Path.{_≡_, refl, sym, ap, fun-ext, _∙_}
 use mathlib.Core.Bool.{Bool}
 use mathlib.Core.List.{List, [], _∷_}
 use Prim.Native.Nat.{ℕ, zero, suc, _≤_, _<_}
@@ -8,11 +8,14 @@ use borrow.Author.Tests.{eq-eqb, ne-eqb, lt-ltb, le-ltb, leb-false}
 use Rattle.model.specs.declared.TreeWords.{TreeWords}
 use Rattle.model.specs.Trees.{Tree, tree-of, depth-from, depth, level, is-child, is-leaf}
 use Rattle.model.specs.Refusals.{refusal, accepted, Test, test, first-refusal, tree-tests, tree-refusal, bad-domains, bad-threads, bad-parent, too-deep, no-threshold, bad-home}
+use Rattle.model.specs.Laws.{Numbered}
 use Rattle.model.proofs.Trees.Accepted.{but-zero}
-use Rattle.refusals.specs.Arrays.{tree-in, parents-in, Lower}
+use Rattle.refusals.specs.declared.Refusal.{Refusal}
+use Rattle.refusals.specs.Arrays.{tree-in, parents-in, Lower, told, domain-tests}
 use Rattle.refusals.specs.Lowest.{Lowest}
 use Rattle.refusals.proofs.Reading.{parent-in}
 use Rattle.refusals.proofs.Scanning.{single-hit, single-missed, test-hit, test-missed}
+use Rattle.refusals.proofs.Joining.{first-decides, other-decides}
 
 -- what 4 and 5 leave
 pub record Counts (w : TreeWords) : Type 0 where
@@ -104,39 +107,61 @@ module _ (w : TreeWords) where
       after-four (c .some-domain) (c .few-domains)
       ∙ single-missed (test 5 1 (bad-threads t)) _ refl (rw (ne-eqb (w .threads) 0 (c .some-thread), le-ltb 256 (w .threads) (c .few-threads)))
 
-  -- 6 to 9
-  module _ (c : Counts w) (p₆ : ℕ) (L₆ : Lowest (w .domains) (bad-parent (parents-in (w .domains) (w .parents))) p₆) where
-    pub parent-refused : p₆ < w .domains → tree-refusal t ≡ refusal 6 p₆
+  -- 6 to 8
+  module _ (p₆ : ℕ) (L₆ : Lowest (w .domains) (bad-parent (parents-in (w .domains) (w .parents))) p₆) where
+    pub parent-refused : p₆ < w .domains → first-refusal (domain-tests t) ≡ refusal 6 p₆
     unfolding tree-of
-    parent-refused h = after-five c ∙ test-hit six _ p₆ (parents-of p₆ L₆) h
+    parent-refused h = test-hit six _ p₆ (parents-of p₆ L₆) h
 
-    after-six : w .domains ≤ p₆ → tree-refusal t ≡ first-refusal (seven ∷ eight ∷ nine ∷ [])
+    after-six : w .domains ≤ p₆ → first-refusal (domain-tests t) ≡ first-refusal (seven ∷ eight ∷ [])
     unfolding tree-of
-    after-six h = after-five c ∙ test-missed six _ p₆ (parents-of p₆ L₆) h
+    after-six h = test-missed six _ p₆ (parents-of p₆ L₆) h
 
     module _ (h₆ : w .domains ≤ p₆) (p₇ : ℕ) (L₇ : Lowest (w .domains) (too-deep (parents-in (w .domains) (w .parents))) p₇) where
-      pub level-refused : p₇ < w .domains → tree-refusal t ≡ refusal 7 p₇
+      pub level-refused : p₇ < w .domains → first-refusal (domain-tests t) ≡ refusal 7 p₇
       unfolding tree-of
       level-refused h = after-six h₆ ∙ test-hit seven _ p₇ (levels-of p₇ L₇) h
 
-      after-seven : w .domains ≤ p₇ → tree-refusal t ≡ first-refusal (eight ∷ nine ∷ [])
+      after-seven : w .domains ≤ p₇ → first-refusal (domain-tests t) ≡ first-refusal (eight ∷ [])
       unfolding tree-of
       after-seven h = after-six h₆ ∙ test-missed seven _ p₇ (levels-of p₇ L₇) h
 
       module _ (h₇ : w .domains ≤ p₇) (p₈ : ℕ) (L₈ : Lowest (w .domains) (no-threshold (tree-in (w .domains) 0 [] (w .thresholds) [])) p₈) where
-        pub threshold-refused : p₈ < w .domains → tree-refusal t ≡ refusal 8 p₈
+        pub threshold-refused : p₈ < w .domains → first-refusal (domain-tests t) ≡ refusal 8 p₈
         unfolding tree-of
         threshold-refused h = after-seven h₇ ∙ test-hit eight _ p₈ (thresholds-of p₈ L₈) h
 
-        after-eight : w .domains ≤ p₈ → tree-refusal t ≡ first-refusal (nine ∷ [])
-        unfolding tree-of
-        after-eight h = after-seven h₇ ∙ test-missed eight _ p₈ (thresholds-of p₈ L₈) h
+        pub domains-pass : w .domains ≤ p₈ → first-refusal (domain-tests t) ≡ accepted
+        unfolding tree-of first-refusal
+        domains-pass h = after-seven h₇ ∙ test-missed eight [] p₈ (thresholds-of p₈ L₈) h
 
-        module _ (h₈ : w .domains ≤ p₈) (p₉ : ℕ) (L₉ : Lowest (w .threads) (bad-home (tree-in (w .domains) (w .threads) (w .parents) [] (w .homes))) p₉) where
-          pub home-refused : p₉ < w .threads → tree-refusal t ≡ refusal 9 p₉
-          unfolding tree-of
-          home-refused h = after-eight h₈ ∙ test-hit nine _ p₉ (homes-of p₉ L₉) h
+  -- they read neither threads nor homes
+  domains-alone : first-refusal (domain-tests (tree-in (w .domains) 0 (w .parents) (w .thresholds) [])) ≡ first-refusal (domain-tests t)
+  unfolding bad-parent too-deep no-threshold level depth tree-of
+  domains-alone =
+      ap (λ deep. first-refusal (six ∷ test 7 (w .domains) deep ∷ eight ∷ []))
+      (fun-ext (λ d. rw (depth-same (w .domains) (tree-in (w .domains) 0 (w .parents) (w .thresholds) []) t d (λ e. refl))))
 
-          pub tree-passes : w .threads ≤ p₉ → tree-refusal t ≡ accepted
-          unfolding tree-of first-refusal
-          tree-passes h = after-eight h₈ ∙ test-missed nine [] p₉ (homes-of p₉ L₉) h
+  -- 6 to 8 together, then 9
+  module _ (c : Counts w) (r : Refusal) (e : r ≡ told (first-refusal (domain-tests (tree-in (w .domains) 0 (w .parents) (w .thresholds) [])))) where
+    whole : r ≡ told (first-refusal (domain-tests t))
+    whole = e ∙ ap told domains-alone
+
+    pub domains-refused : (r .number ≡ 0 → ⊥) → r ≡ told (tree-refusal t)
+    domains-refused n =
+        whole ∙ ap told (sym (after-five c ∙ first-decides (domain-tests t) (nine ∷ []) (λ z. n (ap (λ q. q .number) whole ∙ z))))
+
+    after-eight : r .number ≡ 0 → tree-refusal t ≡ first-refusal (nine ∷ [])
+    unfolding Numbered
+    after-eight z =
+        after-five c
+        ∙ other-decides (domain-tests t) (nine ∷ []) (omega arith, (omega arith, (omega arith, tt))) (sym (ap (λ q. q .number) whole) ∙ z)
+
+    module _ (z : r .number ≡ 0) (p₉ : ℕ) (L₉ : Lowest (w .threads) (bad-home (tree-in (w .domains) (w .threads) (w .parents) [] (w .homes))) p₉) where
+      pub home-refused : p₉ < w .threads → tree-refusal t ≡ refusal 9 p₉
+      unfolding tree-of
+      home-refused h = after-eight z ∙ test-hit nine _ p₉ (homes-of p₉ L₉) h
+
+      pub tree-passes : w .threads ≤ p₉ → tree-refusal t ≡ accepted
+      unfolding tree-of first-refusal
+      tree-passes h = after-eight z ∙ test-missed nine [] p₉ (homes-of p₉ L₉) h

@@ -1,13 +1,13 @@
 -- A tree by the arrays that a test reads, and what earlier tests have shown of them. Assumes nothing: these are definitions.
 use mathlib.Core.Path.{_≡_}
-use mathlib.Core.Bool.{Bool, false}
+use mathlib.Core.Bool.{Bool, true, false, _||_, not}
 use mathlib.Core.List.{List, [], _∷_}
 use Prim.Native.Nat.{ℕ, _<_}
+use lib.Dec.{leb}
 use lib.ListN.{getD, length}
-use Rattle.model.specs.Scans.{any-below}
-use Rattle.model.specs.Trees.{Tree, tree-of, is-child}
+use Rattle.model.specs.Trees.{Tree, tree-of, is-leaf}
 use Rattle.model.specs.Refusals as model
-use Rattle.model.specs.Refusals.{Test, test, bad-length, bad-entry, bad-room}
+use Rattle.model.specs.Refusals.{accepted, Test, test, first-refusal, bad-parent, too-deep, no-threshold, bad-length, bad-entry, bad-room}
 use Rattle.refusals.specs.declared.Refusal.{Refusal}
 
 abbrev pub tree-in : (domains threads : ℕ) → (parents thresholds homes : List ℕ) → Tree
@@ -21,9 +21,22 @@ parents-in n ps = tree-in n 0 ps [] []
 pub record Lower (domains : ℕ) (parents : List ℕ) : Type 0 where
   pub lower : (d : ℕ) → 0 < d → d < domains → getD parents d 0 < d
 
--- of each domain, whether it has child domains
-pub record Inner (domains : ℕ) (parents : List ℕ) (inner : List Bool) : Type 0 where
-  pub has-children : (d : ℕ) → d < 64 → getD inner d false ≡ any-below domains (is-child (parents-in domains parents) d)
+-- 6 to 8: the tests of the domains
+abbrev pub domain-tests : Tree → List Test
+domain-tests t = test 6 (t .domains) (bad-parent t) ∷ test 7 (t .domains) (too-deep t) ∷ test 8 (t .domains) (no-threshold t) ∷ []
+
+-- an answer that is true only where no domain fails 6 to 8
+pub record Sound (domains : ℕ) (parents thresholds : List ℕ) (answer : Bool) : Type 0 where
+  pub sound : answer ≡ true → first-refusal (domain-tests (tree-in domains 0 parents thresholds [])) ≡ accepted
+
+-- of each byte, whether it is no domain of the tree
+pub record No-domains (domains : ℕ) (table : List Bool) : Type 0 where
+  pub room : length table ≡ 256
+  pub no-domain : (x : ℕ) → x < 256 → getD table x false ≡ leb domains x
+
+-- of each byte, whether it is no home: no domain of the tree, or one with child domains
+pub record No-homes (domains : ℕ) (parents : List ℕ) (table : List Bool) : Type 0 where
+  pub no-home : (x : ℕ) → x < 256 → getD table x false ≡ leb domains x || not (is-leaf (parents-in domains parents) x)
 
 abbrev pub told : model.Refusal → Refusal
 told r = record { number = r .number; place = r .place }

@@ -5,7 +5,7 @@ ghost use Prim.Native.Nat.{ℕ, _<_, _≤_};
 ghost use lib.ListN.{length};
 ghost use Rattle.model.specs.Trees.{tree-of};
 ghost use Rattle.model.specs.Refusals.{refusal, test, first-refusal, tree-tests, tree-refusal, run-refusal, bad-state, bad-entry};
-ghost use Rattle.refusals.specs.Arrays.{tree-in, told, schedule-tests};
+ghost use Rattle.refusals.specs.Arrays.{tree-in, told, domain-tests, schedule-tests};
 ghost use Rattle.refusals.specs.Lowest.{Lowest};
 
 mod states;
@@ -26,6 +26,29 @@ fn refusal_at(number: u32, place: u32) -> Refusal
     Refusal { number, place }
 }
 
+// The domains meet 6 to 8. One walk is enough for a tree that meets none of them.
+fn domains_refusal<'a>(parents: &'a [u8; 64], thresholds: &'a [u16; 64], domains: u32) -> Refusal
+    requires { ⌜ (0 < domains) × (domains ≤ 64) ⌝ }
+    ensures { λ r. ⌜ r ≡ told (first-refusal (domain-tests (tree-in domains 0 (now (parents .entry)) (now (thresholds .entry)) []))) ⌝ }
+{
+    if trees::sound_domains(parents, thresholds, domains) {
+        return refusal_at(0, 0);
+    }
+    let d = trees::lowest_bad_parent(parents, domains);
+    if d < domains {
+        return refusal_at(6, d);
+    }
+    let d = trees::lowest_too_deep(parents, domains);
+    if d < domains {
+        return refusal_at(7, d);
+    }
+    let d = trees::lowest_no_threshold(thresholds, domains);
+    if d < domains {
+        return refusal_at(8, d);
+    }
+    refusal_at(0, 0)
+}
+
 // Making a fresh lock meets 4 to 9.
 pub fn tree_refusal_of(tree: TreeWords) -> Refusal
     ensures { λ r. ⌜ r ≡ told (tree-refusal (tree-of tree)) ⌝ }
@@ -44,20 +67,12 @@ pub fn tree_refusal_of(tree: TreeWords) -> Refusal
     if 256 < threads {
         return refusal_at(5, 0);
     }
-    let d = trees::lowest_bad_parent(&tree.parents, domains);
-    if d < domains {
-        return refusal_at(6, d);
+    let r = domains_refusal(&tree.parents, &tree.thresholds, domains);
+    if r.number != 0 {
+        return r;
     }
-    let d = trees::lowest_too_deep(&tree.parents, domains);
-    if d < domains {
-        return refusal_at(7, d);
-    }
-    let d = trees::lowest_no_threshold(&tree.thresholds, domains);
-    if d < domains {
-        return refusal_at(8, d);
-    }
-    let inner = trees::inner_domains(&tree.parents, domains);
-    let i = trees::lowest_bad_home(&tree.parents, &inner, &tree.homes, domains, threads);
+    let bad = trees::no_homes(&tree.parents, domains);
+    let i = trees::lowest_bad_home(&tree.parents, &bad, &tree.homes, domains, threads);
     if i < threads {
         return refusal_at(9, i);
     }

@@ -3,7 +3,7 @@ ghost use mathlib.Core.Path.{_≡_};
 ghost use mathlib.Core.List.{[]};
 ghost use Prim.Native.Nat.{ℕ, _<_, _≤_};
 ghost use Rattle.model.specs.Refusals.{bad-parent, too-deep, no-threshold, bad-home};
-ghost use Rattle.refusals.specs.Arrays.{tree-in, parents-in, Lower, Inner};
+ghost use Rattle.refusals.specs.Arrays.{tree-in, parents-in, Lower, Sound, No-domains, No-homes};
 ghost use Rattle.refusals.specs.Lowest.{Lowest};
 
 fn wide(x: u8) -> u32
@@ -94,59 +94,92 @@ pub(crate) fn lowest_no_threshold(thresholds: &[u16; 64], domains: u32) -> u32
     d
 }
 
-// Which domains have child domains.
-pub(crate) fn inner_domains(parents: &[u8; 64], domains: u32) -> [bool; 64]
+// Whether no domain meets 6, 7 or 8, in one walk; where it says no, the scans say which does.
+pub(crate) fn sound_domains<'a>(
+    parents: &'a [u8; 64],
+    thresholds: &'a [u16; 64],
+    domains: u32,
+) -> bool
     requires { ⌜ (0 < domains) × (domains ≤ 64) ⌝ }
-    requires { ⌜ Lower domains (now parents) ⌝ }
-    ensures { λ r. ⌜ Inner domains (now (parents .entry)) r ⌝ }
+    ensures { λ r. ⌜ Sound domains (now (parents .entry)) (now (thresholds .entry)) r ⌝ }
 {
-    let mut inner = [false; 64];
+    let mut levels = [1u8; 64];
     let mut d: u32 = 1;
     while d < domains {
         let at = d as usize;
-        let p = parents[at] as usize;
-        inner[p] = true;
+        let q = parents[at];
+        if d <= wide(q) {
+            return false;
+        }
+        let p = q as usize;
+        let level = levels[p] + 1;
+        if 6 < level {
+            return false;
+        }
+        let h = of_16_bits(thresholds[at]);
+        if h == 0 {
+            return false;
+        }
+        levels[at] = level;
         d += 1;
     }
-    inner
+    true
 }
 
-fn bad_home_at<'a>(
-    parents: &'a [u8; 64],
-    inner: &'a [bool; 64],
-    homes: &'a [u8; 256],
-    domains: u32,
-    threads: u32,
-    i: u32,
-) -> bool
-    requires { ⌜ (domains ≤ 64) × (threads ≤ 256) ⌝ }
-    requires { ⌜ Inner domains (now parents) (now inner) ⌝ }
-    requires { ⌜ i < threads ⌝ }
-    ensures { λ r. ⌜ r ≡ bad-home (tree-in domains threads (now (parents .entry)) [] (now (homes .entry))) i ⌝ }
+// A byte as an index of a table of 256.
+fn byte_index(x: u8) -> usize
+    ensures { λ r. ⌜ (r ≡ x) × (r < 256) ⌝ }
 {
-    let at = i as usize;
-    let h = homes[at];
-    if domains <= wide(h) {
-        return true;
+    x as usize
+}
+
+// Of each byte, whether it is no domain of the tree.
+fn no_domains(domains: u32) -> [bool; 256]
+    requires { ⌜ domains ≤ 64 ⌝ }
+    ensures { λ r. ⌜ No-domains domains r ⌝ }
+{
+    let mut outside = [true; 256];
+    let mut d: u32 = 0;
+    while d < domains {
+        let at = d as usize;
+        outside[at] = false;
+        d += 1;
     }
-    let d = h as usize;
-    inner[d]
+    outside
+}
+
+// Of each byte, whether it is no home: no domain of the tree, or one with child domains.
+pub(crate) fn no_homes(parents: &[u8; 64], domains: u32) -> [bool; 256]
+    requires { ⌜ (0 < domains) × (domains ≤ 64) ⌝ }
+    ensures { λ r. ⌜ No-homes domains (now (parents .entry)) r ⌝ }
+{
+    let mut bad = no_domains(domains);
+    let mut d: u32 = 1;
+    while d < domains {
+        let at = d as usize;
+        let p = byte_index(parents[at]);
+        bad[p] = true;
+        d += 1;
+    }
+    bad
 }
 
 pub(crate) fn lowest_bad_home<'a>(
     parents: &'a [u8; 64],
-    inner: &'a [bool; 64],
+    bad: &'a [bool; 256],
     homes: &'a [u8; 256],
     domains: u32,
     threads: u32,
 ) -> u32
     requires { ⌜ (domains ≤ 64) × (threads ≤ 256) ⌝ }
-    requires { ⌜ Inner domains (now parents) (now inner) ⌝ }
+    requires { ⌜ No-homes domains (now parents) (now bad) ⌝ }
     ensures { λ r. ⌜ Lowest threads (bad-home (tree-in domains threads (now (parents .entry)) [] (now (homes .entry)))) r ⌝ }
 {
     let mut i: u32 = 0;
     while i < threads {
-        if bad_home_at(parents, inner, homes, domains, threads, i) {
+        let at = i as usize;
+        let h = byte_index(homes[at]);
+        if bad[h] {
             return i;
         }
         i += 1;
