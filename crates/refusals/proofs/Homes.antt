@@ -13,7 +13,7 @@ use borrow.Author.Tests.{eq-eqb, ne-eqb, lt-leb, le-leb, leb-true, leb-false}
 use Rattle.model.specs.Scans.{any-below}
 use Rattle.model.specs.Trees.{tree-of, is-child, is-leaf}
 use Rattle.model.specs.Refusals.{bad-home}
-use Rattle.model.proofs.Tests.{or-right}
+use Rattle.model.proofs.Tests.{or-neither, or-right}
 use Rattle.refusals.specs.Arrays.{tree-in, parents-in, No-domains, No-homes}
 use Rattle.refusals.proofs.Reading.{read-in, parent-in, not-not}
 
@@ -93,3 +93,7 @@ pub home-test :
     getD bs h false ≡ bad-home (tree-in n m ps [] hs) i
 unfolding bad-home is-leaf is-child tree-of
 home-test n m ps hs bs i h N l e f = rw (read-in 0 m hs i (omega arith) l, ← e) (N .no-home h f)
+
+-- a byte that is not marked is a domain of the tree
+pub home-below : (n : ℕ) (ps : List ℕ) (bs : List Bool) (h : ℕ) → No-homes n ps bs → h < 256 → getD bs h false ≡ false → h < n
+home-below n ps bs h N f e = leb-false n h (or-neither (leb n h) _ (sym (N .no-home h f) ∙ e) .0)

@@ -14,3 +14,4 @@ pub mod TreeTests
 pub mod Domains
 pub mod StateTests
 pub mod RunTests
+pub mod Passing

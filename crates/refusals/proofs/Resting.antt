@@ -1,5 +1,5 @@
 -- Three numbers of a place in one; places that need no further test. Assumes nothing.
-use mathlib.Core.Path.{_≡_, refl}
+use mathlib.Core.Path.{_≡_, refl, _∙_}
 use mathlib.Core.Bool.{Bool, true, false, _&&_, _||_}
 use mathlib.Core.List.{List}
 use mathlib.Core.Logic.{⊎-elim}
@@ -7,11 +7,13 @@ use Prim.Native.Nat.{ℕ, _+_, _*_, _<_}
 use native.Mathlib.Omega.{arith}
 use native.Mathlib.Decide.{ℕ-discrete}
 use lib.Dec.{eqb}
+use lib.ListN.{getD, set, length, replicate, length-set}
+use lib.Seq.{getD-set-same, getD-set-other}
 use borrow.Author.Tests.{eq-eqb, ne-eqb, eqb-true}
 use Rattle.model.specs.declared.PlaceWords.{PlaceWords}
 use Rattle.model.specs.Trees.{Tree}
 use Rattle.model.proofs.Tests.{and-both, or-cases, or-right}
-use Rattle.refusals.specs.Tables.{place-in, idle-in, Joined, rests-in}
+use Rattle.refusals.specs.Tables.{place-in, idle-in, Joined, rests-in, Resting}
 use Rattle.refusals.proofs.Meeting.{meets-here}
 
 pub no-word : (q : PlaceWords) → (q .word ≡ 0 → ⊥) → false ≡ idle-in q
@@ -38,6 +40,25 @@ idle-by q n w J =
           ]
       | no r ↦ rw (ne-eqb n 0 (λ z. r (omega (arith, J .is-sum))), ne-eqb (q .row) 0 r)
     ]
+
+-- the table, thread by thread
+pub resting-first : (hs : List ℕ) → Resting 0 hs (replicate 256 0)
+resting-first hs = record { room = refl; rests = λ i l. absurd (omega arith) }
+
+pub resting-next :
+    (i : ℕ) (hs ns : List ℕ) (n : ℕ) → i < 256 → Joined 4 (getD hs i 0) 0 n → Resting i hs ns → Resting (i + 1) hs (set ns i n)
+resting-next i hs ns n w J T =
+    record {
+      room = length-set ns i n ∙ T .room;
+      rests = λ j l.
+          elim (ℕ-discrete j i) [
+            | yes e ↦ rw e (getD-set-same ns i n 0 (omega (arith, T .room)) ∙ omega (arith, J .is-sum))
+            | no e ↦ getD-set-other ns i j n 0 e ∙ T .rests j (omega arith)
+          ];
+    }
+
+pub resting-all : (i m : ℕ) (hs ns : List ℕ) → i ≡ m → Resting i hs ns → Resting m hs ns
+resting-all i m hs ns e T = record { room = T .room; rests = λ j l. T .rests j (omega arith) }
 
 pub idle-rests : (h : ℕ) (q : PlaceWords) → idle-in q ≡ true → rests-in h q ≡ true
 idle-rests h q e = rw e

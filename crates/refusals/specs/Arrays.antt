@@ -2,7 +2,7 @@
 use mathlib.Core.Path.{_≡_}
 use mathlib.Core.Bool.{Bool, true, false, _||_, not}
 use mathlib.Core.List.{List, [], _∷_}
-use Prim.Native.Nat.{ℕ, _<_}
+use Prim.Native.Nat.{ℕ, _≤_, _<_}
 use lib.Dec.{leb}
 use lib.ListN.{getD, length}
 use Rattle.model.specs.Trees.{Tree, tree-of, is-leaf}
@@ -20,6 +20,11 @@ parents-in n ps = tree-in n 0 ps [] []
 -- each domain but the root has a parent with a lower number
 pub record Lower (domains : ℕ) (parents : List ℕ) : Type 0 where
   pub lower : (d : ℕ) → 0 < d → d < domains → getD parents d 0 < d
+
+-- an answer that is true exactly if the counts meet neither 4 nor 5
+pub record Good-counts (domains threads : ℕ) (answer : Bool) : Type 0 where
+  pub good : answer ≡ true → (0 < domains) × (domains ≤ 64) × (0 < threads) × (threads ≤ 256)
+  pub needed : (0 < domains) × (domains ≤ 64) × (0 < threads) × (threads ≤ 256) → answer ≡ true
 
 -- 6 to 8: the tests of the domains
 abbrev pub domain-tests : Tree → List Test

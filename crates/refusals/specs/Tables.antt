@@ -1,6 +1,6 @@
 -- The tests of a state by a table of the records' owners. proofs/ shows that they are document 01's. Assumes nothing: these are definitions.
 use mathlib.Core.Path.{_≡_}
-use mathlib.Core.Bool.{Bool, _&&_, _||_, not, cond}
+use mathlib.Core.Bool.{Bool, true, false, _&&_, _||_, not, cond}
 use mathlib.Core.List.{List}
 use Prim.Native.Nat.{ℕ, _+_, _*_, _-_, _<_}
 use lib.Dec.{eqb, ltb}
@@ -19,9 +19,6 @@ pub record Thread-owners (threads : ℕ) (homes owners : List ℕ) : Type 0 wher
 -- of each record, the domain whose member owns it, or 255 where no member does
 pub record Owners (t : Tree) (owners : List ℕ) : Type 0 where
   pub owner : (r : ℕ) → r < 320 → getD owners r 0 ≡ cond (is-record t r) (owner-domain t r) 255
-
-pub record Homes-real (domains threads : ℕ) (owners : List ℕ) : Type 0 where
-  pub real : (i : ℕ) → i < threads → getD owners i 0 < domains
 
 -- the owner is the domain: of a member's record
 abbrev pub member-in : (owners : List ℕ) → (domain number : ℕ) → Bool
@@ -63,6 +60,17 @@ pub record Joined (row domain peer joined : ℕ) : Type 0 where
 abbrev pub rests-in : (home : ℕ) → PlaceWords → Bool
 rests-in h q = idle-in q || (eqb (q .row) 4 && (eqb (q .domain) h && (eqb (q .peer) 0 && eqb (q .word) 0)))
 
--- what the state has of a thread: the next and the status of its record, and its place
-unfoldable pub thread-in : Tree → (owners : List ℕ) → (threads thread : ℕ) → PlaceWords → (next status : ℕ) → Bool
-thread-in t os m i q n v = cond (ltb i m) (next-in os (getD os i 0) n && place-in t os (getD os i 0) q) (idle-in q && (eqb n 0 && eqb v 0))
+-- of each thread, the numbers of Wait at its home
+pub record Resting (threads : ℕ) (homes numbers : List ℕ) : Type 0 where
+  pub room : length numbers ≡ 256
+  pub rests : (i : ℕ) → i < threads → getD numbers i 0 ≡ 4 + 256 * getD homes i 0
+
+-- an answer that is true only where a place rests
+pub record Rests (resting : ℕ) (q : PlaceWords) (answer : Bool) : Type 0 where
+  pub rests : answer ≡ true → (h : ℕ) → h < 256 → resting ≡ 4 + 256 * h → rests-in h q ≡ true
+
+-- a thread's home by a table of what is none, and what the state has of the thread: the next and the status of its record, and its place
+unfoldable pub thread-in : Tree → (owners : List ℕ) → (no-homes : List Bool) → (threads thread : ℕ) → PlaceWords → (next status : ℕ) → Bool
+thread-in t os bs m i q n v =
+    cond (ltb i m) (not (getD bs (getD os i 0) false) && (next-in os (getD os i 0) n && place-in t os (getD os i 0) q))
+    (idle-in q && (eqb n 0 && eqb v 0))

@@ -2,10 +2,11 @@
 ghost use mathlib.Core.Path.{_≡_};
 ghost use mathlib.Core.List.{[], _∷_, _++_};
 ghost use Prim.Native.Nat.{ℕ, _<_, _≤_};
+ghost use lib.Dec.{eqb};
 ghost use lib.ListN.{length};
 ghost use Rattle.model.specs.Trees.{tree-of};
 ghost use Rattle.model.specs.Refusals.{refusal, test, first-refusal, tree-tests, tree-refusal, run-refusal, bad-state, bad-entry};
-ghost use Rattle.refusals.specs.Arrays.{tree-in, told, domain-tests, schedule-tests};
+ghost use Rattle.refusals.specs.Arrays.{tree-in, told, Good-counts, domain-tests, schedule-tests};
 ghost use Rattle.refusals.specs.Lowest.{Lowest};
 
 mod states;
@@ -79,24 +80,79 @@ pub fn tree_refusal_of(tree: TreeWords) -> Refusal
     refusal_at(0, 0)
 }
 
+// The counts meet neither 4 nor 5.
+fn good_counts(domains: u32, threads: u32) -> bool
+    ensures { λ r. ⌜ Good-counts domains threads r ⌝ }
+{
+    if domains == 0 {
+        return false;
+    }
+    if 64 < domains {
+        return false;
+    }
+    if threads == 0 {
+        return false;
+    }
+    threads <= 256
+}
+
+// Whether 4 to 10 refuse nothing, in one walk over the domains and one over the threads.
+fn passes(tree: TreeWords, state: State) -> bool
+    ensures { λ r. ⌜ r ≡ eqb (first-refusal (tree-tests (tree-of tree) ++ (test 10 1 (bad-state (tree-of tree) state) ∷ [])) .number) 0 ⌝ }
+{
+    let domains = tree.domains;
+    let threads = tree.threads;
+    if !good_counts(domains, threads) {
+        return false;
+    }
+    let r = domains_refusal(&tree.parents, &tree.thresholds, domains);
+    if r.number != 0 {
+        return false;
+    }
+    let no_homes = trees::no_homes(&tree.parents, domains);
+    let owners = states::owners_of(&tree.parents, &tree.homes, domains, threads);
+    let resting = states::resting_numbers(&tree.homes, threads);
+    if !states::good_domains(&owners, &state.tails, &state.nexts, &state.statuses) {
+        return false;
+    }
+    let mut i: u16 = 0;
+    while i < 256 {
+        let at = i as usize;
+        let q = state.places[at];
+        let next = state.nexts[at];
+        let status = state.statuses[at];
+        let numbers = resting[at];
+        if !states::good_thread_at(
+            &tree.parents,
+            &owners,
+            &no_homes,
+            domains,
+            threads,
+            i,
+            q,
+            next,
+            status,
+            numbers,
+        ) {
+            return false;
+        }
+        i += 1;
+    }
+    true
+}
+
 // A state handed in meets 4 to 10.
 fn state_refusal_of(tree: TreeWords, state: State) -> Refusal
     ensures { λ r. ⌜ r ≡ told (first-refusal (tree-tests (tree-of tree) ++ (test 10 1 (bad-state (tree-of tree) state) ∷ []))) ⌝ }
 {
+    if passes(tree, state) {
+        return refusal_at(0, 0);
+    }
     let r = tree_refusal_of(tree);
     if r.number != 0 {
         return r;
     }
-    if states::good_state_of(tree, state) {
-        return Refusal {
-            number: 0,
-            place: 0,
-        };
-    }
-    Refusal {
-        number: 10,
-        place: 0,
-    }
+    refusal_at(10, 0)
 }
 
 fn lowest_bad_entry(schedule: &[u16], threads: u32) -> u32

@@ -1,19 +1,16 @@
 // The tests of a state that is handed in, in an accepted tree.
 ghost use mathlib.Core.Path.{_≡_};
-ghost use mathlib.Core.Bool.{true, _&&_, _||_, not};
+ghost use mathlib.Core.Bool.{_&&_, _||_, not};
 ghost use mathlib.Core.List.{[]};
-ghost use Prim.Native.Nat.{ℕ, _+_, _<_, _≤_};
+ghost use Prim.Native.Nat.{_+_, _*_, _<_, _≤_};
 ghost use lib.Dec.{eqb};
 ghost use lib.ListN.{getD};
 ghost use Rattle.model.specs.Scans.{all-below};
-ghost use Rattle.model.specs.Trees.{meets, tree-of};
-ghost use Rattle.model.specs.Refusals.{tree-refusal};
-ghost use Rattle.model.specs.WellFormed.{well-formed};
-ghost use Rattle.refusals.specs.Arrays.{tree-in, parents-in, Lower};
-ghost use Rattle.refusals.specs.Tables.{thread-owner, Owners, Homes-real, Thread-owners, member-in, next-in, record-in, domain-words-in, peer-in, domain-in, place-in, idle-in, Joined, rests-in, thread-in};
+ghost use Rattle.model.specs.Trees.{meets};
+ghost use Rattle.refusals.specs.Arrays.{tree-in, parents-in, Lower, No-homes};
+ghost use Rattle.refusals.specs.Tables.{Owners, Thread-owners, member-in, next-in, record-in, domain-words-in, peer-in, domain-in, place-in, idle-in, Joined, Resting, Rests, thread-in};
+use crate::trees;
 use model::PlaceWords;
-use model::State;
-use model::TreeWords;
 
 // The homes of the threads, at their records; 255 in all other room.
 fn thread_owners(homes: &[u8; 256], threads: u32) -> [u8; 320]
@@ -32,7 +29,7 @@ fn thread_owners(homes: &[u8; 256], threads: u32) -> [u8; 320]
 }
 
 // Of each record, the domain whose member owns it; 255 where no member does.
-fn owners_of<'a>(
+pub(crate) fn owners_of<'a>(
     parents: &'a [u8; 64],
     homes: &'a [u8; 256],
     domains: u32,
@@ -103,7 +100,7 @@ fn good_domain_words_at(owners: &[u8; 320], d: u8, tail: u16, next: u16, status:
     good_record_at(owners, r, next, status)
 }
 
-fn good_domains<'s>(
+pub(crate) fn good_domains<'s>(
     owners: &[u8; 320],
     tails: &'s [u16; 64],
     nexts: &'s [u16; 320],
@@ -267,18 +264,34 @@ fn is_idle_at(q: PlaceWords) -> bool
     joined(q.row, q.domain, q.peer) == 0
 }
 
-// Idle, or Wait at home, as most threads are: the places that need no further test.
-fn rests_at(home: u8, q: PlaceWords) -> bool
-    ensures { λ r. ⌜ (r ≡ true → rests-in home q ≡ true) ⌝ }
+// Of each thread, the numbers of Wait at its home.
+pub(crate) fn resting_numbers(homes: &[u8; 256], threads: u32) -> [u32; 256]
+    requires { ⌜ threads ≤ 256 ⌝ }
+    ensures { λ r. ⌜ Resting threads (now (homes .entry)) r ⌝ }
+{
+    let mut resting = [0u32; 256];
+    let mut i: u32 = 0;
+    while i < threads {
+        let at = i as usize;
+        let h = homes[at];
+        resting[at] = joined(4, h, 0);
+        i += 1;
+    }
+    resting
+}
+
+// Wait at home, as most threads are under contention, or Idle: the places that need no further test.
+fn rests_at(resting: u32, q: PlaceWords) -> bool
+    ensures { λ r. ⌜ Rests resting q r ⌝ }
 {
     if q.word != 0 {
         return false;
     }
     let numbers = joined(q.row, q.domain, q.peer);
-    if numbers == 0 {
+    if numbers == resting {
         return true;
     }
-    numbers == 4 + 256 * (home as u32)
+    numbers == 0
 }
 
 // Unused room is fresh.
@@ -291,57 +304,40 @@ fn is_unused_at(q: PlaceWords, next: u16, status: u64) -> bool
     next == 0 && status == 0
 }
 
-// What the state has of a thread: its record and its place.
-fn good_thread_at<'a>(
+// A thread's home, and what the state has of the thread: its record and its place.
+pub(crate) fn good_thread_at<'a>(
     parents: &'a [u8; 64],
     owners: &'a [u8; 320],
+    no_homes: &'a [bool; 256],
     domains: u32,
     threads: u32,
     i: u16,
     q: PlaceWords,
     next: u16,
     status: u64,
+    resting: u32,
 ) -> bool
     requires { ⌜ (domains ≤ 64) × (threads ≤ 256) ⌝ }
     requires { ⌜ Lower domains (now parents) ⌝ }
-    requires { ⌜ Homes-real domains threads (now owners) ⌝ }
-    ensures { λ r. ⌜ r ≡ thread-in (parents-in domains (now (parents .entry))) (now (owners .entry)) threads i q next status ⌝ }
+    requires { ⌜ No-homes domains (now parents) (now «no_homes») ⌝ }
+    requires { ⌜ (i < threads → resting ≡ 4 + 256 * getD (now owners) i 0) ⌝ }
+    ensures { λ r. ⌜ r ≡ thread-in (parents-in domains (now (parents .entry))) (now (owners .entry)) (now («no_homes» .entry)) threads i q next status ⌝ }
+    ensures { λ r. ⌜ (i < threads → getD (now (owners .entry)) i 0 < 256) ⌝ }
 {
     if threads <= i as u32 {
         return is_unused_at(q, next, status);
     }
     let at = i as usize;
     let home = owners[at];
+    let h = trees::byte_index(home);
+    if no_homes[h] {
+        return false;
+    }
     if !good_next_at(owners, home, next) {
         return false;
     }
-    if rests_at(home, q) {
+    if rests_at(resting, q) {
         return true;
     }
     good_place_at(parents, owners, domains, home, q)
-}
-
-// The state is well formed.
-pub(crate) fn good_state_of(tree: TreeWords, state: State) -> bool
-    requires { ⌜ tree-refusal (tree-of tree) .number ≡ 0 ⌝ }
-    ensures { λ r. ⌜ r ≡ well-formed (tree-of tree) state ⌝ }
-{
-    let domains = tree.domains;
-    let threads = tree.threads;
-    let owners = owners_of(&tree.parents, &tree.homes, domains, threads);
-    if !good_domains(&owners, &state.tails, &state.nexts, &state.statuses) {
-        return false;
-    }
-    let mut i: u16 = 0;
-    while i < 256 {
-        let at = i as usize;
-        let q = state.places[at];
-        let next = state.nexts[at];
-        let status = state.statuses[at];
-        if !good_thread_at(&tree.parents, &owners, domains, threads, i, q, next, status) {
-            return false;
-        }
-        i += 1;
-    }
-    true
 }

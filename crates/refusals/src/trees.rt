@@ -127,7 +127,7 @@ pub(crate) fn sound_domains<'a>(
 }
 
 // A byte as an index of a table of 256.
-fn byte_index(x: u8) -> usize
+pub(crate) fn byte_index(x: u8) -> usize
     ensures { λ r. ⌜ (r ≡ x) × (r < 256) ⌝ }
 {
     x as usize
