@@ -12,7 +12,6 @@ use Rattle.model.specs.Refusals.{tree-refusal}
 use Rattle.model.proofs.Trees.Accepted.{accepted}
 use Rattle.refusals.specs.Arrays.{tree-in, parents-in, Lower}
 use Rattle.refusals.proofs.Reading.{read-in, parent-in, home-in}
-use Rattle.refusals.proofs.Formed.{lower}
 use Rattle.lock.specs.declared.rows.Words.{Words}
 use Rattle.lock.specs.Effects.{Read}
 use Rattle.lock.proofs.Children.{child-same}
@@ -35,7 +34,7 @@ module _ (n m : ℕ) (ps ts hs : List ℕ) (e : tree-refusal (tree-in n m ps ts 
       record {
         few-domains = 𝓐 .few-domains;
         few-threads = 𝓐 .few-threads;
-        low = lower (record { domains = n; threads = m; parents = ps; thresholds = ts; homes = hs }) 𝓐;
+        low = record { lower = λ d p q. rw (parent-in n m ps ts hs d p q) at (𝓐 .parent-lower d p q) };
         home-real = λ i h. rw (home-in n m ps ts hs i h) at (𝓐 .home-real i h);
       }
 
