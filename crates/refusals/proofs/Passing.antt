@@ -18,11 +18,11 @@ use Rattle.model.proofs.Refusing.{tests-pass}
 use Rattle.model.proofs.Trees.Accepted.{Accepted, accepted}
 use Rattle.model.proofs.Laws.Refusals.{accepted-number}
 use Rattle.refusals.specs.declared.Refusal.{Refusal}
-use Rattle.refusals.specs.Arrays.{tree-in, parents-in, Lower, Good-counts, No-homes, told, domain-tests}
+use Rattle.refusals.specs.Arrays.{tree-in, parents-in, Lower, No-homes, told, count-tests, domain-tests}
 use Rattle.refusals.specs.Tables.{Owners, domain-words-in, thread-in}
 use Rattle.refusals.specs.Lowest.{Lowest}
 use Rattle.refusals.proofs.Scanning.{all-fails}
-use Rattle.refusals.proofs.TreeTests.{Counts, lower-by, domains-refused, tree-passes}
+use Rattle.refusals.proofs.TreeTests.{Counts, lower-by, counts-refused, domains-refused, tree-passes}
 use Rattle.refusals.proofs.StateTests.{number, tree-too, formed-too, both-pass}
 use Rattle.refusals.proofs.Homes.{home-test}
 use Rattle.refusals.proofs.Formed.{owner-is, formed-is}
@@ -34,21 +34,11 @@ module _ (w : TreeWords) (s : State) where
   tree-real : number (tree-of w) s ≡ 0 → Accepted (tree-of w)
   tree-real z = accepted (tree-of w) (tree-too (tree-of w) s z)
 
-  pub counts-refuse : (b : Bool) → Good-counts (w .domains) (w .threads) b → b ≡ false → false ≡ eqb (number (tree-of w) s) 0
-  unfolding tree-of
-  counts-refuse b C e =
-      refuses (λ z.
-      let a = tree-real z in
-      false≢true (sym e ∙ C .needed (a .some-domain, a .few-domains, a .some-thread, a .few-threads)))
+  module _ (k : Refusal) (f : k ≡ told (first-refusal (count-tests (tree-in (w .domains) (w .threads) [] [] [])))) where
+    pub counts-refuse : (k .number ≡ 0 → ⊥) → false ≡ eqb (number (tree-of w) s) 0
+    counts-refuse n = refuses (λ z. n (ap (λ q. q .number) (counts-refused w k f n) ∙ tree-too (tree-of w) s z))
 
-  module _ (b : Bool) (C : Good-counts (w .domains) (w .threads) b) (good : b ≡ true) where
-    counts : Counts w
-    counts =
-        let c = C .good good in
-        let some-domain = c .0 in
-        let some-thread = c .2 in
-        record { some-domain = λ z. omega arith; few-domains = c .1; some-thread = λ z. omega arith; few-threads = c .3 }
-
+  module _ (counts : Counts w) where
     module _ (r : Refusal) (e : r ≡ told (first-refusal (domain-tests (tree-in (w .domains) 0 (w .parents) (w .thresholds) [])))) where
       pub domains-refuse : (r .number ≡ 0 → ⊥) → false ≡ eqb (number (tree-of w) s) 0
       domains-refuse n = refuses (λ z. n (ap (λ q. q .number) (domains-refused w counts r e n) ∙ tree-too (tree-of w) s z))

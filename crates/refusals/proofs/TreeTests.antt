@@ -4,14 +4,18 @@ use mathlib.Core.Bool.{Bool}
 use mathlib.Core.List.{List, [], _∷_}
 use Prim.Native.Nat.{ℕ, zero, suc, _≤_, _<_}
 use native.Mathlib.Omega.{arith}
-use borrow.Author.Tests.{eq-eqb, ne-eqb, lt-ltb, le-ltb, leb-false}
+use lib.Dec.{eqb, ltb}
+use borrow.Author.Tests.{eq-eqb, ne-eqb, lt-ltb, le-ltb, eqb-false, ltb-false, leb-false}
 use Rattle.model.specs.declared.TreeWords.{TreeWords}
 use Rattle.model.specs.Trees.{Tree, tree-of, depth-from, depth, level, is-child, is-leaf}
 use Rattle.model.specs.Refusals.{refusal, accepted, Test, test, first-refusal, tree-tests, tree-refusal, bad-domains, bad-threads, bad-parent, too-deep, no-threshold, bad-home}
 use Rattle.model.specs.Laws.{Numbered}
+use Rattle.model.proofs.Tests.{or-neither}
+use Rattle.model.proofs.Refusing.{tests-pass}
+use Rattle.model.proofs.Laws.Refusals.{accepted-number}
 use Rattle.model.proofs.Trees.Accepted.{but-zero}
 use Rattle.refusals.specs.declared.Refusal.{Refusal}
-use Rattle.refusals.specs.Arrays.{tree-in, parents-in, Lower, told, domain-tests}
+use Rattle.refusals.specs.Arrays.{tree-in, parents-in, Lower, told, count-tests, domain-tests}
 use Rattle.refusals.specs.Lowest.{Lowest}
 use Rattle.refusals.proofs.Reading.{parent-in}
 use Rattle.refusals.proofs.Scanning.{single-hit, single-missed, test-hit, test-missed}
@@ -23,9 +27,6 @@ pub record Counts (w : TreeWords) : Type 0 where
   pub few-domains : w .domains ≤ 64
   pub some-thread : w .threads ≡ 0 → ⊥
   pub few-threads : w .threads ≤ 256
-
-pub counts : (w : TreeWords) → (w .domains ≡ 0 → ⊥) → w .domains ≤ 64 → (w .threads ≡ 0 → ⊥) → w .threads ≤ 256 → Counts w
-counts w a b c d = record { some-domain = a; few-domains = b; some-thread = c; few-threads = d }
 
 lowest-same : (n : ℕ) (f g : ℕ → Bool) (p : ℕ) → ((j : ℕ) → f j ≡ g j) → Lowest n f p → Lowest n g p
 lowest-same n f g p h L =
@@ -80,32 +81,71 @@ module _ (w : TreeWords) where
   homes-of p L =
       lowest-same (w .threads) (bad-home (tree-in (w .domains) (w .threads) (w .parents) [] (w .homes))) (bad-home t) p (λ j. refl) L
 
+  abbrev four : Test
+  four = test 4 1 (bad-domains t)
+
+  abbrev five : Test
+  five = test 5 1 (bad-threads t)
+
   -- 4 and 5
-  pub no-domains : w .domains ≡ 0 → tree-refusal t ≡ refusal 4 0
-  unfolding tree-refusal tree-tests bad-domains tree-of
-  no-domains e = single-hit (test 4 1 (bad-domains t)) _ refl (rw (eq-eqb (w .domains) 0 e))
+  pub no-domains : w .domains ≡ 0 → first-refusal (count-tests t) ≡ refusal 4 0
+  unfolding bad-domains tree-of
+  no-domains e = single-hit four _ refl (rw (eq-eqb (w .domains) 0 e))
 
-  pub many-domains : (w .domains ≡ 0 → ⊥) → 64 < w .domains → tree-refusal t ≡ refusal 4 0
-  unfolding tree-refusal tree-tests bad-domains tree-of
-  many-domains n e = single-hit (test 4 1 (bad-domains t)) _ refl (rw (ne-eqb (w .domains) 0 n, lt-ltb 64 (w .domains) e))
+  module _ (n : w .domains ≡ 0 → ⊥) where
+    pub many-domains : 64 < w .domains → first-refusal (count-tests t) ≡ refusal 4 0
+    unfolding bad-domains tree-of
+    many-domains e = single-hit four _ refl (rw (ne-eqb (w .domains) 0 n, lt-ltb 64 (w .domains) e))
 
-  after-four : (w .domains ≡ 0 → ⊥) → w .domains ≤ 64 → tree-refusal t ≡ first-refusal (test 5 1 (bad-threads t) ∷ six ∷ seven ∷ eight ∷ nine ∷ [])
-  unfolding tree-refusal tree-tests bad-domains tree-of
-  after-four n e = single-missed (test 4 1 (bad-domains t)) _ refl (rw (ne-eqb (w .domains) 0 n, le-ltb 64 (w .domains) e))
+    module _ (e : w .domains ≤ 64) where
+      after-four : first-refusal (count-tests t) ≡ first-refusal (five ∷ [])
+      unfolding bad-domains tree-of
+      after-four = single-missed four _ refl (rw (ne-eqb (w .domains) 0 n, le-ltb 64 (w .domains) e))
 
-  pub no-threads : (w .domains ≡ 0 → ⊥) → w .domains ≤ 64 → w .threads ≡ 0 → tree-refusal t ≡ refusal 5 0
-  unfolding bad-threads tree-of
-  no-threads n e f = after-four n e ∙ single-hit (test 5 1 (bad-threads t)) _ refl (rw (eq-eqb (w .threads) 0 f))
+      pub no-threads : w .threads ≡ 0 → first-refusal (count-tests t) ≡ refusal 5 0
+      unfolding bad-threads tree-of
+      no-threads f = after-four ∙ single-hit five _ refl (rw (eq-eqb (w .threads) 0 f))
 
-  pub many-threads : (w .domains ≡ 0 → ⊥) → w .domains ≤ 64 → (w .threads ≡ 0 → ⊥) → 256 < w .threads → tree-refusal t ≡ refusal 5 0
-  unfolding bad-threads tree-of
-  many-threads n e m f = after-four n e ∙ single-hit (test 5 1 (bad-threads t)) _ refl (rw (ne-eqb (w .threads) 0 m, lt-ltb 256 (w .threads) f))
+      module _ (m : w .threads ≡ 0 → ⊥) where
+        pub many-threads : 256 < w .threads → first-refusal (count-tests t) ≡ refusal 5 0
+        unfolding bad-threads tree-of
+        many-threads f = after-four ∙ single-hit five _ refl (rw (ne-eqb (w .threads) 0 m, lt-ltb 256 (w .threads) f))
+
+        pub counts-pass : w .threads ≤ 256 → first-refusal (count-tests t) ≡ accepted
+        unfolding bad-threads tree-of first-refusal
+        counts-pass f = after-four ∙ single-missed five [] refl (rw (ne-eqb (w .threads) 0 m, le-ltb 256 (w .threads) f))
+
+  -- they read nothing else
+  counts-alone : first-refusal (count-tests (tree-in (w .domains) (w .threads) [] [] [])) ≡ first-refusal (count-tests t)
+  unfolding bad-domains bad-threads tree-of
+  counts-alone = refl
+
+  module _ (r : Refusal) (e : r ≡ told (first-refusal (count-tests (tree-in (w .domains) (w .threads) [] [] [])))) where
+    pub counts-refused : (r .number ≡ 0 → ⊥) → r ≡ told (tree-refusal t)
+    unfolding tree-refusal tree-tests
+    counts-refused n =
+        let whole = e ∙ ap told counts-alone in
+        whole ∙ ap told (sym (first-decides (count-tests t) (six ∷ seven ∷ eight ∷ nine ∷ []) (λ z. n (ap (λ q. q .number) whole ∙ z))))
+
+    pub counts : r .number ≡ 0 → Counts w
+    unfolding bad-domains bad-threads tree-of
+    counts z =
+        let c₄ = tests-pass four (five ∷ []) (omega arith) (sym (ap (λ q. q .number) (e ∙ ap told counts-alone)) ∙ z) in
+        let c₅ = tests-pass five [] (omega arith) (c₄ .1) in
+        let d₄ = or-neither (eqb (w .domains) 0) (ltb 64 (w .domains)) (c₄ .0 0 (omega arith)) in
+        let d₅ = or-neither (eqb (w .threads) 0) (ltb 256 (w .threads)) (c₅ .0 0 (omega arith)) in
+        record {
+          some-domain = eqb-false (w .domains) 0 (d₄ .0);
+          few-domains = ltb-false 64 (w .domains) (d₄ .1);
+          some-thread = eqb-false (w .threads) 0 (d₅ .0);
+          few-threads = ltb-false 256 (w .threads) (d₅ .1);
+        }
 
   after-five : Counts w → tree-refusal t ≡ first-refusal (six ∷ seven ∷ eight ∷ nine ∷ [])
-  unfolding bad-threads tree-of
+  unfolding tree-refusal tree-tests Numbered
   after-five c =
-      after-four (c .some-domain) (c .few-domains)
-      ∙ single-missed (test 5 1 (bad-threads t)) _ refl (rw (ne-eqb (w .threads) 0 (c .some-thread), le-ltb 256 (w .threads) (c .few-threads)))
+      other-decides (count-tests t) (six ∷ seven ∷ eight ∷ nine ∷ []) (omega arith, (omega arith, tt))
+      (ap (λ q. q .number) (counts-pass (c .some-domain) (c .few-domains) (c .some-thread) (c .few-threads)) ∙ accepted-number)
 
   -- 6 to 8
   module _ (p₆ : ℕ) (L₆ : Lowest (w .domains) (bad-parent (parents-in (w .domains) (w .parents))) p₆) where

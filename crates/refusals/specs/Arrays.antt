@@ -2,12 +2,12 @@
 use mathlib.Core.Path.{_≡_}
 use mathlib.Core.Bool.{Bool, true, false, _||_, not}
 use mathlib.Core.List.{List, [], _∷_}
-use Prim.Native.Nat.{ℕ, _≤_, _<_}
+use Prim.Native.Nat.{ℕ, _<_}
 use lib.Dec.{leb}
 use lib.ListN.{getD, length}
 use Rattle.model.specs.Trees.{Tree, tree-of, is-leaf}
 use Rattle.model.specs.Refusals as model
-use Rattle.model.specs.Refusals.{accepted, Test, test, first-refusal, bad-parent, too-deep, no-threshold, bad-length, bad-entry, bad-room}
+use Rattle.model.specs.Refusals.{accepted, Test, test, first-refusal, bad-domains, bad-threads, bad-parent, too-deep, no-threshold, bad-length, bad-entry, bad-room}
 use Rattle.refusals.specs.declared.Refusal.{Refusal}
 
 abbrev pub tree-in : (domains threads : ℕ) → (parents thresholds homes : List ℕ) → Tree
@@ -21,10 +21,9 @@ parents-in n ps = tree-in n 0 ps [] []
 pub record Lower (domains : ℕ) (parents : List ℕ) : Type 0 where
   pub lower : (d : ℕ) → 0 < d → d < domains → getD parents d 0 < d
 
--- an answer that is true exactly if the counts meet neither 4 nor 5
-pub record Good-counts (domains threads : ℕ) (answer : Bool) : Type 0 where
-  pub good : answer ≡ true → (0 < domains) × (domains ≤ 64) × (0 < threads) × (threads ≤ 256)
-  pub needed : (0 < domains) × (domains ≤ 64) × (0 < threads) × (threads ≤ 256) → answer ≡ true
+-- 4 and 5: the tests of the counts
+abbrev pub count-tests : Tree → List Test
+count-tests t = test 4 1 (bad-domains t) ∷ test 5 1 (bad-threads t) ∷ []
 
 -- 6 to 8: the tests of the domains
 abbrev pub domain-tests : Tree → List Test

@@ -6,7 +6,7 @@ ghost use lib.Dec.{eqb};
 ghost use lib.ListN.{length};
 ghost use Rattle.model.specs.Trees.{tree-of};
 ghost use Rattle.model.specs.Refusals.{refusal, test, first-refusal, tree-tests, tree-refusal, run-refusal, bad-state, bad-entry};
-ghost use Rattle.refusals.specs.Arrays.{tree-in, told, Good-counts, domain-tests, schedule-tests};
+ghost use Rattle.refusals.specs.Arrays.{tree-in, told, count-tests, domain-tests, schedule-tests};
 ghost use Rattle.refusals.specs.Lowest.{Lowest};
 
 mod states;
@@ -25,6 +25,25 @@ fn refusal_at(number: u32, place: u32) -> Refusal
     ensures { λ r. ⌜ r ≡ told (refusal number place) ⌝ }
 {
     Refusal { number, place }
+}
+
+// The counts meet 4 and 5.
+fn counts_refusal(domains: u32, threads: u32) -> Refusal
+    ensures { λ r. ⌜ r ≡ told (first-refusal (count-tests (tree-in domains threads [] [] []))) ⌝ }
+{
+    if domains == 0 {
+        return refusal_at(4, 0);
+    }
+    if 64 < domains {
+        return refusal_at(4, 0);
+    }
+    if threads == 0 {
+        return refusal_at(5, 0);
+    }
+    if 256 < threads {
+        return refusal_at(5, 0);
+    }
+    refusal_at(0, 0)
 }
 
 // The domains meet 6 to 8. One walk is enough for a tree that meets none of them.
@@ -56,17 +75,9 @@ pub fn tree_refusal_of(tree: TreeWords) -> Refusal
 {
     let domains = tree.domains;
     let threads = tree.threads;
-    if domains == 0 {
-        return refusal_at(4, 0);
-    }
-    if 64 < domains {
-        return refusal_at(4, 0);
-    }
-    if threads == 0 {
-        return refusal_at(5, 0);
-    }
-    if 256 < threads {
-        return refusal_at(5, 0);
+    let r = counts_refusal(domains, threads);
+    if r.number != 0 {
+        return r;
     }
     let r = domains_refusal(&tree.parents, &tree.thresholds, domains);
     if r.number != 0 {
@@ -80,29 +91,14 @@ pub fn tree_refusal_of(tree: TreeWords) -> Refusal
     refusal_at(0, 0)
 }
 
-// The counts meet neither 4 nor 5.
-fn good_counts(domains: u32, threads: u32) -> bool
-    ensures { λ r. ⌜ Good-counts domains threads r ⌝ }
-{
-    if domains == 0 {
-        return false;
-    }
-    if 64 < domains {
-        return false;
-    }
-    if threads == 0 {
-        return false;
-    }
-    threads <= 256
-}
-
 // Whether 4 to 10 refuse nothing, in one walk over the domains and one over the threads.
 fn passes(tree: TreeWords, state: State) -> bool
     ensures { λ r. ⌜ r ≡ eqb (first-refusal (tree-tests (tree-of tree) ++ (test 10 1 (bad-state (tree-of tree) state) ∷ [])) .number) 0 ⌝ }
 {
     let domains = tree.domains;
     let threads = tree.threads;
-    if !good_counts(domains, threads) {
+    let r = counts_refusal(domains, threads);
+    if r.number != 0 {
         return false;
     }
     let r = domains_refusal(&tree.parents, &tree.thresholds, domains);
