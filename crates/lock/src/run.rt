@@ -77,8 +77,6 @@ pub(crate) fn run_steps(
     ensures { λ r. ⌜ now (trace .exit) ≡ trace-front (now (trace .entry)) (run (tree-of tree) (now (schedule .entry)) state) ⌝ }
     ensures { λ r. ⌜ now (counts .exit) ≡ counts-of (run (tree-of tree) (now (schedule .entry)) state) ⌝ }
 {
-    let domains = tree.domains;
-    let threads = tree.threads;
     let mut n = state;
     let mut entries: u32 = 0;
     let mut stays: u32 = 0;
@@ -94,8 +92,8 @@ pub(crate) fn run_steps(
             &tree.parents,
             &tree.thresholds,
             &tree.homes,
-            domains,
-            threads,
+            tree.domains,
+            tree.threads,
             &n.tails,
             &n.nexts,
             &n.statuses,

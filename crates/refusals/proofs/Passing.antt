@@ -12,17 +12,16 @@ use Rattle.model.specs.declared.State.{State}
 use Rattle.model.specs.Scans.{all-below}
 use Rattle.model.specs.Places.{place-words}
 use Rattle.model.specs.Trees.{tree-of}
-use Rattle.model.specs.Refusals.{test, first-refusal, bad-parent, bad-home}
+use Rattle.model.specs.Refusals.{first-refusal, bad-home}
 use Rattle.model.proofs.Tests.{and-both, all-true}
-use Rattle.model.proofs.Refusing.{tests-pass}
 use Rattle.model.proofs.Trees.Accepted.{Accepted, accepted}
 use Rattle.model.proofs.Laws.Refusals.{accepted-number}
 use Rattle.refusals.specs.declared.Refusal.{Refusal}
-use Rattle.refusals.specs.Arrays.{tree-in, parents-in, Lower, No-homes, told, count-tests, domain-tests}
+use Rattle.refusals.specs.Arrays.{tree-in, parents-in, No-homes, told, shape-tests}
 use Rattle.refusals.specs.Tables.{Owners, domain-words-in, thread-in}
 use Rattle.refusals.specs.Lowest.{Lowest}
 use Rattle.refusals.proofs.Scanning.{all-fails}
-use Rattle.refusals.proofs.TreeTests.{Counts, lower-by, counts-refused, domains-refused, tree-passes}
+use Rattle.refusals.proofs.TreeTests.{shape-refused, shape, tree-passes}
 use Rattle.refusals.proofs.StateTests.{number, tree-too, formed-too, both-pass}
 use Rattle.refusals.proofs.Homes.{home-test}
 use Rattle.refusals.proofs.Formed.{owner-is, formed-is}
@@ -34,58 +33,46 @@ module _ (w : TreeWords) (s : State) where
   tree-real : number (tree-of w) s ≡ 0 → Accepted (tree-of w)
   tree-real z = accepted (tree-of w) (tree-too (tree-of w) s z)
 
-  module _ (k : Refusal) (f : k ≡ told (first-refusal (count-tests (tree-in (w .domains) (w .threads) [] [] [])))) where
-    pub counts-refuse : (k .number ≡ 0 → ⊥) → false ≡ eqb (number (tree-of w) s) 0
-    counts-refuse n = refuses (λ z. n (ap (λ q. q .number) (counts-refused w k f n) ∙ tree-too (tree-of w) s z))
+  module _ (r : Refusal) (e : r ≡ told (first-refusal (shape-tests (tree-in (w .domains) (w .threads) (w .parents) (w .thresholds) [])))) where
+    pub shape-refuses : (r .number ≡ 0 → ⊥) → false ≡ eqb (number (tree-of w) s) 0
+    shape-refuses n = refuses (λ z. n (ap (λ q. q .number) (shape-refused w r e n) ∙ tree-too (tree-of w) s z))
 
-  module _ (counts : Counts w) where
-    module _ (r : Refusal) (e : r ≡ told (first-refusal (domain-tests (tree-in (w .domains) 0 (w .parents) (w .thresholds) [])))) where
-      pub domains-refuse : (r .number ≡ 0 → ⊥) → false ≡ eqb (number (tree-of w) s) 0
-      domains-refuse n = refuses (λ z. n (ap (λ q. q .number) (domains-refused w counts r e n) ∙ tree-too (tree-of w) s z))
+    module _
+        (zero : r .number ≡ 0) (os : List ℕ) (𝓞 : Owners (tree-in (w .domains) (w .threads) (w .parents) [] (w .homes)) os) (bs : List Bool)
+        (𝓗 : No-homes (w .domains) (w .parents) bs)
+      where
+        abbrev domain-at : ℕ → Bool
+        domain-at d = domain-words-in os d (getD (s .tails) d 0) (getD (s .nexts) (256 + d) 0) (getD (s .statuses) (256 + d) 0)
 
-      -- each domain but the root has a parent with a lower number
-      pub parents-lower : r .number ≡ 0 → Lower (w .domains) (w .parents)
-      unfolding bad-parent tree-of
-      parents-lower z =
-          let six = tests-pass (test 6 (w .domains) (bad-parent (parents-in (w .domains) (w .parents)))) _ (omega arith) (sym (ap (λ q. q .number) e) ∙ z) in
-          lower-by (w .domains) (w .parents) (w .domains) (record { within = omega arith; passed = six .0; fails = λ l. absurd (omega arith) }) (omega arith)
+        abbrev pub thread-at : ℕ → Bool
+        thread-at i = thread-in (parents-in (w .domains) (w .parents)) os bs (w .threads) i (getD (s .places) i (place-words 0 0 0 0)) (getD (s .nexts) i 0) (getD (s .statuses) i 0)
 
-      module _
-          (zero : r .number ≡ 0) (os : List ℕ) (𝓞 : Owners (tree-in (w .domains) (w .threads) (w .parents) [] (w .homes)) os)
-          (bs : List Bool) (𝓗 : No-homes (w .domains) (w .parents) bs)
-        where
-          abbrev domain-at : ℕ → Bool
-          domain-at d = domain-words-in os d (getD (s .tails) d 0) (getD (s .nexts) (256 + d) 0) (getD (s .statuses) (256 + d) 0)
+        -- a test of the state that fails refuses, whatever is left to be tested of the tree
+        not-formed : (x y : Bool) → x ≡ all-below 64 domain-at → y ≡ all-below 256 thread-at → x && y ≡ false → false ≡ eqb (number (tree-of w) s) 0
+        not-formed x y p q f =
+            refuses (λ z. false≢true (sym f ∙ rw (p, q) (sym (formed-is w (tree-real z) os 𝓞 bs 𝓗 s) ∙ formed-too (tree-of w) s z)))
 
-          abbrev pub thread-at : ℕ → Bool
-          thread-at i = thread-in (parents-in (w .domains) (w .parents)) os bs (w .threads) i (getD (s .places) i (place-words 0 0 0 0)) (getD (s .nexts) i 0) (getD (s .statuses) i 0)
+        pub domain-words-refuse : all-below 64 domain-at ≡ false → false ≡ eqb (number (tree-of w) s) 0
+        domain-words-refuse f = not-formed _ _ refl refl (rw f)
 
-          -- a test of the state that fails refuses, whatever is left to be tested of the tree
-          not-formed : (x y : Bool) → x ≡ all-below 64 domain-at → y ≡ all-below 256 thread-at → x && y ≡ false → false ≡ eqb (number (tree-of w) s) 0
-          not-formed x y p q f =
-              refuses (λ z. false≢true (sym f ∙ rw (p, q) (sym (formed-is w (tree-real z) os 𝓞 bs 𝓗 s) ∙ formed-too (tree-of w) s z)))
+        pub thread-refuses : all-below 64 domain-at ≡ true → (i : ℕ) → i < 256 → thread-at i ≡ false → false ≡ eqb (number (tree-of w) s) 0
+        thread-refuses f i l g = not-formed _ _ refl refl (rw f (all-fails 256 thread-at i l g))
 
-          pub domain-words-refuse : all-below 64 domain-at ≡ false → false ≡ eqb (number (tree-of w) s) 0
-          domain-words-refuse f = not-formed _ _ refl refl (rw f)
+        module _ (small : (i : ℕ) → i < w .threads → getD os i 0 < 256) (passed : (i : ℕ) → i < 256 → thread-at i ≡ true) where
+          -- each home is a leaf of the tree
+          home-passes : (i : ℕ) → i < w .threads → bad-home (tree-in (w .domains) (w .threads) (w .parents) [] (w .homes)) i ≡ false
+          unfolding thread-in
+          home-passes i l =
+              let few = shape w r e zero .few-threads in
+              let good = rw (lt-ltb i (w .threads) l) at (passed i (omega arith)) in
+              sym (home-test (w .domains) (w .threads) (w .parents) (w .homes) bs i (getD os i 0) 𝓗 l (owner-is (w .domains) (w .threads) (w .parents) (w .homes) os 𝓞 few i l) (small i l))
+              ∙ not-true (getD bs (getD os i 0) false) (and-both _ _ good .0)
 
-          pub thread-refuses : all-below 64 domain-at ≡ true → (i : ℕ) → i < 256 → thread-at i ≡ false → false ≡ eqb (number (tree-of w) s) 0
-          thread-refuses f i l g = not-formed _ _ refl refl (rw f (all-fails 256 thread-at i l g))
-
-          module _ (small : (i : ℕ) → i < w .threads → getD os i 0 < 256) (passed : (i : ℕ) → i < 256 → thread-at i ≡ true) where
-            -- each home is a leaf of the tree
-            home-passes : (i : ℕ) → i < w .threads → bad-home (tree-in (w .domains) (w .threads) (w .parents) [] (w .homes)) i ≡ false
-            unfolding thread-in
-            home-passes i l =
-                let few = counts .few-threads in
-                let good = rw (lt-ltb i (w .threads) l) at (passed i (omega arith)) in
-                sym (home-test (w .domains) (w .threads) (w .parents) (w .homes) bs i (getD os i 0) 𝓗 l (owner-is (w .domains) (w .threads) (w .parents) (w .homes) os 𝓞 few i l) (small i l))
-                ∙ not-true (getD bs (getD os i 0) false) (and-both _ _ good .0)
-
-            pub all-pass : all-below 64 domain-at ≡ true → true ≡ eqb (number (tree-of w) s) 0
-            all-pass f =
-                let homes : Lowest (w .threads) (bad-home (tree-in (w .domains) (w .threads) (w .parents) [] (w .homes))) (w .threads) =
-                record { within = omega arith; passed = home-passes; fails = λ l. absurd (omega arith) }
-                in
-                let z = ap (λ q. q .number) (tree-passes w counts r e zero (w .threads) homes (omega arith)) ∙ accepted-number in
-                sym (eq-eqb (number (tree-of w) s) 0
-                (both-pass (tree-of w) s z (formed-is w (accepted (tree-of w) z) os 𝓞 bs 𝓗 s ∙ rw (f, all-true 256 thread-at passed))))
+          pub all-pass : all-below 64 domain-at ≡ true → true ≡ eqb (number (tree-of w) s) 0
+          all-pass f =
+              let homes : Lowest (w .threads) (bad-home (tree-in (w .domains) (w .threads) (w .parents) [] (w .homes))) (w .threads) =
+              record { within = omega arith; passed = home-passes; fails = λ l. absurd (omega arith) }
+              in
+              let z = ap (λ q. q .number) (tree-passes w r e zero (w .threads) homes (omega arith)) ∙ accepted-number in
+              sym (eq-eqb (number (tree-of w) s) 0
+              (both-pass (tree-of w) s z (formed-is w (accepted (tree-of w) z) os 𝓞 bs 𝓗 s ∙ rw (f, all-true 256 thread-at passed))))

@@ -12,21 +12,20 @@ use Rattle.model.specs.Refusals.{refusal, accepted, Test, test, first-refusal, 
 use Rattle.model.specs.Laws.{Numbered}
 use Rattle.model.proofs.Tests.{or-neither}
 use Rattle.model.proofs.Refusing.{tests-pass}
-use Rattle.model.proofs.Laws.Refusals.{accepted-number}
 use Rattle.model.proofs.Trees.Accepted.{but-zero}
 use Rattle.refusals.specs.declared.Refusal.{Refusal}
-use Rattle.refusals.specs.Arrays.{tree-in, parents-in, Lower, told, count-tests, domain-tests}
+use Rattle.refusals.specs.Arrays.{tree-in, parents-in, Lower, told, count-tests, domain-tests, shape-tests}
 use Rattle.refusals.specs.Lowest.{Lowest}
 use Rattle.refusals.proofs.Reading.{parent-in}
 use Rattle.refusals.proofs.Scanning.{single-hit, single-missed, test-hit, test-missed}
 use Rattle.refusals.proofs.Joining.{first-decides, other-decides}
 
--- what 4 and 5 leave
-pub record Counts (w : TreeWords) : Type 0 where
-  pub some-domain : w .domains ≡ 0 → ⊥
+-- what 4 to 6 leave
+pub record Shape (w : TreeWords) : Type 0 where
+  pub some-domain : 0 < w .domains
   pub few-domains : w .domains ≤ 64
-  pub some-thread : w .threads ≡ 0 → ⊥
   pub few-threads : w .threads ≤ 256
+  pub low : Lower (w .domains) (w .parents)
 
 lowest-same : (n : ℕ) (f g : ℕ → Bool) (p : ℕ) → ((j : ℕ) → f j ≡ g j) → Lowest n f p → Lowest n g p
 lowest-same n f g p h L =
@@ -120,33 +119,6 @@ module _ (w : TreeWords) where
   unfolding bad-domains bad-threads tree-of
   counts-alone = refl
 
-  module _ (r : Refusal) (e : r ≡ told (first-refusal (count-tests (tree-in (w .domains) (w .threads) [] [] [])))) where
-    pub counts-refused : (r .number ≡ 0 → ⊥) → r ≡ told (tree-refusal t)
-    unfolding tree-refusal tree-tests
-    counts-refused n =
-        let whole = e ∙ ap told counts-alone in
-        whole ∙ ap told (sym (first-decides (count-tests t) (six ∷ seven ∷ eight ∷ nine ∷ []) (λ z. n (ap (λ q. q .number) whole ∙ z))))
-
-    pub counts : r .number ≡ 0 → Counts w
-    unfolding bad-domains bad-threads tree-of
-    counts z =
-        let c₄ = tests-pass four (five ∷ []) (omega arith) (sym (ap (λ q. q .number) (e ∙ ap told counts-alone)) ∙ z) in
-        let c₅ = tests-pass five [] (omega arith) (c₄ .1) in
-        let d₄ = or-neither (eqb (w .domains) 0) (ltb 64 (w .domains)) (c₄ .0 0 (omega arith)) in
-        let d₅ = or-neither (eqb (w .threads) 0) (ltb 256 (w .threads)) (c₅ .0 0 (omega arith)) in
-        record {
-          some-domain = eqb-false (w .domains) 0 (d₄ .0);
-          few-domains = ltb-false 64 (w .domains) (d₄ .1);
-          some-thread = eqb-false (w .threads) 0 (d₅ .0);
-          few-threads = ltb-false 256 (w .threads) (d₅ .1);
-        }
-
-  after-five : Counts w → tree-refusal t ≡ first-refusal (six ∷ seven ∷ eight ∷ nine ∷ [])
-  unfolding tree-refusal tree-tests Numbered
-  after-five c =
-      other-decides (count-tests t) (six ∷ seven ∷ eight ∷ nine ∷ []) (omega arith, (omega arith, tt))
-      (ap (λ q. q .number) (counts-pass (c .some-domain) (c .few-domains) (c .some-thread) (c .few-threads)) ∙ accepted-number)
-
   -- 6 to 8
   module _ (p₆ : ℕ) (L₆ : Lowest (w .domains) (bad-parent (parents-in (w .domains) (w .parents))) p₆) where
     pub parent-refused : p₆ < w .domains → first-refusal (domain-tests t) ≡ refusal 6 p₆
@@ -182,26 +154,78 @@ module _ (w : TreeWords) where
       ap (λ deep. first-refusal (six ∷ test 7 (w .domains) deep ∷ eight ∷ []))
       (fun-ext (λ d. rw (depth-same (w .domains) (tree-in (w .domains) 0 (w .parents) (w .thresholds) []) t d (λ e. refl))))
 
-  -- 6 to 8 together, then 9
-  module _ (c : Counts w) (r : Refusal) (e : r ≡ told (first-refusal (domain-tests (tree-in (w .domains) 0 (w .parents) (w .thresholds) [])))) where
-    whole : r ≡ told (first-refusal (domain-tests t))
-    whole = e ∙ ap told domains-alone
+  -- 4 and 5, then 6 to 8
+  module _ (k : Refusal) (f : k ≡ told (first-refusal (count-tests (tree-in (w .domains) (w .threads) [] [] [])))) where
+    counted : k ≡ told (first-refusal (count-tests t))
+    counted = f ∙ ap told counts-alone
 
-    pub domains-refused : (r .number ≡ 0 → ⊥) → r ≡ told (tree-refusal t)
-    domains-refused n =
-        whole ∙ ap told (sym (after-five c ∙ first-decides (domain-tests t) (nine ∷ []) (λ z. n (ap (λ q. q .number) whole ∙ z))))
+    pub counts-refused : (k .number ≡ 0 → ⊥) → k ≡ told (first-refusal (shape-tests t))
+    counts-refused n = counted ∙ ap told (sym (first-decides (count-tests t) (domain-tests t) (λ z. n (ap (λ q. q .number) counted ∙ z))))
 
-    after-eight : r .number ≡ 0 → tree-refusal t ≡ first-refusal (nine ∷ [])
-    unfolding Numbered
-    after-eight z =
-        after-five c
-        ∙ other-decides (domain-tests t) (nine ∷ []) (omega arith, (omega arith, (omega arith, tt))) (sym (ap (λ q. q .number) whole) ∙ z)
+    module _ (z : k .number ≡ 0) where
+      pub few-domains : (0 < w .domains) × (w .domains ≤ 64)
+      unfolding bad-domains tree-of
+      few-domains =
+          let c₄ = tests-pass four (five ∷ []) (omega arith) (sym (ap (λ q. q .number) counted) ∙ z) in
+          let d₄ = or-neither (eqb (w .domains) 0) (ltb 64 (w .domains)) (c₄ .0 0 (omega arith)) in
+          let some = eqb-false (w .domains) 0 (d₄ .0) in
+          (omega arith, ltb-false 64 (w .domains) (d₄ .1))
 
-    module _ (z : r .number ≡ 0) (p₉ : ℕ) (L₉ : Lowest (w .threads) (bad-home (tree-in (w .domains) (w .threads) (w .parents) [] (w .homes))) p₉) where
-      pub home-refused : p₉ < w .threads → tree-refusal t ≡ refusal 9 p₉
-      unfolding tree-of
-      home-refused h = after-eight z ∙ test-hit nine _ p₉ (homes-of p₉ L₉) h
+      pub domains-decide :
+          (q : Refusal) → q ≡ told (first-refusal (domain-tests (tree-in (w .domains) 0 (w .parents) (w .thresholds) []))) →
+          q ≡ told (first-refusal (shape-tests t))
+      unfolding Numbered
+      domains-decide q g =
+          g
+          ∙ ap told
+          (domains-alone
+          ∙ sym (other-decides (count-tests t) (domain-tests t) (omega arith, (omega arith, tt)) (sym (ap (λ q. q .number) counted) ∙ z)))
 
-      pub tree-passes : w .threads ≤ p₉ → tree-refusal t ≡ accepted
-      unfolding tree-of first-refusal
-      tree-passes h = after-eight z ∙ test-missed nine [] p₉ (homes-of p₉ L₉) h
+  -- they do not read homes
+  shape-alone : first-refusal (shape-tests (tree-in (w .domains) (w .threads) (w .parents) (w .thresholds) [])) ≡ first-refusal (shape-tests t)
+  unfolding bad-domains bad-threads bad-parent too-deep no-threshold level depth tree-of
+  shape-alone =
+      ap (λ deep. first-refusal (four ∷ five ∷ six ∷ test 7 (w .domains) deep ∷ eight ∷ []))
+      (fun-ext (λ d. rw (depth-same (w .domains) (tree-in (w .domains) (w .threads) (w .parents) (w .thresholds) []) t d (λ e. refl))))
+
+  -- 4 to 8, then 9
+  module _ (r : Refusal) (e : r ≡ told (first-refusal (shape-tests (tree-in (w .domains) (w .threads) (w .parents) (w .thresholds) [])))) where
+    whole : r ≡ told (first-refusal (shape-tests t))
+    whole = e ∙ ap told shape-alone
+
+    pub shape-refused : (r .number ≡ 0 → ⊥) → r ≡ told (tree-refusal t)
+    unfolding tree-refusal tree-tests
+    shape-refused n = whole ∙ ap told (sym (first-decides (shape-tests t) (nine ∷ []) (λ z. n (ap (λ q. q .number) whole ∙ z))))
+
+    module _ (z : r .number ≡ 0) where
+      passed : first-refusal (shape-tests t) .number ≡ 0
+      passed = sym (ap (λ q. q .number) whole) ∙ z
+
+      pub shape : Shape w
+      unfolding bad-domains bad-threads bad-parent tree-of
+      shape =
+          let c₄ = tests-pass four (five ∷ domain-tests t) (omega arith) passed in
+          let c₅ = tests-pass five (domain-tests t) (omega arith) (c₄ .1) in
+          let c₆ = tests-pass six (seven ∷ eight ∷ []) (omega arith) (c₅ .1) in
+          let d₄ = or-neither (eqb (w .domains) 0) (ltb 64 (w .domains)) (c₄ .0 0 (omega arith)) in
+          let d₅ = or-neither (eqb (w .threads) 0) (ltb 256 (w .threads)) (c₅ .0 0 (omega arith)) in
+          let some = eqb-false (w .domains) 0 (d₄ .0) in
+          record {
+            some-domain = omega arith;
+            few-domains = ltb-false 64 (w .domains) (d₄ .1);
+            few-threads = ltb-false 256 (w .threads) (d₅ .1);
+            low = lower-by (w .domains) (w .parents) (w .domains) (record { within = omega arith; passed = c₆ .0; fails = λ l. absurd (omega arith) }) (omega arith);
+          }
+
+      after-eight : tree-refusal t ≡ first-refusal (nine ∷ [])
+      unfolding tree-refusal tree-tests Numbered
+      after-eight = other-decides (shape-tests t) (nine ∷ []) (omega arith, (omega arith, (omega arith, (omega arith, (omega arith, tt))))) passed
+
+      module _ (p₉ : ℕ) (L₉ : Lowest (w .threads) (bad-home (tree-in (w .domains) (w .threads) (w .parents) [] (w .homes))) p₉) where
+        pub home-refused : p₉ < w .threads → tree-refusal t ≡ refusal 9 p₉
+        unfolding tree-of
+        home-refused h = after-eight ∙ test-hit nine _ p₉ (homes-of p₉ L₉) h
+
+        pub tree-passes : w .threads ≤ p₉ → tree-refusal t ≡ accepted
+        unfolding tree-of first-refusal
+        tree-passes h = after-eight ∙ test-missed nine [] p₉ (homes-of p₉ L₉) h

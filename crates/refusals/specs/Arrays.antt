@@ -1,7 +1,7 @@
 -- A tree by the arrays that a test reads, and what earlier tests have shown of them. Assumes nothing: these are definitions.
 use mathlib.Core.Path.{_≡_}
 use mathlib.Core.Bool.{Bool, true, false, _||_, not}
-use mathlib.Core.List.{List, [], _∷_}
+use mathlib.Core.List.{List, [], _∷_, _++_}
 use Prim.Native.Nat.{ℕ, _<_}
 use lib.Dec.{leb}
 use lib.ListN.{getD, length}
@@ -28,6 +28,10 @@ count-tests t = test 4 1 (bad-domains t) ∷ test 5 1 (bad-threads t) ∷ []
 -- 6 to 8: the tests of the domains
 abbrev pub domain-tests : Tree → List Test
 domain-tests t = test 6 (t .domains) (bad-parent t) ∷ test 7 (t .domains) (too-deep t) ∷ test 8 (t .domains) (no-threshold t) ∷ []
+
+-- 4 to 8
+abbrev pub shape-tests : Tree → List Test
+shape-tests t = count-tests t ++ domain-tests t
 
 -- an answer that is true only where no domain fails 6 to 8
 pub record Sound (domains : ℕ) (parents thresholds : List ℕ) (answer : Bool) : Type 0 where

@@ -6,7 +6,7 @@ ghost use lib.Dec.{eqb};
 ghost use lib.ListN.{length};
 ghost use Rattle.model.specs.Trees.{tree-of};
 ghost use Rattle.model.specs.Refusals.{refusal, test, first-refusal, tree-tests, tree-refusal, run-refusal, bad-state, bad-entry};
-ghost use Rattle.refusals.specs.Arrays.{tree-in, told, count-tests, domain-tests, schedule-tests};
+ghost use Rattle.refusals.specs.Arrays.{tree-in, told, count-tests, domain-tests, shape-tests, schedule-tests};
 ghost use Rattle.refusals.specs.Lowest.{Lowest};
 
 mod states;
@@ -69,17 +69,29 @@ fn domains_refusal<'a>(parents: &'a [u8; 64], thresholds: &'a [u16; 64], domains
     refusal_at(0, 0)
 }
 
+// Counts and domains together.
+fn shape_refusal<'a>(
+    parents: &'a [u8; 64],
+    thresholds: &'a [u16; 64],
+    domains: u32,
+    threads: u32,
+) -> Refusal
+    ensures { λ r. ⌜ r ≡ told (first-refusal (shape-tests (tree-in domains threads (now (parents .entry)) (now (thresholds .entry)) []))) ⌝ }
+{
+    let r = counts_refusal(domains, threads);
+    if r.number != 0 {
+        return r;
+    }
+    domains_refusal(parents, thresholds, domains)
+}
+
 // Making a fresh lock meets 4 to 9.
 pub fn tree_refusal_of(tree: TreeWords) -> Refusal
     ensures { λ r. ⌜ r ≡ told (tree-refusal (tree-of tree)) ⌝ }
 {
     let domains = tree.domains;
     let threads = tree.threads;
-    let r = counts_refusal(domains, threads);
-    if r.number != 0 {
-        return r;
-    }
-    let r = domains_refusal(&tree.parents, &tree.thresholds, domains);
+    let r = shape_refusal(&tree.parents, &tree.thresholds, domains, threads);
     if r.number != 0 {
         return r;
     }
@@ -97,11 +109,7 @@ fn passes(tree: TreeWords, state: State) -> bool
 {
     let domains = tree.domains;
     let threads = tree.threads;
-    let r = counts_refusal(domains, threads);
-    if r.number != 0 {
-        return false;
-    }
-    let r = domains_refusal(&tree.parents, &tree.thresholds, domains);
+    let r = shape_refusal(&tree.parents, &tree.thresholds, domains, threads);
     if r.number != 0 {
         return false;
     }

@@ -10,9 +10,9 @@ use Rattle.model.specs.Places.{place-words}
 use Rattle.refusals.specs.Arrays.{parents-in}
 use Rattle.refusals.specs.Tables.{thread-in}
 use Rattle.refusals.proofs.Scanning.{one-more, by-answer}
-use Rattle.refusals.proofs.TreeTests.{counts}
+use Rattle.refusals.proofs.TreeTests.{shape}
 use Rattle.refusals.proofs.Formed.{owner-is}
-use Rattle.refusals.proofs.Passing.{counts-refuse, domains-refuse, parents-lower, domain-words-refuse, thread-refuses, all-pass}
+use Rattle.refusals.proofs.Passing.{shape-refuses, domain-words-refuse, thread-refuses, all-pass}
 use borrow.Author.Needs.{needs}
 use Rattle.refusals.proofs.passes.Statement.{statement}
 use Rattle.refusals.proofs.passes.Tie as tie
@@ -26,41 +26,26 @@ Inv-loop tree state domains threads no-homes owners resting i₀ i =
 abbrev μ-loop : tie.MeasureT-loop
 μ-loop tree state domains threads no-homes owners resting i₀ i = 256 - i
 
-counts-refusal-requires : tie.Need-counts-refusal-requires Inv-loop μ-loop
-counts-refusal-requires c κs = search needs
+shape-refusal-requires : tie.Need-shape-refusal-requires Inv-loop μ-loop
+shape-refusal-requires c κs = search needs
 
 returns : tie.Need-returns Inv-loop μ-loop
-returns c = counts-refuse (c .before .before .before .args .t1) (c .before .before .before .args .t2) _ (c .before .before .counts-refusal .ensures) (c .if1 .taken)
-
-domains-refusal-requires : tie.Need-domains-refusal-requires Inv-loop μ-loop
-domains-refusal-requires c κs =
-    let k = counts (c .before .before .before .before .before .before .args .t1) _ (c .before .before .before .before .before .counts-refusal .ensures) (c .before .before .before .if1 .left) in
-    let some = k .some-domain in
-    (omega arith, k .few-domains)
-
-returns-2 : tie.Need-returns-2 Inv-loop μ-loop
-returns-2 c = domains-refuse (c .before .before .before .before .before .before .before .before .before .args .t1) (c .before .before .before .before .before .before .before .before .before .args .t2) (counts (c .before .before .before .before .before .before .before .before .before .args .t1) _ (c .before .before .before .before .before .before .before .before .counts-refusal .ensures) (c .before .before .before .before .before .before .if1 .left)) _ (c .before .before .domains-refusal .ensures) (c .if2 .taken)
+returns c = shape-refuses (c .before .before .before .before .before .before .args .t1) (c .before .before .before .before .before .before .args .t2) _ (c .before .before .shape-refusal .ensures) (c .if1 .taken)
 
 no-homes-requires : tie.Need-no-homes-requires Inv-loop μ-loop
-no-homes-requires c κs =
-    let k = counts (c .before .before .before .before .before .before .before .before .before .before .before .args .t1) _ (c .before .before .before .before .before .before .before .before .before .before .counts-refusal .ensures) (c .before .before .before .before .before .before .before .before .if1 .left) in
-    let some = k .some-domain in
-    (omega arith, k .few-domains)
+no-homes-requires c κs = let k = shape (c .before .before .before .before .before .before .before .before .args .t1) _ (c .before .before .before .before .shape-refusal .ensures) (c .before .before .if1 .left) in (k .some-domain, k .few-domains)
 
 owners-of-requires : tie.Need-owners-of-requires Inv-loop μ-loop
-owners-of-requires c κs =
-    let k = counts (c .before .before .before .before .before .before .before .before .before .before .before .before .before .before .before .args .t1) _ (c .before .before .before .before .before .before .before .before .before .before .before .before .before .before .counts-refusal .ensures) (c .before .before .before .before .before .before .before .before .before .before .before .before .if1 .left) in
-    let some = k .some-domain in
-    (omega arith, k .few-domains, k .few-threads)
+owners-of-requires c κs = let k = shape (c .before .before .before .before .before .before .before .before .before .before .before .before .args .t1) _ (c .before .before .before .before .before .before .before .before .shape-refusal .ensures) (c .before .before .before .before .before .before .if1 .left) in (k .some-domain, k .few-domains, k .few-threads)
 
 resting-numbers-requires : tie.Need-resting-numbers-requires Inv-loop μ-loop
-resting-numbers-requires c κs = let k = counts (c .before .before .before .before .before .before .before .before .before .before .before .before .before .before .before .before .before .before .args .t1) _ (c .before .before .before .before .before .before .before .before .before .before .before .before .before .before .before .before .before .counts-refusal .ensures) (c .before .before .before .before .before .before .before .before .before .before .before .before .before .before .before .if1 .left) in k .few-threads
+resting-numbers-requires c κs = let k = shape (c .before .before .before .before .before .before .before .before .before .before .before .before .before .before .before .args .t1) _ (c .before .before .before .before .before .before .before .before .before .before .before .shape-refusal .ensures) (c .before .before .before .before .before .before .before .before .before .if1 .left) in k .few-threads
 
 good-domains-requires : tie.Need-good-domains-requires Inv-loop μ-loop
 good-domains-requires c κs = search needs
 
-returns-3 : tie.Need-returns-3 Inv-loop μ-loop
-returns-3 c = domain-words-refuse (c .before .before .before .before .before .before .before .before .before .before .before .before .before .before .before .before .before .before .before .before .before .before .before .before .before .before .args .t1) (c .before .before .before .before .before .before .before .before .before .before .before .before .before .before .before .before .before .before .before .before .before .before .before .before .before .before .args .t2) (counts (c .before .before .before .before .before .before .before .before .before .before .before .before .before .before .before .before .before .before .before .before .before .before .before .before .before .before .args .t1) _ (c .before .before .before .before .before .before .before .before .before .before .before .before .before .before .before .before .before .before .before .before .before .before .before .before .before .counts-refusal .ensures) (c .before .before .before .before .before .before .before .before .before .before .before .before .before .before .before .before .before .before .before .before .before .before .before .if1 .left)) _ (c .before .before .before .before .before .before .before .before .before .before .before .before .before .before .before .before .before .before .before .domains-refusal .ensures) (c .before .before .before .before .before .before .before .before .before .before .before .before .before .before .before .before .before .if2 .left) _ (c .before .before .before .before .before .before .before .before .before .before .owners-of .ensures) _ (c .before .before .before .before .before .before .before .before .before .before .before .before .before .before .no-homes .ensures) (by-answer _ false (c .before .good-domains .ensures) (not-true _ (c .if3 .taken)))
+returns-2 : tie.Need-returns-2 Inv-loop μ-loop
+returns-2 c = domain-words-refuse (c .before .before .before .before .before .before .before .before .before .before .before .before .before .before .before .before .before .before .before .before .before .before .before .args .t1) (c .before .before .before .before .before .before .before .before .before .before .before .before .before .before .before .before .before .before .before .before .before .before .before .args .t2) _ (c .before .before .before .before .before .before .before .before .before .before .before .before .before .before .before .before .before .before .before .shape-refusal .ensures) (c .before .before .before .before .before .before .before .before .before .before .before .before .before .before .before .before .before .if1 .left) _ (c .before .before .before .before .before .before .before .before .before .before .owners-of .ensures) _ (c .before .before .before .before .before .before .before .before .before .before .before .before .before .before .no-homes .ensures) (by-answer _ false (c .before .good-domains .ensures) (not-true _ (c .if2 .taken)))
 
 loop-holds : tie.Need-loop-holds Inv-loop μ-loop
 loop-holds c = (search needs, λ j l. absurd (omega arith), λ j l m. absurd (omega arith))
@@ -94,11 +79,11 @@ array-read-numbers c = omega arith
 
 good-thread-at-requires : tie.Need-good-thread-at-requires Inv-loop μ-loop
 good-thread-at-requires c κs =
-    let k = counts (c .before .before .before .before .before .before .before .before .before .before .before .before .before .before .before .before .before .before .before .before .before .before .before .before .before .before .before .before .before .before .before .before .before .before .before .args .t1) _ (c .before .before .before .before .before .before .before .before .before .before .before .before .before .before .before .before .before .before .before .before .before .before .before .before .before .before .before .before .before .before .before .before .before .before .counts-refusal .ensures) (c .before .before .before .before .before .before .before .before .before .before .before .before .before .before .before .before .before .before .before .before .before .before .before .before .before .before .before .before .before .before .before .before .if1 .left) in
+    let k = shape (c .before .before .before .before .before .before .before .before .before .before .before .before .before .before .before .before .before .before .before .before .before .before .before .before .before .before .before .before .before .before .before .before .args .t1) _ (c .before .before .before .before .before .before .before .before .before .before .before .before .before .before .before .before .before .before .before .before .before .before .before .before .before .before .before .before .shape-refusal .ensures) (c .before .before .before .before .before .before .before .before .before .before .before .before .before .before .before .before .before .before .before .before .before .before .before .before .before .before .if1 .left) in
     let i = c .before .before .before .before .before .before .before .before .loop .i in (
       (k .few-domains, k .few-threads),
       (
-        parents-lower (c .before .before .before .before .before .before .before .before .before .before .before .before .before .before .before .before .before .before .before .before .before .before .before .before .before .before .before .before .before .before .before .before .before .before .before .args .t1) (c .before .before .before .before .before .before .before .before .before .before .before .before .before .before .before .before .before .before .before .before .before .before .before .before .before .before .before .before .before .before .before .before .before .before .before .args .t2) (counts (c .before .before .before .before .before .before .before .before .before .before .before .before .before .before .before .before .before .before .before .before .before .before .before .before .before .before .before .before .before .before .before .before .before .before .before .args .t1) _ (c .before .before .before .before .before .before .before .before .before .before .before .before .before .before .before .before .before .before .before .before .before .before .before .before .before .before .before .before .before .before .before .before .before .before .counts-refusal .ensures) (c .before .before .before .before .before .before .before .before .before .before .before .before .before .before .before .before .before .before .before .before .before .before .before .before .before .before .before .before .before .before .before .before .if1 .left)) _ (c .before .before .before .before .before .before .before .before .before .before .before .before .before .before .before .before .before .before .before .before .before .before .before .before .before .before .before .before .domains-refusal .ensures) (c .before .before .before .before .before .before .before .before .before .before .before .before .before .before .before .before .before .before .before .before .before .before .before .before .before .before .if2 .left),
+        k .low,
         (
           c .before .before .before .before .before .before .before .before .before .before .before .before .before .before .before .before .before .before .before .before .before .before .before .no-homes .ensures,
           λ l. rw (owner-is _ _ _ _ _ (c .before .before .before .before .before .before .before .before .before .before .before .before .before .before .before .before .before .before .before .owners-of .ensures) (k .few-threads) i l) (c .before .before .before .before .before .before .before .before .before .before .before .before .before .before .before .before .resting-numbers .ensures .rests i l),
@@ -106,11 +91,11 @@ good-thread-at-requires c κs =
       ),
     )
 
-returns-4 : tie.Need-returns-4 Inv-loop μ-loop
-returns-4 c =
-    let e = by-answer _ true (c .before .before .before .before .before .before .before .before .before .before .before .before .good-domains .ensures) (not-false _ (c .before .before .before .before .before .before .before .before .before .before .before .if3 .left)) in
-    let g = by-answer _ false (c .before .good-thread-at .ensures .0) (not-true _ (c .if4 .taken)) in
-    thread-refuses (c .before .before .before .before .before .before .before .before .before .before .before .before .before .before .before .before .before .before .before .before .before .before .before .before .before .before .before .before .before .before .before .before .before .before .before .before .before .args .t1) (c .before .before .before .before .before .before .before .before .before .before .before .before .before .before .before .before .before .before .before .before .before .before .before .before .before .before .before .before .before .before .before .before .before .before .before .before .before .args .t2) (counts (c .before .before .before .before .before .before .before .before .before .before .before .before .before .before .before .before .before .before .before .before .before .before .before .before .before .before .before .before .before .before .before .before .before .before .before .before .before .args .t1) _ (c .before .before .before .before .before .before .before .before .before .before .before .before .before .before .before .before .before .before .before .before .before .before .before .before .before .before .before .before .before .before .before .before .before .before .before .before .counts-refusal .ensures) (c .before .before .before .before .before .before .before .before .before .before .before .before .before .before .before .before .before .before .before .before .before .before .before .before .before .before .before .before .before .before .before .before .before .before .if1 .left)) _ (c .before .before .before .before .before .before .before .before .before .before .before .before .before .before .before .before .before .before .before .before .before .before .before .before .before .before .before .before .before .before .domains-refusal .ensures) (c .before .before .before .before .before .before .before .before .before .before .before .before .before .before .before .before .before .before .before .before .before .before .before .before .before .before .before .before .if2 .left) _ (c .before .before .before .before .before .before .before .before .before .before .before .before .before .before .before .before .before .before .before .before .before .owners-of .ensures) _ (c .before .before .before .before .before .before .before .before .before .before .before .before .before .before .before .before .before .before .before .before .before .before .before .before .before .no-homes .ensures) e (c .before .before .before .before .before .before .before .before .before .before .loop .i) (c .before .before .before .before .before .before .before .before .before .loop-test .taken) g
+returns-3 : tie.Need-returns-3 Inv-loop μ-loop
+returns-3 c =
+    let e = by-answer _ true (c .before .before .before .before .before .before .before .before .before .before .before .before .good-domains .ensures) (not-false _ (c .before .before .before .before .before .before .before .before .before .before .before .if2 .left)) in
+    let g = by-answer _ false (c .before .good-thread-at .ensures .0) (not-true _ (c .if3 .taken)) in
+    thread-refuses (c .before .before .before .before .before .before .before .before .before .before .before .before .before .before .before .before .before .before .before .before .before .before .before .before .before .before .before .before .before .before .before .before .before .before .args .t1) (c .before .before .before .before .before .before .before .before .before .before .before .before .before .before .before .before .before .before .before .before .before .before .before .before .before .before .before .before .before .before .before .before .before .before .args .t2) _ (c .before .before .before .before .before .before .before .before .before .before .before .before .before .before .before .before .before .before .before .before .before .before .before .before .before .before .before .before .before .before .shape-refusal .ensures) (c .before .before .before .before .before .before .before .before .before .before .before .before .before .before .before .before .before .before .before .before .before .before .before .before .before .before .before .before .if1 .left) _ (c .before .before .before .before .before .before .before .before .before .before .before .before .before .before .before .before .before .before .before .before .before .owners-of .ensures) _ (c .before .before .before .before .before .before .before .before .before .before .before .before .before .before .before .before .before .before .before .before .before .before .before .before .before .no-homes .ensures) e (c .before .before .before .before .before .before .before .before .before .before .loop .i) (c .before .before .before .before .before .before .before .before .before .loop-test .taken) g
 
 add-i : tie.Need-add-i Inv-loop μ-loop
 add-i c = omega arith
@@ -123,16 +108,16 @@ loop-again c =
     let l = c .before .before .before .before .before .before .before .before .before .before .loop in
     let t = c .before .good-thread-at .ensures in (
       omega arith,
-      one-more _ true _ (l .inv .1) (by-answer _ true (t .0) (not-false _ (c .if4 .left))),
+      one-more _ true _ (l .inv .1) (by-answer _ true (t .0) (not-false _ (c .if3 .left))),
       λ j h m. elim (ℕ-discrete j (l .i)) [ yes p ↦ rw p (t .1 (omega arith)) | no p ↦ l .inv .2 j (omega arith) m ],
     )
 
-returns-5 : tie.Need-returns-5 Inv-loop μ-loop
-returns-5 c =
-    let k = counts (c .before .before .before .before .before .before .before .before .before .before .before .before .before .before .before .before .before .before .before .before .before .before .before .before .before .before .before .before .args .t1) _ (c .before .before .before .before .before .before .before .before .before .before .before .before .before .before .before .before .before .before .before .before .before .before .before .before .before .before .before .counts-refusal .ensures) (c .before .before .before .before .before .before .before .before .before .before .before .before .before .before .before .before .before .before .before .before .before .before .before .before .before .if1 .left) in
+returns-4 : tie.Need-returns-4 Inv-loop μ-loop
+returns-4 c =
+    let k = shape (c .before .before .before .before .before .before .before .before .before .before .before .before .before .before .before .before .before .before .before .before .before .before .before .before .before .args .t1) _ (c .before .before .before .before .before .before .before .before .before .before .before .before .before .before .before .before .before .before .before .before .before .shape-refusal .ensures) (c .before .before .before .before .before .before .before .before .before .before .before .before .before .before .before .before .before .before .before .if1 .left) in
     let few = k .few-threads in
     let v = c .before .loop .inv in
-    all-pass (c .before .before .before .before .before .before .before .before .before .before .before .before .before .before .before .before .before .before .before .before .before .before .before .before .before .before .before .before .args .t1) (c .before .before .before .before .before .before .before .before .before .before .before .before .before .before .before .before .before .before .before .before .before .before .before .before .before .before .before .before .args .t2) (counts (c .before .before .before .before .before .before .before .before .before .before .before .before .before .before .before .before .before .before .before .before .before .before .before .before .before .before .before .before .args .t1) _ (c .before .before .before .before .before .before .before .before .before .before .before .before .before .before .before .before .before .before .before .before .before .before .before .before .before .before .before .counts-refusal .ensures) (c .before .before .before .before .before .before .before .before .before .before .before .before .before .before .before .before .before .before .before .before .before .before .before .before .before .if1 .left)) _ (c .before .before .before .before .before .before .before .before .before .before .before .before .before .before .before .before .before .before .before .before .before .domains-refusal .ensures) (c .before .before .before .before .before .before .before .before .before .before .before .before .before .before .before .before .before .before .before .if2 .left) _ (c .before .before .before .before .before .before .before .before .before .before .before .before .owners-of .ensures) _ (c .before .before .before .before .before .before .before .before .before .before .before .before .before .before .before .before .no-homes .ensures) (λ i l. v .2 i (omega arith) l) (λ i l. v .1 i (omega arith)) (by-answer _ true (c .before .before .before .good-domains .ensures) (not-false _ (c .before .before .if3 .left)))
+    all-pass (c .before .before .before .before .before .before .before .before .before .before .before .before .before .before .before .before .before .before .before .before .before .before .before .before .before .args .t1) (c .before .before .before .before .before .before .before .before .before .before .before .before .before .before .before .before .before .before .before .before .before .before .before .before .before .args .t2) _ (c .before .before .before .before .before .before .before .before .before .before .before .before .before .before .before .before .before .before .before .before .before .shape-refusal .ensures) (c .before .before .before .before .before .before .before .before .before .before .before .before .before .before .before .before .before .before .before .if1 .left) _ (c .before .before .before .before .before .before .before .before .before .before .before .before .owners-of .ensures) _ (c .before .before .before .before .before .before .before .before .before .before .before .before .before .before .before .before .no-homes .ensures) (λ i l. v .2 i (omega arith) l) (λ i l. v .1 i (omega arith)) (by-answer _ true (c .before .before .before .good-domains .ensures) (not-false _ (c .before .before .if2 .left)))
 
 pub passes-spec : {M : Type 1} → statement M
 passes-spec =
@@ -140,15 +125,13 @@ passes-spec =
     (tie.spec
     Inv-loop
     μ-loop
-    counts-refusal-requires
+    shape-refusal-requires
     returns
-    domains-refusal-requires
-    returns-2
     no-homes-requires
     owners-of-requires
     resting-numbers-requires
     good-domains-requires
-    returns-3
+    returns-2
     loop-holds
     cast-at
     mul-q
@@ -160,8 +143,8 @@ passes-spec =
     mul-numbers
     array-read-numbers
     good-thread-at-requires
-    returns-4
+    returns-3
     add-i
     loop-less
     loop-again
-    returns-5)
+    returns-4)

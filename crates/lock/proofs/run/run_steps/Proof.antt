@@ -13,10 +13,10 @@ use Rattle.lock.proofs.run.run_steps.Statement.{statement}
 use Rattle.lock.proofs.run.run_steps.Tie as tie
 
 abbrev Inv-loop : tie.InvT-loop
-Inv-loop schedule trace₀ counts₀ tree domains threads n₀ entries₀ stays₀ root₀ passed₀ k₀ trace n entries stays root passed k = Going (tree-of tree) schedule trace₀ n₀ trace n entries stays root passed k
+Inv-loop schedule trace₀ counts₀ tree n₀ entries₀ stays₀ root₀ passed₀ k₀ trace n entries stays root passed k = Going (tree-of tree) schedule trace₀ n₀ trace n entries stays root passed k
 
 abbrev μ-loop : tie.MeasureT-loop
-μ-loop schedule trace₀ counts₀ tree domains threads n₀ entries₀ stays₀ root₀ passed₀ k₀ trace n entries stays root passed k = length schedule - k
+μ-loop schedule trace₀ counts₀ tree n₀ entries₀ stays₀ root₀ passed₀ k₀ trace n entries stays root passed k = length schedule - k
 
 loop-holds : tie.Need-loop-holds Inv-loop μ-loop
 loop-holds c =
