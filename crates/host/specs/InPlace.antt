@@ -6,7 +6,7 @@ use Rattle.model.specs.declared.State.{State}
 use Rattle.model.specs.declared.FreshReply.{FreshReply}
 use Rattle.model.specs.declared.StepReply.{StepReply}
 use Rattle.model.specs.Answers.{step-answer}
-use Rattle.model.specs.Claim.{one-step, Call, stepped, answer}
+use Rattle.model.specs.Claim.{one-step, stepped, answer}
 use Rattle.host.specs.declared.Answer.{Answer}
 
 abbrev pub fresh-number : FreshReply → Answer

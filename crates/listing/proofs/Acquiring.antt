@@ -1,28 +1,27 @@
 -- The lines of Acquire, entry by entry, do what the rows from Idle to Inside do. Assumes nothing.
-use mathlib.Core.Path.{_≡_, refl, sym, ap, _∙_}
+use mathlib.Core.Path.{_≡_, refl, ap, _∙_}
 use mathlib.Core.Bool.{Bool, true, false, cond}
-use mathlib.Core.List.{List, [], _∷_}
+use mathlib.Core.List.{[]}
 use mathlib.Core.Logic.{_≢_}
-use Prim.Native.Nat.{ℕ, zero, suc, _+_, _-_, _≤_, _<_}
+use Prim.Native.Nat.{ℕ, suc, _+_, _-_, _≤_, _<_}
 use native.Mathlib.Omega.{arith}
 use lib.Dec.{eqb, ltb}
-use lib.ListN.{length, getD, set}
+use lib.ListN.{length, set}
 use lib.Seq.{getD-set-same, getD-set-other}
-use borrow.Author.Tests.{eqb-true, eqb-false, eq-eqb, ne-eqb, lt-ltb, le-ltb, ltb-true, ltb-false}
-use Rattle.model.specs.declared.PlaceWords.{PlaceWords}
+use borrow.Author.Tests.{eqb-true, eqb-false, lt-ltb, le-ltb}
 use Rattle.model.specs.declared.Place.{Place}
 use Rattle.model.specs.declared.Place.the-variants.{Idle, Prep, Swap, Link, Wait, Inside}
 use Rattle.model.specs.declared.State.{State}
 use Rattle.model.specs.Trees.{Tree, own-record}
 use Rattle.model.specs.Places.{place-words, words-of, place-of}
-use Rattle.model.specs.States.{acquire-parent, wait-word, locked, tail, status, place, with-tail, with-next, with-status, with-place, root-word}
+use Rattle.model.specs.States.{acquire-parent, wait-word, locked, tail, status, place}
 use Rattle.model.specs.Steps.{Step, prep-row, swap-row, link-row, wait-row}
 use Rattle.model.proofs.Places.{place-of-words}
 use Rattle.model.proofs.Trees.Index.{ancestor, height, record-at}
 use Rattle.model.proofs.Trees.Accepted.{Accepted}
 use Rattle.model.proofs.Trees.Paths.{ancestor-not-root, ancestor-parent-of}
-use Rattle.model.proofs.Trees.Records.{own-record-at, record-suc}
-use Rattle.listing.specs.Listing.{store-lock, store-next, store-status, After, goes, Control, control, behind-17, acquire-real, returns, outside, critical, line-7, line-9, line-11, line-13, line-66, line-67, line-71, line-72}
+use Rattle.model.proofs.Trees.Records.{own-record-at}
+use Rattle.listing.specs.Listing.{After, goes, Control, control, behind-17, acquire-real, outside, critical, line-7, line-9, line-11, line-13, line-66, line-67, line-71, line-72}
 use Rattle.listing.specs.Agreement.{entry, memory-of}
 use Rattle.listing.proofs.Entries.{idle-elsewhere, idle-root, prep-elsewhere, prep-root, swap-none, swap-some, swap-root-none, swap-root-some, link-elsewhere, link-root, wait-stays, wait-enters, wait-climbs, wait-root-stays, wait-root-enters}
 use Rattle.listing.proofs.Stacks.{acquire-back, acquire-callers, acquire-stack, acquired, at-root, Corresponds, c-prep, c-swap, c-link, c-wait, c-inside}

@@ -1,9 +1,8 @@
 -- The listing and the step table agree, after every schedule from fresh. Assumes nothing.
-use mathlib.Core.Path.{_≡_, refl, sym, ap, _∙_}
+use mathlib.Core.Path.{_≡_, refl}
 use mathlib.Core.Bool.{Bool, true, false, cond}
 use mathlib.Core.List.{List, [], _∷_, _++_, append-assoc, append-nil}
-use mathlib.Core.Logic.{_≢_}
-use Prim.Native.Nat.{ℕ, zero, suc, _+_, _≤_, _<_}
+use Prim.Native.Nat.{ℕ, suc, _+_, _≤_, _<_}
 use native.Mathlib.Omega.{arith}
 use lib.Dec.{eqb}
 use lib.ListN.{length}
@@ -17,7 +16,7 @@ use Rattle.model.specs.States.{wait-word, status, place, fresh-words}
 use Rattle.model.specs.Steps.{row, step}
 use Rattle.model.specs.Runs.{steps, state-after, run-of, run}
 use Rattle.model.specs.Refusals.{tree-refusal}
-use Rattle.model.specs.Laws.{All-threads, Sixteen-bit, Formed, Form-law}
+use Rattle.model.specs.Laws.{All-threads, Sixteen-bit, Form-law}
 use Rattle.model.specs.Reached.{equality-check-row, Equality-law}
 use Rattle.model.proofs.Trees.Index.{ancestor, height, record-at}
 use Rattle.model.proofs.Trees.Accepted.{Accepted, accepted}
@@ -27,7 +26,7 @@ use Rattle.model.proofs.Claims.Calls.{run-behind, run-one}
 use Rattle.model.proofs.Claims.Equality.{equality-law}
 use Rattle.model.proofs.Claims.Reached.{threads-join}
 use Rattle.listing.specs.Listing.{behind-17, Control, control, line-7, line-9, line-11, line-13, line-66, line-67, line-71, line-72, top-domain, top-back}
-use Rattle.listing.specs.Agreement.{prep-place, place-at, place-of-control, entry, Threads, at-first, turn, turns, memory-of, Agrees, Listing-agrees}
+use Rattle.listing.specs.Agreement.{prep-place, place-at, place-of-control, entry, Threads, at-first, turn, turns, memory-of, Listing-agrees}
 use Rattle.listing.proofs.Stacks.{acquire-back, acquire-stack, top-domain-at, Corresponds, c-idle, c-prep, c-swap, c-link, c-wait, c-inside, c-check, c-pass, c-help, c-cas, c-linger, c-55, c-59}
 use Rattle.listing.proofs.Acquiring.{Together, standing, idle-together, prep-together, swap-together, link-together, wait-root-together, wait-together}
 use Rattle.listing.proofs.Releasing.{leave-together, check-together, pass-together, help-together, cas-together, linger-together, line-55-together, line-59-together}

@@ -1,12 +1,12 @@
 -- What one schedule entry takes of the listing, at each point where a thread stands. Assumes nothing.
-use mathlib.Core.Path.{_≡_, refl, sym, ap, _∙_}
+use mathlib.Core.Path.{_≡_, refl, ap, _∙_}
 use mathlib.Core.Bool.{Bool, true, false, cond}
 use mathlib.Core.List.{List, [], _∷_}
 use Prim.Native.Nat.{ℕ, suc, _+_, _-_}
 use lib.Dec.{eqb, ltb}
 use Rattle.model.specs.Trees.{Tree}
 use Rattle.model.specs.States.{cohort-start, acquire-parent, wait-word, unlocked, locked, none}
-use Rattle.listing.specs.Listing.{Memory, lock-at, next-at, status-at, store-lock, store-next, store-status, Return, from-acquire, from-release, behind-17, behind-29, behind-31, behind-41, behind-43, behind-82, Frame, frame, outside, critical, line-7, line-9, line-10, line-11, line-13, line-14, line-16, line-17, line-25, line-27, line-29, line-31, line-35, line-36, line-37, line-41, line-43, line-53, line-54, line-55, line-57, line-58, line-59, line-66, line-67, line-68, line-69, line-71, line-72, line-82, Control, control, After, goes, acquire-real, release-real, release-helper, returns, line, top-domain, top-node, top-back, next-line}
+use Rattle.listing.specs.Listing.{Memory, lock-at, status-at, store-lock, store-next, store-status, Return, from-acquire, behind-17, Frame, frame, outside, critical, line-7, line-9, line-10, line-11, line-13, line-14, line-16, line-17, line-66, line-67, line-68, line-69, line-71, line-72, Control, control, After, goes, acquire-real, returns, line, top-domain, top-node, top-back, next-line}
 use Rattle.listing.specs.Agreement.{prep-place, place-at, place-of-control, is-place, settle, entry}
 
 -- a thread stands there between entries

@@ -1,29 +1,28 @@
 -- The lines of Release, entry by entry, do what the rows from Inside to Idle do. Assumes nothing.
-use mathlib.Core.Path.{_≡_, refl, sym, ap, _∙_}
-use mathlib.Core.Bool.{Bool, true, false, _&&_, not, cond}
+use mathlib.Core.Path.{_≡_, refl, _∙_}
+use mathlib.Core.Bool.{Bool, true, false, cond}
 use mathlib.Core.List.{List, [], _∷_}
-use Prim.Native.Nat.{ℕ, zero, suc, _+_, _-_, _≤_, _<_}
+use Prim.Native.Nat.{ℕ, suc, _+_, _-_, _≤_, _<_}
 use native.Mathlib.Omega.{arith}
 use lib.Dec.{eqb}
 use lib.ListN.{length}
-use borrow.Author.Tests.{eqb-true, eqb-false}
-use Rattle.model.specs.declared.Place.{Place}
+use borrow.Author.Tests.{eqb-false}
 use Rattle.model.specs.declared.Place.the-variants.{Check, Help, Cas, Linger, Grant}
 use Rattle.model.specs.declared.State.{State}
-use Rattle.model.specs.Trees.{Tree, own-record}
-use Rattle.model.specs.States.{unlocked, none, tail, next, status, place, with-place}
-use Rattle.model.specs.Steps.{Step, release-place, release-word, leave-row, help-row, cas-row, linger-row, grant-row}
+use Rattle.model.specs.Trees.{Tree}
+use Rattle.model.specs.States.{unlocked, none, tail, next, status, place}
+use Rattle.model.specs.Steps.{release-place, release-word, leave-row, help-row, cas-row, linger-row, grant-row}
 use Rattle.model.specs.Reached.{equality-check-row}
 use Rattle.model.proofs.Trees.Index.{ancestor, height, record-at}
 use Rattle.model.proofs.Trees.Accepted.{Accepted}
 use Rattle.model.proofs.Trees.Paths.{ancestor-parent-of, ancestor-not-root}
 use Rattle.model.proofs.Trees.Records.{own-record-at}
 use Rattle.model.proofs.Words.Releasing.{done-at, done-place-at}
-use Rattle.listing.specs.Listing.{lock-at, next-at, status-at, store-lock, store-status, Return, from-release, behind-29, behind-41, behind-82, Frame, frame, critical, line-25, line-37, line-53, line-55, line-57, line-58, line-59, Control, control, After, goes, returns, line, next-line, top-domain, top-node}
-use Rattle.listing.specs.Agreement.{settle, entry, memory-of}
+use Rattle.listing.specs.Listing.{store-lock, store-status, Return, from-release, behind-29, behind-41, behind-82, Frame, frame, critical, line-25, line-37, line-53, line-55, line-57, line-58, line-59, control, goes, returns, line, next-line, top-domain, top-node}
+use Rattle.listing.specs.Agreement.{entry, memory-of}
 use Rattle.listing.proofs.Stacks.{Release-stack, at-home, by-29, by-41, shaped, Helper-back, of-82, helper-stack, helper-returns, Corresponds, c-check, c-pass, c-help, c-cas, c-linger, c-55, c-59}
 use Rattle.listing.proofs.Entries.{begins}
-use Rattle.listing.proofs.Returning.{released-at, leaves, check-reached, check-alone, check-passes, help-none, help-some, cas-fails, linger-stays, linger-sees, Ended, ended}
+use Rattle.listing.proofs.Returning.{released-at, leaves, check-reached, check-alone, check-passes, help-none, help-some, cas-fails, linger-stays, linger-sees, ended}
 use Rattle.listing.proofs.Acquiring.{Together, standing, moved, stayed, together}
 
 module _ (t : Tree) (𝓐 : Accepted t) (i : ℕ) (h : i < t .threads) (s : State) (room : i < length (s .places)) where

@@ -1,5 +1,5 @@
 -- What one schedule entry takes of Release, ReleaseReal and ReleaseHelper. Assumes nothing.
-use mathlib.Core.Path.{_≡_, refl, sym, ap, _∙_}
+use mathlib.Core.Path.{_≡_, refl, _∙_}
 use mathlib.Core.Bool.{Bool, true, false, cond}
 use mathlib.Core.List.{List, [], _∷_}
 use Prim.Native.Nat.{ℕ, suc, _+_, _-_, _≤_, _<_}
@@ -7,13 +7,13 @@ use native.Mathlib.Omega.{arith}
 use lib.Dec.{eqb}
 use borrow.Author.Tests.{ne-eqb}
 use Rattle.model.specs.Trees.{Tree}
-use Rattle.model.specs.States.{acquire-parent, unlocked, none}
+use Rattle.model.specs.States.{acquire-parent, unlocked}
 use Rattle.model.specs.Steps.{release-word}
 use Rattle.model.proofs.Trees.Index.{ancestor, height, record-at}
 use Rattle.model.proofs.Trees.Accepted.{Accepted}
 use Rattle.model.proofs.Trees.Paths.{ancestor-inner}
 use Rattle.model.proofs.Words.Releasing.{done-at}
-use Rattle.listing.specs.Listing.{Memory, lock-at, next-at, status-at, store-lock, store-status, Return, from-release, behind-29, behind-31, behind-41, behind-43, behind-82, Frame, frame, critical, line-25, line-27, line-29, line-31, line-35, line-36, line-37, line-41, line-43, line-53, line-54, line-55, line-57, line-58, line-59, line-82, Control, control, After, goes, release-real, release-helper, goes-back, returns, line, top-domain, top-node, top-back, next-line}
+use Rattle.listing.specs.Listing.{Memory, lock-at, next-at, status-at, Return, from-release, behind-29, behind-31, behind-41, behind-43, behind-82, Frame, frame, critical, line-25, line-27, line-29, line-31, line-35, line-36, line-37, line-41, line-43, line-53, line-54, line-55, line-57, line-58, line-59, line-82, Control, control, After, goes, release-real, release-helper, goes-back, returns, line, top-domain, top-node, next-line}
 use Rattle.listing.specs.Agreement.{place-at, place-of-control, is-place, settle, entry}
 use Rattle.listing.proofs.Stacks.{Release-stack, at-home, by-29, by-41, top-domain-at, top-node-at, of-31, of-43, Corresponds, c-idle, c-help}
 use Rattle.listing.proofs.Entries.{through, there, begins}

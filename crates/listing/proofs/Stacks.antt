@@ -1,6 +1,6 @@
 -- The calls of a thread at an index of its path, and how its control corresponds to a place of the step table. Assumes nothing.
-use mathlib.Core.Path.{_≡_, refl, sym, ap, _∙_}
-use mathlib.Core.Bool.{Bool, true, false, cond}
+use mathlib.Core.Path.{_≡_, refl}
+use mathlib.Core.Bool.{cond}
 use mathlib.Core.List.{List, [], _∷_}
 use Prim.Native.Nat.{ℕ, zero, suc, _+_, _≤_, _<_}
 use lib.Dec.{eqb}
@@ -9,7 +9,7 @@ use Rattle.model.specs.declared.Place.the-variants.{Idle, Prep, Swap, Link, Wai
 use Rattle.model.specs.Trees.{Tree}
 use Rattle.model.specs.Steps.{release-word}
 use Rattle.model.proofs.Trees.Index.{ancestor, height, record-at}
-use Rattle.listing.specs.Listing.{Return, from-acquire, from-release, behind-17, behind-29, behind-31, behind-41, behind-43, behind-82, Frame, frame, Point, outside, critical, line-7, line-9, line-11, line-13, line-25, line-31, line-37, line-43, line-53, line-55, line-57, line-58, line-59, line-66, line-67, line-71, line-72, Control, control, goes-back, returns, top-domain, top-node}
+use Rattle.listing.specs.Listing.{Return, from-acquire, from-release, behind-17, behind-29, behind-31, behind-41, behind-43, behind-82, Frame, frame, Point, outside, critical, line-7, line-9, line-11, line-13, line-25, line-37, line-53, line-55, line-57, line-58, line-59, line-66, line-67, line-71, line-72, Control, control, goes-back, returns, top-domain, top-node}
 
 -- CALLS OF AcquireReal, from an index down to the home
 unfoldable pub acquire-back : (index : ℕ) → Return

@@ -11,7 +11,6 @@ use Rattle.model.specs.declared.State.{State}
 use Rattle.model.specs.declared.RunReply.{RunReply}
 use Rattle.model.specs.Trees.{Tree, tree-of}
 use Rattle.model.specs.Runs.{steps, state-after, run-of, run}
-use Rattle.model.specs.Refusals as model
 use Rattle.model.specs.Refusals.{refusal, accepted, Test, test, first-refusal, tree-tests, bad-length, bad-entry, bad-room, step-tests, run-tests, step-refusal, run-refusal}
 use Rattle.model.specs.Answers.{step-reply, step-answer, run-refused, run-reply, run-buffer, run-answer, trace-answer}
 use Rattle.model.proofs.Laws.Refusals.{step-refuses-exactly}

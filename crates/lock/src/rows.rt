@@ -1,7 +1,6 @@
 // What a row of the step table does, decided from the words that it reads.
 ghost use mathlib.Core.Path.{_≡_};
-ghost use mathlib.Core.List.{[]};
-ghost use Prim.Native.Nat.{ℕ, _<_, _≤_};
+ghost use Prim.Native.Nat.{_<_, _≤_};
 ghost use Rattle.model.specs.States.{root-word};
 ghost use Rattle.model.specs.Places.{words-of};
 ghost use Rattle.model.specs.Trees.{child-from};

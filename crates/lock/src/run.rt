@@ -1,6 +1,6 @@
 // Effects stored into a state, and the run's loop.
 ghost use mathlib.Core.Path.{_≡_};
-ghost use Prim.Native.Nat.{ℕ, _+_, _<_, _≤_};
+ghost use Prim.Native.Nat.{_+_, _<_, _≤_};
 ghost use lib.ListN.{length};
 ghost use Rattle.model.specs.Trees.{tree-of};
 ghost use Rattle.model.specs.Refusals.{run-refusal};
@@ -64,7 +64,7 @@ fn trace_at(trace: &mut [u16], at: u32, kind: u8, i: u16) -> u32
     at + 1
 }
 
-// The steps of a schedule, stored one after another into one state, which is copied at the start and at the end alone. The counts are lent, so that a step pays for none: steps, entries, stays, root entries, passed entries.
+// The steps of a schedule, stored one after another into one state, which is copied at the start and at the end alone. The counts (steps, entries, stays, root entries, passed entries) are written where the caller lends room, so that the state alone is returned.
 pub(crate) fn run_steps(
     tree: TreeWords,
     state: State,

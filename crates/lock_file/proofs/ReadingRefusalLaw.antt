@@ -1,4 +1,4 @@
--- REFUSALS OF READING: 2 exactly if the file only ends too early, 3 exactly at the first byte that no lock file has there. Assumes nothing.
+-- REFUSALS OF READING: 2 exactly if the file only ends too early, 3 exactly at the first byte with which the bytes so far begin no lock file. Assumes nothing.
 use mathlib.Core.Path.{_≡_, refl, sym, _∙_, ap}
 use mathlib.Core.Bool.{Bool, true, false, cond}
 use mathlib.Core.List.{List, [], _∷_, _++_, append-nil}

@@ -27,16 +27,16 @@ pub record Lock-file (bytes : List ℕ) : Type 0 where
   pub schedule : List ℕ
   pub describes : Describes bytes tree schedule
 
--- the beginning of a lock file, which may be of any length: more bytes, or none, make it one
+-- the beginning of a lock file: with more bytes behind it, or none, it is one. Lock files above 65,536 bytes count too
 pub record Beginning (bytes : List ℕ) : Type 0 where
   pub more : List ℕ
   pub more-bytes : (k : ℕ) → k < length more → getD more k 0 < 256
   pub lock-file : Lock-file (bytes ++ more)
 
 pub record Reading-refuses-exactly (bytes : List ℕ) : Type 0 where
-  -- 2: the file ends too early and has no other fault: it is no lock file, but the beginning of one; the place is its length
+  -- 2: the file ends too early, and no bit map before its end is bad: it is no lock file, but the beginning of one; the place is its length
   pub ended : (p : ℕ) → (file-read bytes ≡ refused (refusal 2 p)) ⟺ ((p ≡ length bytes) × (¬ Lock-file bytes) × Beginning bytes)
-  -- 3: the bytes before the place are the beginning of a lock file, with the byte at the place they are none (only bit maps are not free in Format)
+  -- 3: the bytes before the place are the beginning of a lock file, with the byte at the place they are none (in Format every byte but a bit map may be any)
   pub bad-map :
       (p : ℕ) →
       (file-read bytes ≡ refused (refusal 3 p))

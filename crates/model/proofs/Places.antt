@@ -1,11 +1,11 @@
 -- A place and its four numbers: each gives the other back; a store of a place, read back. Assumes nothing.
-use mathlib.Core.Path.{_≡_, refl, sym, ap, _∙_}
-use mathlib.Core.Bool.{true, false, not, cond, false≢true}
+use mathlib.Core.Path.{_≡_, refl, sym, _∙_}
+use mathlib.Core.Bool.{true, not, cond, false≢true}
 use mathlib.Core.Logic.{_≢_}
 use Prim.Native.Nat.{ℕ, _<_}
 use lib.Dec.{eqb}
 use lib.ListN.{length}
-use lib.Seq.{getD-set-same, getD-set-other}
+use lib.Seq.{getD-set-same}
 use borrow.Author.Tests.{eqb-true, not-false}
 use Rattle.model.specs.declared.PlaceWords.{PlaceWords}
 use Rattle.model.specs.declared.Place.{Place}
@@ -85,6 +85,3 @@ idle-facts Invalid e = absurd (false≢true e)
 -- STORES of a place
 pub place-stored : (i : ℕ) (p : Place) (s : State) → i < length (s .places) → place (with-place i p s) i ≡ p
 place-stored i p s h = rw (getD-set-same (s .places) i (words-of p) (place-words 0 0 0 0) h) (place-of-words p)
-
-pub place-elsewhere : (i j : ℕ) (p : Place) (s : State) → j ≢ i → place (with-place i p s) j ≡ place s j
-place-elsewhere i j p s n = ap place-of (getD-set-other (s .places) i j (words-of p) (place-words 0 0 0 0) n)

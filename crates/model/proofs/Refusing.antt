@@ -1,11 +1,11 @@
 -- Tests in order: what an answer says of them. Assumes nothing.
-use mathlib.Core.Path.{_≡_, refl, sym, _∙_}
+use mathlib.Core.Path.{_≡_, refl}
 use mathlib.Core.Bool.{Bool, true, false, cond}
-use mathlib.Core.List.{List, [], _∷_, _++_}
-use Prim.Native.Nat.{ℕ, zero, suc, _+_, _≤_, _<_}
+use mathlib.Core.List.{List, _∷_}
+use Prim.Native.Nat.{ℕ, zero, suc, _+_, _<_}
 use native.Mathlib.Nat.{add-zero}
 use native.Mathlib.Omega.{arith}
-use Rattle.model.specs.Refusals.{Refusal, refusal, accepted, Test, lowest-bad, first-refusal}
+use Rattle.model.specs.Refusals.{Refusal, refusal, Test, lowest-bad, first-refusal}
 
 -- a test that finds no bad place gives the answer of those behind it
 pub lowest-none : (n : ℕ) (f : ℕ → Bool) (k p : ℕ) (r : Refusal) → ((j : ℕ) → j < k → f (p + j) ≡ false) → lowest-bad n f k p r ≡ r

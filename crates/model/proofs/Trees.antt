@@ -3,5 +3,4 @@ pub mod Index
 pub mod Accepted
 pub mod Paths
 pub mod Records
-pub mod Meetings
 pub mod Allowances

@@ -1,4 +1,4 @@
--- A tree and a state in one walk over the domains and one over the threads: what each test that fails, and what all that pass, say. Assumes nothing.
+-- A tree and a state tested together: what each test that fails, and what all that pass, say. Assumes nothing.
 use mathlib.Core.Path.{_≡_, refl, sym, ap, _∙_}
 use mathlib.Core.Bool.{Bool, true, false, _&&_, false≢true}
 use mathlib.Core.List.{List, []}

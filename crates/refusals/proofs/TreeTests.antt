@@ -20,7 +20,7 @@ use Rattle.refusals.proofs.Reading.{parent-in}
 use Rattle.refusals.proofs.Scanning.{single-hit, single-missed, test-hit, test-missed}
 use Rattle.refusals.proofs.Joining.{first-decides, other-decides}
 
--- what 4 to 6 leave
+-- what holds where 4 to 6 refuse nothing
 pub record Shape (w : TreeWords) : Type 0 where
   pub some-domain : 0 < w .domains
   pub few-domains : w .domains ≤ 64

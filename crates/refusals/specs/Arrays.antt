@@ -29,7 +29,7 @@ count-tests t = test 4 1 (bad-domains t) ∷ test 5 1 (bad-threads t) ∷ []
 abbrev pub domain-tests : Tree → List Test
 domain-tests t = test 6 (t .domains) (bad-parent t) ∷ test 7 (t .domains) (too-deep t) ∷ test 8 (t .domains) (no-threshold t) ∷ []
 
--- 4 to 8
+-- 4 to 8: the tests of counts and domains, which do not read homes
 abbrev pub shape-tests : Tree → List Test
 shape-tests t = count-tests t ++ domain-tests t
 
@@ -46,6 +46,7 @@ pub record No-domains (domains : ℕ) (table : List Bool) : Type 0 where
 pub record No-homes (domains : ℕ) (parents : List ℕ) (table : List Bool) : Type 0 where
   pub no-home : (x : ℕ) → x < 256 → getD table x false ≡ leb domains x || not (is-leaf (parents-in domains parents) x)
 
+-- the model's refusal as this crate's struct
 abbrev pub told : model.Refusal → Refusal
 told r = record { number = r .number; place = r .place }
 

@@ -50,7 +50,7 @@ place-in t os h q =
 abbrev pub idle-in : PlaceWords → Bool
 idle-in q = eqb (q .row) 0 && (eqb (q .domain) 0 && (eqb (q .peer) 0 && eqb (q .word) 0))
 
--- three numbers of a place in one, none of them lost
+-- row, domain and record of a place in one number, from which each can be told
 pub record Joined (row domain peer joined : ℕ) : Type 0 where
   pub row-small : row < 256
   pub domain-small : domain < 256
@@ -60,16 +60,16 @@ pub record Joined (row domain peer joined : ℕ) : Type 0 where
 abbrev pub rests-in : (home : ℕ) → PlaceWords → Bool
 rests-in h q = idle-in q || (eqb (q .row) 4 && (eqb (q .domain) h && (eqb (q .peer) 0 && eqb (q .word) 0)))
 
--- of each thread, the numbers of Wait at its home
+-- of each thread, row, domain and record of Wait at its home, as one number
 pub record Resting (threads : ℕ) (homes numbers : List ℕ) : Type 0 where
   pub room : length numbers ≡ 256
   pub rests : (i : ℕ) → i < threads → getD numbers i 0 ≡ 4 + 256 * getD homes i 0
 
--- an answer that is true only where a place rests
+-- an answer that is true only where a place rests, for the home whose Wait has the number
 pub record Rests (resting : ℕ) (q : PlaceWords) (answer : Bool) : Type 0 where
   pub rests : answer ≡ true → (h : ℕ) → h < 256 → resting ≡ 4 + 256 * h → rests-in h q ≡ true
 
--- a thread's home by a table of what is none, and what the state has of the thread: the next and the status of its record, and its place
+-- a thread's home by a table of what is none, and what the state has of the thread: the next and the status of its record, and its place; beyond the threads, that the room is fresh
 unfoldable pub thread-in : Tree → (owners : List ℕ) → (no-homes : List Bool) → (threads thread : ℕ) → PlaceWords → (next status : ℕ) → Bool
 thread-in t os bs m i q n v =
     cond (ltb i m) (not (getD bs (getD os i 0) false) && (next-in os (getD os i 0) n && place-in t os (getD os i 0) q))

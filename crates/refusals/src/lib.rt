@@ -1,7 +1,7 @@
 // The refusals of the calls, numbers 4 to 13, each test over everything before the next.
 ghost use mathlib.Core.Path.{_≡_};
 ghost use mathlib.Core.List.{[], _∷_, _++_};
-ghost use Prim.Native.Nat.{ℕ, _<_, _≤_};
+ghost use Prim.Native.Nat.{_<_, _≤_};
 ghost use lib.Dec.{eqb};
 ghost use lib.ListN.{length};
 ghost use Rattle.model.specs.Trees.{tree-of};
@@ -46,7 +46,7 @@ fn counts_refusal(domains: u32, threads: u32) -> Refusal
     refusal_at(0, 0)
 }
 
-// The domains meet 6 to 8. One walk is enough for a tree that meets none of them.
+// The domains meet 6 to 8. One walk is enough where none fails.
 fn domains_refusal<'a>(parents: &'a [u8; 64], thresholds: &'a [u16; 64], domains: u32) -> Refusal
     requires { ⌜ (0 < domains) × (domains ≤ 64) ⌝ }
     ensures { λ r. ⌜ r ≡ told (first-refusal (domain-tests (tree-in domains 0 (now (parents .entry)) (now (thresholds .entry)) []))) ⌝ }
@@ -69,7 +69,7 @@ fn domains_refusal<'a>(parents: &'a [u8; 64], thresholds: &'a [u16; 64], domains
     refusal_at(0, 0)
 }
 
-// Counts and domains together.
+// Counts and domains together: 4 to 8, which do not read homes.
 fn shape_refusal<'a>(
     parents: &'a [u8; 64],
     thresholds: &'a [u16; 64],
@@ -103,7 +103,7 @@ pub fn tree_refusal_of(tree: TreeWords) -> Refusal
     refusal_at(0, 0)
 }
 
-// Whether 4 to 10 refuse nothing, in one walk over the domains and one over the threads.
+// Whether 4 to 10 refuse nothing: one walk over the tree's domains, three tables, then one walk over the state's domains and one over its threads.
 fn passes(tree: TreeWords, state: State) -> bool
     ensures { λ r. ⌜ r ≡ eqb (first-refusal (tree-tests (tree-of tree) ++ (test 10 1 (bad-state (tree-of tree) state) ∷ [])) .number) 0 ⌝ }
 {

@@ -1,4 +1,4 @@
-// The tests of a state that is handed in, in an accepted tree.
+// The tests of the homes and of a state that is handed in, in a tree that 4 to 8 do not refuse.
 ghost use mathlib.Core.Path.{_≡_};
 ghost use mathlib.Core.Bool.{_&&_, _||_, not};
 ghost use mathlib.Core.List.{[]};
@@ -264,7 +264,7 @@ fn is_idle_at(q: PlaceWords) -> bool
     joined(q.row, q.domain, q.peer) == 0
 }
 
-// Of each thread, the numbers of Wait at its home.
+// Of each thread, row, domain and record of Wait at its home, as one number.
 pub(crate) fn resting_numbers(homes: &[u8; 256], threads: u32) -> [u32; 256]
     requires { ⌜ threads ≤ 256 ⌝ }
     ensures { λ r. ⌜ Resting threads (now (homes .entry)) r ⌝ }
@@ -304,7 +304,7 @@ fn is_unused_at(q: PlaceWords, next: u16, status: u64) -> bool
     next == 0 && status == 0
 }
 
-// A thread's home, and what the state has of the thread: its record and its place.
+// A thread's home, and what the state has of the thread: its record and its place; beyond the threads, fresh room. That an owner is a byte is what the caller's proof needs.
 pub(crate) fn good_thread_at<'a>(
     parents: &'a [u8; 64],
     owners: &'a [u8; 320],

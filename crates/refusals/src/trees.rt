@@ -1,7 +1,7 @@
-// The tests of a tree, each as the lowest place that fails it.
+// The tests of a tree, each as the lowest place that fails it; a quick test of all domains, and the table of the bytes that are no homes.
 ghost use mathlib.Core.Path.{_≡_};
 ghost use mathlib.Core.List.{[]};
-ghost use Prim.Native.Nat.{ℕ, _<_, _≤_};
+ghost use Prim.Native.Nat.{_<_, _≤_};
 ghost use Rattle.model.specs.Refusals.{bad-parent, too-deep, no-threshold, bad-home};
 ghost use Rattle.refusals.specs.Arrays.{tree-in, parents-in, Lower, Sound, No-domains, No-homes};
 ghost use Rattle.refusals.specs.Lowest.{Lowest};
@@ -94,7 +94,7 @@ pub(crate) fn lowest_no_threshold(thresholds: &[u16; 64], domains: u32) -> u32
     d
 }
 
-// Whether no domain meets 6, 7 or 8, in one walk; where it says no, the scans say which does.
+// True only where no domain fails 6, 7 or 8, in one walk; otherwise the scans say which does.
 pub(crate) fn sound_domains<'a>(
     parents: &'a [u8; 64],
     thresholds: &'a [u16; 64],

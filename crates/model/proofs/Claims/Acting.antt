@@ -1,28 +1,26 @@
 -- A thread acts for its record at a domain, as document 01 says, exactly if its stage acts there. Assumes nothing.
 use mathlib.Core.Path.{_≡_, refl, sym, ap, _∙_}
-use mathlib.Core.Bool.{Bool, true, false, _&&_, _||_, not, cond}
-use mathlib.Core.List.{List}
-use mathlib.Core.Logic.{_≢_}
+use mathlib.Core.Bool.{Bool, true, false, _||_, not, cond}
 use Prim.Native.Nat.{ℕ, suc, _≤_, _<_}
 use native.Mathlib.Omega.{arith}
 use lib.Dec.{eqb, ltb, leb}
 use borrow.Author.Tests.{eqb-true, eqb-false, eq-eqb, ne-eqb, lt-ltb, le-ltb, le-leb, lt-leb}
 use Rattle.model.specs.declared.Place.{Place}
 use Rattle.model.specs.declared.State.{State as WordState}
-use Rattle.model.specs.Trees.{Tree, own-record}
-use Rattle.model.specs.States.{acquire-parent, wait-word, locked, status, place}
+use Rattle.model.specs.Trees.{Tree}
+use Rattle.model.specs.States.{acquire-parent, wait-word, locked}
 use Rattle.model.specs.Acts.{sends-inside, acts-at}
 use Rattle.model.specs.Laws.{Sixteen-bit}
 use Rattle.model.proofs.Tests.{or-right}
 use Rattle.model.proofs.Trees.Index.{ancestor, height, record-at}
 use Rattle.model.proofs.Trees.Accepted.{Accepted}
-use Rattle.model.proofs.Trees.Paths.{ancestor-inner, ancestor-strict, ancestor-zero, ancestor-not-root, root-test}
+use Rattle.model.proofs.Trees.Paths.{ancestor-inner, ancestor-strict, ancestor-zero, ancestor-not-root}
 use Rattle.model.proofs.Trees.Records.{own-record-at}
 use Rattle.model.proofs.Queues.Lists.{same-or, less-or}
 use Rattle.model.proofs.Queues.Moves.{Stage, low, acts, State}
 use Rattle.model.proofs.Queues.Invariant.{Inv}
 use Rattle.model.proofs.Words.View.{words-in}
-use Rattle.model.proofs.Words.Represents.{waiting-word, letting-go, letting-go-low, Fits, at-idle, at-prep, at-swap, at-link, at-wait, at-woken, at-ready, at-inside, at-check, at-pass, at-help, at-cas, at-linger, at-grant}
+use Rattle.model.proofs.Words.Represents.{waiting-word, Fits, at-idle, at-prep, at-swap, at-link, at-wait, at-woken, at-ready, at-inside, at-check, at-pass, at-help, at-cas, at-linger, at-grant}
 use Rattle.model.proofs.Words.Releasing.{letting-go-acts}
 
 module _ (t : Tree) (𝓐 : Accepted t) (i : ℕ) (h : i < t .threads) (n : ℕ) (ln : n ≤ height t i) where

@@ -1,7 +1,6 @@
 -- At most one thread is at Inside, in every state reached from fresh. Assumes nothing.
-use mathlib.Core.Path.{_≡_, refl, sym, ap, _∙_}
+use mathlib.Core.Path.{_≡_, refl}
 use mathlib.Core.Bool.{Bool, true, false, cond, false≢true}
-use mathlib.Core.List.{List}
 use mathlib.Core.Logic.{_≢_}
 use Prim.Native.Nat.{ℕ, zero, suc, _+_, _≤_, _<_}
 use native.Mathlib.Omega.{arith}
@@ -13,7 +12,7 @@ use Rattle.model.specs.Places.{is-inside}
 use Rattle.model.specs.States.{place, inside-below, inside-count}
 use Rattle.model.proofs.Trees.Accepted.{Accepted}
 use Rattle.model.proofs.Laws.Facts.{Facts}
-use Rattle.model.proofs.Queues.Lists.{same-or, less-or}
+use Rattle.model.proofs.Queues.Lists.{less-or}
 use Rattle.model.proofs.Queues.Paths.{laws}
 use Rattle.model.proofs.Queues.Moves.{Stage, inside, State}
 use Rattle.model.proofs.Queues.Order.{one-inside}

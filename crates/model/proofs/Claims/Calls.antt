@@ -4,7 +4,7 @@ use mathlib.Core.Bool.{Bool, true, false, cond}
 use mathlib.Core.List.{List, [], _∷_, _++_, append-assoc, append-nil}
 use Prim.Native.Nat.{ℕ, _+_}
 use lib.Dec.{eqb}
-use lib.ListN.{length, take, drop, length-append}
+use lib.ListN.{length, take, length-append}
 use lib.Seq.{take-append-seam, drop-append-seam, take-append-add}
 use borrow.Author.Tests.{eqb-true}
 use Rattle.model.specs.declared.TreeWords.{TreeWords}
@@ -12,12 +12,12 @@ use Rattle.model.specs.declared.State.{State}
 use Rattle.model.specs.Trees.{Tree, tree-of}
 use Rattle.model.specs.States.{fresh-words}
 use Rattle.model.specs.Steps.{step}
-use Rattle.model.specs.Runs.{Run, steps, state-after, run-of, run}
+use Rattle.model.specs.Runs.{steps, state-after, run-of, run}
 use Rattle.model.specs.Refusals.{step-refusal, run-refusal}
 use Rattle.model.specs.Answers.{step-reply, step-answer, run-reply, run-buffer, run-answer, trace-answer}
 use Rattle.model.specs.Laws.{All-threads, then-run}
-use Rattle.model.specs.Claim.{Ask, one-step, a-run, Call, Answer, stepped, ran, state-in, answer-to, answer, ask-refusal, call-refusal, asked-entries, added, answers, joined, Names, state-at, stretch, expected-ask, expected, expected-answers, Stretches}
-use Rattle.model.proofs.Laws.Runs.{steps-take, steps-drop, run-state, run-join}
+use Rattle.model.specs.Claim.{Ask, one-step, a-run, Call, stepped, ran, state-in, answer-to, answer, ask-refusal, call-refusal, asked-entries, added, answers, joined, Names, state-at, stretch, expected-ask, expected, expected-answers, Stretches}
+use Rattle.model.proofs.Laws.Runs.{steps-take, steps-drop, run-join}
 use Rattle.model.proofs.Laws.Calls.{step-facts, run-facts}
 use Rattle.model.proofs.Claims.Reached.{threads-join}
 

@@ -1,19 +1,19 @@
 -- THE THIRD DEMAND, proved. Assumes nothing.
-use mathlib.Core.Path.{_≡_, refl, sym, ap, _∙_}
-use mathlib.Core.List.{List, [], _++_}
-use Prim.Native.Nat.{ℕ, _%_, _≤_, _<_}
+use mathlib.Core.Path.{_≡_, refl}
+use mathlib.Core.List.{List, []}
+use Prim.Native.Nat.{ℕ}
 use native.Mathlib.Omega.{arith}
 use lib.ListN.{take}
 use Rattle.model.specs.declared.TreeWords.{TreeWords}
-use Rattle.model.specs.Trees.{Tree, read-word, tree-of}
+use Rattle.model.specs.Trees.{Tree, tree-of}
 use Rattle.model.specs.States.{fresh-words}
 use Rattle.model.specs.Runs.{steps, state-after, run-of, run}
 use Rattle.model.specs.Refusals.{tree-refusal}
 use Rattle.model.specs.Answers.{fresh-answer}
 use Rattle.model.specs.Laws.{All-threads, Sixteen-bit, Form-law}
 use Rattle.model.specs.Claim.{Call, joined, Names, state-at, Claim, Demand-three}
-use Rattle.model.proofs.Trees.Accepted.{Accepted, accepted}
-use Rattle.model.proofs.Laws.Runs.{steps-take, run-state}
+use Rattle.model.proofs.Trees.Accepted.{accepted}
+use Rattle.model.proofs.Laws.Runs.{steps-take}
 use Rattle.model.proofs.Laws.Facts.{well-formed-facts}
 use Rattle.model.proofs.Laws.Form.{form-law}
 use Rattle.model.proofs.Claims.Reached.{from-fresh, threads-take}

@@ -1,13 +1,12 @@
 -- In each domain standing ungranted ends in the order in which it began. Assumes nothing.
-use mathlib.Core.Path.{_≡_, refl, sym, ap, _∙_}
+use mathlib.Core.Path.{_≡_, refl, sym, _∙_}
 use mathlib.Core.Bool.{Bool, true, false, cond}
 use mathlib.Core.List.{List, [], _∷_, _++_, append-assoc, append-nil}
 use Prim.Native.Nat.{ℕ, _+_}
-use native.Mathlib.Omega.{arith}
 use lib.Dec.{eqb}
 use borrow.Author.Tests.{eq-eqb, ne-eqb}
 use Rattle.model.specs.Trees.{Tree}
-use Rattle.model.specs.Steps.{Kind, is-entry, Standing, unchanged, begins, ends, Step}
+use Rattle.model.specs.Steps.{is-entry, Standing, unchanged, begins, ends, Step}
 use Rattle.model.specs.Runs.{begun-in, ended-in, begun, ended}
 use Rattle.model.specs.Claim.{Prefix}
 use Rattle.model.proofs.Queues.Lists.{same-or, rest}

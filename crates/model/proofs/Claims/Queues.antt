@@ -1,20 +1,19 @@
 -- Each domain reached from fresh has its queue, and exactly one thread acts for each member in it. Assumes nothing.
 use mathlib.Core.Path.{_≡_, refl, sym, ap, _∙_}
-use mathlib.Core.Bool.{true, _&&_}
-use mathlib.Core.List.{List, [], _∷_, _++_}
-use Prim.Native.Nat.{ℕ, suc, _≤_, _<_}
+use mathlib.Core.Bool.{true}
+use mathlib.Core.List.{List, [], _∷_}
+use Prim.Native.Nat.{ℕ, _≤_, _<_}
 use native.Mathlib.Omega.{arith}
-use lib.Dec.{ltb}
 use lib.ListN.{drop}
 use borrow.Author.Tests.{ltb-true, lt-ltb}
 use Rattle.model.specs.declared.State.{State as WordState}
 use Rattle.model.specs.Trees.{Tree, on-path, own-record}
 use Rattle.model.specs.States.{fresh-words, place}
-use Rattle.model.specs.Runs.{steps, run-of, run, occurrences}
+use Rattle.model.specs.Runs.{steps, run-of, run}
 use Rattle.model.specs.Acts.{acts-at}
 use Rattle.model.specs.Acts as model
-use Rattle.model.specs.Laws.{All-threads, Sixteen-bit}
-use Rattle.model.specs.Reached.{last-or-none, Acts-for, Acted-once, Has-queues, Queue-law}
+use Rattle.model.specs.Laws.{Sixteen-bit}
+use Rattle.model.specs.Reached.{last-or-none, Acts-for, Acted-once, Queue-law}
 use Rattle.model.proofs.Tests.{and-both}
 use Rattle.model.proofs.Trees.Index.{ancestor, height, record-at}
 use Rattle.model.proofs.Trees.Accepted.{Accepted, accepted}

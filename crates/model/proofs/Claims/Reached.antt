@@ -1,9 +1,9 @@
 -- From fresh, every schedule leads to a state that represents queues, and what its steps show is a run of moves. Assumes nothing.
-use mathlib.Core.Path.{_≡_, refl, sym, ap, _∙_}
+use mathlib.Core.Path.{_≡_, refl, sym, _∙_}
 use mathlib.Core.List.{List, [], _∷_, _++_}
 use Prim.Native.Nat.{ℕ, zero, suc, _<_}
 use native.Mathlib.Omega.{arith}
-use lib.ListN.{length, take, getD, replicate}
+use lib.ListN.{take, getD, replicate}
 use Rattle.model.specs.declared.Place.the-variants.{Idle}
 use Rattle.model.specs.declared.State.{State as WordState}
 use Rattle.model.specs.Trees.{Tree}

@@ -71,10 +71,6 @@ unfolding run-of then-run
 run-of-join s xs ys =
     rw (length-append xs ys, how-many-join is-entry xs ys, how-many-join is-stay xs ys, how-many-join is-root-entry xs ys, how-many-join is-passed-entry xs ys, entering-join xs ys, state-after-join s xs ys)
 
-pub run-state : (t : Tree) (is : List ℕ) (s : State) → run t is s .state ≡ state-after s (steps t is s)
-unfolding run run-of
-run-state t is s = refl
-
 pub run-join : (t : Tree) (is js : List ℕ) (s : State) → run t (is ++ js) s ≡ then-run (run t is s) (run t js (run t is s .state))
 unfolding run run-of
 run-join t is js s = ap (run-of s) (steps-join t is js s) ∙ run-of-join s (steps t is s) (steps t js (state-after s (steps t is s)))

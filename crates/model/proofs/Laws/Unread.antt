@@ -6,7 +6,7 @@ use Prim.Native.Nat.{ℕ, _%_, _≤_, _<_}
 use lib.Dec.{leb, ltb}
 use lib.ListN.{getD}
 use borrow.Author.Tests.{leb-true, ltb-true}
-use Rattle.model.specs.Trees.{Tree, read-word, tree-of}
+use Rattle.model.specs.Trees.{read-word, tree-of}
 use Rattle.model.specs.Laws.{Unread-law}
 use Rattle.model.proofs.Tests.{and-both}
 

@@ -5,8 +5,8 @@ use mathlib.Core.List.{List, [], _∷_, _++_}
 use mathlib.Core.Logic.{_≢_}
 use Prim.Native.Nat.{ℕ, zero, suc, _+_, _-_, _≤_, _<_}
 use native.Mathlib.Omega.{arith}
-use lib.Dec.{eqb, ltb}
-use borrow.Author.Tests.{eqb-true, eq-eqb, ne-eqb, lt-ltb, le-ltb}
+use lib.Dec.{eqb}
+use borrow.Author.Tests.{eqb-true, eq-eqb, ne-eqb}
 use Rattle.model.proofs.Queues.Lists.{same-or, less-or, put-same, first, rest, first-cons, first-count, first-snoc, rest-nil, rest-cons, rest-snoc, is-same, is-other, is-cases, count, count-cons, count-nil, count-append}
 use Rattle.model.specs.Trees.{Tree, allowance, owner-domain}
 use Rattle.model.proofs.Trees.Index.{ancestor, record-at, height}

@@ -1,6 +1,5 @@
 -- The invariant where only a thread's stage changes, and where its record joins a queue. Assumes nothing.
 use mathlib.Core.Path.{_≡_, refl}
-use mathlib.Core.List.{List}
 use Prim.Native.Nat.{ℕ, _≤_, _<_}
 use native.Mathlib.Omega.{arith}
 use Rattle.model.specs.Trees.{Tree}

@@ -2,9 +2,9 @@
 use mathlib.Core.Path.{_≡_, refl, sym, ap, _∙_}
 use mathlib.Core.List.{List, [], _∷_, _++_}
 use mathlib.Core.Logic.{_≢_}
-use Prim.Native.Nat.{ℕ, zero, suc, _+_, _-_, _≤_, _<_}
+use Prim.Native.Nat.{ℕ, suc, _+_, _-_, _≤_, _<_}
 use native.Mathlib.Omega.{arith}
-use Rattle.model.proofs.Queues.Lists.{same-or, less-or, put, put-same, put-other, first, rest, is-same, is-other, count, first-in, first-nil, first-cons, count-cons, rest-snoc, snoc-last, grown, grown-first, grown-rest, grown-count, grown-other, popped-rest, popped-count, popped-other}
+use Rattle.model.proofs.Queues.Lists.{same-or, less-or, put, put-same, put-other, first, rest, is-same, count, first-in, first-nil, first-cons, count-cons, rest-snoc, snoc-last, grown, grown-first, popped-rest, popped-count, popped-other}
 use Rattle.model.specs.Trees.{Tree}
 use Rattle.model.proofs.Trees.Index.{ancestor, record-at, height, above}
 use Rattle.model.proofs.Queues.Paths.{Laws}

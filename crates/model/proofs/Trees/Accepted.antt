@@ -1,17 +1,16 @@
 -- An accepted tree as facts. Assumes nothing.
 use mathlib.Core.Path.{_≡_, sym, _∙_}
 use mathlib.Core.Bool.{Bool, true, false, _&&_, _||_, not, true≢false}
-use mathlib.Core.List.{List, [], _∷_, _++_}
+use mathlib.Core.List.{[]}
 use mathlib.Core.Logic.{_≢_}
 use Prim.Native.Nat.{ℕ, _≤_, _<_}
 use native.Mathlib.Omega.{arith}
-use native.Mathlib.Decide.{ℕ-discrete}
 use lib.Dec.{eqb, leb, ltb}
-use borrow.Author.Tests.{ltb-false, leb-false, eqb-true, eqb-false, not-true, not-false, le-ltb, lt-leb, eq-eqb, ne-eqb}
+use borrow.Author.Tests.{ltb-false, leb-false, eqb-true, eqb-false, not-true, not-false, eq-eqb, ne-eqb}
 use Rattle.model.specs.Trees.{Tree, level, is-child, is-leaf}
-use Rattle.model.specs.Refusals.{Test, test, first-refusal, tree-tests, tree-refusal, bad-domains, bad-threads, bad-parent, too-deep, no-threshold, bad-home}
+use Rattle.model.specs.Refusals.{test, tree-tests, tree-refusal, bad-domains, bad-threads, bad-parent, too-deep, no-threshold, bad-home}
 use Rattle.model.proofs.Tests.{and-both, or-neither, any-none}
-use Rattle.model.proofs.Refusing.{tests-pass, test-skipped}
+use Rattle.model.proofs.Refusing.{tests-pass}
 
 pub record Accepted (t : Tree) : Type 0 where
   pub some-domain : 0 < t .domains
@@ -56,26 +55,6 @@ accepted t e =
       home-leaf = λ i h. not-false _ (or-neither (leb (t .domains) (t .home i)) _ (at₉ i h) .1);
     }
 
--- an accepted tree passes all of its tests: those behind them decide
-pub tree-tests-skipped : (t : Tree) → Accepted t → (xs : List Test) → first-refusal (tree-tests t ++ xs) ≡ first-refusal xs
-unfolding tree-tests bad-domains bad-threads bad-parent too-deep no-threshold bad-home
-tree-tests-skipped t 𝓐 xs =
-    let a = ne-eqb (t .domains) 0 (omega (arith, 𝓐 .some-domain)) in
-    let b = le-ltb 64 (t .domains) (𝓐 .few-domains) in
-    let c = ne-eqb (t .threads) 0 (omega (arith, 𝓐 .some-thread)) in
-    let d = le-ltb 256 (t .threads) (𝓐 .few-threads) in
-    test-skipped (test 4 1 (bad-domains t)) _ (λ p l. rw (a, b))
-    ∙ test-skipped (test 5 1 (bad-threads t)) _ (λ p l. rw (c, d))
-    ∙ test-skipped (test 6 (t .domains) (bad-parent t)) _
-    (λ d s. elim (ℕ-discrete d 0) [ yes z ↦ rw (eq-eqb d 0 z) | no z ↦ rw (ne-eqb d 0 z, lt-leb d (t .parent d) (𝓐 .parent-lower d (omega arith) s)) ])
-    ∙ test-skipped (test 7 (t .domains) (too-deep t)) _ (λ d s. le-ltb 6 (level t d) (𝓐 .flat d s))
-    ∙ test-skipped (test 8 (t .domains) (no-threshold t)) _
-    (λ d s. elim (ℕ-discrete d 0) [
-      | yes z ↦ rw (eq-eqb d 0 z)
-      | no z ↦ let p = 𝓐 .threshold-some d (omega arith) s in rw (ne-eqb d 0 z, ne-eqb (t .threshold d) 0 (omega arith))
-    ])
-    ∙ test-skipped (test 9 (t .threads) (bad-home t)) xs (λ i h. rw (lt-leb (t .domains) (t .home i) (𝓐 .home-real i h), 𝓐 .home-leaf i h))
-
 -- CHILDREN AND LEAVES
 pub child-yes : (t : Tree) (d c : ℕ) → 0 < c → t .parent c ≡ d → is-child t d c ≡ true
 unfolding is-child
@@ -97,6 +76,3 @@ pub leaf-childless : (t : Tree) (d c : ℕ) → is-leaf t d ≡ true → 0 < c �
 unfolding is-leaf
 leaf-childless t d c e p h q =
     true≢false (sym (child-yes t d c p q) ∙ any-none (t .domains) (is-child t d) (not-true _ e) c h)
-
-pub home-childless : (t : Tree) → Accepted t → (i c : ℕ) → i < t .threads → 0 < c → c < t .domains → t .parent c ≢ t .home i
-home-childless t 𝓐 i c h p s = leaf-childless t (t .home i) c (𝓐 .home-leaf i h) p s

@@ -10,8 +10,8 @@ use Rattle.model.specs.Trees.{Tree, depth, is-child, is-leaf, is-member,
 use Rattle.model.proofs.Trees.Index.{ancestor, height, record-at, member-allowance}
 use Rattle.model.proofs.Tests.{largest-ge, largest-same, Found, any-one}
 use Rattle.model.proofs.Trees.Accepted.{Accepted, child-yes, child-facts, leaf-childless}
-use Rattle.model.proofs.Trees.Paths.{depth-child, depth-few, ancestor-home}
-use Rattle.model.proofs.Trees.Records.{Member, a-thread, a-domain, member-facts, member-domain, member-at, record-own, record-suc}
+use Rattle.model.proofs.Trees.Paths.{depth-child, depth-few}
+use Rattle.model.proofs.Trees.Records.{Member, a-thread, a-domain, member-facts, member-domain, member-at}
 
 pub thread-allowance : (t : Tree) (i : ℕ) → i < 256 → allowance t i ≡ 1
 unfolding allowance
@@ -117,27 +117,7 @@ module _ (t : Tree) (𝓐 : Accepted t) where
           let most = allowance-member d (256 + c) (member-domain t d c (k .no-root) (found .below) (k .hangs)) in
           omega (arith, allowance-domain c, product, most)
 
-  pub member-allowance-some : (d : ℕ) → d < t .domains → 1 ≤ member-allowance t d
-  member-allowance-some d s = some-below 5 d s (omega arith)
-
-  pub allowance-some : (d r : ℕ) → is-member t d r ≡ true → 1 ≤ allowance t r
-  allowance-some d r m = go r (member-facts t d r m)
-    where
-      go : (r : ℕ) → Member t d r → 1 ≤ allowance t r
-      go r (a-thread i s q) = rw (thread-allowance t i (omega arith)) (omega arith)
-      go r (a-domain c p s q) = rw allowance-domain (one-le-mul (𝓐 .threshold-some c p s) (member-allowance-some c s))
-
   -- along a thread's path
   module _ (i : ℕ) (h : i < t .threads) where
-    pub allowance-own : allowance t (record-at t i 0) ≡ 1
-    allowance-own = rw record-own (thread-allowance t i (omega (arith, 𝓐 .few-threads)))
-
-    pub allowance-above : (k : ℕ) → allowance t (record-at t i (suc k)) ≡ t .threshold (ancestor t i k) * member-allowance t (ancestor t i k)
-    allowance-above k = rw record-suc (allowance-domain (ancestor t i k))
-
     pub allowance-within : (k : ℕ) → k ≤ height t i → allowance t (record-at t i k) ≤ member-allowance t (ancestor t i k)
     allowance-within k l = allowance-member (ancestor t i k) (record-at t i k) (member-at t 𝓐 i h k l)
-
-    pub member-allowance-home : member-allowance t (ancestor t i 0) ≡ 1
-    unfolding member-allowance
-    member-allowance-home = rw (ancestor-home, 𝓐 .home-leaf i h)

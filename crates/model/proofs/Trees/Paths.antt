@@ -195,10 +195,6 @@ module _ (t : Tree) (𝓐 : Accepted t) (i : ℕ) (h : i < t .threads) where
   unfolding on-path
   on-path-at k l = rw (← ancestor-home t i) (path-hit 6 0 k (omega arith) l (omega (arith, height-few)))
 
-  -- the index is the only one
-  pub path-index-only : (k : ℕ) → k ≤ height t i → (o : On-path t i (ancestor t i k)) → o .index ≡ k
-  path-index-only k l o = ancestor-injective (o .index) k (o .within) l (o .there)
-
   pub path-real : (d : ℕ) → on-path t i d ≡ true → d < t .domains
   path-real d e = let o = path-index d e in rw (o .there) at (ancestor-real (o .index))
 
@@ -224,9 +220,6 @@ module _ (t : Tree) (𝓐 : Accepted t) (i : ℕ) (h : i < t .threads) where
   -- a path has its home, the root, and with a domain its parent
   pub on-path-home : on-path t i (t .home i) ≡ true
   on-path-home = rw ancestor-home at (on-path-at 0 (omega arith))
-
-  pub on-path-root : on-path t i 0 ≡ true
-  on-path-root = rw ancestor-root at (on-path-at (height t i) (omega arith))
 
   pub on-path-parent : (d : ℕ) → 0 < d → on-path t i d ≡ true → on-path t i (t .parent d) ≡ true
   on-path-parent d p e =

@@ -1,12 +1,12 @@
 -- A thread's records by index, and the members of a domain. Assumes nothing.
-use mathlib.Core.Path.{_≡_, refl, sym, ap, subst, _∙_}
-use mathlib.Core.Bool.{true, false, not}
+use mathlib.Core.Path.{_≡_, refl, sym, ap, _∙_}
+use mathlib.Core.Bool.{true, false}
 use mathlib.Core.Logic.{_≢_}
 use Prim.Native.Nat.{ℕ, zero, suc, _+_, _-_, _≤_, _<_}
 use native.Mathlib.Omega.{arith}
 use native.Mathlib.Decide.{ℕ-discrete, decLt}
 use lib.Dec.{eqb, ltb}
-use borrow.Author.Tests.{eqb-true, eqb-false, not-true, eq-eqb, ne-eqb, ltb-true, lt-ltb, le-ltb}
+use borrow.Author.Tests.{eqb-true, eq-eqb, ne-eqb, ltb-true, lt-ltb, le-ltb}
 use Rattle.model.specs.Trees.{Tree, child, child-from, own-record, is-child, is-member, owner-domain, is-record, under, on-path}
 use Rattle.model.proofs.Trees.Index.{ancestor, height, record-at}
 use Rattle.model.proofs.Tests.{and-both}
@@ -69,35 +69,12 @@ module _ (t : Tree) (𝓐 : Accepted t) where
       go r (a-thread i s q) = rw (lt-ltb i 256 (omega arith)) (lt-ltb i (t .threads) s)
       go r (a-domain c p s q) = rw (domain-record c, minus-256 c, lt-ltb c (t .domains) s, ne-eqb c 0 (omega arith))
 
-  pub record-member : (r : ℕ) → is-record t r ≡ true → is-member t (owner-domain t r) r ≡ true
-  unfolding is-record owner-domain
-  record-member r e =
-      elim (decLt r 256) [
-        | yes p ↦
-            let z = lt-ltb r 256 p in
-            rw z (member-thread t 𝓐 (t .home r) r (ltb-true _ _ (rw z at e)) refl)
-        | no p ↦
-            let z = le-ltb r 256 (omega arith) in
-            let both = and-both (ltb (r - 256) (t .domains)) (not (eqb (r - 256) 0)) (rw z at e) in
-            let n = eqb-false (r - 256) 0 (not-true _ (both .1)) in
-            let y : 256 + (r - 256) ≡ r = omega arith in
-            let m = member-domain t (t .parent (r - 256)) (r - 256) (omega (arith, n)) (ltb-true _ _ (both .0)) refl in
-            rw z (subst (λ x. is-member t (t .parent (r - 256)) x ≡ true) y m)
-      ]
-
   pub member-small : (d r : ℕ) → is-member t d r ≡ true → r < 320
   member-small d r m = go r (member-facts t d r m)
     where
       go : (r : ℕ) → Member t d r → r < 320
       go r (a-thread i s q) = omega arith
       go r (a-domain c p s q) = omega arith
-
-  pub member-real : (d r : ℕ) → is-member t d r ≡ true → d < t .domains
-  member-real d r m = go r (member-facts t d r m)
-    where
-      go : (r : ℕ) → Member t d r → d < t .domains
-      go r (a-thread i s q) = omega (arith, 𝓐 .home-real i s)
-      go r (a-domain c p s q) = omega (arith, 𝓐 .parent-lower c p s)
 
 -- RECORDS OF A THREAD
 pub record-own : (t : Tree) (i : ℕ) → record-at t i 0 ≡ i
@@ -149,16 +126,8 @@ module _ (t : Tree) (𝓐 : Accepted t) (i : ℕ) (h : i < t .threads) where
   pub owner-at : (k : ℕ) → k ≤ height t i → owner-domain t (record-at t i k) ≡ ancestor t i k
   owner-at k l = member-owner t 𝓐 (ancestor t i k) (record-at t i k) (member-at k l)
 
-  pub is-record-at : (k : ℕ) → k ≤ height t i → is-record t (record-at t i k) ≡ true
-  is-record-at k l = member-record t 𝓐 (ancestor t i k) (record-at t i k) (member-at k l)
-
   pub record-small : (k : ℕ) → k ≤ height t i → record-at t i k < 320
   record-small k l = member-small t 𝓐 (ancestor t i k) (record-at t i k) (member-at k l)
-
-  pub under-at : (k : ℕ) → k ≤ height t i → under t (record-at t i k) i ≡ true
-  unfolding record-at under
-  under-at zero l = rw (lt-ltb i 256 (omega arith)) (eq-eqb i i refl)
-  under-at (suc k) l = rw (domain-record (ancestor t i k), minus-256 (ancestor t i k)) (on-path-at t 𝓐 i h k (omega arith))
 
   -- a member with this thread under it is the record with which the thread works there
   pub member-works : (d r : ℕ) → is-member t d r ≡ true → under t r i ≡ true → Works t i d r
@@ -195,14 +164,6 @@ module _ (t : Tree) (𝓐 : Accepted t) (i : ℕ) (h : i < t .threads) where
       go : (k : ℕ) → k ≤ height t i → ancestor t i k ≡ d → on-path t i (child t i d) ≡ true
       go zero l q = absurd (n (sym q ∙ ancestor-home t i))
       go (suc k) l q = rw (← q, child-at k l) (on-path-at t 𝓐 i h k (omega arith))
-
-  -- of a domain's members one at most has the thread under it
-  pub under-one : (d r q : ℕ) → is-member t d r ≡ true → is-member t d q ≡ true → under t r i ≡ true → under t q i ≡ true → r ≡ q
-  under-one d r q m n u v =
-      let a = member-works d r m u in
-      let b = member-works d q n v in
-      let same = ancestor-injective t 𝓐 i h (a .index) (b .index) (a .within) (b .within) (a .there ∙ sym (b .there)) in
-      sym (a .with-record) ∙ ap (record-at t i) same ∙ b .with-record
 
   pub record-injective : (k l : ℕ) → k ≤ height t i → l ≤ height t i → record-at t i k ≡ record-at t i l → k ≡ l
   unfolding record-at

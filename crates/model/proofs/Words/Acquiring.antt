@@ -1,30 +1,27 @@
 -- The rows from Idle to Inside as moves of the queues. Assumes nothing.
-use mathlib.Core.Path.{_≡_, refl, sym, ap, _∙_}
-use mathlib.Core.Bool.{Bool, true, false, cond}
-use mathlib.Core.List.{List, [], _∷_}
-use mathlib.Core.Logic.{_≢_}
+use mathlib.Core.Path.{_≡_, refl}
+use mathlib.Core.Bool.{Bool, true, false}
 use Prim.Native.Nat.{ℕ, suc, _+_, _-_, _≤_, _<_}
 use native.Mathlib.Omega.{arith}
 use lib.Dec.{eqb}
 use borrow.Author.Tests.{eqb-true, eqb-false, eq-eqb, ne-eqb}
-use Rattle.model.specs.declared.Place.{Place}
 use Rattle.model.specs.declared.Place.the-variants.{Prep, Swap, Link, Wait, Inside}
 use Rattle.model.specs.declared.State.{State as WordState}
-use Rattle.model.specs.Trees.{Tree, own-record}
-use Rattle.model.specs.States.{acquire-parent, wait-word, locked, none, tail, status, with-tail, with-status, with-next}
-use Rattle.model.specs.Steps.{is-root-entry, is-passed-entry, is-entry, stays, moves, enters, root-entry, passed-entry, prep-row, swap-row, link-row, wait-row}
+use Rattle.model.specs.Trees.{Tree}
+use Rattle.model.specs.States.{acquire-parent, wait-word, locked, none, tail, status}
+use Rattle.model.specs.Steps.{is-root-entry, is-passed-entry, is-entry, moves, prep-row, swap-row, link-row, wait-row}
 use Rattle.model.specs.Laws.{Sixteen-bit}
 use Rattle.model.proofs.Trees.Index.{ancestor, height, record-at}
 use Rattle.model.proofs.Trees.Accepted.{Accepted}
-use Rattle.model.proofs.Trees.Paths.{ancestor-real, ancestor-inner, ancestor-root, ancestor-zero, ancestor-not-root, ancestor-parent-of}
+use Rattle.model.proofs.Trees.Paths.{ancestor-real, ancestor-inner, ancestor-zero, ancestor-not-root, ancestor-parent-of}
 use Rattle.model.proofs.Trees.Records.{own-record-at, record-small}
-use Rattle.model.proofs.Queues.Lists.{same-or, put, put-same, put-other}
+use Rattle.model.proofs.Queues.Lists.{put, put-same, put-other}
 use Rattle.model.proofs.Queues.Paths.{laws}
-use Rattle.model.proofs.Queues.Moves.{Stage, out, climb, queued, ready, inside, low, State, start, join-empty, join-root, join-behind, enter, done, silent, more}
+use Rattle.model.proofs.Queues.Moves.{out, climb, queued, ready, inside, low, State, start, join-empty, join-root, join-behind, enter, done, silent, more}
 use Rattle.model.proofs.Queues.Keeps.{keeps}
 use Rattle.model.proofs.Words.Links.{after, after-in}
 use Rattle.model.proofs.Words.View.{Words, words-in, Room, place-to}
-use Rattle.model.proofs.Words.Represents.{waiting-word, Counted, Fits, at-inside, Represents, left-alone}
+use Rattle.model.proofs.Words.Represents.{waiting-word, Counted, at-inside, Represents, left-alone}
 use Rattle.model.proofs.Words.Frame.{Others, apart, replaced}
 use Rattle.model.proofs.Words.Joining.{prepare, empty-there, take-root, take, stand-first, stand, link, climb-on}
 use Rattle.model.proofs.Words.Outcome.{standing-shown, entry-shown, shown, Outcome, outcome, placed, status-placed, next-placed, tail-placed, prep-placed, swap-placed, member-small}

@@ -1,8 +1,7 @@
 -- One thread's step: what the others keep, and how a new state is put together. Assumes nothing.
 use mathlib.Core.Path.{_≡_, refl, sym, ap, _∙_}
-use mathlib.Core.List.{List}
 use mathlib.Core.Logic.{_≢_}
-use Prim.Native.Nat.{ℕ, suc, _+_, _≤_, _<_}
+use Prim.Native.Nat.{ℕ, suc, _≤_, _<_}
 use native.Mathlib.Omega.{arith}
 use Rattle.model.specs.declared.Place.{Place}
 use Rattle.model.specs.Trees.{Tree}
@@ -10,7 +9,7 @@ use Rattle.model.proofs.Trees.Index.{ancestor, height, record-at}
 use Rattle.model.proofs.Trees.Accepted.{Accepted}
 use Rattle.model.proofs.Trees.Records.{record-injective}
 use Rattle.model.proofs.Queues.Lists.{same-or, put, put-same, put-other, count}
-use Rattle.model.proofs.Queues.Moves.{Stage, climb, queued, low, State}
+use Rattle.model.proofs.Queues.Moves.{Stage, queued, low, State}
 use Rattle.model.proofs.Queues.Invariant.{Inv, Below, same-user}
 use Rattle.model.proofs.Words.Links.{after}
 use Rattle.model.proofs.Words.View.{Words, place-to}

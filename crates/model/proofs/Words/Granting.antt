@@ -1,15 +1,13 @@
 -- Grant: with a count, at the root, and with ACQUIRE_PARENT. Assumes nothing.
 use mathlib.Core.Path.{_≡_, refl, sym, ap, _∙_}
-use mathlib.Core.List.{List, [], _∷_}
 use mathlib.Core.Logic.{_≢_}
-use Prim.Native.Nat.{ℕ, zero, suc, _+_, _-_, _≤_, _<_}
+use Prim.Native.Nat.{ℕ, suc, _+_, _-_, _≤_, _<_}
 use native.Mathlib.Omega.{arith}
 use Rattle.model.specs.declared.Place.the-variants.{Wait}
 use Rattle.model.specs.Trees.{Tree}
 use Rattle.model.specs.States.{acquire-parent, unlocked}
 use Rattle.model.proofs.Trees.Index.{ancestor, height, record-at}
 use Rattle.model.proofs.Trees.Accepted.{Accepted}
-use Rattle.model.proofs.Trees.Paths.{ancestor-inner, ancestor-root, ancestor-zero, ancestor-not-root}
 use Rattle.model.proofs.Queues.Lists.{same-or, less-or, put-same}
 use Rattle.model.proofs.Queues.Paths.{laws}
 use Rattle.model.proofs.Queues.Moves.{Stage, climb, queued, ready, holding, releasing, low, acts, State, ends, Move}
@@ -17,9 +15,9 @@ use Rattle.model.proofs.Queues.Meeting.{follow-record-at, same-height}
 use Rattle.model.proofs.Queues.Keeps.{keeps}
 use Rattle.model.proofs.Queues.Handovers.{hands-on, releases}
 use Rattle.model.proofs.Words.View.{Words, status-to, place-to}
-use Rattle.model.proofs.Words.Represents.{Counted, letting-go, letting-go-root, letting-go-lower, letting-go-low, Fits, at-woken, at-ready, Represents}
+use Rattle.model.proofs.Words.Represents.{Counted, Fits, at-woken, at-ready, Represents}
 use Rattle.model.proofs.Words.Frame.{Others}
-use Rattle.model.proofs.Words.Releasing.{letting-go-acts, rest-two, shape-two, successor, successor-real, successor-within, status-far, tally-far, own-far, done-at, granted-state, grant, firm}
+use Rattle.model.proofs.Words.Releasing.{rest-two, shape-two, successor, successor-real, successor-within, status-far, tally-far, own-far, done-at, granted-state, grant, firm}
 
 -- a new state of the queues by a move, with the words that stand for it
 pub record Granted (t : Tree) (g : State) (w′ : Words) (d m : ℕ) : Type 0 where

@@ -12,13 +12,13 @@ use Rattle.model.proofs.Trees.Index.{ancestor, height, record-at}
 use Rattle.model.proofs.Trees.Accepted.{Accepted}
 use Rattle.model.proofs.Queues.Lists.{same-or, put, put-same, put-other, first, is-other, count, count-snoc}
 use Rattle.model.proofs.Queues.Paths.{laws}
-use Rattle.model.proofs.Queues.Moves.{Stage, climb, queued, inside, low, acts, State, Move, join-empty, join-root, join-behind}
+use Rattle.model.proofs.Queues.Moves.{climb, queued, inside, low, acts, State, join-empty, join-root, join-behind}
 use Rattle.model.proofs.Queues.Invariant.{Inv, unique, one-queue, fresh}
 use Rattle.model.proofs.Queues.Keeps.{keeps}
 use Rattle.model.proofs.Words.Links.{final, after, final-append, final-none, final-in, first-some, after-in, after-last, after-snoc, after-snoc-last}
 use Rattle.model.proofs.Words.View.{Words, tail-to, next-to, status-to, place-to}
-use Rattle.model.proofs.Words.Represents.{waiting-word, Linked, Counted, Fits, at-prep, at-swap, at-link, at-wait, at-inside, Represents, Apart}
-use Rattle.model.proofs.Words.Frame.{Others, other-record, counted-below, counted-through, apart, assembled}
+use Rattle.model.proofs.Words.Represents.{waiting-word, Linked, Counted, at-prep, at-swap, at-link, at-wait, at-inside, Represents, Apart}
+use Rattle.model.proofs.Words.Frame.{Others, counted-below, counted-through, apart, assembled}
 
 module _ (t : Tree) (𝓐 : Accepted t) (w : Words) (g : State) (i : ℕ) (h : i < t .threads) (o : Others t w g i) (k : ℕ) (l : k ≤ height t i) where
   abbrev inv : Inv t g

@@ -1,25 +1,23 @@
 -- The rows from Inside to Idle as moves of the queues. Assumes nothing.
-use mathlib.Core.Path.{_≡_, refl, sym, ap, _∙_}
-use mathlib.Core.Bool.{Bool, true, false, _&&_, not, cond}
-use mathlib.Core.List.{List, [], _∷_}
-use mathlib.Core.Logic.{_≢_}
+use mathlib.Core.Path.{_≡_, refl, sym, _∙_}
+use mathlib.Core.Bool.{Bool, true, false, cond}
 use Prim.Native.Nat.{ℕ, suc, _+_, _-_, _≤_, _<_}
 use native.Mathlib.Omega.{arith}
 use lib.Dec.{eqb, ltb}
-use borrow.Author.Tests.{eqb-true, eqb-false, eq-eqb, ne-eqb, ltb-true}
+use borrow.Author.Tests.{eqb-true, eqb-false, ltb-true}
 use Rattle.model.specs.declared.Place.{Place}
 use Rattle.model.specs.declared.Place.the-variants.{Check, Help, Cas, Linger, Grant}
 use Rattle.model.specs.declared.State.{State as WordState}
 use Rattle.model.specs.Trees.{Tree}
-use Rattle.model.specs.States.{acquire-parent, unlocked, none, tail, next, status}
+use Rattle.model.specs.States.{acquire-parent, unlocked, tail, next, status}
 use Rattle.model.specs.Steps.{is-root-entry, is-passed-entry, is-entry, release-place, release-word, leave-row, check-row, help-row, cas-row, linger-row, grant-row}
 use Rattle.model.proofs.Trees.Index.{ancestor, height, record-at}
 use Rattle.model.proofs.Trees.Accepted.{Accepted}
-use Rattle.model.proofs.Trees.Paths.{ancestor-real, ancestor-inner, ancestor-root, ancestor-parent-of, root-test}
+use Rattle.model.proofs.Trees.Paths.{ancestor-real, ancestor-parent-of, root-test}
 use Rattle.model.proofs.Trees.Records.{own-record-at, record-small}
-use Rattle.model.proofs.Queues.Lists.{same-or, put, put-same, put-other}
+use Rattle.model.proofs.Queues.Lists.{put, put-same, put-other}
 use Rattle.model.proofs.Queues.Paths.{laws}
-use Rattle.model.proofs.Queues.Moves.{Stage, inside, holding, releasing, low, State, leave, let-go, done, silent, more}
+use Rattle.model.proofs.Queues.Moves.{Stage, inside, holding, low, State, leave, let-go, done, silent, more}
 use Rattle.model.proofs.Queues.Keeps.{keeps}
 use Rattle.model.proofs.Words.View.{Words, words-in, Room, place-to}
 use Rattle.model.proofs.Words.Represents.{Counted, letting-go, letting-go-root, letting-go-lower, letting-go-low, Fits, at-check, at-pass, at-help, at-cas, at-linger, at-grant, Represents}

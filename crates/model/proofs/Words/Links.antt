@@ -1,13 +1,13 @@
 -- The last of a queue, and who comes behind a member: what a tail and the nexts say. Assumes nothing.
-use mathlib.Core.Path.{_≡_, refl, sym, ap, _∙_}
+use mathlib.Core.Path.{_≡_, refl, sym, _∙_}
 use mathlib.Core.Bool.{cond}
 use mathlib.Core.List.{List, [], _∷_, _++_}
 use mathlib.Core.Logic.{_≢_}
-use Prim.Native.Nat.{ℕ, suc, _+_, _≤_, _<_}
+use Prim.Native.Nat.{ℕ, suc, _+_, _≤_}
 use native.Mathlib.Omega.{arith}
 use lib.Dec.{eqb}
 use borrow.Author.Tests.{eq-eqb, ne-eqb}
-use Rattle.model.proofs.Queues.Lists.{same-or, first, rest, is-same, is-other, count, count-cons, count-rest, first-count, first-in}
+use Rattle.model.proofs.Queues.Lists.{same-or, first, rest, is-same, is-other, count, count-cons, count-rest, first-in}
 
 -- 0 for none, else one more than the last
 unfoldable pub final : List ℕ → ℕ

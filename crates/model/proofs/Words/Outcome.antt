@@ -1,16 +1,13 @@
 -- What a step of the table is to the queues: a move of them, or none. Assumes nothing.
-use mathlib.Core.Path.{_≡_, refl, sym, ap, _∙_}
-use mathlib.Core.Bool.{Bool, true, false, cond}
+use mathlib.Core.Path.{_≡_, refl, ap, _∙_}
+use mathlib.Core.Bool.{cond}
 use mathlib.Core.List.{List, [], _∷_, _++_}
-use mathlib.Core.Logic.{_≢_}
-use Prim.Native.Nat.{ℕ, suc, _+_, _≤_, _<_}
-use native.Mathlib.Omega.{arith}
+use Prim.Native.Nat.{ℕ, _+_, _≤_, _<_}
 use Rattle.model.specs.declared.Place.{Place}
 use Rattle.model.specs.declared.State.{State as WordState}
 use Rattle.model.specs.Trees.{Tree}
 use Rattle.model.specs.States.{with-tail, with-next, with-status, with-place}
 use Rattle.model.specs.Steps.{Kind, is-entry, Standing, unchanged, begins, ends, Step}
-use Rattle.model.proofs.Trees.Index.{height, record-at}
 use Rattle.model.proofs.Trees.Accepted.{Accepted}
 use Rattle.model.proofs.Trees.Records.{record-small}
 use Rattle.model.proofs.Queues.Lists.{count}

@@ -1,16 +1,14 @@
 -- The words of a state as functions, and what a store does to them. Assumes nothing.
 use mathlib.Core.Path.{_≡_, refl, sym, ap, _∙_, fun-ext}
 use mathlib.Core.List.{List}
-use mathlib.Core.Logic.{_≢_}
 use Prim.Native.Nat.{ℕ, _<_}
 use native.Mathlib.Omega.{arith}
-use lib.ListN.{length, getD, set, replicate, length-set}
+use lib.ListN.{length, getD, set, length-set}
 use lib.Seq.{getD-set-same, getD-set-other}
 use Rattle.model.specs.declared.Place.{Place}
-use Rattle.model.specs.declared.PlaceWords.{PlaceWords}
 use Rattle.model.specs.declared.State.{State}
 use Rattle.model.specs.Places.{place-words, words-of, place-of}
-use Rattle.model.specs.States.{tail, next, status, place, fresh-words, with-tail, with-next, with-status, with-place}
+use Rattle.model.specs.States.{tail, next, status, place, with-tail, with-next, with-status, with-place}
 use Rattle.model.proofs.Places.{place-of-words}
 use Rattle.model.proofs.Queues.Lists.{same-or, put, put-same, put-other}
 

@@ -1,5 +1,4 @@
 -- `refusals::states::good_thread_at` meets its contract. Assumes nothing.
-use mathlib.Core.Path.{sym}
 use mathlib.Core.Bool.{true, false}
 use native.Mathlib.Omega.{arith}
 use lib.ListN.{getD}

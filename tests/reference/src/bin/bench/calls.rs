@@ -30,26 +30,32 @@ impl Cost {
 
     fn least(self, other: Cost) -> Cost {
         let Cost { run, first, one, step, in_place } = other;
-        Cost { run: self.run.min(run), first: self.first.min(first), one: self.one.min(one), step: self.step.min(step), in_place: self.in_place.min(in_place) }
+        Cost {
+            run: self.run.min(run),
+            first: self.first.min(first),
+            one: self.one.min(one),
+            step: self.step.min(step),
+            in_place: self.in_place.min(in_place),
+        }
     }
 }
 
-/// The best of several measurements of a call that is short against what disturbs it.
+/// The best of several measurements of a call so short that other work on the machine shows in it.
 fn best(mut measure: impl FnMut() -> f64) -> f64 {
     (0..ROUNDS).map(|_| measure()).fold(f64::MAX, f64::min)
 }
 
-fn round(calls: Calls, tree: &TreeWords, schedule: &[u16], left: &StateWords, trace: &mut [u16]) -> Cost {
+fn round(calls: Calls, tree: &TreeWords, schedule: &[u16], after: &StateWords, trace: &mut [u16]) -> Cost {
     let fresh = StateWords::fresh();
-    let mut state = *left;
+    let mut state = *after;
     let mut threads = schedule.iter().cycle();
     let mut next = || *threads.next().expect("an entry");
     let mut run = |state: &StateWords, schedule: &[u16]| time(|| assert_eq!((calls.run)(tree, opaque(state), schedule, trace).number, 0));
     Cost {
         run: run(&fresh, schedule),
         first: best(|| run(&fresh, &schedule[..1])),
-        one: best(|| run(left, &schedule[..1])),
-        step: best(|| time(|| assert_eq!((calls.step)(tree, opaque(left), next()).number, 0))),
+        one: best(|| run(after, &schedule[..1])),
+        step: best(|| time(|| assert_eq!((calls.step)(tree, opaque(after), next()).number, 0))),
         in_place: best(|| time(|| assert_eq!((calls.step_in_place)(tree, &mut state, next()), (0, 0)))),
     }
 }
@@ -57,11 +63,11 @@ fn round(calls: Calls, tree: &TreeWords, schedule: &[u16], left: &StateWords, tr
 /// The best of the rounds, in each of which every program has its turn.
 fn costs(programs: &[Calls], tree: &TreeWords, schedule: &[u16]) -> Vec<Cost> {
     let mut trace = vec![0; LONGEST_SCHEDULE];
-    let left = (TABLE.run)(tree, &StateWords::fresh(), schedule, &mut trace).state;
+    let after = (TABLE.run)(tree, &StateWords::fresh(), schedule, &mut trace).state;
     let mut best = vec![Cost::NONE; programs.len()];
     for _ in 0..ROUNDS {
         for (calls, cost) in programs.iter().zip(&mut best) {
-            *cost = cost.least(round(*calls, tree, schedule, &left, &mut trace));
+            *cost = cost.least(round(*calls, tree, schedule, &after, &mut trace));
         }
     }
     best

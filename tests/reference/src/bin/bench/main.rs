@@ -13,7 +13,7 @@ const CALLS: usize = 20;
 const SCHEDULES: [(&str, Style); 4] = [("random", Style::Anybody), ("few busy", Style::Few), ("bursts", Style::Bursts), ("one thread", Style::One)];
 const TREES: [(usize, usize); 3] = [(3, 4), (15, 32), (64, 256)];
 
-/// A binary tree; six levels of it have 63 domains, so that the last domain of a full tree hangs at the root.
+/// A binary tree; six levels of it have 63 domains, so that the last domain of a full tree has the root as its parent.
 fn parent(domain: usize) -> u8 {
     match domain {
         63 => 0,
