@@ -15,7 +15,7 @@ use Rattle.model.specs.declared.State.{State}
 use Rattle.model.specs.Trees.{Tree, own-record}
 use Rattle.model.specs.Places.{place-words, words-of, place-of}
 use Rattle.model.specs.States.{acquire-parent, wait-word, locked, tail, status, place}
-use Rattle.model.specs.Steps.{Step, prep-row, swap-row, link-row, wait-row}
+use Rattle.model.specs.Steps.{Row-result, prep-row, swap-row, link-row, wait-row}
 use Rattle.model.proofs.Places.{place-of-words}
 use Rattle.model.proofs.Trees.Index.{ancestor, height, record-at}
 use Rattle.model.proofs.Trees.Accepted.{Accepted}
@@ -27,7 +27,7 @@ use Rattle.listing.proofs.Entries.{idle-elsewhere, idle-root, prep-else
 use Rattle.listing.proofs.Stacks.{acquire-back, acquire-callers, acquire-stack, acquired, at-root, Corresponds, c-prep, c-swap, c-link, c-wait, c-inside}
 
 -- an entry of the listing and a step of the table: the same memory, and places that correspond
-pub record Together (t : Tree) (i : ℕ) (s : State) (x : Step) (y : After) : Type 0 where
+pub record Together (t : Tree) (i : ℕ) (s : State) (x : Row-result) (y : After) : Type 0 where
   pub memory : y .memory ≡ memory-of (x .state)
   pub place-there : Place
   pub there : place (x .state) i ≡ place-there
@@ -62,7 +62,7 @@ module _ (t : Tree) (𝓐 : Accepted t) (i : ℕ) (h : i < t .threads) (s : Stat
   wait-control k l = c-wait k l
 
   -- what an entry of the listing comes to, beside a step whose state is known
-  pub together : {x : Step} {y : After} (z : After) (p : Place) → y ≡ z → z .memory ≡ memory-of (x .state) → Puts s (x .state) i p → Corresponds t i (z .thread) p → Together t i s x y
+  pub together : {x : Row-result} {y : After} (z : After) (p : Place) → y ≡ z → z .memory ≡ memory-of (x .state) → Puts s (x .state) i p → Corresponds t i (z .thread) p → Together t i s x y
   together z p e m q c = rw e (record { memory = m; place-there = p; there = puts-there room q; elsewhere = puts-elsewhere q; corresponds = c })
 
   -- the call of AcquireReal at the parent

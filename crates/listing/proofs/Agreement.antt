@@ -99,7 +99,7 @@ module _ (t : Tree) (bits : Sixteen-bit t) (ok : tree-refusal t .number ≡ 0) w
   one-turn :
       (pre : List ℕ) → All-threads t pre → (i : ℕ) → i < t .threads → (x : Threads) → Together-all t x (run t pre fresh-words .state) →
       Together-all t (turn t i x) (step t i (run t pre fresh-words .state) .state)
-  unfolding turn step Form-law Equality-law
+  unfolding turn step row Form-law Equality-law
   one-turn pre all i h x y =
       let s = run t pre fresh-words .state in
       let 𝓐 = accepted t ok in
@@ -107,7 +107,7 @@ module _ (t : Tree) (bits : Sixteen-bit t) (ok : tree-refusal t .number ≡ 0) w
       let room : i < length (s .places) = omega (arith, formed .typed .places-room, 𝓐 .few-threads) in
       let small : (r : ℕ) → status s r ≤ wait-word = λ r. omega (arith, formed .typed .statuses-fit r) in
       let eq : (l : ℕ) → place s i ≡ Check l → row t i (Check l) s ≡ equality-check-row t i l s =
-      λ l q. rw q at (equality-law t bits ok pre all i l h q .same-step) in
+      λ l q. equality-law t bits ok pre all i l h q .same-row in
       let z = row-together t 𝓐 i h s room small eq refl (y .corresponds i h) in
       rw (y .memory) (record {
         memory = z .memory;

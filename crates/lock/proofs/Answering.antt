@@ -2,24 +2,29 @@
 use mathlib.Core.Path.{_≡_, refl, sym, ap, _∙_}
 use mathlib.Core.Bool.{Bool, true, false}
 use mathlib.Core.List.{List, [], _∷_}
-use Prim.Native.Nat.{ℕ}
+use Prim.Native.Nat.{ℕ, _≤_}
+use native.Mathlib.Omega.{arith}
 use native.Mathlib.Decide.{ℕ-discrete}
-use lib.ListN.{length, getD}
+use lib.ListN.{length}
 use borrow.Author.Tests.{ne-eqb, eq-eqb}
 use Rattle.model.specs.declared.TreeWords.{TreeWords}
 use Rattle.model.specs.declared.State.{State}
+use Rattle.model.specs.declared.Counts.{Counts}
 use Rattle.model.specs.declared.RunReply.{RunReply}
 use Rattle.model.specs.Trees.{Tree, tree-of}
-use Rattle.model.specs.Runs.{steps, state-after, run-of, run}
+use Rattle.model.specs.Runs.{steps, state-after, counts-of, run-of, run}
 use Rattle.model.specs.Refusals.{refusal, accepted, Test, test, first-refusal, tree-tests, bad-length, bad-entry, bad-room, step-tests, run-tests, step-refusal, run-refusal}
 use Rattle.model.specs.Answers.{step-reply, step-answer, run-refused, run-reply, run-buffer, run-answer, trace-answer}
 use Rattle.model.proofs.Laws.Refusals.{step-refuses-exactly}
+use Rattle.model.proofs.Laws.Runs.{steps-length}
+use Rattle.model.proofs.Laws.Calls.{run-facts}
 use Rattle.refusals.specs.declared.Refusal.{Refusal}
 use Rattle.refusals.specs.Arrays.{told}
 use Rattle.refusals.proofs.Scanning.{single-hit, single-missed}
 use Rattle.refusals.proofs.Joining.{first-decides, other-decides, state-tests, state-numbered}
 use Rattle.refusals.proofs.RunTests.{told-not, told-zero}
-use Rattle.lock.specs.Running.{trace-front, counts-of}
+use Rattle.lock.proofs.SoFar.{counts-kinds}
+use Rattle.lock.specs.Running.{kinds-of, counts-by, trace-front}
 
 -- A STEP is refused as a run of its one entry is, with room for it
 module _ (t : Tree) (i : ℕ) where
@@ -79,11 +84,17 @@ module _ (w : TreeWords) (s : State) (is b : List ℕ) (r : Refusal) (e : r ≡ 
     pub run-passes : run-refusal (tree-of w) s is (length b) .number ≡ 0
     run-passes = told-zero r _ e z
 
+    pub kinds-few : (kinds : List ℕ) → kinds ≡ kinds-of (steps (tree-of w) is s) → counts-by kinds .steps ≤ 65536
+    unfolding counts-of
+    kinds-few kinds f =
+        let n : counts-by kinds .steps ≡ length (steps (tree-of w) is s) = ap (λ v. counts-by v .steps) f ∙ ap (λ v. v .steps) (counts-kinds (steps (tree-of w) is s)) in
+        omega (arith, n, steps-length (tree-of w) is s, run-facts (tree-of w) s is (length b) run-passes .short)
+
     pub run-answered :
-        (n : State) (b′ counts : List ℕ) → n ≡ run (tree-of w) is s .state → b′ ≡ trace-front b (run (tree-of w) is s) → counts ≡ counts-of (run (tree-of w) is s) →
-        (record { number = 0; place = 0; steps = getD counts 0 0; entries = getD counts 1 0; stays = getD counts 2 0; root = getD counts 3 0; passed = getD counts 4 0; state = n } ≡ run-answer w s is b)
-        × (b′ ≡ trace-answer w s is b)
-    unfolding run-answer run-reply trace-answer run-buffer
-    run-answered n b′ counts g h k =
+        (n : State) (b′ kinds : List ℕ) (counts : Counts) → n ≡ run (tree-of w) is s .state → b′ ≡ trace-front b (run (tree-of w) is s) →
+        kinds ≡ kinds-of (steps (tree-of w) is s) → counts ≡ counts-by kinds →
+        (record { number = 0; place = 0; counts = counts; state = n } ≡ run-answer w s is b) × (b′ ≡ trace-answer w s is b)
+    unfolding run-answer run-reply trace-answer run-buffer run run-of
+    run-answered n b′ kinds counts g h k c =
         let p = eq-eqb (run-refusal (tree-of w) s is (length b) .number) 0 run-passes in
-        (rw (g, k, p), h ∙ rw p)
+        (rw (g, c, k, counts-kinds (steps (tree-of w) is s), p), h ∙ rw p)

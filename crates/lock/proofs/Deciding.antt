@@ -12,9 +12,9 @@ use Rattle.model.specs.declared.PlaceWords.{PlaceWords}
 use Rattle.model.specs.declared.Place.{Place}
 use Rattle.model.specs.declared.Place.the-variants.{Idle, Prep, Swap, Link, Wait, Inside, Check, Help, Cas, Linger, Grant, Invalid}
 use Rattle.model.specs.declared.State.{State}
-use Rattle.model.specs.Places.{place-words, place-of}
+use Rattle.model.specs.Places.{place-words, place-of, place-domain}
 use Rattle.model.specs.Trees.{Tree, tree-of, on-path, is-member}
-use Rattle.model.specs.Steps.{Step, stays, prep-row, swap-row, link-row, wait-row, leave-row, check-row, help-row, cas-row, linger-row, grant-row, row, step}
+use Rattle.model.specs.Steps.{Row-result, stays, prep-row, swap-row, link-row, wait-row, leave-row, check-row, help-row, cas-row, linger-row, grant-row, row, step}
 use Rattle.model.specs.WellFormed.{good-place}
 use Rattle.model.proofs.Tests.{and-both}
 use Rattle.model.proofs.Trees.Accepted.{Accepted, accepted}
@@ -24,11 +24,11 @@ use Rattle.refusals.specs.Arrays.{tree-in}
 use Rattle.refusals.proofs.Reading.{home-in}
 use Rattle.lock.specs.declared.rows.Words.{Words}
 use Rattle.lock.specs.declared.rows.Effect.{Effect}
-use Rattle.lock.specs.Effects.{Does, Reads, Effect-of, Inner-effect-of, place-domain, state-in, Read}
+use Rattle.lock.specs.Effects.{Does, Reads, Effect-of, Inner-effect-of, state-in, Read}
 use Rattle.lock.specs.Running.{Ready, Decided}
 
 -- the row of a place at a domain
-abbrev pub row-at : Tree → (thread domain : ℕ) → Place → State → Step
+abbrev pub row-at : Tree → (thread domain : ℕ) → Place → State → Row-result
 row-at t i l Idle s = prep-row t i l s
 row-at t i l (Prep k) s = prep-row t i l s
 row-at t i l (Swap k) s = swap-row t i l s
@@ -40,7 +40,7 @@ row-at t i l (Help k) s = help-row t i l s
 row-at t i l (Cas k) s = cas-row t i l s
 row-at t i l (Linger k) s = linger-row t i l s
 row-at t i l (Grant k r w) s = grant-row t i l r w s
-row-at t i l Invalid s = stays i 0 s
+row-at t i l Invalid s = stays s
 
 row-same : (t : Tree) (i : ℕ) (p : Place) (s : State) → row-at t i (place-domain (t .home i) p) p s ≡ row t i p s
 unfolding row
@@ -128,12 +128,11 @@ module _ (n m : ℕ) (ps ts hs : List ℕ) (i : ℕ) (q : PlaceWords) (ready : R
   module _ (l : ℕ) (b : l ≡ place-domain (getD hs i 0) p) (tails nexts statuses : List ℕ) (w : Words) (read : Read t i l q tails nexts statuses w) where
     decided :
         (x : Place) (e : Effect) → p ≡ x → ((s : State) → Reads t i s w → Does (row-at t i (w .domain) x s) i e s) → Decided t i q tails nexts statuses e
-    unfolding step
     decided x e same f =
         record {
           does = λ places g.
               let s = state-in tails nexts statuses places in
-              let now : place-of (getD places i (place-words 0 0 0 0)) ≡ x = ap place-of g ∙ sym a ∙ same in
+              let now : place-of q ≡ x = sym a ∙ same in
               let at : w .domain ≡ place-domain (t .home i) x =
               read .domain-is ∙ b ∙ ap (λ h. place-domain h p) (sym home-is) ∙ ap (place-domain (t .home i)) same in
               rw (now, ← row-same t i x s, ← at) (f s (read .reads places g));

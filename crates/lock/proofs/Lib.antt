@@ -3,8 +3,7 @@ pub mod Leaving
 pub mod RowPlaces
 pub mod WordsRead
 pub mod Deciding
-pub mod Threads
-pub mod Going
+pub mod SoFar
 pub mod Typing
 pub mod Turns
 pub mod Answering

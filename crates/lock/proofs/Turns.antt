@@ -16,7 +16,7 @@ use Rattle.model.proofs.Laws.Calls.{Good-run}
 use Rattle.lock.specs.declared.rows.Effect.{Effect}
 use Rattle.lock.specs.Effects.{stored, apply, state-in}
 use Rattle.lock.specs.Running.{Ready}
-use Rattle.lock.proofs.Going.{thread-at}
+use Rattle.lock.proofs.SoFar.{thread-at}
 
 pub sixteen : (w : TreeWords) → Sixteen-bit (tree-of w)
 unfolding tree-of

@@ -8,20 +8,14 @@ use lib.Dec.{ltb, eqb}
 use lib.ListN.{getD, set}
 use Rattle.model.specs.declared.PlaceWords.{PlaceWords}
 use Rattle.model.specs.declared.Place.{Place}
-use Rattle.model.specs.declared.Place.the-variants.{Idle, Prep, Swap, Link, Wait, Inside, Check, Help, Cas, Linger, Grant, Invalid}
+use Rattle.model.specs.declared.Place.the-variants.{Idle, Help}
 use Rattle.model.specs.declared.State.{State}
 use Rattle.model.specs.Places.{place-words}
 use Rattle.model.specs.States.{tail, next, status}
 use Rattle.model.specs.Trees.{Tree, child, own-record}
-use Rattle.model.specs.Steps.{Kind, stay, other, root-entry, passed-entry, Step}
+use Rattle.model.specs.Steps.{kind-number, Row-result}
 use Rattle.lock.specs.declared.rows.Words.{Words}
 use Rattle.lock.specs.declared.rows.Effect.{Effect}
-
-abbrev pub kind-number : Kind → ℕ
-kind-number stay = 0
-kind-number other = 1
-kind-number root-entry = 2
-kind-number passed-entry = 3
 
 -- the effect that moves to a place and stores nothing else: an index beyond the array is no store
 abbrev pub moved : (kind : ℕ) → PlaceWords → Effect
@@ -40,8 +34,8 @@ apply i e s =
       places = set (s .places) i (e .place);
     }
 
--- an effect does what a step of the table does
-pub record Does (x : Step) (i : ℕ) (e : Effect) (s : State) : Type 0 where
+-- an effect does what a row comes to
+pub record Does (x : Row-result) (i : ℕ) (e : Effect) (s : State) : Type 0 where
   pub kind-told : e .kind ≡ kind-number (x .kind)
   pub state-left : apply i e s ≡ x .state
 
@@ -58,32 +52,17 @@ pub record Reads (t : Tree) (i : ℕ) (s : State) (w : Words) : Type 0 where
   pub place-is : w .place ≡ getD (s .places) i (place-words 0 0 0 0)
 
 -- in every tree and state that has these words, the effect does what the row does
-pub record Effect-of (w : Words) (row : Tree → (thread : ℕ) → State → Step) (e : Effect) : Type 0 where
+pub record Effect-of (w : Words) (row : Tree → (thread : ℕ) → State → Row-result) (e : Effect) : Type 0 where
   pub does : (t : Tree) (i : ℕ) (s : State) → Reads t i s w → Does (row t i s) i e s
 
 -- the same of a row that is never at the root
-pub record Inner-effect-of (w : Words) (row : Tree → (thread : ℕ) → State → Step) (e : Effect) : Type 0 where
+pub record Inner-effect-of (w : Words) (row : Tree → (thread : ℕ) → State → Row-result) (e : Effect) : Type 0 where
   pub does : (t : Tree) (i : ℕ) (s : State) → Reads t i s w → w .domain ≢ 0 → Does (row t i s) i e s
 
 -- the indices that a row stores at are within the arrays
 pub record Within (w : Words) : Type 0 where
   pub domain-fits : w .domain < 64
   pub own-fits : w .own < 320
-
--- the domain of a place; Idle and Inside are at home
-abbrev pub place-domain : (home : ℕ) → Place → ℕ
-place-domain h Idle = h
-place-domain h (Prep l) = l
-place-domain h (Swap l) = l
-place-domain h (Link l p) = l
-place-domain h (Wait l) = l
-place-domain h Inside = h
-place-domain h (Check l) = l
-place-domain h (Help l) = l
-place-domain h (Cas l) = l
-place-domain h (Linger l) = l
-place-domain h (Grant l r w) = l
-place-domain h Invalid = h
 
 abbrev pub done-at : (home domain child : ℕ) → Place
 done-at h l c = cond (eqb l h) Idle (Help c)

@@ -1,16 +1,17 @@
 -- A run by its effects: what is decided, stored, counted and traced. Assumes nothing: these are definitions.
 use mathlib.Core.Path.{_≡_}
-use mathlib.Core.Bool.{true, cond}
+use mathlib.Core.Bool.{Bool, true, _||_, cond}
 use mathlib.Core.List.{List, [], _∷_, _++_}
-use Prim.Native.Nat.{ℕ, _<_}
-use lib.Dec.{ltb, eqb}
+use Prim.Native.Nat.{ℕ, _+_, _<_}
+use lib.Dec.{eqb}
 use lib.ListN.{getD, set, length, drop}
 use Rattle.model.specs.declared.PlaceWords.{PlaceWords}
 use Rattle.model.specs.Places.{place-words, place-of}
 use Rattle.model.specs.Trees.{Tree}
 use Rattle.model.specs.Refusals.{tree-refusal}
-use Rattle.model.specs.Steps.{step}
-use Rattle.model.specs.Runs.{Run}
+use Rattle.model.specs.declared.Counts.{Counts}
+use Rattle.model.specs.Steps.{stay, other, root-entry, passed-entry, is-kind, Step, row}
+use Rattle.model.specs.Runs.{how-many, Run}
 use Rattle.model.specs.WellFormed.{good-place}
 use Rattle.lock.specs.declared.rows.Effect.{Effect}
 use Rattle.lock.specs.Effects.{Does, state-in}
@@ -21,26 +22,38 @@ pub record Ready (t : Tree) (i : ℕ) (q : PlaceWords) : Type 0 where
   pub thread : i < t .threads
   pub place : good-place t i (place-of q) ≡ true
 
--- the effect of a step, whatever the places of the other threads are
+-- the effect of the row of a place, whatever the places of the other threads are
 pub record Decided (t : Tree) (i : ℕ) (q : PlaceWords) (tails nexts statuses : List ℕ) (e : Effect) : Type 0 where
-  pub does : (ps : List PlaceWords) → getD ps i (place-words 0 0 0 0) ≡ q → Does (step t i (state-in tails nexts statuses ps)) i e (state-in tails nexts statuses ps)
+  pub does : (ps : List PlaceWords) → getD ps i (place-words 0 0 0 0) ≡ q → Does (row t i (place-of q) (state-in tails nexts statuses ps)) i e (state-in tails nexts statuses ps)
 
--- 1 where a step is of the kind, else 0
-abbrev pub one-if : (kind wanted : ℕ) → ℕ
-one-if k n = cond (eqb k n) 1 0
+-- how many of some steps are of each kind, in the order of the kinds' numbers
+unfoldable pub kinds-of : List Step → List ℕ
+kinds-of xs =
+    how-many (is-kind stay) xs ∷ how-many (is-kind other) xs ∷ how-many (is-kind root-entry) xs ∷ how-many (is-kind passed-entry) xs ∷ []
 
--- 1 for an entry, else 0
-abbrev pub entered : (kind : ℕ) → ℕ
-entered k = cond (ltb k 2) 0 1
+-- one step of a kind more
+abbrev pub counted : (kinds : List ℕ) → (kind : ℕ) → List ℕ
+counted ks k = set ks k (getD ks k 0 + 1)
+
+-- what a run counts, by how many of its steps are of each kind
+abbrev pub counts-by : (kinds : List ℕ) → Counts
+counts-by ks =
+    record {
+      steps = getD ks 0 0 + getD ks 1 0 + getD ks 2 0 + getD ks 3 0;
+      entries = getD ks 2 0 + getD ks 3 0;
+      stays = getD ks 0 0;
+      root = getD ks 2 0;
+      passed = getD ks 3 0;
+    }
+
+-- the kind of a number is an entry
+abbrev pub is-entry-number : (kind : ℕ) → Bool
+is-entry-number k = eqb k 2 || eqb k 3
 
 -- the buffer with an entering thread at an index
 abbrev pub traced-at : List ℕ → (at kind thread : ℕ) → List ℕ
-traced-at b n k i = cond (ltb k 2) b (set b n i)
+traced-at b n k i = cond (is-entry-number k) (set b n i) b
 
 -- the buffer with a run's trace at its front
 abbrev pub trace-front : List ℕ → Run → List ℕ
 trace-front b x = x .trace ++ drop (length (x .trace)) b
-
--- the counts of a run: steps, entries, stays, root entries, passed entries
-abbrev pub counts-of : Run → List ℕ
-counts-of x = x .steps ∷ x .entries ∷ x .stays ∷ x .root ∷ x .passed ∷ []

@@ -8,6 +8,7 @@ mod places;
 mod rows;
 mod run;
 
+use model::Counts;
 use model::FreshReply;
 use model::PlaceWords;
 use model::RunReply;
@@ -63,8 +64,8 @@ pub fn step_lock(tree: TreeWords, state: State, thread: u16) -> StepReply
         };
     }
     let mut trace = [0u16];
-    let mut counts = [0u32; 5];
-    let after = run::run_steps(tree, state, &schedule, &mut trace, &mut counts);
+    let mut kinds = [0u32; 4];
+    let after = run::run_steps(tree, state, &schedule, &mut trace, &mut kinds);
     StepReply {
         number: 0,
         place: 0,
@@ -75,14 +76,17 @@ pub fn step_lock(tree: TreeWords, state: State, thread: u16) -> StepReply
 fn refused(number: u32, place: u32, state: State) -> RunReply
     ensures { λ r. ⌜ r ≡ run-refused (refusal number place) state ⌝ }
 {
-    RunReply {
-        number,
-        place,
+    let counts = Counts {
         steps: 0,
         entries: 0,
         stays: 0,
         root: 0,
         passed: 0,
+    };
+    RunReply {
+        number,
+        place,
+        counts,
         state,
     }
 }
@@ -96,21 +100,13 @@ pub fn run_lock(tree: TreeWords, state: State, schedule: &[u16], trace: &mut [u1
     if r.number != 0 {
         return refused(r.number, r.place, state);
     }
-    let mut counts = [0u32; 5];
-    let after = run::run_steps(tree, state, schedule, trace, &mut counts);
-    let steps = counts[0];
-    let entries = counts[1];
-    let stays = counts[2];
-    let root = counts[3];
-    let passed = counts[4];
+    let mut kinds = [0u32; 4];
+    let after = run::run_steps(tree, state, schedule, trace, &mut kinds);
+    let counts = run::counts_of(&kinds);
     RunReply {
         number: 0,
         place: 0,
-        steps,
-        entries,
-        stays,
-        root,
-        passed,
+        counts,
         state: after,
     }
 }

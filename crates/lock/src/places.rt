@@ -2,9 +2,9 @@
 ghost use mathlib.Core.Path.{_≡_};
 ghost use mathlib.Core.Logic.{_≢_};
 ghost use Rattle.model.specs.declared.Place.the-variants.{Invalid};
-ghost use Rattle.model.specs.Places.{place-words, words-of, place-of};
+ghost use Rattle.model.specs.Places.{place-words, words-of, place-of, place-domain};
 ghost use Rattle.model.specs.Steps.{release-place};
-ghost use Rattle.lock.specs.Effects.{place-domain, done-at};
+ghost use Rattle.lock.specs.Effects.{done-at};
 use model::Place;
 use model::PlaceWords;
 

@@ -27,7 +27,7 @@ pub(crate) struct Words {
     pub place: PlaceWords,
 }
 
-// What a row does: its kind (0 a stay, 1 another move, 2 a root entry, 3 a passed entry), the thread's place, and the tail of a domain, the next of a record and the status of a record. An index beyond the array is no store.
+// What a row does: its kind, the thread's place, and the tail of a domain, the next of a record and the status of a record. An index beyond the array is no store.
 pub(crate) struct Effect {
     pub kind: u8,
     pub domain: u8,
@@ -98,8 +98,8 @@ fn prep(w: Words) -> Effect
     ensures { λ r. ⌜ Effect-of w (λ t i s. prep-row t i (w .domain) s) r ⌝ }
 {
     let l = w.domain;
-    let v = root_word_at(l, 1, 18446744073709551615);
-    let mut e = moves(1, Place::Swap(l));
+    let v = root_word_at(l, model::LOCKED, model::WAIT);
+    let mut e = moves(model::OTHER_MOVE, Place::Swap(l));
     e.linked = w.own;
     e.marked = w.own;
     e.status = v;
@@ -114,24 +114,24 @@ fn swap(w: Words) -> Effect
     let old = w.tail;
     let own = w.own;
     if old != 0 {
-        let mut e = moves(1, Place::Link(l, old - 1));
+        let mut e = moves(model::OTHER_MOVE, Place::Link(l, old - 1));
         e.domain = l;
         e.tail = own + 1;
         return e;
     }
     if l == 0 {
-        let mut e = moves(2, Place::Inside);
+        let mut e = moves(model::ROOT_ENTRY, Place::Inside);
         e.domain = l;
         e.tail = own + 1;
         e.marked = own;
         return e;
     }
     let p = w.parent;
-    let mut e = moves(1, Place::Prep(p));
+    let mut e = moves(model::OTHER_MOVE, Place::Prep(p));
     e.domain = l;
     e.tail = own + 1;
     e.marked = own;
-    e.status = 1;
+    e.status = model::COHORT_START;
     e
 }
 
@@ -142,7 +142,7 @@ fn link(w: Words, before: u16) -> Effect
 {
     let l = w.domain;
     let own = w.own;
-    let mut e = moves(1, Place::Wait(l));
+    let mut e = moves(model::OTHER_MOVE, Place::Wait(l));
     e.linked = before;
     e.next = own + 1;
     e
@@ -156,29 +156,29 @@ fn wait(w: Words) -> Effect
     let v = w.status;
     let place = w.place;
     if l == 0 {
-        if v == 1 {
-            return effect_at(0, place);
+        if v == model::LOCKED {
+            return effect_at(model::STAY, place);
         }
-        return moves(2, Place::Inside);
+        return moves(model::ROOT_ENTRY, Place::Inside);
     }
-    if v == 18446744073709551615 {
-        return effect_at(0, place);
+    if v == model::WAIT {
+        return effect_at(model::STAY, place);
     }
-    if v == 18446744073709551614 {
+    if v == model::ACQUIRE_PARENT {
         let p = w.parent;
-        let mut e = moves(1, Place::Prep(p));
+        let mut e = moves(model::OTHER_MOVE, Place::Prep(p));
         e.marked = w.own;
-        e.status = 1;
+        e.status = model::COHORT_START;
         return e;
     }
-    moves(3, Place::Inside)
+    moves(model::PASSED_ENTRY, Place::Inside)
 }
 
 fn leave(w: Words) -> Effect
     ensures { λ r. ⌜ Effect-of w (λ t i s. leave-row t i s) r ⌝ }
 {
     let home = w.home;
-    moves(1, places::release_place_at(home))
+    moves(model::OTHER_MOVE, places::release_place_at(home))
 }
 
 fn check(w: Words) -> Effect
@@ -190,12 +190,12 @@ fn check(w: Words) -> Effect
     let parent = w.parent;
     let h = w.threshold as u64;
     if h <= v {
-        return moves(1, places::release_place_at(parent));
+        return moves(model::OTHER_MOVE, places::release_place_at(parent));
     }
     if n == 0 {
-        return moves(1, places::release_place_at(parent));
+        return moves(model::OTHER_MOVE, places::release_place_at(parent));
     }
-    moves(1, Place::Grant(l, n - 1, v + 1))
+    moves(model::OTHER_MOVE, Place::Grant(l, n - 1, v + 1))
 }
 
 fn help(w: Words) -> Effect
@@ -204,10 +204,10 @@ fn help(w: Words) -> Effect
     let l = w.domain;
     let n = w.next;
     if n == 0 {
-        return moves(1, Place::Cas(l));
+        return moves(model::OTHER_MOVE, Place::Cas(l));
     }
-    let v = root_word_at(l, 0, 18446744073709551614);
-    moves(1, Place::Grant(l, n - 1, v))
+    let v = root_word_at(l, model::UNLOCKED, model::ACQUIRE_PARENT);
+    moves(model::OTHER_MOVE, Place::Grant(l, n - 1, v))
 }
 
 fn cas(w: Words) -> Effect
@@ -218,9 +218,9 @@ fn cas(w: Words) -> Effect
     let old = w.tail;
     let mine = w.own + 1;
     if old != mine {
-        return moves(1, Place::Linger(l));
+        return moves(model::OTHER_MOVE, Place::Linger(l));
     }
-    let mut e = moves(1, places::done_place_at(w.home, l, w.child));
+    let mut e = moves(model::OTHER_MOVE, places::done_place_at(w.home, l, w.child));
     e.domain = l;
     e
 }
@@ -232,10 +232,10 @@ fn linger(w: Words) -> Effect
     let n = w.next;
     let place = w.place;
     if n == 0 {
-        return effect_at(0, place);
+        return effect_at(model::STAY, place);
     }
-    let v = root_word_at(l, 0, 18446744073709551614);
-    moves(1, Place::Grant(l, n - 1, v))
+    let v = root_word_at(l, model::UNLOCKED, model::ACQUIRE_PARENT);
+    moves(model::OTHER_MOVE, Place::Grant(l, n - 1, v))
 }
 
 fn grant(w: Words, to: u16, word: u64) -> Effect
@@ -243,7 +243,7 @@ fn grant(w: Words, to: u16, word: u64) -> Effect
     ensures { λ r. ⌜ Effect-of w (λ t i s. grant-row t i (w .domain) to word s) r ⌝ }
 {
     let l = w.domain;
-    let mut e = moves(1, places::done_place_at(w.home, l, w.child));
+    let mut e = moves(model::OTHER_MOVE, places::done_place_at(w.home, l, w.child));
     e.marked = to;
     e.status = word;
     e
@@ -353,6 +353,6 @@ pub(crate) fn decide<'t, 's>(
         Place::Cas(_) => cas(w),
         Place::Linger(_) => linger(w),
         Place::Grant(_, r, v) => grant(w, r, v),
-        Place::Invalid => effect_at(0, place),
+        Place::Invalid => effect_at(model::STAY, place),
     }
 }

@@ -1,13 +1,15 @@
 // Effects stored into a state, and the run's loop.
 ghost use mathlib.Core.Path.{_≡_};
+ghost use mathlib.Core.Bool.{cond};
 ghost use Prim.Native.Nat.{_+_, _<_, _≤_};
-ghost use lib.ListN.{length};
+ghost use lib.ListN.{length, getD};
 ghost use Rattle.model.specs.Trees.{tree-of};
 ghost use Rattle.model.specs.Refusals.{run-refusal};
-ghost use Rattle.model.specs.Runs.{run};
+ghost use Rattle.model.specs.Runs.{steps, run};
 ghost use Rattle.lock.specs.Effects.{stored};
-ghost use Rattle.lock.specs.Running.{one-if, entered, traced-at, trace-front, counts-of};
+ghost use Rattle.lock.specs.Running.{kinds-of, counted, counts-by, is-entry-number, traced-at, trace-front};
 use crate::rows;
+use model::Counts;
 use model::State;
 use model::TreeWords;
 
@@ -41,47 +43,72 @@ fn store_status(statuses: &mut [u64; 320], r: u16, v: u64)
     statuses[at] = v;
 }
 
-// 1 where a step is of the kind, else 0.
-fn one_if_at(kind: u8, wanted: u8) -> u32
-    ensures { λ r. ⌜ r ≡ one-if kind wanted ⌝ }
-    ensures { λ r. ⌜ r ≤ 1 ⌝ }
+// One step of a kind more, where the steps of each kind are counted.
+fn count_in(kinds: &mut [u32; 4], kind: u8)
+    requires { ⌜ kind < 4 ⌝ }
+    requires { ⌜ getD (now kinds) kind 0 < 65536 ⌝ }
+    ensures { λ r. ⌜ now (kinds .exit) ≡ counted (now (kinds .entry)) kind ⌝ }
 {
-    if kind == wanted { 1 } else { 0 }
+    let at = kind as usize;
+    kinds[at] = kinds[at] + 1;
+}
+
+// What a run counts, by how many of its steps are of each kind.
+pub(crate) fn counts_of(kinds: &[u32; 4]) -> Counts
+    requires { ⌜ counts-by (now kinds) .steps ≤ 65536 ⌝ }
+    ensures { λ r. ⌜ r ≡ counts-by (now (kinds .entry)) ⌝ }
+{
+    let stays = kinds[0];
+    let others = kinds[1];
+    let root = kinds[2];
+    let passed = kinds[3];
+    Counts {
+        steps: stays + others + root + passed,
+        entries: root + passed,
+        stays,
+        root,
+        passed,
+    }
+}
+
+// An entry arrives Inside.
+fn is_entry(kind: u8) -> bool
+    ensures { λ r. ⌜ r ≡ is-entry-number kind ⌝ }
+{
+    kind == model::ROOT_ENTRY || kind == model::PASSED_ENTRY
 }
 
 // An entering thread is written at an index of the trace; the index after it.
 fn trace_at(trace: &mut [u16], at: u32, kind: u8, i: u16) -> u32
     requires { ⌜ at < length (now trace) ⌝ }
     requires { ⌜ at < 65536 ⌝ }
-    ensures { λ r. ⌜ r ≡ at + entered kind ⌝ }
+    ensures { λ r. ⌜ r ≡ at + cond (is-entry-number kind) 1 0 ⌝ }
     ensures { λ r. ⌜ now (trace .exit) ≡ traced-at (now (trace .entry)) at kind i ⌝ }
 {
-    if kind < 2 {
-        return at;
+    if is_entry(kind) {
+        let k = at as usize;
+        trace[k] = i;
+        return at + 1;
     }
-    let k = at as usize;
-    trace[k] = i;
-    at + 1
+    at
 }
 
-// The steps of a schedule, stored one after another into one state, which is copied at the start and at the end alone. The counts (steps, entries, stays, root entries, passed entries) are written where the caller lends room, so that the state alone is returned.
+// The steps of a schedule, stored one after another into one state, which is copied at the start and at the end alone. How many of them are of each kind is written where the caller lends room, so that the state alone is returned.
 pub(crate) fn run_steps(
     tree: TreeWords,
     state: State,
     schedule: &[u16],
     trace: &mut [u16],
-    counts: &mut [u32; 5],
+    kinds: &mut [u32; 4],
 ) -> State
     requires { ⌜ run-refusal (tree-of tree) state (now schedule) (length (now trace)) .number ≡ 0 ⌝ }
     ensures { λ r. ⌜ r ≡ run (tree-of tree) (now (schedule .entry)) state .state ⌝ }
     ensures { λ r. ⌜ now (trace .exit) ≡ trace-front (now (trace .entry)) (run (tree-of tree) (now (schedule .entry)) state) ⌝ }
-    ensures { λ r. ⌜ now (counts .exit) ≡ counts-of (run (tree-of tree) (now (schedule .entry)) state) ⌝ }
+    ensures { λ r. ⌜ now (kinds .exit) ≡ kinds-of (steps (tree-of tree) (now (schedule .entry)) state) ⌝ }
 {
     let mut n = state;
+    let mut tally = [0u32; 4];
     let mut entries: u32 = 0;
-    let mut stays: u32 = 0;
-    let mut root: u32 = 0;
-    let mut passed: u32 = 0;
     let mut k: u32 = 0;
     while (k as usize) < schedule.len() {
         let position = k as usize;
@@ -101,8 +128,8 @@ pub(crate) fn run_steps(
             before,
         );
         let kind = e.kind;
-        if kind == 0 {
-            stays += 1;
+        count_in(&mut tally, kind);
+        if kind == model::STAY {
             k += 1;
             continue;
         }
@@ -112,10 +139,8 @@ pub(crate) fn run_steps(
         let place = e.place;
         n.places[at] = place;
         entries = trace_at(trace, entries, kind, i);
-        root += one_if_at(kind, 2);
-        passed += one_if_at(kind, 3);
         k += 1;
     }
-    *counts = [k, entries, stays, root, passed];
+    *kinds = tally;
     n
 }

@@ -72,11 +72,12 @@ fn show(r: RunReply, first: u16, second: u16) {
     number(r.number);
     number(r.place);
     put(b":");
-    number(r.steps);
-    number(r.entries);
-    number(r.stays);
-    number(r.root);
-    number(r.passed);
+    let counts = r.counts;
+    number(counts.steps);
+    number(counts.entries);
+    number(counts.stays);
+    number(counts.root);
+    number(counts.passed);
     put(b"; trace");
     short(first);
     short(second);

@@ -31,11 +31,11 @@ take-front (x ∷ xs) ys = ap (λ zs. x ∷ zs) (take-front xs ys)
 
 -- an accepted run's buffer, cut behind its entries, is its trace
 front-listed : (b : Bool) (n : ℕ) (x : RunReply) (y : RunReply) (trace rest buffer : List ℕ) →
-    eqb n 0 ≡ b → y .number ≡ n → length trace ≡ x .entries → cond b x y .number ≡ 0 → take (cond b x y .entries) (cond b (trace ++ rest) buffer) ≡ trace
+    eqb n 0 ≡ b → y .number ≡ n → length trace ≡ x .counts .entries → cond b x y .number ≡ 0 → take (cond b x y .counts .entries) (cond b (trace ++ rest) buffer) ≡ trace
 front-listed true n x y trace rest buffer e f l z = rw (← l) (take-front trace rest)
 front-listed false n x y trace rest buffer e f l z = absurd (true≢false (sym (eq-eqb n 0 (sym f ∙ z)) ∙ e))
 
-listed-law : (w : TreeWords) (is : List ℕ) → file-run w is .number ≡ 0 → take (file-run w is .entries) (trace-answer w fresh-words is (replicate (length is) 0)) ≡ file-trace w is
+listed-law : (w : TreeWords) (is : List ℕ) → file-run w is .number ≡ 0 → take (file-run w is .counts .entries) (trace-answer w fresh-words is (replicate (length is) 0)) ≡ file-trace w is
 unfolding file-run file-trace run-answer run-reply trace-answer run-buffer Count-law
 listed-law w is h =
     front-listed (eqb (run-refusal (tree-of w) fresh-words is (length (replicate (length is) 0)) .number) 0) _ _ _ _ _ _ refl refl (count-law (tree-of w) is fresh-words .traced) h

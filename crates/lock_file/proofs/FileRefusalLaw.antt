@@ -41,7 +41,7 @@ run-outcome-met :
     (r : RunReply) (trace : List ℕ) (room : ℕ) → (r .number ≤ 9) ⊎ (r .number ≡ 12) → Met-by (run-outcome r trace room)
 unfolding run-outcome
 run-outcome-met r trace room h =
-    let ls = listing (r .steps) (r .entries) (r .stays) (r .root) (r .passed) trace in
+    let ls = listing (r .counts) trace in
     by-test (λ o. Met-by o) (eqb (r .number) 0) (listing-outcome ls room) (refused-by (refusal (r .number) (r .place)))
     (λ e. listing-met ls room) (λ e. refusal-met r h)
 

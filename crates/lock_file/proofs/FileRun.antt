@@ -15,7 +15,7 @@ use Rattle.model.specs.declared.RunReply.{RunReply}
 use Rattle.model.specs.Trees.{Tree, tree-of}
 use Rattle.model.specs.States.{fresh-words}
 use Rattle.model.specs.Steps.{is-entry, Step}
-use Rattle.model.specs.Runs.{Run, steps, how-many, run-of, run}
+use Rattle.model.specs.Runs.{Run, steps, how-many, counts-of, run-of, run}
 use Rattle.model.specs.Refusals.{Refusal, lowest-bad, first-refusal, bad-room, tree-tests, run-tests, run-refusal}
 use Rattle.model.specs.Answers.{fresh-answer, run-accepted, run-refused, run-reply, run-buffer, run-answer, trace-answer}
 use Rattle.model.specs.Laws.{Count-law}
@@ -43,8 +43,8 @@ counted-within (x ∷ xs) =
     let one : cond (is-entry (x .kind)) 1 0 ≤ 1 = by-test (λ n. n ≤ 1) (is-entry (x .kind)) 1 0 (λ e. omega arith) (λ e. omega arith) in
     omega arith
 
-pub entries-within : (t : Tree) (is : List ℕ) (s : State) → run t is s .entries ≤ length is
-unfolding run run-of
+pub entries-within : (t : Tree) (is : List ℕ) (s : State) → run t is s .counts .entries ≤ length is
+unfolding run run-of counts-of
 entries-within t is s = omega (arith, counted-within (steps t is s), steps-length t is s)
 
 -- more room for the trace makes no difference
@@ -62,22 +62,22 @@ run-same w is buffer h =
 
 -- the listing of a run takes the front of its trace buffer
 front-listed :
-    (r : Refusal) (s : State) (x : Run) (buffer : List ℕ) (room : ℕ) → length (x .trace) ≡ x .entries →
-    run-outcome (run-reply r s x) (take (run-reply r s x .entries) (run-buffer r buffer x)) room
+    (r : Refusal) (s : State) (x : Run) (buffer : List ℕ) (room : ℕ) → length (x .trace) ≡ x .counts .entries →
+    run-outcome (run-reply r s x) (take (run-reply r s x .counts .entries) (run-buffer r buffer x)) room
     ≡ run-outcome (run-reply r s x) (x .trace) room
 unfolding run-reply run-buffer run-outcome
 front-listed r s x buffer room h = by (eqb (r .number) 0) refl
   where
     by :
         (b : Bool) → eqb (r .number) 0 ≡ b →
-        run-outcome (run-reply r s x) (take (run-reply r s x .entries) (run-buffer r buffer x)) room
+        run-outcome (run-reply r s x) (take (run-reply r s x .counts .entries) (run-buffer r buffer x)) room
         ≡ run-outcome (run-reply r s x) (x .trace) room
-    by true e = rw (e, take-at (x .trace) (drop (length (x .trace)) buffer) (x .entries) h)
+    by true e = rw (e, take-at (x .trace) (drop (length (x .trace)) buffer) (x .counts .entries) h)
     by false e = rw (e, e)
 
 pub run-listed :
     (w : TreeWords) (is buffer : List ℕ) (room : ℕ) → length is ≤ length buffer →
-    run-outcome (run-answer w fresh-words is buffer) (take (run-answer w fresh-words is buffer .entries) (trace-answer w fresh-words is buffer)) room
+    run-outcome (run-answer w fresh-words is buffer) (take (run-answer w fresh-words is buffer .counts .entries) (trace-answer w fresh-words is buffer)) room
     ≡ tree-outcome w is room
 unfolding run-answer trace-answer file-trace Count-law
 run-listed w is buffer room h =
@@ -86,10 +86,10 @@ run-listed w is buffer room h =
     ∙ ap (λ r. run-outcome r (run (tree-of w) is fresh-words .trace) room) (run-same w is buffer h)
 
 -- a run's entries are no more than its schedule's
-pub replied-within : (w : TreeWords) (is buffer : List ℕ) → run-answer w fresh-words is buffer .entries ≤ length is
+pub replied-within : (w : TreeWords) (is buffer : List ℕ) → run-answer w fresh-words is buffer .counts .entries ≤ length is
 unfolding run-answer run-reply
 replied-within w is buffer =
-    by-test (λ r. r .entries ≤ length is) (eqb (run-refusal (tree-of w) fresh-words is (length buffer) .number) 0)
+    by-test (λ r. r .counts .entries ≤ length is) (eqb (run-refusal (tree-of w) fresh-words is (length buffer) .number) 0)
     (run-accepted (run (tree-of w) is fresh-words)) (run-refused (run-refusal (tree-of w) fresh-words is (length buffer)) fresh-words)
     (λ e. entries-within (tree-of w) is fresh-words) (λ e. omega arith)
 
@@ -104,9 +104,9 @@ pub run-in-buffers :
     let n = (length bs - at) / 2 in
     n ≤ length room-for-schedule → n ≤ length buffer → schedule ≡ sets room-for-schedule 0 (entries-from bs n at) → s ≡ fresh-words →
     r ≡ run-answer w s (take n schedule) buffer → trace ≡ trace-answer w s (take n schedule) buffer →
-    (r .entries ≤ n)
+    (r .counts .entries ≤ n)
     × ((room : ℕ) →
-    run-outcome r (take (r .entries) trace) room ≡ tree-outcome w (entries-at bs at) room)
+    run-outcome r (take (r .counts .entries) trace) room ≡ tree-outcome w (entries-at bs at) room)
 unfolding entries-at
 run-in-buffers bs at w s r free schedule buffer trace h g stored fresh replied traced =
     let n = (length bs - at) / 2 in

@@ -1,5 +1,5 @@
 -- Decimal numerals: one digit, or a last digit behind a numeral; how long they are. Assumes nothing.
-use mathlib.Core.Path.{_≡_, refl}
+use mathlib.Core.Path.{_≡_, refl, _∙_}
 use mathlib.Core.Bool.{Bool, true, false, cond}
 use mathlib.Core.List.{List, [], _∷_, _++_}
 use Prim.Native.Nat.{ℕ, zero, suc, _+_, _*_, _/_, _%_, _≤_, _<_}
@@ -9,7 +9,8 @@ use lib.Dec.{ltb}
 use lib.ListN.{length, length-append, drop, getD, drop-of-length-le}
 use lib.Seq.{drop-cons}
 use borrow.Author.Tests.{ltb-true, ltb-false, lt-ltb, le-ltb}
-use Rattle.lock_file.specs.Listing.{digit, digits, numeral, number-then, trace-lines, first-line, refusal-line}
+use Rattle.lock_file.specs.Listing.{digit, digits, numeral, number-then, trace-lines, spaced, count-numbers, first-line, refusal-line}
+use Rattle.model.specs.declared.Counts.{Counts}
 
 -- fuel from the value on makes no difference
 digits-same : (k j v : ℕ) → v ≤ k → v ≤ j → digits k v ≡ digits j v
@@ -71,17 +72,26 @@ pub length-number : (v b : ℕ) → length (number-then v b) ≡ length (numeral
 unfolding number-then
 length-number v b = rw length-append
 
-pub length-first-line :
-    (a b c d e : ℕ) →
-    length (first-line a b c d e)
-    ≡ 3 + (length (numeral a) + 1) + (length (numeral b) + 1) + (length (numeral c) + 1) + (length (numeral d) + 1) + (length (numeral e) + 1)
-unfolding first-line
-length-first-line a b c d e = simp (length-append, length-number) (omega arith)
+-- spaced numbers from k on: the next, or the line feed alone
+pub spaced-next : (ns : List ℕ) (k : ℕ) → k < length ns → spaced (drop k ns) ≡ (32 ∷ numeral (getD ns k 0)) ++ spaced (drop (k + 1) ns)
+unfolding spaced
+spaced-next ns k h = rw (drop-cons ns k 0 h, add-one)
 
-pub length-refusal-line :
-    (n p : ℕ) → length (refusal-line n p) ≡ 8 + (length (numeral n) + 1) + (length (numeral p) + 1)
+pub spaced-over : (ns : List ℕ) (k : ℕ) → length ns ≤ k → spaced (drop k ns) ≡ 10 ∷ []
+unfolding spaced
+spaced-over ns k h = rw (drop-of-length-le ns h)
+
+pub spaced-length-next :
+    (ns : List ℕ) (k : ℕ) → k < length ns → length (spaced (drop k ns)) ≡ length (numeral (getD ns k 0)) + 1 + length (spaced (drop (k + 1) ns))
+spaced-length-next ns k h = rw (spaced-next ns k h) (length-append (32 ∷ numeral (getD ns k 0)) (spaced (drop (k + 1) ns)) ∙ omega arith)
+
+pub length-first-line : (x : Counts) → length (first-line x) ≡ 2 + length (spaced (count-numbers x))
+unfolding first-line
+length-first-line x = length-append (111 ∷ 107 ∷ []) (spaced (count-numbers x))
+
+pub length-refusal-line : (n p : ℕ) → length (refusal-line n p) ≡ 7 + length (spaced (n ∷ p ∷ []))
 unfolding refusal-line
-length-refusal-line n p = simp (length-append, length-number) (omega arith)
+length-refusal-line n p = length-append (114 ∷ 101 ∷ 102 ∷ 117 ∷ 115 ∷ 101 ∷ 100 ∷ []) (spaced (n ∷ p ∷ []))
 
 -- the trace lines from k on: the next, or none
 pub trace-lines-next :

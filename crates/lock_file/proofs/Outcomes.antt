@@ -6,8 +6,9 @@ use native.Mathlib.Omega.{arith}
 use lib.ListN.{length, drop, length-append}
 use lib.Seq.{sets}
 use borrow.Author.Tests.{lt-ltb, le-ltb}
+use Rattle.model.specs.declared.Counts.{Counts}
 use Rattle.model.specs.Refusals.{refusal}
-use Rattle.lock_file.specs.Listing.{number-then, first-line, trace-lines, listing, refusal-line}
+use Rattle.lock_file.specs.Listing.{spaced, first-line, trace-lines, listing}
 use Rattle.lock_file.specs.FileAnswers.{tree-outcome, refused-by, lists, listing-outcome, reading-outcome, file-outcome}
 use Rattle.lock_file.specs.declared.Reached.the-variants.{At, Ended, BadMap}
 use Rattle.lock_file.specs.declared.TreeRead.{TreeRead}
@@ -24,34 +25,28 @@ unfolding listing-outcome
 listing-fits ls room h = rw (le-ltb room (length ls) h)
 
 pub length-listing :
-    (a b c d e : ℕ) (is : List ℕ) → length (listing a b c d e is) ≡ length (first-line a b c d e) + length (trace-lines is)
+    (x : Counts) (is : List ℕ) → length (listing x is) ≡ length (first-line x) + length (trace-lines is)
 unfolding listing
-length-listing a b c d e is = rw length-append
+length-listing x is = rw length-append
 
 -- the first line, and the trace behind it: the listing at the front of the buffer
 pub listing-written :
-    (out : List ℕ) (a b c d e : ℕ) (is : List ℕ) → length (listing a b c d e is) ≤ length out →
-    sets (sets out 0 (first-line a b c d e)) (length (first-line a b c d e)) (trace-lines is)
-    ≡ listing a b c d e is ++ drop (length (listing a b c d e is)) out
+    (out : List ℕ) (x : Counts) (is : List ℕ) → length (listing x is) ≤ length out →
+    sets (sets out 0 (first-line x)) (length (first-line x)) (trace-lines is)
+    ≡ listing x is ++ drop (length (listing x is)) out
 unfolding listing
-listing-written out a b c d e is h =
-    let line = first-line a b c d e in
+listing-written out x is h =
+    let line = first-line x in
     let z : 0 + length line ≡ length line = omega arith in
     rw z at (sym (sets-append out 0 line (trace-lines is))) ∙ sets-front out (line ++ trace-lines is) h
 
--- the line of a refusal, part by part
-pub refusal-written :
-    (out : List ℕ) (n p : ℕ) → length (refusal-line n p) ≤ length out →
-    sets
-    (sets (sets out 0 (114 ∷ 101 ∷ 102 ∷ 117 ∷ 115 ∷ 101 ∷ 100 ∷ 32 ∷ [])) 8 (number-then n 32))
-    (8 + length (number-then n 32))
-    (number-then p 10)
-    ≡ refusal-line n p ++ drop (length (refusal-line n p)) out
-unfolding refusal-line
-refusal-written out n p h =
-    let word : List ℕ = 114 ∷ 101 ∷ 102 ∷ 117 ∷ 115 ∷ 101 ∷ 100 ∷ 32 ∷ [] in
-    sym (sets-append (sets out 0 word) 8 (number-then n 32) (number-then p 10))
-    ∙ sets-front out (word ++ (number-then n 32 ++ number-then p 10)) h
+-- a word at the front and spaced numbers behind it, at the front of the buffer
+pub line-written :
+    (out word ns : List ℕ) → length (word ++ spaced ns) ≤ length out →
+    sets (sets out 0 word) (length word) (spaced ns) ≡ (word ++ spaced ns) ++ drop (length (word ++ spaced ns)) out
+line-written out word ns h =
+    let z : 0 + length word ≡ length word = omega arith in
+    rw z at (sym (sets-append out 0 word (spaced ns))) ∙ sets-front out (word ++ spaced ns) h
 
 -- a file that is too long
 pub file-long : (bs : List ℕ) (room : ℕ) → 65536 < length bs → file-outcome bs room ≡ refused-by (refusal 1 0)

@@ -7,8 +7,8 @@ use native.Mathlib.Omega.{arith}
 use native.Mathlib.Nat.{add-zero}
 use lib.ListN.{length, set, getD, drop}
 use lib.Seq.{sets, set-comm, sets-eq}
-use Rattle.lock_file.specs.Listing.{digit, numeral, number-then, trace-lines}
-use Rattle.lock_file.proofs.Numerals.{numeral-small, numeral-large, trace-lines-next}
+use Rattle.lock_file.specs.Listing.{digit, numeral, number-then, trace-lines, spaced}
+use Rattle.lock_file.proofs.Numerals.{numeral-small, numeral-large, trace-lines-next, spaced-next}
 
 -- a store behind the places that others fill may come first
 pub sets-behind : (l : List ℕ) (i : ℕ) (vs : List ℕ) (j a : ℕ) → i + length vs ≤ j → sets (set l j a) i vs ≡ set (sets l i vs) j a
@@ -40,13 +40,14 @@ last-digit l at v k h e = rw (e, numeral-large v h) (sym (sets-last l at (numera
 pub only-digit : (l : List ℕ) (at v : ℕ) → v < 10 → set l at (digit v) ≡ sets l at (numeral v)
 only-digit l at v h = rw (numeral-small v h)
 
--- five parts, each behind the one before
-pub sets-five :
-    (l : List ℕ) (at : ℕ) (a b c d e : List ℕ) →
-    sets l at (a ++ (b ++ (c ++ (d ++ e))))
-    ≡ sets (sets (sets (sets (sets l at a) (at + length a) b) (at + length a + length b) c) (at + length a + length b + length c) d)
-    (at + length a + length b + length c + length d) e
-sets-five l at a b c d e = simp sets-append
+-- the next of some spaced numbers, and those behind it
+pub spaced-written :
+    (l : List ℕ) (at : ℕ) (ns : List ℕ) (k : ℕ) → k < length ns →
+    sets l at (spaced (drop k ns))
+    ≡ sets (sets (set l at 32) (at + 1) (numeral (getD ns k 0))) (at + 1 + length (numeral (getD ns k 0))) (spaced (drop (k + 1) ns))
+spaced-written l at ns k h =
+    let e : at + 1 ≡ suc at = omega arith in
+    rw (spaced-next ns k h, e) (sets-append (set l at 32) (suc at) (numeral (getD ns k 0)) (spaced (drop (k + 1) ns)))
 
 -- the next line of a trace, and those behind it
 pub trace-written :

@@ -27,7 +27,7 @@ listing-outcome ls room = cond (ltb room (length ls)) (refused-by (refusal 14 0)
 -- what a run answered: 4 to 9 and 12, or the listing of its counts and trace
 unfoldable pub run-outcome : RunReply → (trace : List ℕ) → (room : ℕ) → Outcome
 run-outcome r trace room =
-    cond (eqb (r .number) 0) (listing-outcome (listing (r .steps) (r .entries) (r .stays) (r .root) (r .passed) trace) room)
+    cond (eqb (r .number) 0) (listing-outcome (listing (r .counts) trace) room)
     (refused-by (refusal (r .number) (r .place)))
 
 -- the file call's run: from a fresh lock, with a trace buffer of the schedule's length

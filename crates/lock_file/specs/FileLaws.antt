@@ -86,7 +86,7 @@ pub record One-call (w : TreeWords) (schedule : List ℕ) : Type 0 where
   -- the trace that is listed is what an accepted run leaves at the front of the buffer
   pub listed :
       file-run w schedule .number ≡ 0 →
-      take (file-run w schedule .entries) (trace-answer w fresh-words schedule (replicate (length schedule) 0)) ≡ file-trace w schedule
+      take (file-run w schedule .counts .entries) (trace-answer w fresh-words schedule (replicate (length schedule) 0)) ≡ file-trace w schedule
   pub claimed : Claim (tree-of w) (file-call w schedule ∷ []) (joined (file-call w schedule ∷ []) fresh-words)
 
 unfoldable pub File-claim-law : Type 0

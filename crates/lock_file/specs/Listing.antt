@@ -3,6 +3,7 @@ use mathlib.Core.Bool.{cond}
 use mathlib.Core.List.{List, [], _∷_, _++_}
 use Prim.Native.Nat.{ℕ, zero, suc, _+_, _/_, _%_}
 use lib.Dec.{ltb}
+use Rattle.model.specs.declared.Counts.{Counts}
 
 -- a decimal digit
 abbrev pub digit : ℕ → ℕ
@@ -31,16 +32,23 @@ unfoldable pub trace-lines : (trace : List ℕ) → List ℕ
 trace-lines [] = []
 trace-lines (i ∷ is) = number-then i line-feed ++ trace-lines is
 
--- "ok", steps, entries, stays, root and passed entries
-unfoldable pub first-line : (steps entries stays root passed : ℕ) → List ℕ
-first-line steps entries stays root passed =
-    (111 ∷ 107 ∷ space ∷ []) ++ (number-then steps space ++ (number-then entries space
-    ++ (number-then stays space ++ (number-then root space ++ number-then passed line-feed))))
+-- numbers, each behind a space, and a line feed behind the last
+unfoldable pub spaced : (numbers : List ℕ) → List ℕ
+spaced [] = line-feed ∷ []
+spaced (n ∷ ns) = (space ∷ numeral n) ++ spaced ns
+
+-- the numbers of the first line: steps, entries, stays, root and passed entries
+abbrev pub count-numbers : Counts → List ℕ
+count-numbers c = c .steps ∷ c .entries ∷ c .stays ∷ c .root ∷ c .passed ∷ []
+
+-- "ok" and the counts
+unfoldable pub first-line : Counts → List ℕ
+first-line c = (111 ∷ 107 ∷ []) ++ spaced (count-numbers c)
 
 -- the listing of an accepted run: its counts, then its trace
-unfoldable pub listing : (steps entries stays root passed : ℕ) → (trace : List ℕ) → List ℕ
-listing steps entries stays root passed trace = first-line steps entries stays root passed ++ trace-lines trace
+unfoldable pub listing : Counts → (trace : List ℕ) → List ℕ
+listing c trace = first-line c ++ trace-lines trace
 
 -- "refused", number and place
 unfoldable pub refusal-line : (number place : ℕ) → List ℕ
-refusal-line n p = (114 ∷ 101 ∷ 102 ∷ 117 ∷ 115 ∷ 101 ∷ 100 ∷ space ∷ []) ++ (number-then n space ++ number-then p line-feed)
+refusal-line n p = (114 ∷ 101 ∷ 102 ∷ 117 ∷ 115 ∷ 101 ∷ 100 ∷ []) ++ spaced (n ∷ p ∷ [])

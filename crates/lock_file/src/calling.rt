@@ -18,10 +18,10 @@ fn wide(x: u32) -> usize
 
 // What a run replied, as the file call answers it.
 fn answer_run(reply: RunReply, trace: &[u16], output: &mut [u8]) -> FileReply
-    requires { ⌜ reply .entries ≤ length (now trace) ⌝ }
+    requires { ⌜ reply .counts .entries ≤ length (now trace) ⌝ }
     requires { ⌜ length (now trace) ≤ 65536 ⌝ }
-    ensures { λ r. ⌜ r ≡ outcome-reply (run-outcome reply (take (reply .entries) (now (trace .entry))) (length (now (output .entry)))) ⌝ }
-    ensures { λ r. ⌜ now (output .exit) ≡ outcome-output (run-outcome reply (take (reply .entries) (now (trace .entry))) (length (now (output .entry)))) (now (output .entry)) ⌝ }
+    ensures { λ r. ⌜ r ≡ outcome-reply (run-outcome reply (take (reply .counts .entries) (now (trace .entry))) (length (now (output .entry)))) ⌝ }
+    ensures { λ r. ⌜ now (output .exit) ≡ outcome-output (run-outcome reply (take (reply .counts .entries) (now (trace .entry))) (length (now (output .entry)))) (now (output .entry)) ⌝ }
 {
     if reply.number != 0 {
         return FileReply {
@@ -30,16 +30,9 @@ fn answer_run(reply: RunReply, trace: &[u16], output: &mut [u8]) -> FileReply
             length: 0,
         };
     }
-    let n = wide(reply.entries);
-    listing::list_run(
-        reply.steps,
-        reply.entries,
-        reply.stays,
-        reply.root,
-        reply.passed,
-        &trace[..n],
-        output,
-    )
+    let counts = reply.counts;
+    let n = wide(counts.entries);
+    listing::list_run(counts, &trace[..n], output)
 }
 
 // The run, with lent buffers for the schedule and the trace.

@@ -4,9 +4,10 @@ ghost use mathlib.Core.List.{[], _∷_};
 ghost use Prim.Native.Nat.{_+_, _<_, _≤_};
 ghost use lib.ListN.{length};
 ghost use lib.Seq.{sets};
-ghost use Rattle.lock_file.specs.Listing.{digit, numeral, number-then, first-line, trace-lines, listing, refusal-line};
+ghost use Rattle.lock_file.specs.Listing.{digit, numeral, number-then, trace-lines, spaced, count-numbers, first-line, listing, refusal-line};
 ghost use Rattle.lock_file.specs.FileAnswers.{listing-outcome, outcome-reply, outcome-output};
 use crate::FileReply;
+use model::Counts;
 
 fn digit_of(d: u32) -> u8
     requires { ⌜ d < 10 ⌝ }
@@ -67,45 +68,74 @@ fn number_length(value: u32) -> usize
 }
 
 fn put_ok(output: &mut [u8])
-    requires { ⌜ 3 ≤ length (now output) ⌝ }
-    ensures { λ r. ⌜ now (output .exit) ≡ sets (now (output .entry)) 0 (111 ∷ 107 ∷ 32 ∷ []) ⌝ }
+    requires { ⌜ 2 ≤ length (now output) ⌝ }
+    ensures { λ r. ⌜ now (output .exit) ≡ sets (now (output .entry)) 0 (111 ∷ 107 ∷ []) ⌝ }
 {
     output[0] = 111;
     output[1] = 107;
-    output[2] = 32;
+}
+
+// Writes numbers from a position on, each behind a space, and a line feed; returns the position behind it.
+fn put_spaced(output: &mut [u8], start: usize, numbers: &[u32]) -> usize
+    requires { ⌜ start + length (spaced (now numbers)) ≤ length (now output) ⌝ }
+    ensures { λ r. ⌜ r ≡ start + length (spaced (now (numbers .entry))) ⌝ }
+    ensures { λ r. ⌜ now (output .exit) ≡ sets (now (output .entry)) start (spaced (now (numbers .entry))) ⌝ }
+{
+    let mut at = start;
+    let mut k = 0;
+    while k < numbers.len() {
+        output[at] = 32;
+        at = put_numeral(output, at + 1, numbers[k]);
+        k += 1;
+    }
+    output[at] = 10;
+    at + 1
+}
+
+// How many bytes they take.
+fn spaced_length(numbers: &[u32]) -> usize
+    requires { ⌜ length (now numbers) ≤ 8 ⌝ }
+    ensures { λ r. ⌜ r ≡ length (spaced (now (numbers .entry))) ⌝ }
+    ensures { λ r. ⌜ r ≤ 89 ⌝ }
+{
+    let mut total: usize = 1;
+    let mut k = 0;
+    while k < numbers.len() {
+        total = total + number_length(numbers[k]);
+        k += 1;
+    }
+    total
+}
+
+fn numbers_of(counts: Counts) -> [u32; 5]
+    ensures { λ r. ⌜ r ≡ count-numbers counts ⌝ }
+{
+    [
+        counts.steps,
+        counts.entries,
+        counts.stays,
+        counts.root,
+        counts.passed,
+    ]
 }
 
 // Writes the first line at the front, and returns its length.
-fn put_first_line(
-    output: &mut [u8],
-    steps: u32,
-    entries: u32,
-    stays: u32,
-    root: u32,
-    passed: u32,
-) -> usize
-    requires { ⌜ length (first-line steps entries stays root passed) ≤ length (now output) ⌝ }
-    ensures { λ r. ⌜ r ≡ length (first-line steps entries stays root passed) ⌝ }
-    ensures { λ r. ⌜ now (output .exit) ≡ sets (now (output .entry)) 0 (first-line steps entries stays root passed) ⌝ }
+fn put_first_line(output: &mut [u8], counts: Counts) -> usize
+    requires { ⌜ length (first-line counts) ≤ length (now output) ⌝ }
+    ensures { λ r. ⌜ r ≡ length (first-line counts) ⌝ }
+    ensures { λ r. ⌜ now (output .exit) ≡ sets (now (output .entry)) 0 (first-line counts) ⌝ }
 {
+    let numbers = numbers_of(counts);
     put_ok(output);
-    let behind_steps = put_number(output, 3, steps, 32);
-    let behind_entries = put_number(output, behind_steps, entries, 32);
-    let behind_stays = put_number(output, behind_entries, stays, 32);
-    let behind_root = put_number(output, behind_stays, root, 32);
-    put_number(output, behind_root, passed, 10)
+    put_spaced(output, 2, &numbers)
 }
 
-fn first_line_length(steps: u32, entries: u32, stays: u32, root: u32, passed: u32) -> usize
-    ensures { λ r. ⌜ r ≡ length (first-line steps entries stays root passed) ⌝ }
-    ensures { λ r. ⌜ r ≤ 58 ⌝ }
+fn first_line_length(counts: Counts) -> usize
+    ensures { λ r. ⌜ r ≡ length (first-line counts) ⌝ }
+    ensures { λ r. ⌜ r ≤ 91 ⌝ }
 {
-    3
-        + number_length(steps)
-        + number_length(entries)
-        + number_length(stays)
-        + number_length(root)
-        + number_length(passed)
+    let numbers = numbers_of(counts);
+    2 + spaced_length(&numbers)
 }
 
 fn wide(x: u16) -> u32
@@ -144,20 +174,12 @@ fn trace_length(trace: &[u16]) -> usize
 }
 
 // Measures the listing first, so that a short output buffer stays as it came; then writes it.
-pub(crate) fn list_run(
-    steps: u32,
-    entries: u32,
-    stays: u32,
-    root: u32,
-    passed: u32,
-    trace: &[u16],
-    output: &mut [u8],
-) -> FileReply
+pub(crate) fn list_run(counts: Counts, trace: &[u16], output: &mut [u8]) -> FileReply
     requires { ⌜ length (now trace) ≤ 65536 ⌝ }
-    ensures { λ r. ⌜ r ≡ outcome-reply (listing-outcome (listing steps entries stays root passed (now (trace .entry))) (length (now (output .entry)))) ⌝ }
-    ensures { λ r. ⌜ now (output .exit) ≡ outcome-output (listing-outcome (listing steps entries stays root passed (now (trace .entry))) (length (now (output .entry)))) (now (output .entry)) ⌝ }
+    ensures { λ r. ⌜ r ≡ outcome-reply (listing-outcome (listing counts (now (trace .entry))) (length (now (output .entry)))) ⌝ }
+    ensures { λ r. ⌜ now (output .exit) ≡ outcome-output (listing-outcome (listing counts (now (trace .entry))) (length (now (output .entry)))) (now (output .entry)) ⌝ }
 {
-    let total = first_line_length(steps, entries, stays, root, passed) + trace_length(trace);
+    let total = first_line_length(counts) + trace_length(trace);
     if output.len() < total {
         return FileReply {
             number: 14,
@@ -165,7 +187,7 @@ pub(crate) fn list_run(
             length: 0,
         };
     }
-    let at = put_first_line(output, steps, entries, stays, root, passed);
+    let at = put_first_line(output, counts);
     put_trace(output, at, trace);
     FileReply {
         number: 0,
@@ -175,8 +197,8 @@ pub(crate) fn list_run(
 }
 
 fn put_refused(output: &mut [u8])
-    requires { ⌜ 8 ≤ length (now output) ⌝ }
-    ensures { λ r. ⌜ now (output .exit) ≡ sets (now (output .entry)) 0 (114 ∷ 101 ∷ 102 ∷ 117 ∷ 115 ∷ 101 ∷ 100 ∷ 32 ∷ []) ⌝ }
+    requires { ⌜ 7 ≤ length (now output) ⌝ }
+    ensures { λ r. ⌜ now (output .exit) ≡ sets (now (output .entry)) 0 (114 ∷ 101 ∷ 102 ∷ 117 ∷ 115 ∷ 101 ∷ 100 ∷ []) ⌝ }
 {
     output[0] = 114;
     output[1] = 101;
@@ -185,7 +207,6 @@ fn put_refused(output: &mut [u8])
     output[4] = 115;
     output[5] = 101;
     output[6] = 100;
-    output[7] = 32;
 }
 
 // Writes the line of a refusal at the front and returns its length; a short output buffer stays as it came.
@@ -193,11 +214,11 @@ pub(crate) fn list_refusal(number: u32, place: u32, output: &mut [u8]) -> usize
     ensures { λ r. ⌜ r ≡ outcome-reply (listing-outcome (refusal-line number place) (length (now (output .entry)))) .length ⌝ }
     ensures { λ r. ⌜ now (output .exit) ≡ outcome-output (listing-outcome (refusal-line number place) (length (now (output .entry)))) (now (output .entry)) ⌝ }
 {
-    let total = 8 + number_length(number) + number_length(place);
+    let numbers = [number, place];
+    let total = 7 + spaced_length(&numbers);
     if output.len() < total {
         return 0;
     }
     put_refused(output);
-    let at = put_number(output, 8, number, 32);
-    put_number(output, at, place, 10)
+    put_spaced(output, 7, &numbers)
 }

@@ -6,6 +6,7 @@ use lib.Dec.{eqb}
 use lib.ListN.{length, drop}
 use Rattle.model.specs.declared.TreeWords.{TreeWords}
 use Rattle.model.specs.declared.State.{State}
+use Rattle.model.specs.declared.Counts.{Counts}
 use Rattle.model.specs.declared.FreshReply.{FreshReply}
 use Rattle.model.specs.declared.StepReply.{StepReply}
 use Rattle.model.specs.declared.RunReply.{RunReply}
@@ -28,23 +29,16 @@ step-reply r s n = record { number = r .number; place = r .place; state = cond (
 unfoldable pub step-answer : TreeWords → State → (thread : ℕ) → StepReply
 step-answer w s i = step-reply (step-refusal (tree-of w) s i) s (step (tree-of w) i s .state)
 
+abbrev pub no-counts : Counts
+no-counts = record { steps = 0; entries = 0; stays = 0; root = 0; passed = 0 }
+
 -- a refused run: zero counts, the state as it came
 abbrev pub run-refused : Refusal → State → RunReply
 run-refused r s =
-    record { number = r .number; place = r .place; steps = 0; entries = 0; stays = 0; root = 0; passed = 0; state = s }
+    record { number = r .number; place = r .place; counts = no-counts; state = s }
 
 abbrev pub run-accepted : Run → RunReply
-run-accepted x =
-    record {
-      number = 0;
-      place = 0;
-      steps = x .steps;
-      entries = x .entries;
-      stays = x .stays;
-      root = x .root;
-      passed = x .passed;
-      state = x .state;
-    }
+run-accepted x = record { number = 0; place = 0; counts = x .counts; state = x .state }
 
 unfoldable pub run-reply : Refusal → State → Run → RunReply
 run-reply r s x = cond (eqb (r .number) 0) (run-accepted x) (run-refused r s)

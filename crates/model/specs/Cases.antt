@@ -8,11 +8,11 @@ use Rattle.model.specs.declared.TreeWords.{TreeWords}
 use Rattle.model.specs.declared.PlaceWords.{PlaceWords}
 use Rattle.model.specs.declared.Place.the-variants.{Idle, Prep, Swap, Wait, Inside, Check, Help, Grant}
 use Rattle.model.specs.declared.State.{State}
-use Rattle.model.specs.declared.RunReply.{RunReply}
+use Rattle.model.specs.declared.Counts.{Counts}
 use Rattle.model.specs.Trees.{tree-of, allowance}
 use Rattle.model.specs.States.{wait-word, locked, fresh-words, with-tail, with-next, with-status, with-place}
 use Rattle.model.specs.Runs.{steps, state-after, begun, ended, entries-under, occurrences}
-use Rattle.model.specs.Answers.{fresh-answer, step-answer, run-answer, trace-answer}
+use Rattle.model.specs.Answers.{no-counts, fresh-answer, step-answer, run-answer, trace-answer}
 
 -- INPUTS. A tree by its numbers of domains and threads, its parents, thresholds and homes; the room behind them is 0
 unfoldable pub padded : (room : ℕ) → List ℕ → List ℕ
@@ -30,18 +30,14 @@ count-up k (suc n) = k ∷ count-up (suc k) n
 pub record Expected : Type 0 where
   pub number : ℕ
   pub place : ℕ
-  pub steps : ℕ
-  pub entries : ℕ
-  pub stays : ℕ
-  pub root : ℕ
-  pub passed : ℕ
+  pub counts : Counts
   pub trace : List ℕ
 
 unfoldable pub ok : (steps entries stays root passed : ℕ) → (trace : List ℕ) → Expected
-ok a b c d e tr = record { number = 0; place = 0; steps = a; entries = b; stays = c; root = d; passed = e; trace = tr }
+ok a b c d e tr = record { number = 0; place = 0; counts = record { steps = a; entries = b; stays = c; root = d; passed = e }; trace = tr }
 
 unfoldable pub refused : (number place : ℕ) → Expected
-refused n p = record { number = n; place = p; steps = 0; entries = 0; stays = 0; root = 0; passed = 0; trace = [] }
+refused n p = record { number = n; place = p; counts = no-counts; trace = [] }
 
 -- accepted, with nothing counted
 unfoldable pub passes : Expected
@@ -150,8 +146,8 @@ same-state a b =
 unfoldable pub gives : (number place : ℕ) → Expected → Bool
 gives n p x = eqb n (x .number) && eqb p (x .place)
 
-unfoldable pub counts : RunReply → Expected → Bool
-counts r x =
+unfoldable pub same-counts : Counts → Counts → Bool
+same-counts r x =
     (eqb (r .steps) (x .steps) && eqb (r .entries) (x .entries))
     && (eqb (r .stays) (x .stays) && (eqb (r .root) (x .root) && eqb (r .passed) (x .passed)))
 
@@ -164,7 +160,7 @@ kept (suc r) s n = same-state n s
 unfoldable pub run-holds : TreeWords → State → (schedule buffer : List ℕ) → Expected → Bool
 run-holds w s is b x =
     let r = run-answer w s is b in
-    (gives (r .number) (r .place) x && counts r x)
+    (gives (r .number) (r .place) x && same-counts (r .counts) (x .counts))
     && (kept (x .number) s (r .state) && same-numbers (trace-answer w s is b) (x .trace ++ drop (length (x .trace)) b))
 
 unfoldable pub holds : Case → Bool

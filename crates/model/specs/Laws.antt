@@ -7,6 +7,7 @@ use Prim.Native.Nat.{ℕ, _+_, _≤_, _<_}
 use lib.ListN.{length, getD}
 use Rattle.model.specs.declared.TreeWords.{TreeWords}
 use Rattle.model.specs.declared.State.{State}
+use Rattle.model.specs.declared.Counts.{Counts}
 use Rattle.model.specs.declared.Place.the-variants.{Swap, Wait, Inside}
 use Rattle.model.specs.Trees.{Tree, tree-of, is-member}
 use Rattle.model.specs.Places.{place-words}
@@ -53,18 +54,19 @@ pub record Keeps-form (t : Tree) : Type 0 where
 unfoldable pub Form-law : Type 0
 Form-law = (t : Tree) → Sixteen-bit t → tree-refusal t .number ≡ 0 → Keeps-form t
 
--- 2. RUNS. One run behind another
-unfoldable pub then-run : Run → Run → Run
-then-run x y =
+-- 2. RUNS. One run behind another: counts are added, one by one
+unfoldable pub add-counts : Counts → Counts → Counts
+add-counts x y =
     record {
       steps = x .steps + y .steps;
       entries = x .entries + y .entries;
       stays = x .stays + y .stays;
       root = x .root + y .root;
       passed = x .passed + y .passed;
-      trace = x .trace ++ y .trace;
-      state = y .state;
     }
+
+unfoldable pub then-run : Run → Run → Run
+then-run x y = record { counts = add-counts (x .counts) (y .counts); trace = x .trace ++ y .trace; state = y .state }
 
 -- a run equals its steps one after another
 pub record Equals-steps (t : Tree) (s : State) : Type 0 where
@@ -77,9 +79,9 @@ Run-law = (t : Tree) (s : State) → Equals-steps t s
 
 -- root entries and passed entries add up to the entries, which are as many as the trace has; steps are as many as the schedule has entries
 pub record Adds-up (schedule : List ℕ) (x : Run) : Type 0 where
-  pub both-entries : x .root + x .passed ≡ x .entries
-  pub traced : length (x .trace) ≡ x .entries
-  pub all-steps : x .steps ≡ length schedule
+  pub both-entries : x .counts .root + x .counts .passed ≡ x .counts .entries
+  pub traced : length (x .trace) ≡ x .counts .entries
+  pub all-steps : x .counts .steps ≡ length schedule
 
 unfoldable pub Count-law : Type 0
 Count-law = (t : Tree) (is : List ℕ) (s : State) → Adds-up is (run t is s)

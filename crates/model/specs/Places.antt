@@ -74,3 +74,18 @@ is-inside (Cas l) = false
 is-inside (Linger l) = false
 is-inside (Grant l s w) = false
 is-inside Invalid = false
+
+-- the domain of a place; Idle and Inside are at home
+abbrev pub place-domain : (home : ℕ) → Place → ℕ
+place-domain h Idle = h
+place-domain h (Prep l) = l
+place-domain h (Swap l) = l
+place-domain h (Link l p) = l
+place-domain h (Wait l) = l
+place-domain h Inside = h
+place-domain h (Check l) = l
+place-domain h (Help l) = l
+place-domain h (Cas l) = l
+place-domain h (Linger l) = l
+place-domain h (Grant l r w) = l
+place-domain h Invalid = h

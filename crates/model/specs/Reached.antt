@@ -10,7 +10,7 @@ use Rattle.model.specs.declared.State.{State}
 use Rattle.model.specs.declared.Place.the-variants.{Check, Grant}
 use Rattle.model.specs.Trees.{Tree, tree-of, own-record, is-member}
 use Rattle.model.specs.States.{none, tail, next, status, place, fresh-words, with-place}
-use Rattle.model.specs.Steps.{moves, release-place, Step, step}
+use Rattle.model.specs.Steps.{Row-result, step-from, moves, release-place, check-row, step}
 use Rattle.model.specs.Runs.{steps, run, begun, ended, occurrences}
 use Rattle.model.specs.Acts.{acts}
 use Rattle.model.specs.Refusals.{accepted, tree-refusal}
@@ -35,20 +35,21 @@ Never-refused =
     (c : Call) → tree-of (c .tree) ≡ tree-of w → Asks-well (tree-of w) (c .ask) → call-refusal c (last-state cs (fresh-answer w .state)) ≡ accepted
 
 -- THE LISTING'S TEST. Check as the listing has it, by equality with the threshold
-unfoldable pub equality-check-row : Tree → (thread domain : ℕ) → State → Step
+unfoldable pub equality-check-row : Tree → (thread domain : ℕ) → State → Row-result
 equality-check-row t i l s =
     let I = own-record t i l in
     let v = status s I in
     let n = next s I in
     cond (not (eqb v (t .threshold l)) && not (eqb n none))
-    (moves i l (with-place i (Grant l (n - 1) (v + 1)) s))
-    (moves i l (with-place i (release-place (t .parent l)) s))
+    (moves (with-place i (Grant l (n - 1) (v + 1)) s))
+    (moves (with-place i (release-place (t .parent l)) s))
 
 -- at every Check the status is a count from 1 to the threshold, so both tests give the same step
 pub record Counts-at-check (t : Tree) (s : State) (i l : ℕ) : Type 0 where
   pub started : 1 ≤ status s (own-record t i l)
   pub within : status s (own-record t i l) ≤ t .threshold l
-  pub same-step : step t i s ≡ equality-check-row t i l s
+  pub same-row : check-row t i l s ≡ equality-check-row t i l s
+  pub same-step : step t i s ≡ step-from t i (Check l) (equality-check-row t i l s)
 
 unfoldable pub Equality-law : Type 0
 Equality-law =

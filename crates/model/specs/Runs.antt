@@ -5,8 +5,9 @@ use Prim.Native.Nat.{ℕ, _+_}
 use lib.Dec.{eqb}
 use lib.ListN.{length}
 use Rattle.model.specs.declared.State.{State}
+use Rattle.model.specs.declared.Counts.{Counts}
 use Rattle.model.specs.Trees.{Tree, under}
-use Rattle.model.specs.Steps.{Kind, is-stay, is-root-entry, is-passed-entry, is-entry, Standing, unchanged, begins, ends, Step, step}
+use Rattle.model.specs.Steps.{Kind, stay, root-entry, passed-entry, is-kind, is-entry, Standing, unchanged, begins, ends, Step, step}
 
 -- the steps of a schedule from a state, in order
 unfoldable pub steps : Tree → (schedule : List ℕ) → State → List Step
@@ -28,28 +29,26 @@ unfoldable pub entering : List Step → List ℕ
 entering [] = []
 entering (x ∷ xs) = cond (is-entry (x .kind)) (x .thread ∷ []) [] ++ entering xs
 
--- a run: steps (stays among them), entries, stays, root entries, passed entries, each counted from the steps; the trace; the state after the last step
+-- steps (stays among them), entries, stays, root entries, passed entries, each counted from the steps
+unfoldable pub counts-of : List Step → Counts
+counts-of xs =
+    record {
+      steps = length xs;
+      entries = how-many is-entry xs;
+      stays = how-many (is-kind stay) xs;
+      root = how-many (is-kind root-entry) xs;
+      passed = how-many (is-kind passed-entry) xs;
+    }
+
+-- a run: what is counted of its steps; the trace; the state after the last step
 pub record Run : Type 0 where
-  pub steps : ℕ
-  pub entries : ℕ
-  pub stays : ℕ
-  pub root : ℕ
-  pub passed : ℕ
+  pub counts : Counts
   pub trace : List ℕ
   pub state : State
 
 -- what some steps from a state come to
 unfoldable pub run-of : State → List Step → Run
-run-of s xs =
-    record {
-      steps = length xs;
-      entries = how-many is-entry xs;
-      stays = how-many is-stay xs;
-      root = how-many is-root-entry xs;
-      passed = how-many is-passed-entry xs;
-      trace = entering xs;
-      state = state-after s xs;
-    }
+run-of s xs = record { counts = counts-of xs; trace = entering xs; state = state-after s xs }
 
 unfoldable pub run : Tree → (schedule : List ℕ) → State → Run
 run t is s = run-of s (steps t is s)

@@ -1,5 +1,25 @@
 // The words that cross a call. Numbers only, laid out as C lays them out, so that a C++ host can hold them.
 
+// Status words: of a member's record below the root, and of one at the root.
+pub const COHORT_START: u64 = 1;
+
+pub const ACQUIRE_PARENT: u64 = 18446744073709551614;
+
+pub const WAIT: u64 = 18446744073709551615;
+
+pub const UNLOCKED: u64 = 0;
+
+pub const LOCKED: u64 = 1;
+
+// Kinds of a step, by their numbers.
+pub const STAY: u8 = 0;
+
+pub const OTHER_MOVE: u8 = 1;
+
+pub const ROOT_ENTRY: u8 = 2;
+
+pub const PASSED_ENTRY: u8 = 3;
+
 // A tree with its threads. The root's parent and threshold, and room that the tree lacks, are not read.
 #[repr(C)]
 pub struct TreeWords {
@@ -44,6 +64,16 @@ pub enum Place {
     Invalid,
 }
 
+// What is counted of a run's steps: all of them, stays among them; entries, stays, root entries, passed entries.
+#[repr(C)]
+pub struct Counts {
+    pub steps: u32,
+    pub entries: u32,
+    pub stays: u32,
+    pub root: u32,
+    pub passed: u32,
+}
+
 // What the three calls return. Number 0 is accepted.
 #[repr(C)]
 pub struct FreshReply {
@@ -63,10 +93,6 @@ pub struct StepReply {
 pub struct RunReply {
     pub number: u32,
     pub place: u32,
-    pub steps: u32,
-    pub entries: u32,
-    pub stays: u32,
-    pub root: u32,
-    pub passed: u32,
+    pub counts: Counts,
     pub state: State,
 }

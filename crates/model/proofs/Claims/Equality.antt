@@ -69,6 +69,7 @@ counts-at-check t 𝓐 s q i l h e =
     record {
       started = omega (arith, counts .0);
       within = within;
+      same-row = rw (same-test (status s (own-record t i l)) (t .threshold l) within);
       same-step = rw (e, same-test (status s (own-record t i l)) (t .threshold l) within);
     }
 

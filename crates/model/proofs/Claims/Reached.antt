@@ -21,7 +21,7 @@ use Rattle.model.proofs.Queues.Order.{join-runs}
 use Rattle.model.proofs.Words.Links.{final-nil}
 use Rattle.model.proofs.Words.View.{words-in, Room}
 use Rattle.model.proofs.Words.Represents.{at-idle, Represents}
-use Rattle.model.proofs.Words.Outcome.{shown}
+use Rattle.model.proofs.Words.Outcome.{row-shown, shown}
 use Rattle.model.proofs.Words.Steps.{step-outcome}
 
 -- what some steps show, in order
@@ -69,12 +69,12 @@ pub record Led (t : Tree) (s : WordState) (g : State) (xs : List Step) : Type 0 
 
 module _ (t : Tree) (𝓐 : Accepted t) (bits : Sixteen-bit t) where
   pub led : (is : List ℕ) → All-threads t is → (s : WordState) (q : Queued t s) → Led t s (q .queues) (steps t is s)
-  unfolding steps state-after all-shown All-threads All-real
+  unfolding steps state-after step shown row-shown all-shown All-threads All-real
   led [] l s q = record { real = tt; there = q; follows = done }
   led (i ∷ is) l s q =
       let x = step-outcome t 𝓐 bits s (q .room) (q .queues) (q .represents) i (l .0) in
       let rest = led is (l .1) (step t i s .state) (record { queues = x .state; room = x .room; represents = x .represents }) in
-      record { real = (rw (x .whose) (l .0), rest .real); there = rest .there; follows = join-runs t (x .follows) (rest .follows) }
+      record { real = (l .0, rest .real); there = rest .there; follows = join-runs t (x .follows) (rest .follows) }
 
   pub from-fresh : (is : List ℕ) → All-threads t is → Led t fresh-words empty (steps t is fresh-words)
   unfolding fresh-queued

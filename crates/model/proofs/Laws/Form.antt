@@ -13,7 +13,7 @@ use Rattle.model.specs.declared.State.{State}
 use Rattle.model.specs.Trees.{Tree, on-path, child, own-record, is-record, is-member, owner-domain}
 use Rattle.model.specs.Places.{place-words, words-of, place-of}
 use Rattle.model.specs.States.{acquire-parent, wait-word, locked, unlocked, cohort-start, root-word, none, tail, next, status, place, with-place, fresh-words}
-use Rattle.model.specs.Steps.{Step, acquired-place, release-place, done-place, release-word, prep-row, swap-row, link-row, wait-row, leave-row, check-row, help-row, cas-row, linger-row, grant-row, row, step}
+use Rattle.model.specs.Steps.{Row-result, acquired-place, release-place, done-place, release-word, prep-row, swap-row, link-row, wait-row, leave-row, check-row, help-row, cas-row, linger-row, grant-row, row, step}
 use Rattle.model.specs.WellFormed.{good-place}
 use Rattle.model.specs.Laws.{Sixteen-bit, Formed, Form-law}
 use Rattle.model.proofs.Tests.{by-test, and-both}
@@ -64,7 +64,7 @@ root-word-fits : (l a b : ℕ) → Sixty-four-bit a → Sixty-four-bit b → Six
 root-word-fits l a b f g = by-test Sixty-four-bit (eqb l 0) a b (λ _. f) (λ _. g)
 
 -- the facts after a step
-abbrev Kept : Tree → Step → Type 0
+abbrev Kept : Tree → Row-result → Type 0
 Kept t x = Facts t (x .state)
 
 -- Invalid is nowhere good
@@ -209,7 +209,7 @@ module _ (t : Tree) (b : Sixteen-bit t) (𝓐 : Accepted t) (i : ℕ) (h : i < t
     row-keeps (Grant l r w) f = let c = and-both (on-path t i l) (is-member t l r) (f .0) in grant-keeps l r w (c .0) (c .1) (f .1)
     row-keeps Invalid f = absurd (false≢true (f .0))
 
-    pub step-keeps : Kept t (step t i s)
+    pub step-keeps : Facts t (step t i s .state)
     unfolding step
     step-keeps =
         let x = getD (s .places) i (place-words 0 0 0 0) in

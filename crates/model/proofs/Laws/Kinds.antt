@@ -12,7 +12,7 @@ use Rattle.model.specs.declared.State.{State}
 use Rattle.model.specs.Trees.{Tree, on-path, child, own-record}
 use Rattle.model.specs.Places.{words-of}
 use Rattle.model.specs.States.{acquire-parent, wait-word, locked, none, tail, next, status, place, with-place}
-use Rattle.model.specs.Steps.{Kind, stay, other, root-entry, passed-entry, is-root-entry, is-passed-entry, is-entry, Step, acquired-place, release-place, done-place, release-word, prep-row, swap-row, link-row, wait-row, leave-row, check-row, help-row, cas-row, linger-row, grant-row, row, step}
+use Rattle.model.specs.Steps.{Kind, stay, other, root-entry, passed-entry, is-entry, Row-result, acquired-place, release-place, done-place, release-word, prep-row, swap-row, link-row, wait-row, leave-row, check-row, help-row, cas-row, linger-row, grant-row, row, step}
 use Rattle.model.specs.WellFormed.{good-place}
 use Rattle.model.specs.Laws.{Tells-kind, Kind-law}
 use Rattle.model.proofs.Tests.{by-test, and-both, or-neither}
@@ -32,14 +32,14 @@ moves-to p q f =
     (λ e. eqb-false _ _ (both .0) (ap (λ x. words-of x .row) e), λ e. eqb-false _ _ (both .1) (ap (λ x. words-of x .row) e))
 
 -- what a step of a thread from a place comes to
-pub data Outcome (s : State) (i : ℕ) (p : Place) (x : Step) : Type 0 where
+pub data Outcome (s : State) (i : ℕ) (p : Place) (x : Row-result) : Type 0 where
   stayed : x .kind ≡ stay → x .state ≡ s → Outcome s i p x
   moved : (q : Place) → x .kind ≡ other → place (x .state) i ≡ q → Moves-to p q → Outcome s i p x
   entered-root : x .kind ≡ root-entry → place (x .state) i ≡ Inside → (p ≡ Swap 0) ⊎ (p ≡ Wait 0) → Outcome s i p x
   entered-passed : (l : ℕ) → x .kind ≡ passed-entry → place (x .state) i ≡ Inside → l ≢ 0 → p ≡ Wait l → Outcome s i p x
 
 module _ (t : Tree) (𝓐 : Accepted t) (i : ℕ) (h : i < t .threads) (s : State) (k : Facts t s) where
-  abbrev Of : Place → Step → Type 0
+  abbrev Of : Place → Row-result → Type 0
   Of p x = Outcome s i p x
 
   -- the stores of a row leave the places alone but for the thread's own
@@ -153,20 +153,19 @@ module _ (t : Tree) (𝓐 : Accepted t) (i : ℕ) (h : i < t .threads) (s : Stat
   row-outcome (Grant l r w) g = grant-outcome l r w
   row-outcome Invalid g = absurd (false≢true g)
 
-  pub step-outcome : Outcome s i (place s i) (step t i s)
-  unfolding step
+  pub step-outcome : Outcome s i (place s i) (row t i (place s i) s)
   step-outcome = row-outcome (place s i) (k .places i .used h)
 
 -- FROM OUTCOMES TO KINDS
 pub entry-kinds : (k : Kind) → is-entry k ≡ true → (k ≡ root-entry) ⊎ (k ≡ passed-entry)
-unfolding is-entry is-root-entry is-passed-entry
+unfolding is-entry
 entry-kinds stay e = absurd (false≢true e)
 entry-kinds other e = absurd (false≢true e)
 entry-kinds root-entry e = inl refl
 entry-kinds passed-entry e = inr refl
 
 pub kinds-entry : (k : Kind) → (k ≡ root-entry) ⊎ (k ≡ passed-entry) → is-entry k ≡ true
-unfolding is-entry is-root-entry is-passed-entry
+unfolding is-entry
 kinds-entry k (inl e) = rw e
 kinds-entry k (inr e) = rw e
 
@@ -204,7 +203,8 @@ module _ (t : Tree) (i : ℕ) (s : State) where
   not-entry : kind ≢ root-entry → kind ≢ passed-entry → is-entry kind ≢ true
   not-entry a b e = elim (entry-kinds kind e) [ inl f ↦ a f | inr f ↦ b f ]
 
-  tells : Outcome s i before (step t i s) → Tells-kind t i s
+  tells : Outcome s i before (row t i (place s i) s) → Tells-kind t i s
+  unfolding step
   tells (stayed e f) =
       let same : after ≡ before = ap (λ x. place x i) f in
       let no-root : kind ≢ root-entry = λ g. never (cc) in

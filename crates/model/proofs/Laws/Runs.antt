@@ -7,9 +7,9 @@ use native.Mathlib.Omega.{arith}
 use lib.ListN.{length, take, drop, length-append}
 use Rattle.model.specs.declared.State.{State}
 use Rattle.model.specs.Trees.{Tree}
-use Rattle.model.specs.Steps.{Kind, stay, other, root-entry, passed-entry, is-stay, is-root-entry, is-passed-entry, is-entry, Step, step}
-use Rattle.model.specs.Runs.{steps, state-after, how-many, entering, run-of, run, begun, ended, entries-under}
-use Rattle.model.specs.Laws.{All-threads, then-run, Run-law, Count-law}
+use Rattle.model.specs.Steps.{Kind, stay, other, root-entry, passed-entry, is-kind, is-entry, Step, step}
+use Rattle.model.specs.Runs.{steps, state-after, how-many, entering, counts-of, run-of, run, begun, ended, entries-under}
+use Rattle.model.specs.Laws.{All-threads, add-counts, then-run, Run-law, Count-law}
 
 -- STEPS of two schedules, the second from the state after the first
 pub steps-join : (t : Tree) (is js : List ℕ) (s : State) → steps t (is ++ js) s ≡ steps t is s ++ steps t js (state-after s (steps t is s))
@@ -67,9 +67,9 @@ entries-under-join t q (x ∷ xs) ys = omega (arith, entries-under-join t q xs y
 
 -- what some steps come to, joined
 pub run-of-join : (s : State) (xs ys : List Step) → run-of s (xs ++ ys) ≡ then-run (run-of s xs) (run-of (state-after s xs) ys)
-unfolding run-of then-run
+unfolding run-of then-run counts-of add-counts
 run-of-join s xs ys =
-    rw (length-append xs ys, how-many-join is-entry xs ys, how-many-join is-stay xs ys, how-many-join is-root-entry xs ys, how-many-join is-passed-entry xs ys, entering-join xs ys, state-after-join s xs ys)
+    rw (length-append xs ys, how-many-join is-entry xs ys, how-many-join (is-kind stay) xs ys, how-many-join (is-kind root-entry) xs ys, how-many-join (is-kind passed-entry) xs ys, entering-join xs ys, state-after-join s xs ys)
 
 pub run-join : (t : Tree) (is js : List ℕ) (s : State) → run t (is ++ js) s ≡ then-run (run t is s) (run t js (run t is s .state))
 unfolding run run-of
@@ -88,14 +88,14 @@ unfolding Run-law run steps
 run-law t s = record { none = refl; one = λ i. refl; joined = λ is js. run-join t is js s }
 
 -- COUNTS. Each entry is a root entry or a passed entry
-entry-both : (k : Kind) → cond (is-root-entry k) 1 0 + cond (is-passed-entry k) 1 0 ≡ cond (is-entry k) 1 0
-unfolding is-entry is-root-entry is-passed-entry
+entry-both : (k : Kind) → cond (is-kind root-entry k) 1 0 + cond (is-kind passed-entry k) 1 0 ≡ cond (is-entry k) 1 0
+unfolding is-kind is-entry
 entry-both stay = refl
 entry-both other = refl
 entry-both root-entry = refl
 entry-both passed-entry = refl
 
-entries-both : (xs : List Step) → how-many is-root-entry xs + how-many is-passed-entry xs ≡ how-many is-entry xs
+pub entries-both : (xs : List Step) → how-many (is-kind root-entry) xs + how-many (is-kind passed-entry) xs ≡ how-many is-entry xs
 unfolding how-many
 entries-both [] = refl
 entries-both (x ∷ xs) = omega (arith, entry-both (x .kind), entries-both xs)
@@ -110,7 +110,7 @@ entering-length (x ∷ xs) = length-append (cond (is-entry (x .kind)) (x .thread
     one false = refl
 
 pub count-law : Count-law
-unfolding Count-law run run-of
+unfolding Count-law run run-of counts-of
 count-law t is s =
     record {
       both-entries = entries-both (steps t is s);

@@ -13,7 +13,7 @@ use Rattle.model.specs.declared.State.{State}
 use Rattle.model.specs.Trees.{Tree, on-path, child, own-record, is-member}
 use Rattle.model.specs.Places.{place-words, words-of, place-of}
 use Rattle.model.specs.States.{acquire-parent, wait-word, locked, unlocked, cohort-start, root-word, none, tail, next, status, place, with-tail, with-next, with-status, with-place, fresh-words}
-use Rattle.model.specs.Steps.{Step, acquired-place, release-place, done-place, release-word, prep-row, swap-row, link-row, wait-row, leave-row, check-row, help-row, cas-row, linger-row, grant-row, row, step}
+use Rattle.model.specs.Steps.{Row-result, acquired-place, release-place, done-place, release-word, prep-row, swap-row, link-row, wait-row, leave-row, check-row, help-row, cas-row, linger-row, grant-row, row, step}
 use Rattle.model.specs.Runs.{run}
 use Rattle.model.specs.WellFormed.{good-place}
 use Rattle.model.specs.Laws.{Sixteen-bit, All-threads, Word-law}
@@ -79,7 +79,7 @@ module _ (t : Tree) (s : State) (k : Good-words t s) where
   next-store : (r v : ℕ) → Good-words t (with-next r v s)
   next-store r v = record { statuses = k .statuses; grants = k .grants }
 
-abbrev Kept : Tree → Step → Type 0
+abbrev Kept : Tree → Row-result → Type 0
 Kept t x = Good-words t (x .state)
 
 module _ (t : Tree) (𝓐 : Accepted t) (i : ℕ) (h : i < t .threads) where
@@ -197,7 +197,7 @@ module _ (t : Tree) (𝓐 : Accepted t) (i : ℕ) (h : i < t .threads) where
     row-keeps (Grant l r w) g f = grant-keeps l r w (and-both (on-path t i l) (is-member t l r) g .1) f
     row-keeps Invalid g f = k
 
-    pub words-kept : Facts t s → Kept t (step t i s)
+    pub words-kept : Facts t s → Good-words t (step t i s .state)
     unfolding step
     words-kept f = row-keeps (place s i) (f .places i .used h) (k .grants i)
 

@@ -10,7 +10,7 @@ use Rattle.model.specs.declared.Place.the-variants.{Check, Help, Cas, Li
 use Rattle.model.specs.declared.State.{State as WordState}
 use Rattle.model.specs.Trees.{Tree}
 use Rattle.model.specs.States.{acquire-parent, unlocked, tail, next, status}
-use Rattle.model.specs.Steps.{is-root-entry, is-passed-entry, is-entry, release-place, release-word, leave-row, check-row, help-row, cas-row, linger-row, grant-row}
+use Rattle.model.specs.Steps.{is-entry, release-place, release-word, leave-row, check-row, help-row, cas-row, linger-row, grant-row}
 use Rattle.model.proofs.Trees.Index.{ancestor, height, record-at}
 use Rattle.model.proofs.Trees.Accepted.{Accepted}
 use Rattle.model.proofs.Trees.Paths.{ancestor-real, ancestor-parent-of, root-test}
@@ -24,7 +24,7 @@ use Rattle.model.proofs.Words.Represents.{Counted, letting-go, letting-
 use Rattle.model.proofs.Words.Frame.{Others, replaced}
 use Rattle.model.proofs.Words.Releasing.{done-at, done-place-at, lone, last-there, vacate, successor, successor-real, successor-within}
 use Rattle.model.proofs.Words.Granting.{hand-lock, hand-domain}
-use Rattle.model.proofs.Words.Outcome.{standing-shown, entry-shown, shown, Outcome, outcome, placed, status-placed, tail-placed}
+use Rattle.model.proofs.Words.Outcome.{standing-shown, entry-shown, row-shown, Outcome, outcome, placed, status-placed, tail-placed}
 
 module _ (t : Tree) (𝓐 : Accepted t) (s : WordState) (room : Room s) (g : State) (i : ℕ) (h : i < t .threads) (o : Others t (words-in s) g i) where
   abbrev w : Words
@@ -52,8 +52,8 @@ module _ (t : Tree) (𝓐 : Accepted t) (s : WordState) (room : Room s) (g : Sta
   abbrev left-state : State
   left-state = record { queue = g .queue; stage = put (g .stage) i holding; tally = g .tally }
 
-  pub leave-outcome : g .stage i ≡ inside → Counted t w g i (height t i) → Outcome t g i (leave-row t i s)
-  unfolding leave-row shown standing-shown entry-shown is-entry is-root-entry is-passed-entry ancestor
+  pub leave-outcome : g .stage i ≡ inside → Counted t w g i (height t i) → Outcome t g i (t .home i) (leave-row t i s)
+  unfolding leave-row row-shown standing-shown entry-shown is-entry ancestor
   leave-outcome e c =
       let p = release-place (t .home i) in
       outcome _ left-state (placed s room i few p)
@@ -64,8 +64,8 @@ module _ (t : Tree) (𝓐 : Accepted t) (s : WordState) (room : Room s) (g : Sta
   check-by :
       (k : ℕ) → k < height t i → g .stage i ≡ holding → Counted t w g i (height t i) → (b c : Bool) →
       ltb (status s (record-at t i k)) (t .threshold (ancestor t i k)) ≡ b → eqb (next s (record-at t i k)) 0 ≡ c →
-      Outcome t g i (check-row t i (ancestor t i k) s)
-  unfolding check-row shown standing-shown entry-shown is-entry is-root-entry is-passed-entry words-in
+      Outcome t g i (ancestor t i k) (check-row t i (ancestor t i k) s)
+  unfolding check-row row-shown standing-shown entry-shown is-entry words-in
   check-by k b e c true false y z =
       let l : k ≤ height t i = omega arith in
       let n = next s (record-at t i k) in
@@ -86,7 +86,7 @@ module _ (t : Tree) (𝓐 : Accepted t) (s : WordState) (room : Room s) (g : Sta
       rw (own-record-at t 𝓐 i h k (omega arith), y, ancestor-parent-of t 𝓐 i h k b)
       (outcome _ g (placed s room i few p) (stands-still p holding e (release-fits (place-to i p w) g (suc k) b c _ refl)) done)
 
-  pub check-outcome : (k : ℕ) → k < height t i → g .stage i ≡ holding → Counted t w g i (height t i) → Outcome t g i (check-row t i (ancestor t i k) s)
+  pub check-outcome : (k : ℕ) → k < height t i → g .stage i ≡ holding → Counted t w g i (height t i) → Outcome t g i (ancestor t i k) (check-row t i (ancestor t i k) s)
   check-outcome k b e c = check-by k b e c _ _ refl refl
 
   -- at the places where a domain is let go last
@@ -103,8 +103,8 @@ module _ (t : Tree) (𝓐 : Accepted t) (s : WordState) (room : Room s) (g : Sta
         stands-still _ (letting-go (height t i) k) e (at-grant k (n - 1) l c (omega (arith, some)))
 
     -- HELP
-    help-by : (b : Bool) → eqb (next s (record-at t i k)) 0 ≡ b → Outcome t g i (help-row t i (ancestor t i k) s)
-    unfolding help-row shown standing-shown entry-shown is-entry is-root-entry is-passed-entry
+    help-by : (b : Bool) → eqb (next s (record-at t i k)) 0 ≡ b → Outcome t g i (ancestor t i k) (help-row t i (ancestor t i k) s)
+    unfolding help-row row-shown standing-shown entry-shown is-entry
     help-by true z =
         rw (own-record-at t 𝓐 i h k l, z)
         (outcome _ g (placed s room i few (Cas (ancestor t i k))) (stands-still (Cas (ancestor t i k)) (letting-go (height t i) k) e (at-cas k l c)) done)
@@ -112,12 +112,12 @@ module _ (t : Tree) (𝓐 : Accepted t) (s : WordState) (room : Room s) (g : Sta
         rw (own-record-at t 𝓐 i h k l, z)
         (outcome _ g (placed s room i few (Grant (ancestor t i k) (next s (record-at t i k) - 1) (release-word (ancestor t i k)))) (to-grant z) done)
 
-    pub help-outcome : Outcome t g i (help-row t i (ancestor t i k) s)
+    pub help-outcome : Outcome t g i (ancestor t i k) (help-row t i (ancestor t i k) s)
     help-outcome = help-by _ refl
 
     -- CAS
-    cas-by : (b : Bool) → eqb (tail s (ancestor t i k)) (record-at t i k + 1) ≡ b → Outcome t g i (cas-row t i (ancestor t i k) s)
-    unfolding cas-row shown standing-shown entry-shown is-entry is-root-entry is-passed-entry words-in
+    cas-by : (b : Bool) → eqb (tail s (ancestor t i k)) (record-at t i k + 1) ≡ b → Outcome t g i (ancestor t i k) (cas-row t i (ancestor t i k) s)
+    unfolding cas-row row-shown standing-shown entry-shown is-entry words-in
     cas-by true z =
         let tl = eqb-true (tail s (ancestor t i k)) (record-at t i k + 1) z in
         let d : ancestor t i k < 64 = omega (arith, ancestor-real t 𝓐 i h k, 𝓐 .few-domains) in
@@ -128,18 +128,18 @@ module _ (t : Tree) (𝓐 : Accepted t) (s : WordState) (room : Room s) (g : Sta
         rw (own-record-at t 𝓐 i h k l, z)
         (outcome _ g (placed s room i few (Linger (ancestor t i k))) (stands-still (Linger (ancestor t i k)) (letting-go (height t i) k) e (at-linger k l c)) done)
 
-    pub cas-outcome : Outcome t g i (cas-row t i (ancestor t i k) s)
+    pub cas-outcome : Outcome t g i (ancestor t i k) (cas-row t i (ancestor t i k) s)
     cas-outcome = cas-by _ refl
 
     -- LINGER
-    linger-by : Represents t w g → (b : Bool) → eqb (next s (record-at t i k)) 0 ≡ b → Outcome t g i (linger-row t i (ancestor t i k) s)
-    unfolding linger-row shown standing-shown entry-shown is-entry is-root-entry is-passed-entry
+    linger-by : Represents t w g → (b : Bool) → eqb (next s (record-at t i k)) 0 ≡ b → Outcome t g i (ancestor t i k) (linger-row t i (ancestor t i k) s)
+    unfolding linger-row row-shown standing-shown entry-shown is-entry
     linger-by rep true z = rw (own-record-at t 𝓐 i h k l, z) (outcome _ g (record { same = refl; room = room }) rep done)
     linger-by rep false z =
         rw (own-record-at t 𝓐 i h k l, z)
         (outcome _ g (placed s room i few (Grant (ancestor t i k) (next s (record-at t i k) - 1) (release-word (ancestor t i k)))) (to-grant z) done)
 
-    pub linger-outcome : Represents t w g → Outcome t g i (linger-row t i (ancestor t i k) s)
+    pub linger-outcome : Represents t w g → Outcome t g i (ancestor t i k) (linger-row t i (ancestor t i k) s)
     linger-outcome rep = linger-by rep _ refl
 
     -- GRANT of the domain, or of the lock at the root
@@ -150,8 +150,8 @@ module _ (t : Tree) (𝓐 : Accepted t) (s : WordState) (room : Room s) (g : Sta
 
     grant-by :
         (r : ℕ) → w .nexts (record-at t i k) ≡ suc r → (b : Bool) → eqb (ancestor t i k) 0 ≡ b →
-        Outcome t g i (grant-row t i (ancestor t i k) r (cond b unlocked acquire-parent) s)
-    unfolding grant-row shown standing-shown entry-shown is-entry is-root-entry is-passed-entry
+        Outcome t g i (ancestor t i k) (grant-row t i (ancestor t i k) r (cond b unlocked acquire-parent) s)
+    unfolding grant-row row-shown standing-shown entry-shown is-entry
     grant-by r own true z =
         let root : k ≡ height t i = eqb-true k (height t i) (sym (root-test t 𝓐 i h k l) ∙ z) in
         let holds = e ∙ letting-go-root (height t i) k root in
@@ -166,14 +166,14 @@ module _ (t : Tree) (𝓐 : Accepted t) (s : WordState) (room : Room s) (g : Sta
         rw (done-place-at t 𝓐 i h k l)
         (outcome _ (x .state) (status-placed s room i few (done-at t i k) r acquire-parent (successor-small r own)) (x .represents) (more (x .move) done))
 
-    pub grant-outcome : (r : ℕ) → w .nexts (record-at t i k) ≡ suc r → Outcome t g i (grant-row t i (ancestor t i k) r (release-word (ancestor t i k)) s)
+    pub grant-outcome : (r : ℕ) → w .nexts (record-at t i k) ≡ suc r → Outcome t g i (ancestor t i k) (grant-row t i (ancestor t i k) r (release-word (ancestor t i k)) s)
     grant-outcome r own = grant-by r own _ refl
 
   -- GRANT of the lock, with a count
   pub pass-outcome :
       (k r v : ℕ) → k < height t i → g .stage i ≡ holding → Counted t w g i (height t i) → w .nexts (record-at t i k) ≡ suc r →
-      v ≡ suc (g .tally (record-at t i k)) → v ≤ t .threshold (ancestor t i k) → Outcome t g i (grant-row t i (ancestor t i k) r v s)
-  unfolding grant-row shown standing-shown entry-shown is-entry is-root-entry is-passed-entry low
+      v ≡ suc (g .tally (record-at t i k)) → v ≤ t .threshold (ancestor t i k) → Outcome t g i (ancestor t i k) (grant-row t i (ancestor t i k) r v s)
+  unfolding grant-row row-shown standing-shown entry-shown is-entry low
   pass-outcome k r v b e c own q y =
       let l : k ≤ height t i = omega arith in
       let first : k < low (height t i) (g .stage i) = rw e (omega arith) in

@@ -7,7 +7,7 @@ use Rattle.model.specs.declared.Place.{Place}
 use Rattle.model.specs.declared.State.{State as WordState}
 use Rattle.model.specs.Trees.{Tree}
 use Rattle.model.specs.States.{with-tail, with-next, with-status, with-place}
-use Rattle.model.specs.Steps.{Kind, is-entry, Standing, unchanged, begins, ends, Step}
+use Rattle.model.specs.Steps.{Kind, is-entry, Standing, unchanged, begins, ends, Row-result, Step}
 use Rattle.model.proofs.Trees.Accepted.{Accepted}
 use Rattle.model.proofs.Trees.Records.{record-small}
 use Rattle.model.proofs.Queues.Lists.{count}
@@ -28,23 +28,27 @@ standing-shown (ends m) d = moves.ends d m ∷ []
 unfoldable pub entry-shown : Kind → (thread : ℕ) → List Event
 entry-shown k i = cond (is-entry k) (moves.entered i ∷ []) []
 
+-- what a row of a thread at a domain shows
+unfoldable pub row-shown : (thread domain : ℕ) → Row-result → List Event
+row-shown i d x = standing-shown (x .standing) d ++ entry-shown (x .kind) i
+
 unfoldable pub shown : Step → List Event
 shown x = standing-shown (x .standing) (x .domain) ++ entry-shown (x .kind) (x .thread)
 
-pub record Outcome (t : Tree) (g : State) (i : ℕ) (x : Step) : Type 0 where
-  pub whose : x .thread ≡ i
+-- a row of thread i at domain d takes the queues to others, and shows what their moves show
+pub record Outcome (t : Tree) (g : State) (i d : ℕ) (x : Row-result) : Type 0 where
   pub state : State
   pub room : Room (x .state)
   pub represents : Represents t (words-in (x .state)) state
-  pub follows : Run t g (shown x) state
+  pub follows : Run t g (row-shown i d x) state
 
 -- stores within the room, as changes of the words
 pub record Stored (s : WordState) (w : Words) : Type 0 where
   pub same : words-in s ≡ w
   pub room : Room s
 
-pub outcome : {t : Tree} {g : State} (x : Step) (g′ : State) {w′ : Words} → Stored (x .state) w′ → Represents t w′ g′ → Run t g (shown x) g′ → Outcome t g (x .thread) x
-outcome x g′ e p f = record { whose = refl; state = g′; room = e .room; represents = rw (e .same) p; follows = f }
+pub outcome : {t : Tree} {g : State} {i d : ℕ} (x : Row-result) (g′ : State) {w′ : Words} → Stored (x .state) w′ → Represents t w′ g′ → Run t g (row-shown i d x) g′ → Outcome t g i d x
+outcome x g′ e p f = record { state = g′; room = e .room; represents = rw (e .same) p; follows = f }
 
 module _ (s : WordState) (w : Words) (e : Stored s w) where
   pub then-tail : (d v : ℕ) → d < 64 → Stored (with-tail d v s) (tail-to d v w)

@@ -4,7 +4,9 @@ use Prim.Native.Nat.{ℕ, _<_}
 use Rattle.model.specs.declared.Place.{Place}
 use Rattle.model.specs.declared.State.{State as WordState}
 use Rattle.model.specs.Trees.{Tree}
-use Rattle.model.specs.Steps.{row, step}
+use Rattle.model.specs.Places.{place-domain}
+use Rattle.model.specs.States.{place}
+use Rattle.model.specs.Steps.{row}
 use Rattle.model.specs.Laws.{Sixteen-bit}
 use Rattle.model.proofs.Trees.Accepted.{Accepted}
 use Rattle.model.proofs.Queues.Moves.{Stage, State}
@@ -19,7 +21,7 @@ module _ (t : Tree) (𝓐 : Accepted t) (bits : Sixteen-bit t) (s : WordState) (
   abbrev o : Others t (words-in s) g i
   o = others-of rep i
 
-  row-outcome : {p : Place} {x : Stage} → g .stage i ≡ x → Fits t (words-in s) g i p x → Outcome t g i (row t i p s)
+  row-outcome : {p : Place} {x : Stage} → g .stage i ≡ x → Fits t (words-in s) g i p x → Outcome t g i (place-domain (t .home i) p) (row t i p s)
   unfolding row
   row-outcome e at-idle = idle-outcome t 𝓐 s room g i h o e
   row-outcome e (at-prep k l c) = prep-outcome t 𝓐 s room g i h o k l e c
@@ -36,6 +38,6 @@ module _ (t : Tree) (𝓐 : Accepted t) (bits : Sixteen-bit t) (s : WordState) (
   row-outcome e (at-linger k l c) = linger-outcome t 𝓐 s room g i h o k l e c rep
   row-outcome e (at-grant k r l c n) = grant-outcome t 𝓐 s room g i h o k l e c r n
 
-  pub step-outcome : Outcome t g i (step t i s)
-  unfolding step words-in
+  pub step-outcome : Outcome t g i (place-domain (t .home i) (place s i)) (row t i (place s i) s)
+  unfolding words-in
   step-outcome = row-outcome refl (rep .fits i h)

@@ -1,27 +1,26 @@
--- `list_refusal` meets its contract. Assumes nothing.
+-- Measured first; then the word, and number and place behind it. Assumes nothing.
+use mathlib.Core.Path.{_∙_}
 use Prim.Native.Nat.{_≤_, _<_}
+use mathlib.Core.List.{[], _∷_}
 use native.Mathlib.Omega.{arith}
 use lib.ListN.{length}
 use borrow.Author.Needs.{needs}
 use Rattle.model.specs.Refusals.{refusal}
 use Rattle.lock_file.specs.FileAnswers.{outcome-reply, outcome-output}
 use Rattle.lock_file.specs.Listing.{refusal-line}
-use Rattle.lock_file.proofs.Outcomes.{listing-short, listing-fits, refusal-written}
-use Rattle.lock_file.proofs.Numerals.{length-number, length-refusal-line}
+use Rattle.lock_file.proofs.Outcomes.{listing-short, listing-fits, line-written}
+use Rattle.lock_file.proofs.Numerals.{length-refusal-line}
 use Rattle.lock_file.proofs.listing.list_refusal.Statement.{statement}
 use Rattle.lock_file.proofs.listing.list_refusal.Tie as tie
 
-number-length-requires : tie.Need-number-length-requires
-number-length-requires c κs = search needs
+slice-aggregate-spaced-length : tie.Need-slice-aggregate-spaced-length
+slice-aggregate-spaced-length c = search needs
+
+spaced-length-requires : tie.Need-spaced-length-requires
+spaced-length-requires c κs = search needs
 
 add-total : tie.Need-add-total
 add-total c = search needs
-
-number-length-requires-2 : tie.Need-number-length-requires-2
-number-length-requires-2 c κs = search needs
-
-add-total-2 : tie.Need-add-total-2
-add-total-2 c = search needs
 
 returns : tie.Need-returns
 unfolding outcome-reply outcome-output refusal
@@ -35,42 +34,38 @@ returns c =
 put-refused-requires : tie.Need-put-refused-requires
 put-refused-requires c κs = search needs
 
-put-number-requires : tie.Need-put-number-requires
-put-number-requires c κs = let a = c .before .before .before .before .before .before .before .before .before .args in omega (arith, length-number (a .number) 32)
+slice-aggregate-put-spaced : tie.Need-slice-aggregate-put-spaced
+slice-aggregate-put-spaced c = search needs
 
-put-number-requires-2 : tie.Need-put-number-requires-2
-put-number-requires-2 c κs =
-    let a = c .before .before .before .before .before .before .before .before .before .before .before .before .before .args in
-    omega (arith, length-number (a .number) 32, length-number (a .place) 10)
+put-spaced-requires : tie.Need-put-spaced-requires
+put-spaced-requires c κs = search needs
 
 same-length : tie.Need-same-length
 same-length c = search needs
 
 returns-2 : tie.Need-returns-2
-unfolding outcome-reply outcome-output
+unfolding outcome-reply outcome-output refusal-line
 returns-2 c =
-    let a = c .before .before .before .before .before .before .before .before .before .before .before .before .before .before .before .before .args in
+    let a = c .before .before .before .before .before .before .before .before .before .before .before .before .before .args in
     let line = refusal-line (a .number) (a .place) in
     let long = length-refusal-line (a .number) (a .place) in
     let fits : length line ≤ length (a .output .now) = omega arith in
-    let first = c .before .before .before .before .before .before .put-number .ensures in
-    let second = c .before .before .put-number2 .ensures in (
-      rw (listing-fits line _ fits) (omega (arith, length-number (a .number) 32, length-number (a .place) 10)),
-      rw (listing-fits line _ fits, second .1, first .1, first .0, c .before .before .before .before .before .before .before .before .before .before .put-refused .ensures)
-          (refusal-written (a .output .now) (a .number) (a .place) fits),
+    let w = c .before .before .put-spaced .ensures in (
+      rw (listing-fits line _ fits) (omega (arith, w .0)),
+      rw (listing-fits line _ fits)
+          (w .1 ∙ rw (c .before .before .before .before .before .before .before .put-refused .ensures) (line-written (a .output .now) (114 ∷ 101 ∷ 102 ∷ 117 ∷ 115 ∷ 101 ∷ 100 ∷ []) (a .number ∷ a .place ∷ []) fits)),
     )
 
 pub list-refusal-spec : {M : Type 1} → statement M
 list-refusal-spec =
     tie.close
     (tie.spec
-    number-length-requires
+    slice-aggregate-spaced-length
+    spaced-length-requires
     add-total
-    number-length-requires-2
-    add-total-2
     returns
     put-refused-requires
-    put-number-requires
-    put-number-requires-2
+    slice-aggregate-put-spaced
+    put-spaced-requires
     same-length
     returns-2)

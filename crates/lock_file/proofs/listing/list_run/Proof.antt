@@ -1,4 +1,4 @@
--- `list_run` meets its contract. Assumes nothing.
+-- Measured first; then the first line, and the trace behind it. Assumes nothing.
 use mathlib.Core.Path.{_≡_}
 use Prim.Native.Nat.{_+_, _≤_, _<_}
 use native.Mathlib.Omega.{arith}
@@ -24,8 +24,8 @@ returns : tie.Need-returns
 unfolding outcome-reply outcome-output refusal
 returns c =
     let a = c .before .before .before .before .before .args in
-    let ls = listing (a .steps) (a .entries) (a .stays) (a .root) (a .passed) (a .trace .now) in
-    let long = length-listing (a .steps) (a .entries) (a .stays) (a .root) (a .passed) (a .trace .now) in
+    let ls = listing (a .counts) (a .trace .now) in
+    let long = length-listing (a .counts) (a .trace .now) in
     let short : length (a .output .now) < length ls = omega arith in
     (rw (listing-short ls _ short), rw (listing-short ls _ short))
 
@@ -35,8 +35,8 @@ put-first-line-requires c κs = search needs
 put-trace-requires : tie.Need-put-trace-requires
 put-trace-requires c κs = search needs
 
-cast-t18 : tie.Need-cast-t18
-cast-t18 c = search needs
+cast-t14 : tie.Need-cast-t14
+cast-t14 c = search needs
 
 same-length : tie.Need-same-length
 same-length c = search needs
@@ -45,14 +45,14 @@ returns-2 : tie.Need-returns-2
 unfolding outcome-reply outcome-output
 returns-2 c =
     let a = c .before .before .before .before .before .before .before .before .before .before .before .before .before .args in
-    let ls = listing (a .steps) (a .entries) (a .stays) (a .root) (a .passed) (a .trace .now) in
-    let long = length-listing (a .steps) (a .entries) (a .stays) (a .root) (a .passed) (a .trace .now) in
+    let ls = listing (a .counts) (a .trace .now) in
+    let long = length-listing (a .counts) (a .trace .now) in
     let measured : c .before .before .before .before .before .before .before .before .before .before .first-line-length .result + c .before .before .before .before .before .before .before .before .before .trace-length .result ≡ length ls = omega arith in
     let fits : length ls ≤ length (a .output .now) = omega arith in
     let line = c .before .before .before .before .before .before .put-first-line .ensures in (
       rw (listing-fits ls _ fits, measured),
       rw (listing-fits ls _ fits, c .before .before .put-trace .ensures, line .1, line .0)
-          (listing-written (a .output .now) (a .steps) (a .entries) (a .stays) (a .root) (a .passed) (a .trace .now) fits),
+          (listing-written (a .output .now) (a .counts) (a .trace .now) fits),
     )
 
 pub list-run-spec : {M : Type 1} → statement M
@@ -65,6 +65,6 @@ list-run-spec =
     returns
     put-first-line-requires
     put-trace-requires
-    cast-t18
+    cast-t14
     same-length
     returns-2)

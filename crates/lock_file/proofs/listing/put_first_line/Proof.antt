@@ -1,41 +1,28 @@
--- `put_first_line` meets its contract: the parts one behind another. Assumes nothing.
-use mathlib.Core.Path.{sym}
+-- The word, and the counts behind it. Assumes nothing.
+use mathlib.Core.Path.{sym, ap, _∙_}
+use mathlib.Core.List.{[], _∷_}
 use native.Mathlib.Omega.{arith}
-use lib.ListN.{length-append}
+use lib.ListN.{length}
 use borrow.Author.Needs.{needs}
-use Rattle.lock_file.specs.Listing.{number-then, first-line}
-use Rattle.lock_file.proofs.Writing.{sets-five}
-use Rattle.lock_file.proofs.Numerals.{length-first-line, length-number}
+use Rattle.lock_file.specs.Listing.{spaced, count-numbers, first-line}
+use Rattle.lock_file.proofs.Writing.{sets-append}
+use Rattle.lock_file.proofs.Numerals.{length-first-line}
 use Rattle.lock_file.proofs.listing.put_first_line.Statement.{statement}
 use Rattle.lock_file.proofs.listing.put_first_line.Tie as tie
 
+numbers-of-requires : tie.Need-numbers-of-requires
+numbers-of-requires c κs = search needs
+
 put-ok-requires : tie.Need-put-ok-requires
-put-ok-requires c κs = let a = c .before .before .args in omega (arith, length-first-line (a .steps) (a .entries) (a .stays) (a .root) (a .passed))
+put-ok-requires c κs = omega (arith, length-first-line (c .before .before .before .args .counts))
 
-put-number-requires : tie.Need-put-number-requires
-put-number-requires c κs =
-    let a = c .before .before .before .before .before .before .args in
-    omega (arith, length-first-line (a .steps) (a .entries) (a .stays) (a .root) (a .passed), length-number (a .steps) 32)
+slice-aggregate-put-spaced : tie.Need-slice-aggregate-put-spaced
+slice-aggregate-put-spaced c = search needs
 
-put-number-requires-2 : tie.Need-put-number-requires-2
-put-number-requires-2 c κs =
-    let a = c .before .before .before .before .before .before .before .before .before .before .args in
-    omega (arith, length-first-line (a .steps) (a .entries) (a .stays) (a .root) (a .passed), length-number (a .steps) 32, length-number (a .entries) 32)
-
-put-number-requires-3 : tie.Need-put-number-requires-3
-put-number-requires-3 c κs =
-    let a = c .before .before .before .before .before .before .before .before .before .before .before .before .before .before .args in
-    omega (arith, length-first-line (a .steps) (a .entries) (a .stays) (a .root) (a .passed), length-number (a .steps) 32, length-number (a .entries) 32, length-number (a .stays) 32)
-
-put-number-requires-4 : tie.Need-put-number-requires-4
-put-number-requires-4 c κs =
-    let a = c .before .before .before .before .before .before .before .before .before .before .before .before .before .before .before .before .before .before .args in
-    omega (arith, length-first-line (a .steps) (a .entries) (a .stays) (a .root) (a .passed), length-number (a .steps) 32, length-number (a .entries) 32, length-number (a .stays) 32, length-number (a .root) 32)
-
-put-number-requires-5 : tie.Need-put-number-requires-5
-put-number-requires-5 c κs =
-    let a = c .before .before .before .before .before .before .before .before .before .before .before .before .before .before .before .before .before .before .before .before .before .before .args in
-    omega (arith, length-first-line (a .steps) (a .entries) (a .stays) (a .root) (a .passed), length-number (a .steps) 32, length-number (a .entries) 32, length-number (a .stays) 32, length-number (a .root) 32, length-number (a .passed) 10)
+put-spaced-requires : tie.Need-put-spaced-requires
+put-spaced-requires c κs =
+    let n = c .before .before .before .before .before .before .numbers-of .ensures in
+    omega (arith, length-first-line (c .before .before .before .before .before .before .before .before .args .counts), ap (λ v. length (spaced v)) n)
 
 same-length : tie.Need-same-length
 same-length c = search needs
@@ -43,26 +30,14 @@ same-length c = search needs
 returns : tie.Need-returns
 unfolding first-line
 returns c =
-    let a = c .before .before .before .before .before .before .before .before .before .before .before .before .before .before .before .before .before .before .before .before .before .before .before .before .before .args in
-    let n1 = c .before .before .before .before .before .before .before .before .before .before .before .before .before .before .before .before .before .before .put-number .ensures in
-    let n2 = c .before .before .before .before .before .before .before .before .before .before .before .before .before .before .put-number2 .ensures in
-    let n3 = c .before .before .before .before .before .before .before .before .before .before .put-number3 .ensures in
-    let n4 = c .before .before .before .before .before .before .put-number4 .ensures in
-    let n5 = c .before .before .put-number5 .ensures in (
-      simp length-append (omega (arith, n1 .0, n2 .0, n3 .0, n4 .0, n5 .0)),
-      rw (n5 .1, n4 .1, n3 .1, n2 .1, n1 .1, c .before .before .before .before .before .before .before .before .before .before .before .before .before .before .before .before .before .before .before .before .before .before .put-ok .ensures, n4 .0, n3 .0, n2 .0, n1 .0)
-          (sym (sets-five _ 3 (number-then (a .steps) 32) (number-then (a .entries) 32) (number-then (a .stays) 32) (number-then (a .root) 32) (number-then (a .passed) 10))),
+    let a = c .before .before .before .before .before .before .before .before .before .before .before .args in
+    let x = a .counts in
+    let n = c .before .before .before .before .before .before .before .before .before .numbers-of .ensures in
+    let w = c .before .before .put-spaced .ensures in (
+      omega (arith, w .0, length-first-line x, ap (λ v. length (spaced v)) n),
+      w .1 ∙ rw (c .before .before .before .before .before .before .before .put-ok .ensures, n) (sym (sets-append (a .output .now) 0 (111 ∷ 107 ∷ []) (spaced (count-numbers x)))),
     )
 
 pub put-first-line-spec : {M : Type 1} → statement M
 put-first-line-spec =
-    tie.close
-    (tie.spec
-    put-ok-requires
-    put-number-requires
-    put-number-requires-2
-    put-number-requires-3
-    put-number-requires-4
-    put-number-requires-5
-    same-length
-    returns)
+    tie.close (tie.spec numbers-of-requires put-ok-requires slice-aggregate-put-spaced put-spaced-requires same-length returns)

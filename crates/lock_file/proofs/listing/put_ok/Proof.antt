@@ -9,10 +9,7 @@ slice-write-output : tie.Need-slice-write-output
 slice-write-output c = search needs
 
 slice-write-output-2 : tie.Need-slice-write-output-2
-slice-write-output-2 c = simp length-set (omega arith)
-
-slice-write-output-3 : tie.Need-slice-write-output-3
-slice-write-output-3 c = search needs
+slice-write-output-2 c = search needs
 
 same-length : tie.Need-same-length
 same-length c = search needs
@@ -23,4 +20,4 @@ returns c = search needs
 pub put-ok-spec : {M : Type 1} → statement M
 put-ok-spec =
     tie.close
-    (tie.spec slice-write-output slice-write-output-2 slice-write-output-3 same-length returns)
+    (tie.spec slice-write-output slice-write-output-2 same-length returns)

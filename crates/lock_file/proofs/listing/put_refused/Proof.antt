@@ -24,10 +24,7 @@ slice-write-output-6 : tie.Need-slice-write-output-6
 slice-write-output-6 c = simp length-set (omega arith)
 
 slice-write-output-7 : tie.Need-slice-write-output-7
-slice-write-output-7 c = simp length-set (omega arith)
-
-slice-write-output-8 : tie.Need-slice-write-output-8
-slice-write-output-8 c = search needs
+slice-write-output-7 c = search needs
 
 same-length : tie.Need-same-length
 same-length c = search needs
@@ -46,6 +43,5 @@ put-refused-spec =
     slice-write-output-5
     slice-write-output-6
     slice-write-output-7
-    slice-write-output-8
     same-length
     returns)
