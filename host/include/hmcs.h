@@ -83,13 +83,14 @@ enum hmcs_refusal {
     HMCS_BAD_THREADS = 5,      /* There are no threads, or more than 256. */
     HMCS_BAD_PARENT = 6,       /* A domain other than 0 has a parent not below its own number, the place being the domain. */
     HMCS_TOO_DEEP = 7,         /* A domain lies deeper than level 6, the root being level 1, the place being the domain. */
-    HMCS_NO_THRESHOLD = 8,     /* A domain other than 0 has threshold 0, the place being the domain. */
+    HMCS_NO_THRESHOLD = 8,     /* A domain other than 0 has threshold 0, the place being the domain. Of a rate: a threshold is 0, place 1 or 2. */
     HMCS_BAD_HOME = 9,         /* A home is no domain of the tree or has child domains, the place being the thread. */
     HMCS_BAD_STATE = 10,       /* The state handed in is not well formed (crates/model/specs/WellFormed.antt). */
     HMCS_SCHEDULE_LONG = 11,   /* The schedule has more than 65,536 entries. */
     HMCS_BAD_ENTRY = 12,       /* A schedule entry is not below the number of threads, the place being its position from 0. */
     HMCS_TRACE_SHORT = 13,     /* The trace buffer has fewer elements than the schedule. */
-    HMCS_OUTPUT_SHORT = 14     /* The output buffer is shorter than the listing. */
+    HMCS_OUTPUT_SHORT = 14,    /* The output buffer is shorter than the listing. */
+    HMCS_BAD_TIME = 24         /* A passing time isn't a number from 1/1024 to 1,048,576, the place being 1 to 3. */
 };
 
 /* The sentence of a refusal number, for people. */
@@ -103,13 +104,14 @@ static inline const char *hmcs_refusal_text(uint32_t number) {
     case HMCS_BAD_THREADS: return "there are no threads, or more than 256";
     case HMCS_BAD_PARENT: return "a domain other than 0 has a parent not below its own number";
     case HMCS_TOO_DEEP: return "a domain lies deeper than level 6";
-    case HMCS_NO_THRESHOLD: return "a domain other than 0 has threshold 0";
+    case HMCS_NO_THRESHOLD: return "a domain other than 0 has threshold 0, or a threshold of a rate is 0";
     case HMCS_BAD_HOME: return "a home is no domain of the tree or has child domains";
     case HMCS_BAD_STATE: return "the state handed in is not well formed";
     case HMCS_SCHEDULE_LONG: return "the schedule has more than 65,536 entries";
     case HMCS_BAD_ENTRY: return "a schedule entry is not below the number of threads";
     case HMCS_TRACE_SHORT: return "the trace buffer has fewer elements than the schedule";
     case HMCS_OUTPUT_SHORT: return "the output buffer is shorter than the listing";
+    case HMCS_BAD_TIME: return "a passing time isn't a number from 1/1024 to 1,048,576";
     default: return "no refusal has this number";
     }
 }
@@ -166,6 +168,27 @@ hmcs_answer hmcs_step_in_place(hmcs_tree tree, hmcs_state *state, uint16_t threa
  * number; *place is its place, *length the listing's length, 0 where it is refused. Refused by 1 to 9, 12 and 14; then the output is as it
  * came. */
 uint32_t hmcs_run_file(const uint8_t *file, size_t file_length, uint8_t *output, size_t output_length, uint32_t *place, uint32_t *length);
+
+/* How long it takes to pass the lock on in a tree of three levels: p1 between two threads of one home, p2 between two homes below one domain,
+ * p3 between two such domains, across the root. All three in one unit, whichever; each from 1/1024 to 1,048,576. */
+typedef struct hmcs_passing_times {
+    double p1;
+    double p2;
+    double p3;
+} hmcs_passing_times;
+
+/* The rate is in entries for one unit of the times; 0 where it is refused. */
+typedef struct hmcs_rate_reply {
+    uint32_t number;
+    uint32_t place;
+    double rate;
+} hmcs_rate_reply;
+
+/* The rate of a busy three-level lock: h1 * h2 / (p3 + (h2 - 1) * p2 + h2 * (h1 - 1) * p1), the whole-number parts exact, then each operation
+ * rounded once, from left to right (docs/RATE.md). h1 is the threshold of the threads' homes, h2 that of the domains between them and the
+ * root. Every bit of the rate is fixed, given that the calling thread rounds to nearest, as threads do unless told otherwise; whether it flushes
+ * subnormals to zero changes nothing. Refused by 8 (place 1 for h1, 2 for h2), then 24 (place 1 to 3 for p1 to p3). */
+hmcs_rate_reply hmcs_rate(uint16_t h1, uint16_t h2, hmcs_passing_times times);
 
 #ifdef __cplusplus
 }

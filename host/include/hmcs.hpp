@@ -21,6 +21,8 @@ static_assert(offsetof(hmcs_state, statuses) == 768 && offsetof(hmcs_state, plac
 static_assert(sizeof(hmcs_step_reply) == 7432 && offsetof(hmcs_step_reply, state) == 8, "layout of hmcs_step_reply");
 static_assert(sizeof(hmcs_fresh_reply) == 7432 && offsetof(hmcs_fresh_reply, state) == 8, "layout of hmcs_fresh_reply");
 static_assert(sizeof(hmcs_run_reply) == 7456 && offsetof(hmcs_run_reply, state) == 32, "layout of hmcs_run_reply");
+static_assert(sizeof(hmcs_passing_times) == 24 && offsetof(hmcs_passing_times, p3) == 16, "layout of hmcs_passing_times");
+static_assert(sizeof(hmcs_rate_reply) == 16 && offsetof(hmcs_rate_reply, rate) == 8, "layout of hmcs_rate_reply");
 
 // Number and place of an answer.
 struct Refusal {
@@ -139,6 +141,22 @@ inline FileResult run_file(const std::uint8_t *file, std::size_t length) {
 }
 
 inline FileResult run_file(const std::vector<std::uint8_t> &file) { return run_file(file.data(), file.size()); }
+
+// How long it takes to pass the lock on: p1 within a home, p2 between homes below one domain, p3 across the root; all in one unit.
+using PassingTimes = hmcs_passing_times;
+
+struct RateResult {
+    Refusal refusal;
+    double rate = 0; // entries for one unit of the times; 0 where it is refused
+};
+
+// The rate of a busy three-level lock whose threads' homes have threshold h1 and the domains between them and the root h2. A threshold above
+// 65,535 is refused as none (8), as in a tree.
+inline RateResult rate(std::uint32_t h1, std::uint32_t h2, const PassingTimes &times) {
+    const auto threshold = [](std::uint32_t h) { return h <= 65535 ? static_cast<std::uint16_t>(h) : std::uint16_t{0}; };
+    const hmcs_rate_reply reply = hmcs_rate(threshold(h1), threshold(h2), times);
+    return RateResult{Refusal{reply.number, reply.place}, reply.rate};
+}
 
 } // namespace hmcs
 

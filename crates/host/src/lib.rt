@@ -3,11 +3,14 @@ ghost use mathlib.Core.Path.{_≡_};
 ghost use Rattle.model.specs.Answers.{fresh-answer, step-answer, run-answer, trace-answer};
 ghost use Rattle.host.specs.InPlace.{fresh-number, step-number};
 ghost use Rattle.lock_file.specs.FileAnswers.{file-answer, output-answer};
+ghost use Rattle.rate.specs.Answers.{rate-answer, reply-of};
 use model::FreshReply;
 use model::RunReply;
 use model::State;
 use model::StepReply;
 use model::TreeWords;
+use rate::PassingTimes;
+use rate::RateReply;
 
 // Number and place of an answer.
 #[repr(C)]
@@ -89,4 +92,12 @@ pub extern "C" fn hmcs_run_file(
     *place = r.place;
     *length = r.length;
     r.number
+}
+
+// The rate of a busy three-level lock from its thresholds and its passing times: number, place and rate; refused, the rate is 0.
+#[no_mangle]
+pub extern "C" fn hmcs_rate(h1: u16, h2: u16, times: PassingTimes) -> RateReply
+    ensures { λ r. ⌜ r ≡ reply-of (rate-answer h1 h2 times) ⌝ }
+{
+    rate::reply(rate::rate(h1, h2, times))
 }

@@ -11,6 +11,7 @@ pub mod options;
 pub mod random;
 pub mod random_file;
 pub mod random_state;
+pub mod rate;
 pub mod refusals;
 pub mod schedules;
 pub mod shrink;

@@ -2,6 +2,7 @@
 
 use crate::calls::Calls;
 use crate::lock_file::FileAnswer;
+use crate::rate::RateCall;
 
 /// The form of the file call, the step table's and the library's.
 pub type RunFile = fn(&[u8], &mut [u8]) -> FileAnswer;
@@ -86,5 +87,30 @@ pub fn calls() -> Option<Calls> {
 
 #[cfg(not(calls))]
 pub fn calls() -> Option<Calls> {
+    None
+}
+
+/// The rate, built where the calls on a caller's tree are.
+#[cfg(calls)]
+mod rate_entry {
+    use crate::rate::{PassingTimes, RateReply};
+
+    extern "C" {
+        fn hmcs_rate(h1: u16, h2: u16, times: PassingTimes) -> RateReply;
+    }
+
+    pub fn rate(h1: u16, h2: u16, times: PassingTimes) -> RateReply {
+        unsafe { hmcs_rate(h1, h2, times) }
+    }
+}
+
+/// The library's rate, if the program was built with the calls.
+#[cfg(calls)]
+pub fn rate() -> Option<RateCall> {
+    Some(rate_entry::rate)
+}
+
+#[cfg(not(calls))]
+pub fn rate() -> Option<RateCall> {
     None
 }

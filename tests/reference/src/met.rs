@@ -1,6 +1,7 @@
 //! How often a comparison met each number, and whether it met all that it must.
 
-const NUMBERS: usize = 15;
+/// One more than the largest number of a refusal.
+const NUMBERS: usize = 27;
 
 pub struct Met {
     must: &'static [usize],

@@ -1,0 +1,66 @@
+-- `rate::rate` meets its contract: each return is the answer by the outcomes of the tests that led there. Assumes nothing.
+use mathlib.Core.Path.{_≡_, sym, ap}
+use mathlib.Core.Bool.{Bool, true, false, not}
+use borrow.Author.Needs.{needs}
+use borrow.Author.Tests.{eq-eqb, ne-eqb}
+use Rattle.rate.proofs.Tests.{answer-tested}
+use Rattle.rate.proofs.rate.Statement.{statement}
+use Rattle.rate.proofs.rate.Tie as tie
+use Rattle.rate.proofs.rate.Reads as reads
+use Rattle.rate.proofs.rate.Lts as lts
+use Rattle.rate.proofs.in_range.Reads as in-range-reads
+use Rattle.rate.proofs.rate_of.Reads as rate-of-reads
+
+-- the test of `if !b`, taken and left
+was-false : (b : Bool) → not b ≡ true → b ≡ false
+was-false true e = sym e
+was-false false e = sym (ap not e)
+
+was-true : (b : Bool) → not b ≡ false → b ≡ true
+was-true true e = sym (ap not e)
+was-true false e = sym e
+
+returns : tie.Need-returns
+returns c = rw (answer-tested, eq-eqb _ _ (c .if1 .taken))
+
+returns-2 : tie.Need-returns-2
+returns-2 c = rw (answer-tested, ne-eqb _ _ (c .before .if1 .left), eq-eqb _ _ (c .if2 .taken))
+
+in-range-requires : tie.Need-in-range-requires
+in-range-requires c κs = search needs
+
+returns-3 : tie.Need-returns-3
+returns-3 c = rw (answer-tested, ne-eqb _ _ (c .before .before .before .if1 .left), ne-eqb _ _ (c .before .before .if2 .left), ← c .before .in-range .ensures, was-false (c .before .in-range .result) (c .if3 .taken))
+
+in-range-requires-2 : tie.Need-in-range-requires-2
+in-range-requires-2 c κs = search needs
+
+returns-4 : tie.Need-returns-4
+returns-4 c = rw (answer-tested, ne-eqb _ _ (c .before .before .before .before .before .if1 .left), ne-eqb _ _ (c .before .before .before .before .if2 .left), ← c .before .before .before .in-range .ensures, was-true (c .before .before .before .in-range .result) (c .before .before .if3 .left), ← c .before .in-range2 .ensures, was-false (c .before .in-range2 .result) (c .if4 .taken))
+
+in-range-requires-3 : tie.Need-in-range-requires-3
+in-range-requires-3 c κs = search needs
+
+returns-5 : tie.Need-returns-5
+returns-5 c = rw (answer-tested, ne-eqb _ _ (c .before .before .before .before .before .before .before .if1 .left), ne-eqb _ _ (c .before .before .before .before .before .before .if2 .left), ← c .before .before .before .before .before .in-range .ensures, was-true (c .before .before .before .before .before .in-range .result) (c .before .before .before .before .if3 .left), ← c .before .before .before .in-range2 .ensures, was-true (c .before .before .before .in-range2 .result) (c .before .before .if4 .left), ← c .before .in-range3 .ensures, was-false (c .before .in-range3 .result) (c .if5 .taken))
+
+rate-of-requires : tie.Need-rate-of-requires
+rate-of-requires c κs = search needs
+
+returns-6 : tie.Need-returns-6
+returns-6 c = rw (answer-tested, c .rate-of .ensures, ne-eqb _ _ (c .before .before .before .before .before .before .before .before .if1 .left), ne-eqb _ _ (c .before .before .before .before .before .before .before .if2 .left), ← c .before .before .before .before .before .before .in-range .ensures, was-true (c .before .before .before .before .before .before .in-range .result) (c .before .before .before .before .before .if3 .left), ← c .before .before .before .before .in-range2 .ensures, was-true (c .before .before .before .before .in-range2 .result) (c .before .before .before .if4 .left), ← c .before .before .in-range3 .ensures, was-true (c .before .before .in-range3 .result) (c .before .if5 .left))
+
+pub rate-spec : {M : Type 1} → statement M
+rate-spec =
+    tie.close
+    (tie.spec
+    returns
+    returns-2
+    in-range-requires
+    returns-3
+    in-range-requires-2
+    returns-4
+    in-range-requires-3
+    returns-5
+    rate-of-requires
+    returns-6)
