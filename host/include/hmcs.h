@@ -8,7 +8,7 @@
  * that call at the same time must write to different ones. hmcs_run_file needs 160 KB of stack, every other function at
  * most 28 KB beside its arguments and its result, which are up to 16 KB in the caller.
  *
- * Compare two states field by field, never by memcmp: struct hmcs_place and struct hmcs_run_reply have padding.
+ * Compare two states field by field, never by memcmp: struct hmcs_place has padding.
  */
 #ifndef HMCS_H
 #define HMCS_H
@@ -135,7 +135,9 @@ typedef struct hmcs_step_reply {
     hmcs_state state;
 } hmcs_step_reply;
 
-/* What a run returns: its steps (stays among them), entries, stays, root entries and passed entries; all 0 where it is refused. */
+/* What a run returns, all counts 0 where it is refused: its steps (stays among them), entries and stays; and how the entries split: root
+ * entries came through the root, passed entries were passed on within the thread's home, crossed entries within a domain between home and
+ * root. */
 typedef struct hmcs_run_reply {
     uint32_t number;
     uint32_t place;
@@ -144,6 +146,7 @@ typedef struct hmcs_run_reply {
     uint32_t stays;
     uint32_t root;
     uint32_t passed;
+    uint32_t crossed;
     hmcs_state state;
 } hmcs_run_reply;
 

@@ -20,7 +20,7 @@ static_assert(sizeof(hmcs_state) == 7424 && offsetof(hmcs_state, nexts) == 128, 
 static_assert(offsetof(hmcs_state, statuses) == 768 && offsetof(hmcs_state, places) == 3328, "layout of hmcs_state");
 static_assert(sizeof(hmcs_step_reply) == 7432 && offsetof(hmcs_step_reply, state) == 8, "layout of hmcs_step_reply");
 static_assert(sizeof(hmcs_fresh_reply) == 7432 && offsetof(hmcs_fresh_reply, state) == 8, "layout of hmcs_fresh_reply");
-static_assert(sizeof(hmcs_run_reply) == 7456 && offsetof(hmcs_run_reply, state) == 32, "layout of hmcs_run_reply");
+static_assert(sizeof(hmcs_run_reply) == 7456 && offsetof(hmcs_run_reply, crossed) == 28 && offsetof(hmcs_run_reply, state) == 32, "layout of hmcs_run_reply");
 static_assert(sizeof(hmcs_passing_times) == 24 && offsetof(hmcs_passing_times, p3) == 16, "layout of hmcs_passing_times");
 static_assert(sizeof(hmcs_rate_reply) == 16 && offsetof(hmcs_rate_reply, rate) == 8, "layout of hmcs_rate_reply");
 
@@ -68,7 +68,7 @@ private:
 
 // The counts of a run.
 struct Counts {
-    std::uint32_t steps = 0, entries = 0, stays = 0, root = 0, passed = 0;
+    std::uint32_t steps = 0, entries = 0, stays = 0, root = 0, passed = 0, crossed = 0;
 };
 
 struct RunResult {
@@ -97,7 +97,7 @@ public:
         const hmcs_run_reply reply = hmcs_run(tree_, state_, schedule, length, result.trace.data(), result.trace.size());
         state_ = reply.state;
         result.refusal = Refusal{reply.number, reply.place};
-        result.counts = Counts{reply.steps, reply.entries, reply.stays, reply.root, reply.passed};
+        result.counts = Counts{reply.steps, reply.entries, reply.stays, reply.root, reply.passed, reply.crossed};
         result.trace.resize(reply.entries);
         return result;
     }

@@ -112,7 +112,7 @@ void layouts() {
     std::uint16_t trace[1] = {77};
     const std::uint16_t schedule[1] = {0};
     const hmcs_run_reply run = hmcs_run(tree.words(), *state, schedule, 1, trace, 1);
-    CHECK(run.number == HMCS_BAD_STATE && run.place == 0 && run.steps == 0 && run.entries == 0 && run.stays == 0 && run.root == 0 && run.passed == 0);
+    CHECK(run.number == HMCS_BAD_STATE && run.place == 0 && run.steps == 0 && run.entries == 0 && run.stays == 0 && run.root == 0 && run.passed == 0 && run.crossed == 0);
     CHECK(same(run.state, *state) && trace[0] == 77);
     auto kept = std::make_unique<hmcs_state>(*state);
     const hmcs_answer answer = hmcs_step_in_place(tree.words(), kept.get(), 0);
@@ -176,7 +176,7 @@ void example() {
         std::memcpy(schedule.as<void>(), schedule22.data(), schedule.size());
         std::memset(trace.as<void>(), 0x77, trace.size());
         const hmcs_run_reply r = hmcs_run(tree.words(), fresh.state, schedule.as<std::uint16_t>(), 22, trace.as<std::uint16_t>(), 22);
-        CHECK(r.number == 0 && r.steps == 22 && r.entries == 3 && r.stays == 1 && r.root == 2 && r.passed == 1);
+        CHECK(r.number == 0 && r.steps == 22 && r.entries == 3 && r.stays == 1 && r.root == 2 && r.passed == 1 && r.crossed == 0);
         CHECK(same(r.state, by_value));
         const std::uint16_t *t = trace.as<std::uint16_t>();
         CHECK(t[0] == 0 && t[1] == 1 && t[2] == 2);
@@ -205,13 +205,13 @@ void wrapper() {
     CHECK(refused.refusal.number == 12 && refused.refusal.place == 22 && refused.trace.empty() && same(lock.state(), before));
     CHECK(std::string(refused.refusal.text()) == "a schedule entry is not below the number of threads");
     const hmcs::FileResult file = hmcs::run_file(example_file());
-    CHECK(!file.refusal && file.listing == "ok 22 3 1 2 1\n0\n1\n2\n");
+    CHECK(!file.refusal && file.listing == "ok 22 3 1 2 1 0\n0\n1\n2\n");
 }
 
 // The file call between guard pages, with each length of output about the listing's.
 void files() {
     const std::vector<std::uint8_t> bytes = example_file();
-    const std::string listing = "ok 22 3 1 2 1\n0\n1\n2\n";
+    const std::string listing = "ok 22 3 1 2 1 0\n0\n1\n2\n";
     for (bool at_end : {false, true}) {
         for (std::size_t room = listing.size() - 2; room <= listing.size() + 2; ++room) {
             Guarded file(bytes.size(), at_end);

@@ -10,7 +10,7 @@ use Rattle.model.specs.Places.{place-words, place-of}
 use Rattle.model.specs.Trees.{Tree}
 use Rattle.model.specs.Refusals.{tree-refusal}
 use Rattle.model.specs.declared.Counts.{Counts}
-use Rattle.model.specs.Steps.{stay, other, root-entry, passed-entry, is-kind, Step, row}
+use Rattle.model.specs.Steps.{stay, other, root-entry, passed-entry, crossed-entry, is-kind, Step, row}
 use Rattle.model.specs.Runs.{how-many, Run}
 use Rattle.model.specs.WellFormed.{good-place}
 use Rattle.lock.specs.declared.rows.Effect.{Effect}
@@ -29,7 +29,8 @@ pub record Decided (t : Tree) (i : ℕ) (q : PlaceWords) (tails nexts statuses :
 -- how many of some steps are of each kind, in the order of the kinds' numbers
 unfoldable pub kinds-of : List Step → List ℕ
 kinds-of xs =
-    how-many (is-kind stay) xs ∷ how-many (is-kind other) xs ∷ how-many (is-kind root-entry) xs ∷ how-many (is-kind passed-entry) xs ∷ []
+    how-many (is-kind stay) xs ∷ how-many (is-kind other) xs ∷ how-many (is-kind root-entry) xs ∷ how-many (is-kind passed-entry) xs
+    ∷ how-many (is-kind crossed-entry) xs ∷ []
 
 -- one step of a kind more
 abbrev pub counted : (kinds : List ℕ) → (kind : ℕ) → List ℕ
@@ -39,16 +40,17 @@ counted ks k = set ks k (getD ks k 0 + 1)
 abbrev pub counts-by : (kinds : List ℕ) → Counts
 counts-by ks =
     record {
-      steps = getD ks 0 0 + getD ks 1 0 + getD ks 2 0 + getD ks 3 0;
-      entries = getD ks 2 0 + getD ks 3 0;
+      steps = getD ks 0 0 + getD ks 1 0 + getD ks 2 0 + getD ks 3 0 + getD ks 4 0;
+      entries = getD ks 2 0 + getD ks 3 0 + getD ks 4 0;
       stays = getD ks 0 0;
       root = getD ks 2 0;
       passed = getD ks 3 0;
+      crossed = getD ks 4 0;
     }
 
 -- the kind of a number is an entry
 abbrev pub is-entry-number : (kind : ℕ) → Bool
-is-entry-number k = eqb k 2 || eqb k 3
+is-entry-number k = eqb k 2 || eqb k 3 || eqb k 4
 
 -- the buffer with an entering thread at an index
 abbrev pub traced-at : List ℕ → (at kind thread : ℕ) → List ℕ

@@ -64,7 +64,7 @@ pub fn step_lock(tree: TreeWords, state: State, thread: u16) -> StepReply
         };
     }
     let mut trace = [0u16];
-    let mut kinds = [0u32; 4];
+    let mut kinds = [0u32; 5];
     let after = run::run_steps(tree, state, &schedule, &mut trace, &mut kinds);
     StepReply {
         number: 0,
@@ -82,6 +82,7 @@ fn refused(number: u32, place: u32, state: State) -> RunReply
         stays: 0,
         root: 0,
         passed: 0,
+        crossed: 0,
     };
     RunReply {
         number,
@@ -100,7 +101,7 @@ pub fn run_lock(tree: TreeWords, state: State, schedule: &[u16], trace: &mut [u1
     if r.number != 0 {
         return refused(r.number, r.place, state);
     }
-    let mut kinds = [0u32; 4];
+    let mut kinds = [0u32; 5];
     let after = run::run_steps(tree, state, schedule, trace, &mut kinds);
     let counts = run::counts_of(&kinds);
     RunReply {

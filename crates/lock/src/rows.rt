@@ -171,7 +171,10 @@ fn wait(w: Words) -> Effect
         e.status = model::COHORT_START;
         return e;
     }
-    moves(model::PASSED_ENTRY, Place::Inside)
+    if l == w.home {
+        return moves(model::PASSED_ENTRY, Place::Inside);
+    }
+    moves(model::CROSSED_ENTRY, Place::Inside)
 }
 
 fn leave(w: Words) -> Effect

@@ -44,8 +44,8 @@ fn store_status(statuses: &mut [u64; 320], r: u16, v: u64)
 }
 
 // One step of a kind more, where the steps of each kind are counted.
-fn count_in(kinds: &mut [u32; 4], kind: u8)
-    requires { ⌜ kind < 4 ⌝ }
+fn count_in(kinds: &mut [u32; 5], kind: u8)
+    requires { ⌜ kind < 5 ⌝ }
     requires { ⌜ getD (now kinds) kind 0 < 65536 ⌝ }
     ensures { λ r. ⌜ now (kinds .exit) ≡ counted (now (kinds .entry)) kind ⌝ }
 {
@@ -54,7 +54,7 @@ fn count_in(kinds: &mut [u32; 4], kind: u8)
 }
 
 // What a run counts, by how many of its steps are of each kind.
-pub(crate) fn counts_of(kinds: &[u32; 4]) -> Counts
+pub(crate) fn counts_of(kinds: &[u32; 5]) -> Counts
     requires { ⌜ counts-by (now kinds) .steps ≤ 65536 ⌝ }
     ensures { λ r. ⌜ r ≡ counts-by (now (kinds .entry)) ⌝ }
 {
@@ -62,12 +62,14 @@ pub(crate) fn counts_of(kinds: &[u32; 4]) -> Counts
     let others = kinds[1];
     let root = kinds[2];
     let passed = kinds[3];
+    let crossed = kinds[4];
     Counts {
-        steps: stays + others + root + passed,
-        entries: root + passed,
+        steps: stays + others + root + passed + crossed,
+        entries: root + passed + crossed,
         stays,
         root,
         passed,
+        crossed,
     }
 }
 
@@ -75,7 +77,13 @@ pub(crate) fn counts_of(kinds: &[u32; 4]) -> Counts
 fn is_entry(kind: u8) -> bool
     ensures { λ r. ⌜ r ≡ is-entry-number kind ⌝ }
 {
-    kind == model::ROOT_ENTRY || kind == model::PASSED_ENTRY
+    if kind == model::ROOT_ENTRY {
+        return true;
+    }
+    if kind == model::PASSED_ENTRY {
+        return true;
+    }
+    kind == model::CROSSED_ENTRY
 }
 
 // An entering thread is written at an index of the trace; the index after it.
@@ -99,7 +107,7 @@ pub(crate) fn run_steps(
     state: State,
     schedule: &[u16],
     trace: &mut [u16],
-    kinds: &mut [u32; 4],
+    kinds: &mut [u32; 5],
 ) -> State
     requires { ⌜ run-refusal (tree-of tree) state (now schedule) (length (now trace)) .number ≡ 0 ⌝ }
     ensures { λ r. ⌜ r ≡ run (tree-of tree) (now (schedule .entry)) state .state ⌝ }
@@ -107,7 +115,7 @@ pub(crate) fn run_steps(
     ensures { λ r. ⌜ now (kinds .exit) ≡ kinds-of (steps (tree-of tree) (now (schedule .entry)) state) ⌝ }
 {
     let mut n = state;
-    let mut tally = [0u32; 4];
+    let mut tally = [0u32; 5];
     let mut entries: u32 = 0;
     let mut k: u32 = 0;
     while (k as usize) < schedule.len() {

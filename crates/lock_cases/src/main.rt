@@ -78,6 +78,7 @@ fn show(r: RunReply, first: u16, second: u16) {
     number(counts.stays);
     number(counts.root);
     number(counts.passed);
+    number(counts.crossed);
     put(b"; trace");
     short(first);
     short(second);

@@ -46,9 +46,9 @@ example-schedule = 0 ∷ 0 ∷ 0 ∷ 0 ∷ 1 ∷ 1 ∷ 1 ∷ 1 ∷ 0 ∷ 0 ∷ 0
 abbrev pub example : (last : ℕ) → List ℕ
 example l = example-tree ++ pairs (example-schedule ++ (l ∷ []))
 
--- "ok 22 3 1 2 1", then 0, 1 and 2
+-- "ok 22 3 1 2 1 0", then 0, 1 and 2
 abbrev pub example-listing : List ℕ
-example-listing = 111 ∷ 107 ∷ 32 ∷ 50 ∷ 50 ∷ 32 ∷ 51 ∷ 32 ∷ 49 ∷ 32 ∷ 50 ∷ 32 ∷ 49 ∷ 10 ∷ 48 ∷ 10 ∷ 49 ∷ 10 ∷ 50 ∷ 10 ∷ []
+example-listing = 111 ∷ 107 ∷ 32 ∷ 50 ∷ 50 ∷ 32 ∷ 51 ∷ 32 ∷ 49 ∷ 32 ∷ 50 ∷ 32 ∷ 49 ∷ 32 ∷ 48 ∷ 10 ∷ 48 ∷ 10 ∷ 49 ∷ 10 ∷ 50 ∷ 10 ∷ []
 
 -- domains and threads without fields, and no schedule
 abbrev pub plain : (domains threads-low threads-high threads : ℕ) → List ℕ
@@ -58,12 +58,12 @@ unfoldable pub cases : List Bool
 cases =
     -- the printed example: read, listed, and the buffer behind the listing as it came
     gives 3 3 (replicate 64 0) (0 ∷ 2 ∷ 16 ∷ replicate 61 0) (1 ∷ 1 ∷ 2 ∷ replicate 253 0) (example-schedule ++ (2 ∷ [])) (file-read (example 2))
-    ∷ replies 0 0 20 (file-answer (example 2) (replicate 20 7))
-    ∷ same (output-answer (example 2) (replicate 23 7)) (example-listing ++ (7 ∷ 7 ∷ 7 ∷ []))
+    ∷ replies 0 0 22 (file-answer (example 2) (replicate 22 7))
+    ∷ same (output-answer (example 2) (replicate 25 7)) (example-listing ++ (7 ∷ 7 ∷ 7 ∷ []))
     -- one byte too few for the listing
-    ∷ replies 14 0 0 (file-answer (example 2) (replicate 19 7))
-    ∷ same (output-answer (example 2) (replicate 19 7)) (replicate 19 7)
-    ∷ replies 12 21 0 (file-answer (example 3) (replicate 20 7))
+    ∷ replies 14 0 0 (file-answer (example 2) (replicate 21 7))
+    ∷ same (output-answer (example 2) (replicate 21 7)) (replicate 21 7)
+    ∷ replies 12 21 0 (file-answer (example 3) (replicate 22 7))
     -- the file ends: nothing there, inside a threshold, before T, inside T, before a home, an odd rest
     ∷ refuses 2 0 (file-read [])
     ∷ refuses 2 3 (file-read (3 ∷ 2 ∷ 2 ∷ []))
@@ -88,7 +88,7 @@ cases =
     -- the home of the thread before, even one that is no domain; 9 at the first
     ∷ gives 1 3 (replicate 64 0) (replicate 64 0) (0 ∷ 9 ∷ 9 ∷ replicate 253 0) [] (file-read (1 ∷ 3 ∷ 0 ∷ 0 ∷ 1 ∷ 9 ∷ 0 ∷ []))
     ∷ replies 9 1 0 (file-answer (1 ∷ 3 ∷ 0 ∷ 0 ∷ 1 ∷ 9 ∷ 0 ∷ []) [])
-    -- "refused 8 1", and an empty schedule's listing "ok 0 0 0 0 0"
+    -- "refused 8 1", and an empty schedule's listing "ok 0 0 0 0 0 0"
     ∷ same (refusal-line 8 1) (114 ∷ 101 ∷ 102 ∷ 117 ∷ 115 ∷ 101 ∷ 100 ∷ 32 ∷ 56 ∷ 32 ∷ 49 ∷ 10 ∷ [])
-    ∷ same (output-answer (1 ∷ 1 ∷ 0 ∷ 0 ∷ []) (replicate 13 0)) (111 ∷ 107 ∷ 32 ∷ 48 ∷ 32 ∷ 48 ∷ 32 ∷ 48 ∷ 32 ∷ 48 ∷ 32 ∷ 48 ∷ 10 ∷ [])
+    ∷ same (output-answer (1 ∷ 1 ∷ 0 ∷ 0 ∷ []) (replicate 15 0)) (111 ∷ 107 ∷ 32 ∷ 48 ∷ 32 ∷ 48 ∷ 32 ∷ 48 ∷ 32 ∷ 48 ∷ 32 ∷ 48 ∷ 32 ∷ 48 ∷ 10 ∷ [])
     ∷ same (numeral 65535) (54 ∷ 53 ∷ 53 ∷ 51 ∷ 53 ∷ []) ∷ same (numeral 10) (49 ∷ 48 ∷ []) ∷ []

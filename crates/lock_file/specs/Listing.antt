@@ -37,9 +37,9 @@ unfoldable pub spaced : (numbers : List ℕ) → List ℕ
 spaced [] = line-feed ∷ []
 spaced (n ∷ ns) = (space ∷ numeral n) ++ spaced ns
 
--- the numbers of the first line: steps, entries, stays, root and passed entries
+-- the numbers of the first line: steps, entries, stays, root, passed and crossed entries
 abbrev pub count-numbers : Counts → List ℕ
-count-numbers c = c .steps ∷ c .entries ∷ c .stays ∷ c .root ∷ c .passed ∷ []
+count-numbers c = c .steps ∷ c .entries ∷ c .stays ∷ c .root ∷ c .passed ∷ c .crossed ∷ []
 
 -- "ok" and the counts
 unfoldable pub first-line : Counts → List ℕ

@@ -107,7 +107,7 @@ fn spaced_length(numbers: &[u32]) -> usize
     total
 }
 
-fn numbers_of(counts: Counts) -> [u32; 5]
+fn numbers_of(counts: Counts) -> [u32; 6]
     ensures { λ r. ⌜ r ≡ count-numbers counts ⌝ }
 {
     [
@@ -116,6 +116,7 @@ fn numbers_of(counts: Counts) -> [u32; 5]
         counts.stays,
         counts.root,
         counts.passed,
+        counts.crossed,
     ]
 }
 

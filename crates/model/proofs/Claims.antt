@@ -7,5 +7,6 @@ pub mod Calls
 pub mod Demand
 pub mod Accepts
 pub mod Equality
+pub mod Passing
 pub mod Acting
 pub mod Queues

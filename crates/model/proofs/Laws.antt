@@ -1,5 +1,6 @@
 -- The laws of the step table and the refusals: runs and counts, refusals and accepted calls, form, kinds, words.
 pub mod Runs
+pub mod Passed
 pub mod Refusals
 pub mod Calls
 pub mod Facts

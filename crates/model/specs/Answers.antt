@@ -30,7 +30,7 @@ unfoldable pub step-answer : TreeWords → State → (thread : ℕ) → StepRepl
 step-answer w s i = step-reply (step-refusal (tree-of w) s i) s (step (tree-of w) i s .state)
 
 abbrev pub no-counts : Counts
-no-counts = record { steps = 0; entries = 0; stays = 0; root = 0; passed = 0 }
+no-counts = record { steps = 0; entries = 0; stays = 0; root = 0; passed = 0; crossed = 0 }
 
 -- a refused run: zero counts, the state as it came
 abbrev pub run-refused : Refusal → State → RunReply

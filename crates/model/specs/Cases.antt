@@ -26,22 +26,22 @@ unfoldable pub count-up : (from many : ℕ) → List ℕ
 count-up k zero = []
 count-up k (suc n) = k ∷ count-up (suc k) n
 
--- ANSWERS, as the program prints them: ok with steps, entries, stays, root entries, passed entries and the trace; or refused with number and place
+-- ANSWERS, as the program prints them: ok with steps, entries, stays, root entries, passed entries, crossed entries and the trace; or refused with number and place
 pub record Expected : Type 0 where
   pub number : ℕ
   pub place : ℕ
   pub counts : Counts
   pub trace : List ℕ
 
-unfoldable pub ok : (steps entries stays root passed : ℕ) → (trace : List ℕ) → Expected
-ok a b c d e tr = record { number = 0; place = 0; counts = record { steps = a; entries = b; stays = c; root = d; passed = e }; trace = tr }
+unfoldable pub ok : (steps entries stays root passed crossed : ℕ) → (trace : List ℕ) → Expected
+ok a b c d e f tr = record { number = 0; place = 0; counts = record { steps = a; entries = b; stays = c; root = d; passed = e; crossed = f }; trace = tr }
 
 unfoldable pub refused : (number place : ℕ) → Expected
 refused n p = record { number = n; place = p; counts = no-counts; trace = [] }
 
 -- accepted, with nothing counted
 unfoldable pub passes : Expected
-passes = ok 0 0 0 0 0 []
+passes = ok 0 0 0 0 0 0 []
 
 -- THE TABLE'S LINES. What a fresh call of a tree, a step in a state, and a run in a state with a trace buffer as long as the schedule are expected to answer
 pub data Case : Type 0 where
@@ -75,10 +75,14 @@ one-home = tree 2 2 (0 ∷ 0 ∷ []) (0 ∷ 2 ∷ []) (1 ∷ 1 ∷ [])
 unfoldable pub three-levels : TreeWords
 three-levels = tree 4 2 (0 ∷ 0 ∷ 1 ∷ 1 ∷ []) (0 ∷ 2 ∷ 1 ∷ 1 ∷ []) (2 ∷ 3 ∷ [])
 
+-- four levels: below the root domain 1, threshold 2; below it two domains, and below each a domain with a thread, thresholds 1
+unfoldable pub four-levels : TreeWords
+four-levels = tree 6 2 (0 ∷ 0 ∷ 1 ∷ 2 ∷ 1 ∷ 4 ∷ []) (0 ∷ 2 ∷ 1 ∷ 1 ∷ 1 ∷ 1 ∷ []) (3 ∷ 5 ∷ [])
+
 unfoldable pub cases : List Case
 cases =
     -- the 22 entries
-    run-call two-homes fresh-words (first-entries ++ 2 ∷ []) (ok 22 3 1 2 1 (0 ∷ 1 ∷ 2 ∷ []))
+    run-call two-homes fresh-words (first-entries ++ 2 ∷ []) (ok 22 3 1 2 1 0 (0 ∷ 1 ∷ 2 ∷ []))
     -- no domains
     ∷ fresh-call (tree 0 1 [] [] (0 ∷ [])) (refused 4 0)
     -- 64 domains, a thread in every leaf
@@ -98,11 +102,11 @@ cases =
     -- a parent not below its domain comes before the level that it would give
     ∷ fresh-call (tree 8 1 (replicate 7 0 ++ 7 ∷ []) (0 ∷ replicate 7 1) (1 ∷ [])) (refused 6 7)
     -- one domain, one thread, entries 0 0
-    ∷ run-call root-alone fresh-words (0 ∷ 0 ∷ []) (ok 2 1 0 1 0 (0 ∷ []))
+    ∷ run-call root-alone fresh-words (0 ∷ 0 ∷ []) (ok 2 1 0 1 0 0 (0 ∷ []))
     -- the empty schedule: all counts 0
     ∷ run-call root-alone fresh-words [] passes
     -- 0 four times, 1 twice, 0 seven times, then 1 0 0 1 1 1
-    ∷ run-call one-home fresh-words (replicate 4 0 ++ replicate 2 1 ++ replicate 7 0 ++ 1 ∷ 0 ∷ 0 ∷ 1 ∷ 1 ∷ 1 ∷ []) (ok 19 2 1 2 0 (0 ∷ 1 ∷ []))
+    ∷ run-call one-home fresh-words (replicate 4 0 ++ replicate 2 1 ++ replicate 7 0 ++ 1 ∷ 0 ∷ 0 ∷ 1 ∷ 1 ∷ 1 ∷ []) (ok 19 2 1 2 0 0 (0 ∷ 1 ∷ []))
     -- the 22 entries, the last changed to 3
     ∷ run-call two-homes fresh-words (first-entries ++ 3 ∷ []) (refused 12 21)
     -- Check at the root in a handed-in state
@@ -124,7 +128,9 @@ cases =
     -- Prep at home steps as Idle does
     ∷ step-gives one-home (with-place 0 (Prep 1) fresh-words) 0 (with-place 0 (Swap 1) (with-status 0 wait-word fresh-words))
     -- three levels: 0 six times, 1 six times, 0 four times, 1 once
-    ∷ run-call three-levels fresh-words (replicate 6 0 ++ replicate 6 1 ++ replicate 4 0 ++ 1 ∷ []) (ok 17 2 1 1 1 (0 ∷ 1 ∷ []))
+    ∷ run-call three-levels fresh-words (replicate 6 0 ++ replicate 6 1 ++ replicate 4 0 ++ 1 ∷ []) (ok 17 2 1 1 0 1 (0 ∷ 1 ∷ []))
+    -- four levels: 0 eight times, 1 eight times, 0 five times, 1 once: a crossed entry two levels above the home
+    ∷ run-call four-levels fresh-words (replicate 8 0 ++ replicate 8 1 ++ replicate 5 0 ++ 1 ∷ []) (ok 22 2 1 1 0 1 (0 ∷ 1 ∷ []))
     ∷ []
 
 -- WHEN A LINE HOLDS
@@ -149,7 +155,7 @@ gives n p x = eqb n (x .number) && eqb p (x .place)
 unfoldable pub same-counts : Counts → Counts → Bool
 same-counts r x =
     (eqb (r .steps) (x .steps) && eqb (r .entries) (x .entries))
-    && (eqb (r .stays) (x .stays) && (eqb (r .root) (x .root) && eqb (r .passed) (x .passed)))
+    && ((eqb (r .stays) (x .stays) && eqb (r .root) (x .root)) && (eqb (r .passed) (x .passed) && eqb (r .crossed) (x .crossed)))
 
 -- where refused, the state is as it came
 unfoldable pub kept : (refused : ℕ) → (before after : State) → Bool

@@ -1,19 +1,21 @@
 -- THE LAWS OF THE STEP TABLE AND THE REFUSALS, for the second demand. Each is a statement; proofs/ has its proof. Assumes nothing.
 use mathlib.Core.Path.{_≡_}
-use mathlib.Core.Bool.{true, false}
+use mathlib.Core.Bool.{Bool, true, false, _&&_, not, cond}
 use mathlib.Core.List.{List, [], _∷_, _++_}
 use mathlib.Core.Logic.{_≢_, _⊎_}
 use Prim.Native.Nat.{ℕ, _+_, _≤_, _<_}
+use lib.Dec.{eqb}
 use lib.ListN.{length, getD}
 use Rattle.model.specs.declared.TreeWords.{TreeWords}
 use Rattle.model.specs.declared.State.{State}
 use Rattle.model.specs.declared.Counts.{Counts}
-use Rattle.model.specs.declared.Place.the-variants.{Swap, Wait, Inside}
+use Rattle.model.specs.declared.Place.{Place}
+use Rattle.model.specs.declared.Place.the-variants.{Idle, Prep, Swap, Link, Wait, Inside, Check, Help, Cas, Linger, Grant, Invalid}
 use Rattle.model.specs.Trees.{Tree, tree-of, is-member}
 use Rattle.model.specs.Places.{place-words}
 use Rattle.model.specs.States.{acquire-parent, wait-word, status, place, fresh-words}
-use Rattle.model.specs.Steps.{stay, root-entry, passed-entry, is-entry, step}
-use Rattle.model.specs.Runs.{Run, run-of, run}
+use Rattle.model.specs.Steps.{stay, root-entry, passed-entry, crossed-entry, is-entry, Step, step}
+use Rattle.model.specs.Runs.{steps, Run, run-of, run}
 use Rattle.model.specs.WellFormed.{well-formed}
 use Rattle.model.specs.Refusals.{refusal, accepted, Test, first-refusal, tree-tests, step-tests, run-tests, tree-refusal}
 
@@ -63,6 +65,7 @@ add-counts x y =
       stays = x .stays + y .stays;
       root = x .root + y .root;
       passed = x .passed + y .passed;
+      crossed = x .crossed + y .crossed;
     }
 
 unfoldable pub then-run : Run → Run → Run
@@ -77,16 +80,16 @@ pub record Equals-steps (t : Tree) (s : State) : Type 0 where
 unfoldable pub Run-law : Type 0
 Run-law = (t : Tree) (s : State) → Equals-steps t s
 
--- root entries and passed entries add up to the entries, which are as many as the trace has; steps are as many as the schedule has entries
+-- root entries, passed entries and crossed entries add up to the entries, which are as many as the trace has; steps are as many as the schedule has entries
 pub record Adds-up (schedule : List ℕ) (x : Run) : Type 0 where
-  pub both-entries : x .counts .root + x .counts .passed ≡ x .counts .entries
+  pub all-entries : x .counts .root + x .counts .passed + x .counts .crossed ≡ x .counts .entries
   pub traced : length (x .trace) ≡ x .counts .entries
   pub all-steps : x .counts .steps ≡ length schedule
 
 unfoldable pub Count-law : Type 0
 Count-law = (t : Tree) (is : List ℕ) (s : State) → Adds-up is (run t is s)
 
--- 3. KINDS. A stay changes nothing, and only a stay; an entry arrives Inside; a root entry came from Swap or Wait at the root, a passed entry from Wait at any other domain
+-- 3. KINDS. A stay changes nothing, and only a stay; an entry arrives Inside; a root entry came from Swap or Wait at the root, a passed entry from Wait at the home, other than the root, a crossed entry from Wait between home and root
 pub record Tells-kind (t : Tree) (i : ℕ) (s : State) : Type 0 where
   pub stays-exactly : (step t i s .kind ≡ stay) ⟺ (step t i s .state ≡ s)
   pub enters-exactly : (is-entry (step t i s .kind) ≡ true) ⟺ ((place (step t i s .state) i ≡ Inside) × (place s i ≢ Inside))
@@ -95,10 +98,37 @@ pub record Tells-kind (t : Tree) (i : ℕ) (s : State) : Type 0 where
       ⟺ ((place (step t i s .state) i ≡ Inside) × ((place s i ≡ Swap 0) ⊎ (place s i ≡ Wait 0)))
   pub passed-exactly :
       (step t i s .kind ≡ passed-entry)
-      ⟺ ((place (step t i s .state) i ≡ Inside) × ((l : ℕ) × (l ≢ 0) × (place s i ≡ Wait l)))
+      ⟺ ((place (step t i s .state) i ≡ Inside) × ((t .home i ≢ 0) × (place s i ≡ Wait (t .home i))))
+  pub crossed-exactly :
+      (step t i s .kind ≡ crossed-entry)
+      ⟺ ((place (step t i s .state) i ≡ Inside) × ((l : ℕ) × (l ≢ 0) × (l ≢ t .home i) × (place s i ≡ Wait l)))
 
 unfoldable pub Kind-law : Type 0
 Kind-law = (t : Tree) (i : ℕ) (s : State) → tree-refusal t .number ≡ 0 → i < t .threads → Formed t s → Tells-kind t i s
+
+-- What document 01 counted as passed, before document 02 told crossed entries apart: an entry from Wait at any domain but the root
+unfoldable pub waits-below : Place → Bool
+waits-below Idle = false
+waits-below (Prep l) = false
+waits-below (Swap l) = false
+waits-below (Link l p) = false
+waits-below (Wait l) = not (eqb l 0)
+waits-below Inside = false
+waits-below (Check l) = false
+waits-below (Help l) = false
+waits-below (Cas l) = false
+waits-below (Linger l) = false
+waits-below (Grant l r w) = false
+waits-below Invalid = false
+
+unfoldable pub entries-from-below : List Step → ℕ
+entries-from-below [] = 0
+entries-from-below (x ∷ xs) = cond (is-entry (x .kind) && waits-below (x .place)) 1 0 + entries-from-below xs
+
+-- passed and crossed together are what it counted
+unfoldable pub Passed-law : Type 0
+Passed-law =
+    (t : Tree) (is : List ℕ) (s : State) → run t is s .counts .passed + run t is s .counts .crossed ≡ entries-from-below (steps t is s)
 
 -- 4. REFUSALS. Number n at place p exactly if every earlier test passes, p is bad and none below p is
 abbrev pub Passes : Test → Type 0

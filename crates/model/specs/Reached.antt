@@ -2,15 +2,16 @@
 use mathlib.Core.Path.{_≡_}
 use mathlib.Core.Bool.{true, _&&_, not, cond}
 use mathlib.Core.List.{List, [], _∷_, _++_}
+use mathlib.Core.Logic.{_≢_}
 use Prim.Native.Nat.{ℕ, suc, _+_, _-_, _≤_, _<_}
 use lib.Dec.{eqb}
 use lib.ListN.{length, drop}
 use Rattle.model.specs.declared.TreeWords.{TreeWords}
 use Rattle.model.specs.declared.State.{State}
-use Rattle.model.specs.declared.Place.the-variants.{Check, Grant}
+use Rattle.model.specs.declared.Place.the-variants.{Wait, Check, Grant}
 use Rattle.model.specs.Trees.{Tree, tree-of, own-record, is-member}
 use Rattle.model.specs.States.{none, tail, next, status, place, fresh-words, with-place}
-use Rattle.model.specs.Steps.{Row-result, step-from, moves, release-place, check-row, step}
+use Rattle.model.specs.Steps.{is-entry, Row-result, step-from, moves, release-place, check-row, step}
 use Rattle.model.specs.Runs.{steps, run, begun, ended, occurrences}
 use Rattle.model.specs.Acts.{acts}
 use Rattle.model.specs.Refusals.{accepted, tree-refusal}
@@ -55,6 +56,18 @@ unfoldable pub Equality-law : Type 0
 Equality-law =
     (t : Tree) → Sixteen-bit t → tree-refusal t .number ≡ 0 → (is : List ℕ) → All-threads t is → (i l : ℕ) → i < t .threads →
     place (run t is fresh-words .state) i ≡ Check l → Counts-at-check t (run t is fresh-words .state) i l
+
+-- PASSING ON. From fresh, an entry from Wait below the root is at a domain whose threshold is at least 2
+unfoldable pub Passing-law : Type 0
+Passing-law =
+    (t : Tree) → Sixteen-bit t → tree-refusal t .number ≡ 0 → (is : List ℕ) → All-threads t is → (i l : ℕ) → i < t .threads →
+    place (run t is fresh-words .state) i ≡ Wait l → l ≢ 0 → is-entry (step t i (run t is fresh-words .state) .kind) ≡ true → 2 ≤ t .threshold l
+
+-- so with every threshold 1 no run from fresh makes a passed or a crossed entry
+unfoldable pub Threshold-one-law : Type 0
+Threshold-one-law =
+    (t : Tree) → tree-refusal t .number ≡ 0 → ((d : ℕ) → t .threshold d ≤ 1) → (is : List ℕ) → All-threads t is →
+    (run t is fresh-words .counts .passed ≡ 0) × (run t is fresh-words .counts .crossed ≡ 0)
 
 -- QUEUES. One more than the last of a list, or none
 unfoldable pub last-or-none : List ℕ → ℕ

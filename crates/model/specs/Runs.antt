@@ -7,7 +7,7 @@ use lib.ListN.{length}
 use Rattle.model.specs.declared.State.{State}
 use Rattle.model.specs.declared.Counts.{Counts}
 use Rattle.model.specs.Trees.{Tree, under}
-use Rattle.model.specs.Steps.{Kind, stay, root-entry, passed-entry, is-kind, is-entry, Standing, unchanged, begins, ends, Step, step}
+use Rattle.model.specs.Steps.{Kind, stay, root-entry, passed-entry, crossed-entry, is-kind, is-entry, Standing, unchanged, begins, ends, Step, step}
 
 -- the steps of a schedule from a state, in order
 unfoldable pub steps : Tree → (schedule : List ℕ) → State → List Step
@@ -29,7 +29,7 @@ unfoldable pub entering : List Step → List ℕ
 entering [] = []
 entering (x ∷ xs) = cond (is-entry (x .kind)) (x .thread ∷ []) [] ++ entering xs
 
--- steps (stays among them), entries, stays, root entries, passed entries, each counted from the steps
+-- steps (stays among them), entries, stays, root entries, passed entries, crossed entries, each counted from the steps
 unfoldable pub counts-of : List Step → Counts
 counts-of xs =
     record {
@@ -38,6 +38,7 @@ counts-of xs =
       stays = how-many (is-kind stay) xs;
       root = how-many (is-kind root-entry) xs;
       passed = how-many (is-kind passed-entry) xs;
+      crossed = how-many (is-kind crossed-entry) xs;
     }
 
 -- a run: what is counted of its steps; the trace; the state after the last step

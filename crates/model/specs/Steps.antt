@@ -9,9 +9,9 @@ use Rattle.model.specs.Trees.{Tree, child, own-record}
 use Rattle.model.specs.Places.{place-domain}
 use Rattle.model.specs.States.{cohort-start, acquire-parent, wait-word, unlocked, locked, root-word, none, tail, next, status, place, with-tail, with-next, with-status, with-place}
 
--- what a step is: a stay, any other move, a root entry or a passed entry
+-- what a step is: a stay, any other move, a root entry, a passed entry or a crossed entry
 pub data Kind : Type 0 where
-  stay other root-entry passed-entry : Kind
+  stay other root-entry passed-entry crossed-entry : Kind
 
 -- the number of a kind
 abbrev pub kind-number : Kind → ℕ
@@ -19,6 +19,7 @@ kind-number stay = 0
 kind-number other = 1
 kind-number root-entry = 2
 kind-number passed-entry = 3
+kind-number crossed-entry = 4
 
 -- a kind is the one that is named
 unfoldable pub is-kind : (named kind : Kind) → Bool
@@ -30,6 +31,7 @@ is-entry stay = false
 is-entry other = false
 is-entry root-entry = true
 is-entry passed-entry = true
+is-entry crossed-entry = true
 
 -- standing ungranted: a step may begin it for a member, or end it
 pub data Standing : Type 0 where
@@ -99,6 +101,10 @@ swap-row t i l s =
 unfoldable pub link-row : Tree → (thread domain before : ℕ) → State → Row-result
 link-row t i l p s = moves (with-place i (Wait l) (with-next p (own-record t i l + 1) s))
 
+-- an entry from Wait below the root is a passed entry at the thread's home, and a crossed entry between home and root
+abbrev pub passing-kind : Tree → (thread domain : ℕ) → Kind
+passing-kind t i l = cond (eqb l (t .home i)) passed-entry crossed-entry
+
 -- Wait(L) at the root: LOCKED stays, any other status goes Inside. Elsewhere: WAIT stays; ACQUIRE_PARENT sets status 1 and goes to Prep(parent); any lower status goes Inside
 unfoldable pub wait-row : Tree → (thread domain : ℕ) → State → Row-result
 wait-row t i l s =
@@ -108,7 +114,7 @@ wait-row t i l s =
     (cond (eqb v wait-word) (stays s)
     (cond (eqb v acquire-parent)
     (moves (with-place i (acquired-place t l) (with-status I cohort-start s)))
-    (enters passed-entry i s)))
+    (enters (passing-kind t i l) i s)))
 
 -- Inside: the thread leaves; to Help(home) if home is the root, else Check(home)
 unfoldable pub leave-row : Tree → (thread : ℕ) → State → Row-result

@@ -20,6 +20,8 @@ pub const ROOT_ENTRY: u8 = 2;
 
 pub const PASSED_ENTRY: u8 = 3;
 
+pub const CROSSED_ENTRY: u8 = 4;
+
 // A tree with its threads. The root's parent and threshold, and room that the tree lacks, are not read.
 #[repr(C)]
 pub struct TreeWords {
@@ -64,7 +66,7 @@ pub enum Place {
     Invalid,
 }
 
-// What is counted of a run's steps: all of them, stays among them; entries, stays, root entries, passed entries.
+// What is counted of a run's steps: all of them, stays among them; entries, stays, root entries, passed entries, crossed entries.
 #[repr(C)]
 pub struct Counts {
     pub steps: u32,
@@ -72,6 +74,7 @@ pub struct Counts {
     pub stays: u32,
     pub root: u32,
     pub passed: u32,
+    pub crossed: u32,
 }
 
 // What the three calls return. Number 0 is accepted.

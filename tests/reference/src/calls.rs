@@ -70,6 +70,6 @@ fn run_words(tree: &TreeWords, words: &StateWords, schedule: &[u16], trace: &mut
     });
     let (number, place) = number_and_place(&outcome);
     let (counts, state) = outcome.unwrap_or((Counts::default(), *words));
-    let Counts { steps, entries, stays, root, passed } = counts;
-    RunReply { number, place, steps, entries, stays, root, passed, state }
+    let Counts { steps, entries, stays, root, passed, crossed } = counts;
+    RunReply { number, place, steps, entries, stays, root, passed, crossed, state }
 }

@@ -111,7 +111,7 @@ fn push_number(line: &mut Vec<u8>, number: u32) {
 fn listing(counts: Counts, trace: &[u16]) -> Vec<u8> {
     let mut listing = Vec::with_capacity(64 + 4 * trace.len());
     listing.extend_from_slice(b"ok");
-    for number in [counts.steps, counts.entries, counts.stays, counts.root, counts.passed] {
+    for number in [counts.steps, counts.entries, counts.stays, counts.root, counts.passed, counts.crossed] {
         listing.push(b' ');
         push_number(&mut listing, number);
     }

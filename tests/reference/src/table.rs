@@ -51,6 +51,7 @@ pub enum Kind {
     Move,
     RootEntry,
     PassedEntry,
+    CrossedEntry,
 }
 
 #[derive(Clone, Copy, Debug, Default, PartialEq, Eq)]
@@ -60,6 +61,7 @@ pub struct Counts {
     pub stays: u32,
     pub root: u32,
     pub passed: u32,
+    pub crossed: u32,
 }
 
 impl Tree {
@@ -206,7 +208,8 @@ fn wait(tree: &Tree, state: &mut State, thread: usize, domain: usize) -> Kind {
         match status {
             WAIT => Kind::Stay,
             ACQUIRE_PARENT => start_cohort(tree, state, thread, domain, record),
-            _ => enter(state, thread, Kind::PassedEntry),
+            _ if domain == tree.home(thread) => enter(state, thread, Kind::PassedEntry),
+            _ => enter(state, thread, Kind::CrossedEntry),
         }
     }
 }
@@ -249,20 +252,21 @@ fn grant(tree: &Tree, state: &mut State, thread: usize, domain: usize, to: usize
 }
 
 impl Counts {
-    /// Root and passed entries are each counted from their steps.
+    /// Root, passed and crossed entries are each counted from their steps.
     #[inline]
     fn count(&mut self, kind: Kind) {
         self.steps += 1;
         self.stays += (kind == Kind::Stay) as u32;
         self.root += (kind == Kind::RootEntry) as u32;
         self.passed += (kind == Kind::PassedEntry) as u32;
+        self.crossed += (kind == Kind::CrossedEntry) as u32;
         self.entries += kind.is_entry() as u32;
     }
 }
 
 impl Kind {
     pub fn is_entry(self) -> bool {
-        matches!(self, Kind::RootEntry | Kind::PassedEntry)
+        matches!(self, Kind::RootEntry | Kind::PassedEntry | Kind::CrossedEntry)
     }
 }
 

@@ -50,6 +50,7 @@ pub struct RunReply {
     pub stays: u32,
     pub root: u32,
     pub passed: u32,
+    pub crossed: u32,
     pub state: StateWords,
 }
 

@@ -82,10 +82,10 @@ fn homes() {
 fn output_buffer() {
     let file = [1, 1, 0, 0, 0, 0, 0, 0];
     let mut output = [7; 20];
-    assert_eq!(run_file(&file, &mut output[..14]), FileAnswer { number: 14, place: 0, length: 0 });
+    assert_eq!(run_file(&file, &mut output[..16]), FileAnswer { number: 14, place: 0, length: 0 });
     assert_eq!(output, [7; 20]);
-    assert_eq!(run_file(&file, &mut output[..15]), FileAnswer { number: 0, place: 0, length: 15 });
-    assert_eq!(&output, b"ok 2 1 0 1 0\n0\n\x07\x07\x07\x07\x07");
+    assert_eq!(run_file(&file, &mut output[..17]), FileAnswer { number: 0, place: 0, length: 17 });
+    assert_eq!(&output, b"ok 2 1 0 1 0 0\n0\n\x07\x07\x07");
 }
 
 #[test]

@@ -39,11 +39,11 @@ fn draft_prints(draft: &Draft, text: &str) {
     }
 }
 
-const EMPTY: &str = "ok 0 0 0 0 0\n";
+const EMPTY: &str = "ok 0 0 0 0 0 0\n";
 
 #[test]
 fn printed_example() {
-    prints(&file(&printed_head(), &PRINTED), "ok 22 3 1 2 1\n0\n1\n2\n");
+    prints(&file(&printed_head(), &PRINTED), "ok 22 3 1 2 1 0\n0\n1\n2\n");
 }
 
 #[test]
@@ -85,7 +85,7 @@ fn parent_before_threshold() {
 
 #[test]
 fn one_domain_one_thread() {
-    prints(&file(&[1, 1, 0, 0], &[0, 0]), "ok 2 1 0 1 0\n0\n");
+    prints(&file(&[1, 1, 0, 0], &[0, 0]), "ok 2 1 0 1 0 0\n0\n");
 }
 
 #[test]
@@ -101,7 +101,7 @@ fn two_levels_schedule() -> Vec<u16> {
 
 #[test]
 fn nineteen_entries() {
-    prints(&file(&TWO_LEVELS, &two_levels_schedule()), "ok 19 2 1 2 0\n0\n1\n");
+    prints(&file(&TWO_LEVELS, &two_levels_schedule()), "ok 19 2 1 2 0 0\n0\n1\n");
 }
 
 const THREE_LEVELS: [u8; 18] = [4, 2, 2, 0, 3, 1, 1, 0, 3, 1, 1, 0, 2, 0, 1, 2, 1, 3];
@@ -112,7 +112,7 @@ fn three_levels_schedule() -> Vec<u16> {
 
 #[test]
 fn three_levels() {
-    prints(&file(&THREE_LEVELS, &three_levels_schedule()), "ok 17 2 1 1 1\n0\n1\n");
+    prints(&file(&THREE_LEVELS, &three_levels_schedule()), "ok 17 2 1 1 0 1\n0\n1\n");
 }
 
 #[test]
@@ -141,7 +141,7 @@ fn no_passed_entry_with_thresholds_of_one() {
         let tree = draft.tree();
         let entries = schedule(&mut random, &tree, STYLES[number % STYLES.len()], 600);
         let counts = run(&tree, &mut State::fresh(), entries.into_iter(), &mut Vec::new());
-        assert_eq!((counts.passed, counts.root), (0, counts.entries));
+        assert_eq!((counts.passed, counts.crossed, counts.root), (0, 0, counts.entries));
     }
 }
 
@@ -159,7 +159,7 @@ fn trace_buffer_as_long_as_the_schedule() {
     let mut trace = [7; 22];
     let short = run_lock(&tree, &mut state, &PRINTED, &mut trace[..21]);
     assert_eq!((short, state == State::fresh(), trace), (Err(Refusal { number: 13, place: 0 }), true, [7; 22]));
-    let counts = Counts { steps: 22, entries: 3, stays: 1, root: 2, passed: 1 };
+    let counts = Counts { steps: 22, entries: 3, stays: 1, root: 2, passed: 1, crossed: 0 };
     assert_eq!(run_lock(&tree, &mut state, &PRINTED, &mut trace), Ok(counts));
     assert_eq!(trace[..5], [0, 1, 2, 7, 7]);
 }

@@ -95,7 +95,7 @@ module _ (t : Tree) (𝓐 : Accepted t) (i : ℕ) (h : i < t .threads) (n : ℕ)
     acts-stage e (at-woken k b c v y) =
         let l : k ≤ height t i = omega arith in
         rw (own-record-at t 𝓐 i h k l) (or-false _ _ (woken-out k _ b v) ∙ there-test k l)
-    acts-stage e (at-ready k l c v) =
+    acts-stage e (at-ready k l c v p) =
         let all : low (height t i) (g .stage i) ≡ suc (height t i) = ap (low (height t i)) e in
         rw (own-record-at t 𝓐 i h k l)
         (or-right (leb (ancestor t i k) (ancestor t i n)) _ (goes-in k _ l v (λ b. let y = c k b b in omega (arith, count-small k b (omega arith)))) ∙ everywhere)

@@ -64,7 +64,7 @@ inside-stage e (at-swap k l c n v) = absurd (let z : _≡_ {A = ℕ} 0 1 = cc in
 inside-stage e (at-link k p l c a n v) = absurd (let z : _≡_ {A = ℕ} 0 1 = cc in omega arith)
 inside-stage e (at-wait k l c v) = absurd (let z : _≡_ {A = ℕ} 0 1 = cc in omega arith)
 inside-stage e (at-woken k b c v y) = absurd (let z : _≡_ {A = ℕ} 0 1 = cc in omega arith)
-inside-stage e (at-ready k l c v) = absurd (let z : _≡_ {A = ℕ} 0 1 = cc in omega arith)
+inside-stage e (at-ready k l c v p) = absurd (let z : _≡_ {A = ℕ} 0 1 = cc in omega arith)
 inside-stage e (at-inside c) = refl
 inside-stage e (at-check k b c) = absurd (let z : _≡_ {A = ℕ} 0 1 = cc in omega arith)
 inside-stage e (at-pass k r v b c n q y) = absurd (let z : _≡_ {A = ℕ} 0 1 = cc in omega arith)

@@ -39,7 +39,7 @@ checking l e (at-swap k b c n v) = absurd (let z : _≡_ {A = ℕ} 0 1 = cc in o
 checking l e (at-link k p b c a n v) = absurd (let z : _≡_ {A = ℕ} 0 1 = cc in omega arith)
 checking l e (at-wait k b c v) = absurd (let z : _≡_ {A = ℕ} 0 1 = cc in omega arith)
 checking l e (at-woken k b c v y) = absurd (let z : _≡_ {A = ℕ} 0 1 = cc in omega arith)
-checking l e (at-ready k b c v) = absurd (let z : _≡_ {A = ℕ} 0 1 = cc in omega arith)
+checking l e (at-ready k b c v p) = absurd (let z : _≡_ {A = ℕ} 0 1 = cc in omega arith)
 checking l e (at-inside c) = absurd (let z : _≡_ {A = ℕ} 0 1 = cc in omega arith)
 checking l e (at-pass k r v b c n q y) = absurd (let z : _≡_ {A = ℕ} 0 1 = cc in omega arith)
 checking l e (at-help k b c) = absurd (let z : _≡_ {A = ℕ} 0 1 = cc in omega arith)

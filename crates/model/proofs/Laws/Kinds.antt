@@ -1,6 +1,6 @@
--- KINDS. A stay changes nothing, and only a stay; an entry arrives Inside; where root entries and passed entries come from. Assumes nothing.
+-- KINDS. A stay changes nothing, and only a stay; an entry arrives Inside; where root entries, passed entries and crossed entries come from. Assumes nothing.
 use mathlib.Core.Path.{_≡_, refl, sym, ap, _∙_}
-use mathlib.Core.Bool.{true, false, _&&_, _||_, not, false≢true}
+use mathlib.Core.Bool.{Bool, true, false, cond, _&&_, _||_, not, false≢true}
 use mathlib.Core.Logic.{_≢_, _⊎_, inl, inr}
 use Prim.Native.Nat.{ℕ, _+_, _-_, _<_}
 use native.Mathlib.Omega.{arith}
@@ -12,7 +12,7 @@ use Rattle.model.specs.declared.State.{State}
 use Rattle.model.specs.Trees.{Tree, on-path, child, own-record}
 use Rattle.model.specs.Places.{words-of}
 use Rattle.model.specs.States.{acquire-parent, wait-word, locked, none, tail, next, status, place, with-place}
-use Rattle.model.specs.Steps.{Kind, stay, other, root-entry, passed-entry, is-entry, Row-result, acquired-place, release-place, done-place, release-word, prep-row, swap-row, link-row, wait-row, leave-row, check-row, help-row, cas-row, linger-row, grant-row, row, step}
+use Rattle.model.specs.Steps.{Kind, stay, other, root-entry, passed-entry, crossed-entry, is-entry, Row-result, enters, passing-kind, acquired-place, release-place, done-place, release-word, prep-row, swap-row, link-row, wait-row, leave-row, check-row, help-row, cas-row, linger-row, grant-row, row, step}
 use Rattle.model.specs.WellFormed.{good-place}
 use Rattle.model.specs.Laws.{Tells-kind, Kind-law}
 use Rattle.model.proofs.Tests.{by-test, and-both, or-neither}
@@ -32,15 +32,17 @@ moves-to p q f =
     (λ e. eqb-false _ _ (both .0) (ap (λ x. words-of x .row) e), λ e. eqb-false _ _ (both .1) (ap (λ x. words-of x .row) e))
 
 -- what a step of a thread from a place comes to
-pub data Outcome (s : State) (i : ℕ) (p : Place) (x : Row-result) : Type 0 where
-  stayed : x .kind ≡ stay → x .state ≡ s → Outcome s i p x
-  moved : (q : Place) → x .kind ≡ other → place (x .state) i ≡ q → Moves-to p q → Outcome s i p x
-  entered-root : x .kind ≡ root-entry → place (x .state) i ≡ Inside → (p ≡ Swap 0) ⊎ (p ≡ Wait 0) → Outcome s i p x
-  entered-passed : (l : ℕ) → x .kind ≡ passed-entry → place (x .state) i ≡ Inside → l ≢ 0 → p ≡ Wait l → Outcome s i p x
+pub data Outcome (home : ℕ) (s : State) (i : ℕ) (p : Place) (x : Row-result) : Type 0 where
+  stayed : x .kind ≡ stay → x .state ≡ s → Outcome home s i p x
+  moved : (q : Place) → x .kind ≡ other → place (x .state) i ≡ q → Moves-to p q → Outcome home s i p x
+  entered-root : x .kind ≡ root-entry → place (x .state) i ≡ Inside → (p ≡ Swap 0) ⊎ (p ≡ Wait 0) → Outcome home s i p x
+  entered-passed : x .kind ≡ passed-entry → place (x .state) i ≡ Inside → (home ≢ 0) × (p ≡ Wait home) → Outcome home s i p x
+  entered-crossed :
+      x .kind ≡ crossed-entry → place (x .state) i ≡ Inside → (l : ℕ) × (l ≢ 0) × (l ≢ home) × (p ≡ Wait l) → Outcome home s i p x
 
 module _ (t : Tree) (𝓐 : Accepted t) (i : ℕ) (h : i < t .threads) (s : State) (k : Facts t s) where
   abbrev Of : Place → Row-result → Type 0
-  Of p x = Outcome s i p x
+  Of p x = Outcome (t .home i) s i p x
 
   -- the stores of a row leave the places alone but for the thread's own
   stored : (q : Place) → place (with-place i q s) i ≡ q
@@ -69,6 +71,14 @@ module _ (t : Tree) (𝓐 : Accepted t) (i : ℕ) (h : i < t .threads) (s : Stat
   unfolding link-row
   link-outcome l p = moved (Wait l) refl (stored (Wait l)) (moves-to (Link l p) (Wait l) refl)
 
+  -- from Wait below the root
+  passes-on : (l : ℕ) → l ≢ 0 → Of (Wait l) (enters (passing-kind t i l) i s)
+  passes-on l n = by (eqb l (t .home i)) refl
+    where
+      by : (b : Bool) → eqb l (t .home i) ≡ b → Of (Wait l) (enters (cond b passed-entry crossed-entry) i s)
+      by true e = let same = eqb-true l (t .home i) e in entered-passed refl (stored Inside) (λ z. n (same ∙ z), ap Wait same)
+      by false e = entered-crossed refl (stored Inside) (l, n, eqb-false l (t .home i) e, refl)
+
   wait-outcome : (l : ℕ) → Of (Wait l) (wait-row t i l s)
   unfolding wait-row
   wait-outcome l =
@@ -79,7 +89,7 @@ module _ (t : Tree) (𝓐 : Accepted t) (i : ℕ) (h : i < t .threads) (s : Stat
       (λ z. by-test O (eqb v wait-word) _ _ (λ _. stayed refl refl)
       (λ _. by-test O (eqb v acquire-parent) _ _
       (λ _. moved (acquired-place t l) refl (stored (acquired-place t l)) (moves-to (Wait l) (acquired-place t l) refl))
-      (λ _. entered-passed l refl (stored Inside) (eqb-false l 0 z) refl)))
+      (λ _. passes-on l (eqb-false l 0 z))))
 
   leave-outcome : Of Inside (leave-row t i s)
   unfolding leave-row
@@ -153,21 +163,20 @@ module _ (t : Tree) (𝓐 : Accepted t) (i : ℕ) (h : i < t .threads) (s : Stat
   row-outcome (Grant l r w) g = grant-outcome l r w
   row-outcome Invalid g = absurd (false≢true g)
 
-  pub step-outcome : Outcome s i (place s i) (row t i (place s i) s)
+  pub step-outcome : Outcome (t .home i) s i (place s i) (row t i (place s i) s)
   step-outcome = row-outcome (place s i) (k .places i .used h)
 
 -- FROM OUTCOMES TO KINDS
-pub entry-kinds : (k : Kind) → is-entry k ≡ true → (k ≡ root-entry) ⊎ (k ≡ passed-entry)
+pub entry-kinds : (k : Kind) → is-entry k ≡ true → (k ≡ root-entry) ⊎ ((k ≡ passed-entry) ⊎ (k ≡ crossed-entry))
 unfolding is-entry
 entry-kinds stay e = absurd (false≢true e)
 entry-kinds other e = absurd (false≢true e)
 entry-kinds root-entry e = inl refl
-entry-kinds passed-entry e = inr refl
+entry-kinds passed-entry e = inr (inl refl)
+entry-kinds crossed-entry e = inr (inr refl)
 
-pub kinds-entry : (k : Kind) → (k ≡ root-entry) ⊎ (k ≡ passed-entry) → is-entry k ≡ true
-unfolding is-entry
-kinds-entry k (inl e) = rw e
-kinds-entry k (inr e) = rw e
+kind-entry : (k j : Kind) → k ≡ j → is-entry j ≡ true → is-entry k ≡ true
+kind-entry k j e f = rw e f
 
 never : {A : Type 0} → _≡_ {A = ℕ} 0 1 → A
 never z = absurd (omega arith)
@@ -183,60 +192,82 @@ module _ (t : Tree) (i : ℕ) (s : State) where
   abbrev after : Place
   after = place (step t i s .state) i
 
+  -- where each kind of entry comes from
   abbrev From-root : Type 0
   From-root = (before ≡ Swap 0) ⊎ (before ≡ Wait 0)
 
-  abbrev From-below : Type 0
-  From-below = (l : ℕ) × (l ≢ 0) × (before ≡ Wait l)
+  abbrev From-home : Type 0
+  From-home = (t .home i ≢ 0) × (before ≡ Wait (t .home i))
+
+  abbrev From-between : Type 0
+  From-between = (l : ℕ) × (l ≢ 0) × (l ≢ t .home i) × (before ≡ Wait l)
 
   root-not-inside : From-root → before ≡ Inside → _≡_ {A = ℕ} 0 1
   root-not-inside (inl e) f = cc
   root-not-inside (inr e) f = cc
 
-  below-not-inside : From-below → before ≡ Inside → _≡_ {A = ℕ} 0 1
-  below-not-inside (l, n, e) f = cc
+  home-not-inside : From-home → before ≡ Inside → _≡_ {A = ℕ} 0 1
+  home-not-inside (n, e) f = cc
 
-  root-not-below : From-root → From-below → _≡_ {A = ℕ} 0 1
-  root-not-below (inl e) (l, n, f) = cc
-  root-not-below (inr e) (l, n, f) = let z : l ≡ 0 = cc in absurd (n z)
+  between-not-inside : From-between → before ≡ Inside → _≡_ {A = ℕ} 0 1
+  between-not-inside (l, n, m, e) f = cc
 
-  not-entry : kind ≢ root-entry → kind ≢ passed-entry → is-entry kind ≢ true
-  not-entry a b e = elim (entry-kinds kind e) [ inl f ↦ a f | inr f ↦ b f ]
+  root-not-home : From-root → From-home → _≡_ {A = ℕ} 0 1
+  root-not-home (inl e) (n, f) = cc
+  root-not-home (inr e) (n, f) = let z : t .home i ≡ 0 = cc in absurd (n z)
 
-  tells : Outcome s i before (row t i (place s i) s) → Tells-kind t i s
-  unfolding step
+  root-not-between : From-root → From-between → _≡_ {A = ℕ} 0 1
+  root-not-between (inl e) (l, n, m, f) = cc
+  root-not-between (inr e) (l, n, m, f) = let z : l ≡ 0 = cc in absurd (n z)
+
+  home-not-between : From-home → From-between → _≡_ {A = ℕ} 0 1
+  home-not-between (n, e) (l, m, o, f) = let z : l ≡ t .home i = cc in absurd (o z)
+
+  not-entry : (k : Kind) → kind ≡ k → is-entry k ≡ false → is-entry kind ≢ true
+  not-entry k e f g = false≢true (sym f ∙ ap is-entry (sym e) ∙ g)
+
+  tells : Outcome (t .home i) s i before (row t i (place s i) s) → Tells-kind t i s
+  unfolding step is-entry
   tells (stayed e f) =
       let same : after ≡ before = ap (λ x. place x i) f in
-      let no-root : kind ≢ root-entry = λ g. never (cc) in
-      let no-passed : kind ≢ passed-entry = λ g. never (cc) in
       record {
         stays-exactly = (λ _. f, λ _. e);
-        enters-exactly = (λ g. absurd (not-entry no-root no-passed g), λ g. absurd (g .1 (sym same ∙ g .0)));
-        root-exactly = (λ g. absurd (no-root g), λ g. never (root-not-inside (g .1) (sym same ∙ g .0)));
-        passed-exactly = (λ g. absurd (no-passed g), λ g. never (below-not-inside (g .1) (sym same ∙ g .0)));
+        enters-exactly = (λ g. absurd (not-entry stay e refl g), λ g. absurd (g .1 (sym same ∙ g .0)));
+        root-exactly = (λ g. never (cc), λ g. never (root-not-inside (g .1) (sym same ∙ g .0)));
+        passed-exactly = (λ g. never (cc), λ g. never (home-not-inside (g .1) (sym same ∙ g .0)));
+        crossed-exactly = (λ g. never (cc), λ g. never (between-not-inside (g .1) (sym same ∙ g .0)));
       }
   tells (moved q e f m) =
-      let no-root : kind ≢ root-entry = λ g. never (cc) in
-      let no-passed : kind ≢ passed-entry = λ g. never (cc) in
       record {
         stays-exactly = (λ g. never (cc), λ g. absurd (m .0 (sym f ∙ ap (λ x. place x i) g)));
-        enters-exactly = (λ g. absurd (not-entry no-root no-passed g), λ g. absurd (m .1 (sym f ∙ g .0)));
-        root-exactly = (λ g. absurd (no-root g), λ g. absurd (m .1 (sym f ∙ g .0)));
-        passed-exactly = (λ g. absurd (no-passed g), λ g. absurd (m .1 (sym f ∙ g .0)));
+        enters-exactly = (λ g. absurd (not-entry other e refl g), λ g. absurd (m .1 (sym f ∙ g .0)));
+        root-exactly = (λ g. never (cc), λ g. absurd (m .1 (sym f ∙ g .0)));
+        passed-exactly = (λ g. never (cc), λ g. absurd (m .1 (sym f ∙ g .0)));
+        crossed-exactly = (λ g. never (cc), λ g. absurd (m .1 (sym f ∙ g .0)));
       }
   tells (entered-root e f m) =
       record {
         stays-exactly = (λ g. never (cc), λ g. never (root-not-inside m (sym (ap (λ x. place x i) g) ∙ f)));
-        enters-exactly = (λ _. (f, λ g. never (root-not-inside m g)), λ _. kinds-entry kind (inl e));
+        enters-exactly = (λ _. (f, λ g. never (root-not-inside m g)), λ _. kind-entry kind root-entry e refl);
         root-exactly = (λ _. (f, m), λ _. e);
-        passed-exactly = (λ g. never (cc), λ g. never (root-not-below m (g .1)));
+        passed-exactly = (λ g. never (cc), λ g. never (root-not-home m (g .1)));
+        crossed-exactly = (λ g. never (cc), λ g. never (root-not-between m (g .1)));
       }
-  tells (entered-passed l e f n m) =
+  tells (entered-passed e f m) =
       record {
-        stays-exactly = (λ g. never (cc), λ g. never (below-not-inside (l, n, m) (sym (ap (λ x. place x i) g) ∙ f)));
-        enters-exactly = (λ _. (f, λ g. never (below-not-inside (l, n, m) g)), λ _. kinds-entry kind (inr e));
-        root-exactly = (λ g. never (cc), λ g. never (root-not-below (g .1) (l, n, m)));
-        passed-exactly = (λ _. (f, (l, n, m)), λ _. e);
+        stays-exactly = (λ g. never (cc), λ g. never (home-not-inside m (sym (ap (λ x. place x i) g) ∙ f)));
+        enters-exactly = (λ _. (f, λ g. never (home-not-inside m g)), λ _. kind-entry kind passed-entry e refl);
+        root-exactly = (λ g. never (cc), λ g. never (root-not-home (g .1) m));
+        passed-exactly = (λ _. (f, m), λ _. e);
+        crossed-exactly = (λ g. never (cc), λ g. never (home-not-between m (g .1)));
+      }
+  tells (entered-crossed e f m) =
+      record {
+        stays-exactly = (λ g. never (cc), λ g. never (between-not-inside m (sym (ap (λ x. place x i) g) ∙ f)));
+        enters-exactly = (λ _. (f, λ g. never (between-not-inside m g)), λ _. kind-entry kind crossed-entry e refl);
+        root-exactly = (λ g. never (cc), λ g. never (root-not-between (g .1) m));
+        passed-exactly = (λ g. never (cc), λ g. never (home-not-between (g .1) m));
+        crossed-exactly = (λ _. (f, m), λ _. e);
       }
 
 pub kind-law : Kind-law

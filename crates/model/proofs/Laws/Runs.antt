@@ -7,7 +7,7 @@ use native.Mathlib.Omega.{arith}
 use lib.ListN.{length, take, drop, length-append}
 use Rattle.model.specs.declared.State.{State}
 use Rattle.model.specs.Trees.{Tree}
-use Rattle.model.specs.Steps.{Kind, stay, other, root-entry, passed-entry, is-kind, is-entry, Step, step}
+use Rattle.model.specs.Steps.{Kind, stay, other, root-entry, passed-entry, crossed-entry, is-kind, is-entry, Step, step}
 use Rattle.model.specs.Runs.{steps, state-after, how-many, entering, counts-of, run-of, run, begun, ended, entries-under}
 use Rattle.model.specs.Laws.{All-threads, add-counts, then-run, Run-law, Count-law}
 
@@ -69,7 +69,7 @@ entries-under-join t q (x ∷ xs) ys = omega (arith, entries-under-join t q xs y
 pub run-of-join : (s : State) (xs ys : List Step) → run-of s (xs ++ ys) ≡ then-run (run-of s xs) (run-of (state-after s xs) ys)
 unfolding run-of then-run counts-of add-counts
 run-of-join s xs ys =
-    rw (length-append xs ys, how-many-join is-entry xs ys, how-many-join (is-kind stay) xs ys, how-many-join (is-kind root-entry) xs ys, how-many-join (is-kind passed-entry) xs ys, entering-join xs ys, state-after-join s xs ys)
+    rw (length-append xs ys, how-many-join is-entry xs ys, how-many-join (is-kind stay) xs ys, how-many-join (is-kind root-entry) xs ys, how-many-join (is-kind passed-entry) xs ys, how-many-join (is-kind crossed-entry) xs ys, entering-join xs ys, state-after-join s xs ys)
 
 pub run-join : (t : Tree) (is js : List ℕ) (s : State) → run t (is ++ js) s ≡ then-run (run t is s) (run t js (run t is s .state))
 unfolding run run-of
@@ -87,18 +87,19 @@ pub run-law : Run-law
 unfolding Run-law run steps
 run-law t s = record { none = refl; one = λ i. refl; joined = λ is js. run-join t is js s }
 
--- COUNTS. Each entry is a root entry or a passed entry
-entry-both : (k : Kind) → cond (is-kind root-entry k) 1 0 + cond (is-kind passed-entry k) 1 0 ≡ cond (is-entry k) 1 0
+-- COUNTS. Each entry is a root entry, a passed entry or a crossed entry
+entry-one : (k : Kind) → cond (is-kind root-entry k) 1 0 + cond (is-kind passed-entry k) 1 0 + cond (is-kind crossed-entry k) 1 0 ≡ cond (is-entry k) 1 0
 unfolding is-kind is-entry
-entry-both stay = refl
-entry-both other = refl
-entry-both root-entry = refl
-entry-both passed-entry = refl
+entry-one stay = refl
+entry-one other = refl
+entry-one root-entry = refl
+entry-one passed-entry = refl
+entry-one crossed-entry = refl
 
-pub entries-both : (xs : List Step) → how-many (is-kind root-entry) xs + how-many (is-kind passed-entry) xs ≡ how-many is-entry xs
+pub entries-all : (xs : List Step) → how-many (is-kind root-entry) xs + how-many (is-kind passed-entry) xs + how-many (is-kind crossed-entry) xs ≡ how-many is-entry xs
 unfolding how-many
-entries-both [] = refl
-entries-both (x ∷ xs) = omega (arith, entry-both (x .kind), entries-both xs)
+entries-all [] = refl
+entries-all (x ∷ xs) = omega (arith, entry-one (x .kind), entries-all xs)
 
 entering-length : (xs : List Step) → length (entering xs) ≡ how-many is-entry xs
 unfolding entering how-many
@@ -113,7 +114,7 @@ pub count-law : Count-law
 unfolding Count-law run run-of counts-of
 count-law t is s =
     record {
-      both-entries = entries-both (steps t is s);
+      all-entries = entries-all (steps t is s);
       traced = entering-length (steps t is s);
       all-steps = steps-length t is s;
     }

@@ -1,6 +1,6 @@
 -- The rows from Idle to Inside as moves of the queues. Assumes nothing.
 use mathlib.Core.Path.{_≡_, refl}
-use mathlib.Core.Bool.{Bool, true, false}
+use mathlib.Core.Bool.{Bool, true, false, cond}
 use Prim.Native.Nat.{ℕ, suc, _+_, _-_, _≤_, _<_}
 use native.Mathlib.Omega.{arith}
 use lib.Dec.{eqb}
@@ -9,7 +9,7 @@ use Rattle.model.specs.declared.Place.the-variants.{Prep, Swap, Link, Wa
 use Rattle.model.specs.declared.State.{State as WordState}
 use Rattle.model.specs.Trees.{Tree}
 use Rattle.model.specs.States.{acquire-parent, wait-word, locked, none, tail, status}
-use Rattle.model.specs.Steps.{is-entry, moves, prep-row, swap-row, link-row, wait-row}
+use Rattle.model.specs.Steps.{passed-entry, crossed-entry, is-entry, passing-kind, moves, prep-row, swap-row, link-row, wait-row}
 use Rattle.model.specs.Laws.{Sixteen-bit}
 use Rattle.model.proofs.Trees.Index.{ancestor, height, record-at}
 use Rattle.model.proofs.Trees.Accepted.{Accepted}
@@ -25,6 +25,15 @@ use Rattle.model.proofs.Words.Represents.{waiting-word, Counted, at-ins
 use Rattle.model.proofs.Words.Frame.{Others, apart, replaced}
 use Rattle.model.proofs.Words.Joining.{prepare, empty-there, take-root, take, stand-first, stand, link, climb-on}
 use Rattle.model.proofs.Words.Outcome.{standing-shown, entry-shown, row-shown, Outcome, outcome, placed, status-placed, next-placed, tail-placed, prep-placed, swap-placed, member-small}
+
+-- a passed and a crossed entry are entries
+passing-entry : (t : Tree) (i l : ℕ) → is-entry (passing-kind t i l) ≡ true
+unfolding is-entry
+passing-entry t i l = by (eqb l (t .home i))
+  where
+    by : (b : Bool) → is-entry (cond b passed-entry crossed-entry) ≡ true
+    by true = refl
+    by false = refl
 
 module _ (t : Tree) (𝓐 : Accepted t) (s : WordState) (room : Room s) (g : State) (i : ℕ) (h : i < t .threads) (o : Others t (words-in s) g i) where
   abbrev w : Words
@@ -145,7 +154,8 @@ module _ (t : Tree) (𝓐 : Accepted t) (s : WordState) (room : Room s) (g : Sta
       let v = status s (record-at t i k) in
       let f = ne-eqb v wait-word (omega arith) in
       let y = ne-eqb v acquire-parent (omega arith) in
-      rw (own-record-at t 𝓐 i h k l, z, f, y) (outcome _ entered-state (placed s room i few Inside) (entered e c) (more (enter i e) done))
+      rw (own-record-at t 𝓐 i h k l, z, f, y)
+      (outcome _ entered-state (placed s room i few Inside) (entered e c) (rw (passing-entry t i (ancestor t i k)) (more (enter i e) done)))
 
   -- IDLE: the thread starts, and does Prep at home
   abbrev started-state : State

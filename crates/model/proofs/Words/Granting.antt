@@ -8,6 +8,7 @@ use Rattle.model.specs.Trees.{Tree}
 use Rattle.model.specs.States.{acquire-parent, unlocked}
 use Rattle.model.proofs.Trees.Index.{ancestor, height, record-at}
 use Rattle.model.proofs.Trees.Accepted.{Accepted}
+use Rattle.model.proofs.Trees.Paths.{ancestor-inner}
 use Rattle.model.proofs.Queues.Lists.{same-or, less-or, put-same}
 use Rattle.model.proofs.Queues.Paths.{laws}
 use Rattle.model.proofs.Queues.Moves.{Stage, climb, queued, ready, holding, releasing, low, acts, State, ends, Move}
@@ -96,6 +97,10 @@ module _ (t : Tree) (𝓐 : Accepted t) (w : Words) (g : State) (i : ℕ) (h : i
         (λ y. rw y (status-new ∙ word (omega (arith, heights)) ∙ sym tally-new))
         (λ y. above-counted m (omega arith) q)))
         (λ z. status-new ∙ word-root (omega (arith, heights)))
+        (λ b.
+        let inner = ancestor-inner t 𝓐 i h k (omega (arith, heights)) in
+        let counted-one = o .invariant .counts (ancestor t i k) (record-at t i k) (λ z. omega arith) (o .invariant .threads i .heads k first-there) .0 in
+        omega (arith, tally-new))
 
     pub hand-lock : Granted t g w′ (ancestor t i k) r
     hand-lock =

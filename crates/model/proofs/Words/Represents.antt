@@ -69,10 +69,10 @@ pub data Fits (t : Tree) (w : Words) (g : State) (i : ℕ) : Place → Stage →
   at-woken :
       (k : ℕ) → k < height t i → Counted t w g i k → w .statuses (record-at t i k) ≡ acquire-parent → g .tally (record-at t i k) ≡ 1 →
       Fits t w g i (Wait (ancestor t i k)) (climb (suc k))
-  -- granted the lock: with a count, or at the root with UNLOCKED
+  -- granted the lock: with a count that was passed on, so at least 2, or at the root with UNLOCKED
   at-ready :
       (k : ℕ) → k ≤ height t i → Counted t w g i (height t i) → (k ≡ height t i → w .statuses (record-at t i k) ≡ unlocked) →
-      Fits t w g i (Wait (ancestor t i k)) ready
+      (k < height t i → 2 ≤ g .tally (record-at t i k)) → Fits t w g i (Wait (ancestor t i k)) ready
   at-inside : Counted t w g i (height t i) → Fits t w g i Inside inside
   at-check : (k : ℕ) → k < height t i → Counted t w g i (height t i) → Fits t w g i (Check (ancestor t i k)) holding
   -- about to pass the lock on, with a count one higher
@@ -128,9 +128,10 @@ module _ {t : Tree} {w : Words} {g : State} {w′ : Words} {g′ : State} {j : �
   fits-kept e (at-woken k l c s v) =
       let z = stage-low (climb (suc k)) e in
       at-woken k l (counted-kept k (omega arith) c) (a .same-status k (omega arith) ∙ s) (a .same-tally k (omega arith) ∙ v)
-  fits-kept e (at-ready k l c s) =
+  fits-kept e (at-ready k l c s p) =
       let z = stage-low ready e in
       at-ready k l (counted-kept (height t j) (omega arith) c) (λ q. a .same-status k (omega arith) ∙ s q)
+      (λ q. let same = a .same-tally k (omega arith) in omega (arith, p q, same))
   fits-kept e (at-inside c) = let z = stage-low inside e in at-inside (counted-kept (height t j) (omega arith) c)
   fits-kept e (at-check k l c) = let z = stage-low holding e in at-check k l (counted-kept (height t j) (omega arith) c)
   fits-kept e (at-pass k r v l c n q b) =

@@ -29,7 +29,7 @@ module _ (t : Tree) (𝓐 : Accepted t) (bits : Sixteen-bit t) (s : WordState) (
   row-outcome e (at-link k p l c a n v) = link-outcome t 𝓐 s room g i h o k p l e c a n v
   row-outcome e (at-wait k l c v) = wait-outcome t 𝓐 s room g i h o rep k l v _ refl
   row-outcome e (at-woken k b c v y) = woken-outcome t 𝓐 s room g i h o k b e c v y
-  row-outcome e (at-ready k l c v) = ready-outcome t 𝓐 s room g i h o bits k l e c v _ refl
+  row-outcome e (at-ready k l c v p) = ready-outcome t 𝓐 s room g i h o bits k l e c v _ refl
   row-outcome e (at-inside c) = leave-outcome t 𝓐 s room g i h o e c
   row-outcome e (at-check k b c) = check-outcome t 𝓐 s room g i h o k b e c
   row-outcome e (at-pass k r v b c n q y) = pass-outcome t 𝓐 s room g i h o k r v b e c n q y

@@ -105,7 +105,7 @@ fn make(calls: Calls, case: &Case) -> Left {
 }
 
 fn without_counts(Reply { number, place, state }: Reply) -> RunReply {
-    RunReply { number, place, steps: 0, entries: 0, stays: 0, root: 0, passed: 0, state }
+    RunReply { number, place, steps: 0, entries: 0, stays: 0, root: 0, passed: 0, crossed: 0, state }
 }
 
 fn main() {
@@ -152,8 +152,8 @@ fn report(case: &Case, table: &Left, other: &Left) {
 }
 
 fn summary(Left { reply, .. }: &Left) -> String {
-    let RunReply { number, place, steps, entries, stays, root, passed, .. } = reply;
-    format!("number {number} place {place} steps {steps} entries {entries} stays {stays} root {root} passed {passed}")
+    let RunReply { number, place, steps, entries, stays, root, passed, crossed, .. } = reply;
+    format!("number {number} place {place} steps {steps} entries {entries} stays {stays} root {root} passed {passed} crossed {crossed}")
 }
 
 fn differences(one: &StateWords, other: &StateWords) -> String {

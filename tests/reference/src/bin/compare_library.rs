@@ -69,7 +69,7 @@ fn main() {
     println!("{subject}: {} files, seed {}", options.count, options.seed);
     let mut random = Random::new(options.seed);
     let mut met = Met::new(&REFUSALS);
-    let mut totals = [0; 5];
+    let mut totals = [0; 6];
     for number in 0..options.count {
         let (file, room, seed) = (random_file(&mut random), Room::random(&mut random), random.word());
         let (table, other) = results(library.unwrap_or(lock_file::run_file), &file, room, seed);
@@ -82,8 +82,8 @@ fn main() {
         add_counts(&mut totals, &table);
     }
     met.print();
-    let [steps, entries, stays, root, passed] = totals;
-    println!("in the accepted files: {steps} steps, {entries} entries, {stays} stays, {root} root and {passed} passed entries");
+    let [steps, entries, stays, root, passed, crossed] = totals;
+    println!("in the accepted files: {steps} steps, {entries} entries, {stays} stays, {root} root, {passed} passed and {crossed} crossed entries");
     if !met.complete() {
         println!("a number was never met");
         exit(1);
@@ -96,7 +96,7 @@ fn main() {
 }
 
 /// Adds the five numbers of the listing's first line.
-fn add_counts(totals: &mut [u64; 5], result: &Result) {
+fn add_counts(totals: &mut [u64; 6], result: &Result) {
     let listing = &result.buffer[CANARY..CANARY + result.answer.length as usize];
     let line = String::from_utf8_lossy(listing.split(|&byte| byte == b'\n').next().unwrap_or(&[])).into_owned();
     for (total, number) in totals.iter_mut().zip(line.split(' ').skip(1)) {

@@ -61,9 +61,23 @@ moves-requires-3 c κs = search needs
 returns-5 : tie.Need-returns-5
 unfolding wait-row
 returns-5 c =
+    let last = c .before .before .before in
     record {
       does = λ t i s R.
-          rw (c .moves3 .ensures, ← R .own-is, ← R .status-is, ne-eqb _ _ (c .before .before .before .if1 .left), ne-eqb _ _ (c .before .before .if3 .left), ne-eqb _ _ (c .before .if4 .left))
+          rw (c .moves3 .ensures, ← R .own-is, ← R .status-is, ne-eqb _ _ (last .before .before .if1 .left), ne-eqb _ _ (last .before .if3 .left), ne-eqb _ _ (last .if4 .left), ← R .home-is, eq-eqb _ _ (c .before .if5 .taken))
+          (record { kind-told = refl; state-left = refl });
+    }
+
+moves-requires-4 : tie.Need-moves-requires-4
+moves-requires-4 c κs = search needs
+
+returns-6 : tie.Need-returns-6
+unfolding wait-row
+returns-6 c =
+    let last = c .before .before .before in
+    record {
+      does = λ t i s R.
+          rw (c .moves4 .ensures, ← R .own-is, ← R .status-is, ne-eqb _ _ (last .before .before .if1 .left), ne-eqb _ _ (last .before .if3 .left), ne-eqb _ _ (last .if4 .left), ← R .home-is, ne-eqb _ _ (c .before .if5 .left))
           (record { kind-told = refl; state-left = refl });
     }
 
@@ -80,4 +94,6 @@ wait-spec =
     moves-requires-2
     returns-4
     moves-requires-3
-    returns-5)
+    returns-5
+    moves-requires-4
+    returns-6)
