@@ -161,7 +161,7 @@ hmcs_step_reply hmcs_step(hmcs_tree tree, hmcs_state state, uint16_t thread);
  * have room for as many elements as the schedule has. */
 hmcs_run_reply hmcs_run(hmcs_tree tree, hmcs_state state, const uint16_t *schedule, size_t schedule_length, uint16_t *trace, size_t trace_length);
 
-/* A fresh lock, written where the host keeps its state: the fresh words, accepted or refused. */
+/* A fresh lock, written where the host keeps its state. Refused by 4 to 9; then the state is as it was. */
 hmcs_answer hmcs_fresh_in_place(hmcs_tree tree, hmcs_state *state);
 
 /* One step of the state that the host keeps, in place: the same as hmcs_step. Refused, the state is as it was. */

@@ -38,12 +38,12 @@ class Tree {
 public:
     Tree() : words_{} { words_.domains = 1; }
 
-    // A domain below another; its number. A parent above 255 is refused as one (6), a threshold above 65,535 as none (8).
-    std::uint32_t add_domain(std::uint32_t parent, std::uint32_t threshold) {
+    // A domain below another; its number. A parent above 255 is refused as one (6).
+    std::uint32_t add_domain(std::uint32_t parent, std::uint16_t threshold) {
         const std::uint32_t d = words_.domains++;
         if (d < HMCS_DOMAINS) {
             words_.parents[d] = byte_of(parent);
-            words_.thresholds[d] = threshold <= 65535 ? static_cast<std::uint16_t>(threshold) : std::uint16_t{0};
+            words_.thresholds[d] = threshold;
         }
         return d;
     }
@@ -80,7 +80,7 @@ struct RunResult {
 // A lock that the host keeps: a tree and a state, stepped where it stands.
 class Lock {
 public:
-    // A fresh lock. refusal() tells whether the tree was accepted.
+    // A fresh lock. refusal() tells whether the tree was accepted; refused, the state is fresh as well, and every step is refused.
     explicit Lock(const Tree &tree) : tree_(tree.words()), state_{} { refusal_ = of(hmcs_fresh_in_place(tree_, &state_)); }
 
     const Refusal &refusal() const { return refusal_; }

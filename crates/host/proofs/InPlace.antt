@@ -1,6 +1,13 @@
--- A step in place is a call of a list. Assumes nothing.
+-- What a fresh call in place leaves, and that a step in place is a call of a list. Assumes nothing.
+use borrow.Author.Tests.{eq-eqb, ne-eqb}
+use Rattle.model.specs.Answers.{fresh-answer}
 use Rattle.model.specs.Claim.{answer-to, answer}
-use Rattle.host.specs.InPlace.{In-place-law}
+use Rattle.host.specs.InPlace.{fresh-left, Fresh-in-place-law, In-place-law}
+
+pub fresh-in-place-law : Fresh-in-place-law
+unfolding Fresh-in-place-law fresh-left fresh-answer
+fresh-in-place-law w s =
+    record { accepted = λ e. rw (eq-eqb (fresh-answer w .number) 0 e); refused = λ n. rw (ne-eqb (fresh-answer w .number) 0 n) }
 
 pub in-place-law : In-place-law
 unfolding In-place-law answer answer-to

@@ -1,2 +1,2 @@
--- That the calls in place are calls of the third demand's lists.
+-- What a fresh call in place leaves, and that a step in place is a call of the third demand's lists.
 pub mod InPlace

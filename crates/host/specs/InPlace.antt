@@ -1,19 +1,39 @@
 -- What the calls on a state that the host keeps return: number and place alone; and that they are calls of the third demand's lists. Assumes nothing: these are definitions.
 use mathlib.Core.Path.{_≡_}
+use mathlib.Core.Bool.{cond}
+use mathlib.Core.Logic.{_≢_}
 use Prim.Native.Nat.{ℕ}
+use lib.Dec.{eqb}
 use Rattle.model.specs.declared.TreeWords.{TreeWords}
 use Rattle.model.specs.declared.State.{State}
 use Rattle.model.specs.declared.FreshReply.{FreshReply}
 use Rattle.model.specs.declared.StepReply.{StepReply}
-use Rattle.model.specs.Answers.{step-answer}
+use Rattle.model.specs.States.{fresh-words}
+use Rattle.model.specs.Answers.{fresh-answer, step-answer}
 use Rattle.model.specs.Claim.{one-step, stepped, answer}
 use Rattle.host.specs.declared.Answer.{Answer}
 
 abbrev pub fresh-number : FreshReply → Answer
 fresh-number r = record { number = r .number; place = r .place }
 
+-- what a fresh call leaves of a state that the host keeps: accepted, the fresh words; refused, the state as it came
+unfoldable pub fresh-left : FreshReply → (before : State) → State
+fresh-left r s = cond (eqb (r .number) 0) (r .state) s
+
+-- the same answer with the state that is left
+abbrev pub fresh-kept : FreshReply → (before : State) → FreshReply
+fresh-kept r s = record { number = r .number; place = r .place; state = fresh-left r s }
+
 abbrev pub step-number : StepReply → Answer
 step-number r = record { number = r .number; place = r .place }
+
+-- so an accepted fresh call in place leaves the fresh words, and a refused one the state as it came
+pub record Leaves (w : TreeWords) (s : State) : Type 0 where
+  pub accepted : fresh-answer w .number ≡ 0 → fresh-left (fresh-answer w) s ≡ fresh-words
+  pub refused : fresh-answer w .number ≢ 0 → fresh-left (fresh-answer w) s ≡ s
+
+unfoldable pub Fresh-in-place-law : Type 0
+Fresh-in-place-law = (w : TreeWords) (s : State) → Leaves w s
 
 -- number and place of an answer with the state that is left in place
 abbrev pub with-state : Answer → State → StepReply

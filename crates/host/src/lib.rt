@@ -1,7 +1,7 @@
 // What a C or C++ host calls; host/include/hmcs.h declares it there. Numbers, arrays and structs of them alone cross.
 ghost use mathlib.Core.Path.{_≡_};
 ghost use Rattle.model.specs.Answers.{fresh-answer, step-answer, run-answer, trace-answer};
-ghost use Rattle.host.specs.InPlace.{fresh-number, step-number};
+ghost use Rattle.host.specs.InPlace.{fresh-kept, fresh-left, fresh-number, step-number};
 ghost use Rattle.lock_file.specs.FileAnswers.{file-answer, output-answer};
 ghost use Rattle.rate.specs.Answers.{rate-answer, reply-of};
 use model::FreshReply;
@@ -49,16 +49,31 @@ pub extern "C" fn hmcs_run(
     lock::run_lock(tree, state, schedule, trace)
 }
 
-// A fresh lock, written where the host keeps its state.
-#[no_mangle]
-pub extern "C" fn hmcs_fresh_in_place(tree: TreeWords, state: &mut State) -> Answer
-    ensures { λ r. ⌜ (r ≡ fresh-number (fresh-answer tree)) × (now (state .exit) ≡ fresh-answer tree .state) ⌝ }
+// A fresh lock by value, with the state that a host keeps: accepted, the fresh words; refused, that state as it came.
+fn fresh_kept(tree: TreeWords, state: State) -> FreshReply
+    ensures { λ r. ⌜ r ≡ fresh-kept (fresh-answer tree) state ⌝ }
 {
     let r = hmcs_fresh(tree);
-    *state = r.state;
-    Answer {
+    if r.number == 0 {
+        return r;
+    }
+    FreshReply {
         number: r.number,
         place: r.place,
+        state,
+    }
+}
+
+// A fresh lock, written where the host keeps its state; refused, the state as it came.
+#[no_mangle]
+pub extern "C" fn hmcs_fresh_in_place(tree: TreeWords, state: &mut State) -> Answer
+    ensures { λ r. ⌜ (r ≡ fresh-number (fresh-answer tree)) × (now (state .exit) ≡ fresh-left (fresh-answer tree) (now (state .entry))) ⌝ }
+{
+    let kept = fresh_kept(tree, *state);
+    *state = kept.state;
+    Answer {
+        number: kept.number,
+        place: kept.place,
     }
 }
 

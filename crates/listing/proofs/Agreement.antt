@@ -1,5 +1,5 @@
--- The listing and the step table agree, after every schedule from fresh. Assumes nothing.
-use mathlib.Core.Path.{_≡_, refl}
+-- One entry of the listing does what the row of the step table does, in every well-formed state; so both agree after every schedule from fresh. Assumes nothing.
+use mathlib.Core.Path.{_≡_, refl, sym, _∙_}
 use mathlib.Core.Bool.{Bool, true, false, cond}
 use mathlib.Core.List.{List, [], _∷_, _++_, append-assoc, append-nil}
 use Prim.Native.Nat.{ℕ, suc, _+_, _≤_, _<_}
@@ -8,12 +8,12 @@ use lib.Dec.{eqb}
 use lib.ListN.{length}
 use borrow.Author.Tests.{eq-eqb, ne-eqb}
 use Rattle.model.specs.declared.Place.{Place}
-use Rattle.model.specs.declared.Place.the-variants.{Idle, Prep, Swap, Link, Wait, Check}
+use Rattle.model.specs.declared.Place.the-variants.{Idle, Prep, Swap, Link, Wait, Check, Help, Cas, Linger, Grant}
 use Rattle.model.specs.declared.State.{State}
-use Rattle.model.specs.Trees.{Tree}
+use Rattle.model.specs.Trees.{Tree, own-record}
 use Rattle.model.specs.Places.{place-words, plain-place, place-of}
 use Rattle.model.specs.States.{wait-word, status, place, fresh-words}
-use Rattle.model.specs.Steps.{row, step}
+use Rattle.model.specs.Steps.{release-word, check-row, row, step}
 use Rattle.model.specs.Runs.{steps, state-after, run-of, run}
 use Rattle.model.specs.Refusals.{tree-refusal}
 use Rattle.model.specs.Laws.{All-threads, Sixteen-bit, Form-law}
@@ -21,15 +21,18 @@ use Rattle.model.specs.Reached.{equality-check-row, Equality-law}
 use Rattle.model.proofs.Trees.Index.{ancestor, height, record-at}
 use Rattle.model.proofs.Trees.Accepted.{Accepted, accepted}
 use Rattle.model.proofs.Queues.Lists.{same-or}
+use Rattle.model.proofs.Trees.Paths.{ancestor-not-root}
+use Rattle.model.proofs.Laws.Facts.{well-formed-facts}
 use Rattle.model.proofs.Laws.Form.{replicate-all, form-law}
 use Rattle.model.proofs.Claims.Calls.{run-behind, run-one}
-use Rattle.model.proofs.Claims.Equality.{equality-law}
+use Rattle.model.proofs.Claims.Equality.{same-test, equality-law}
 use Rattle.model.proofs.Claims.Reached.{threads-join}
-use Rattle.listing.specs.Listing.{behind-17, Control, control, line-7, line-9, line-11, line-13, line-66, line-67, line-71, line-72, top-domain, top-back}
-use Rattle.listing.specs.Agreement.{prep-place, place-at, place-of-control, entry, Threads, at-first, turn, turns, memory-of, Listing-agrees}
-use Rattle.listing.proofs.Stacks.{acquire-back, acquire-stack, top-domain-at, Corresponds, c-idle, c-prep, c-swap, c-link, c-wait, c-inside, c-check, c-pass, c-help, c-cas, c-linger, c-55, c-59}
+use Rattle.listing.specs.Listing.{behind-17, Frame, Control, control, line-7, line-9, line-11, line-13, line-25, line-37, line-53, line-55, line-57, line-58, line-59, line-66, line-67, line-71, line-72, top-domain, top-back}
+use Rattle.listing.specs.Agreement.{prep-place, place-at, place-of-control, entry, Threads, at-first, turn, turns, memory-of, Stands-at, at-idle, at-prep, at-swap, at-link, at-wait, at-inside, at-check, at-37, at-help, at-cas, at-linger, at-55, at-59, Not-above, Entry-law, Listing-agrees}
+use Rattle.listing.proofs.Stacks.{acquire-back, acquire-stack, top-domain-at, helper-stack, Corresponds, c-idle, c-prep, c-swap, c-link, c-wait, c-inside, c-check, c-pass, c-help, c-cas, c-linger, c-55, c-59}
 use Rattle.listing.proofs.Acquiring.{Together, standing, idle-together, prep-together, swap-together, link-together, wait-root-together, wait-together}
 use Rattle.listing.proofs.Releasing.{leave-together, check-together, pass-together, help-together, cas-together, linger-together, line-55-together, line-59-together}
+use Rattle.listing.proofs.Standing.{Acquires, acquires, Releases, releases, Helps, helps, stands, stood}
 
 -- ONE ENTRY, by the place where the thread stands
 module _ (t : Tree) (𝓐 : Accepted t) (i : ℕ) (h : i < t .threads) (s : State) (room : i < length (s .places)) (small : (r : ℕ) → status s r ≤ wait-word)
@@ -53,13 +56,65 @@ module _ (t : Tree) (𝓐 : Accepted t) (i : ℕ) (h : i < t .threads) (s : Stat
   row-together q (c-help k b fs l x y) = help-together t 𝓐 i h s room k l b fs x y _ refl
   row-together q (c-cas k b fs l x y) = cas-together t 𝓐 i h s room k l b fs x y _ refl
   row-together q (c-linger k b fs l x y) = linger-together t 𝓐 i h s room k l b fs x y q _ refl
-  row-together q (c-55 k r b fs l x y) = line-55-together t 𝓐 i h s room k l b fs x y r
-  row-together q (c-59 k r b fs l x y) = line-59-together t 𝓐 i h s room k l b fs x y r
+  row-together q (c-55 k r w b fs l x y) = line-55-together t 𝓐 i h s room k l b fs x y r w
+  row-together q (c-59 k r w b fs l x y) = line-59-together t 𝓐 i h s room k l b fs x y r w
 
--- ALL THREADS
-pub record Together-all (t : Tree) (x : Threads) (s : State) : Type 0 where
-  pub memory : x .memory ≡ memory-of s
-  pub corresponds : (i : ℕ) → i < t .threads → Corresponds t i (x .controls i) (place s i)
+  -- so from every control that stands at the place
+  along-calls : {L : ℕ} {fs : List Frame} (x : Acquires t i L fs) (A : ℕ → List Frame → Type 0) → A (ancestor t i (x .index)) (acquire-stack t i (x .index)) → A L fs
+  along-calls x A a = rw (← x .calls, ← x .there) a
+
+  along-release : {L : ℕ} {fs : List Frame} (x : Releases t i L fs) (A : ℕ → Type 0) → A (ancestor t i (x .index)) → A L
+  along-release x A a = rw (← x .there) a
+
+  along-help : {L : ℕ} {fs : List Frame} (x : Helps t i L fs) (A : ℕ → List Frame → Type 0) → A (ancestor t i (x .index)) (helper-stack t i (x .index) (x .back) (x .callers)) → A L fs
+  along-help x A a = rw (← x .calls, ← x .there) a
+
+  -- what is shown of a control at a place
+  abbrev Row : Control → Place → Type 0
+  Row c p = place s i ≡ p → Together t i s (row t i p s) (entry t i (standing c s))
+
+  prep-row-together : (k : ℕ) → k ≤ height t i → Row (control (cond (eqb (ancestor t i k) 0) line-66 line-7) (acquire-stack t i k)) (Prep (ancestor t i k))
+  unfolding row
+  prep-row-together k l q = prep-together t 𝓐 i h s room k l _ refl
+
+  stands-together : {c : Control} {p : Place} → Stands-at t i c p → Row c p
+  stands-together at-idle = λ q. row-together q c-idle
+  stands-together (at-prep L fs a) =
+      let x = acquires t 𝓐 i h a in
+      along-calls x (λ L fs. Row (control (cond (eqb L 0) line-66 line-7) fs) (Prep L)) (prep-row-together (x .index) (x .within))
+  stands-together (at-swap L fs a) =
+      let x = acquires t 𝓐 i h a in
+      along-calls x (λ L fs. Row (control (cond (eqb L 0) line-67 line-9) fs) (Swap L)) (λ q. row-together q (c-swap (x .index) (x .within)))
+  stands-together (at-link L p fs a) =
+      let x = acquires t 𝓐 i h a in
+      along-calls x (λ L fs. Row (control (cond (eqb L 0) (line-71 p) (line-11 p)) fs) (Link L p)) (λ q. row-together q (c-link (x .index) p (x .within)))
+  stands-together (at-wait L fs a) =
+      let x = acquires t 𝓐 i h a in
+      along-calls x (λ L fs. Row (control (cond (eqb L 0) line-72 line-13) fs) (Wait L)) (λ q. row-together q (c-wait (x .index) (x .within)))
+  stands-together at-inside = λ q. row-together q c-inside
+  stands-together (at-check L fs n a) =
+      let x = releases t 𝓐 i h a in
+      let b = ancestor-not-root t 𝓐 i h (x .index) (x .within) (omega (arith, n, x .there)) in
+      along-release x (λ L. Row (control line-25 fs) (Check L)) (λ q. row-together q (c-check (x .index) fs b (x .stack)))
+  stands-together (at-37 L c r fs n a) =
+      let x = releases t 𝓐 i h a in
+      let b = ancestor-not-root t 𝓐 i h (x .index) (x .within) (omega (arith, n, x .there)) in
+      along-release x (λ L. Row (control (line-37 c r) fs) (Grant L r (c + 1))) (λ q. row-together q (c-pass (x .index) c r fs b (x .stack)))
+  stands-together (at-help L fs a) =
+      let x = helps t 𝓐 i h a in
+      along-help x (λ L fs. Row (control (line-53 (release-word L)) fs) (Help L)) (λ q. row-together q (c-help (x .index) (x .back) (x .callers) (x .within) (x .stack) (x .helps)))
+  stands-together (at-cas L fs a) =
+      let x = helps t 𝓐 i h a in
+      along-help x (λ L fs. Row (control (line-57 (release-word L)) fs) (Cas L)) (λ q. row-together q (c-cas (x .index) (x .back) (x .callers) (x .within) (x .stack) (x .helps)))
+  stands-together (at-linger L fs a) =
+      let x = helps t 𝓐 i h a in
+      along-help x (λ L fs. Row (control (line-58 (release-word L)) fs) (Linger L)) (λ q. row-together q (c-linger (x .index) (x .back) (x .callers) (x .within) (x .stack) (x .helps)))
+  stands-together (at-55 L r w fs a) =
+      let x = helps t 𝓐 i h a in
+      along-help x (λ L fs. Row (control (line-55 r w) fs) (Grant L r w)) (λ q. row-together q (c-55 (x .index) r w (x .back) (x .callers) (x .within) (x .stack) (x .helps)))
+  stands-together (at-59 L r w fs a) =
+      let x = helps t 𝓐 i h a in
+      along-help x (λ L fs. Row (control (line-59 r w) fs) (Grant L r w)) (λ q. row-together q (c-59 (x .index) r w (x .back) (x .callers) (x .within) (x .stack) (x .helps)))
 
 -- a control that corresponds to a place stands there by the table of points
 corresponding : {t : Tree} {i : ℕ} {c : Control} {p : Place} → Corresponds t i c p → place-of-control c ≡ p
@@ -91,29 +146,54 @@ corresponding (c-pass k c r fs b x) = rw (top-domain-at x)
 corresponding (c-help k b fs l x y) = refl
 corresponding (c-cas k b fs l x y) = refl
 corresponding (c-linger k b fs l x y) = refl
-corresponding (c-55 k r b fs l x y) = refl
-corresponding (c-59 k r b fs l x y) = refl
+corresponding (c-55 k r w b fs l x y) = refl
+corresponding (c-59 k r w b fs l x y) = refl
+
+-- EVERY WELL-FORMED STATE
+check-by-equality : (t : Tree) (i : ℕ) (s : State) → Not-above t i s → (l : ℕ) → place s i ≡ Check l → row t i (Check l) s ≡ equality-check-row t i l s
+unfolding Not-above row check-row equality-check-row
+check-by-equality t i s n l e = rw (same-test (status s (own-record t i l)) (t .threshold l) (n l e))
+
+pub entry-law : Entry-law
+unfolding Entry-law step
+entry-law t ok s formed i h =
+    let 𝓐 = accepted t ok in
+    let room : i < length (s .places) = omega (arith, formed .typed .places-room, 𝓐 .few-threads) in
+    let small : (r : ℕ) → status s r ≤ wait-word = λ r. omega (arith, formed .typed .statuses-fit r) in
+    let there = stood t 𝓐 i h (place s i) (well-formed-facts t s formed .places i .used h) in
+    record {
+      some-control = there .by;
+      some-stands = there .standing;
+      does = λ n c x.
+          let z = stands-together t 𝓐 i h s room small (check-by-equality t i s n) x refl in
+          record {
+            memory = z .memory;
+            stands = rw (z .there) (stands t 𝓐 i h (z .corresponds));
+            placed = corresponding (z .corresponds) ∙ sym (z .there);
+            others = z .elsewhere;
+          };
+    }
+
+-- ALL THREADS, along a schedule from fresh
+record Together-all (t : Tree) (x : Threads) (s : State) : Type 0 where
+  memory : x .memory ≡ memory-of s
+  stands-there : (i : ℕ) → i < t .threads → Stands-at t i (x .controls i) (place s i)
+  placed : (i : ℕ) → i < t .threads → place-of-control (x .controls i) ≡ place s i
 
 module _ (t : Tree) (bits : Sixteen-bit t) (ok : tree-refusal t .number ≡ 0) where
   -- one turn, from a state reached from fresh
   one-turn :
       (pre : List ℕ) → All-threads t pre → (i : ℕ) → i < t .threads → (x : Threads) → Together-all t x (run t pre fresh-words .state) →
       Together-all t (turn t i x) (step t i (run t pre fresh-words .state) .state)
-  unfolding turn step row Form-law Equality-law
+  unfolding turn Form-law Entry-law Equality-law Not-above
   one-turn pre all i h x y =
       let s = run t pre fresh-words .state in
-      let 𝓐 = accepted t ok in
       let formed = form-law t bits ok .of-run pre fresh-words all (form-law t bits ok .of-fresh) in
-      let room : i < length (s .places) = omega (arith, formed .typed .places-room, 𝓐 .few-threads) in
-      let small : (r : ℕ) → status s r ≤ wait-word = λ r. omega (arith, formed .typed .statuses-fit r) in
-      let eq : (l : ℕ) → place s i ≡ Check l → row t i (Check l) s ≡ equality-check-row t i l s =
-      λ l q. equality-law t bits ok pre all i l h q .same-row in
-      let z = row-together t 𝓐 i h s room small eq refl (y .corresponds i h) in
+      let z = entry-law t ok s formed i h .does (λ l q. equality-law t bits ok pre all i l h q .within) (x .controls i) (y .stands-there i h) in
       rw (y .memory) (record {
         memory = z .memory;
-        corresponds = λ j hj. same-or j i _
-            (λ e. rw (e, eq-eqb i i refl, z .there) (z .corresponds))
-            (λ e. rw (ne-eqb j i e, z .elsewhere j e) (y .corresponds j hj));
+        stands-there = λ j hj. same-or j i _ (λ e. rw (e, eq-eqb i i refl) (z .stands)) (λ e. rw (ne-eqb j i e, z .others j e) (y .stands-there j hj));
+        placed = λ j hj. same-or j i _ (λ e. rw (e, eq-eqb i i refl) (z .placed)) (λ e. rw (ne-eqb j i e, z .others j e) (y .placed j hj));
       })
 
   along :
@@ -127,9 +207,9 @@ module _ (t : Tree) (bits : Sixteen-bit t) (ok : tree-refusal t .number ≡ 0) w
       rw (append-assoc pre (i ∷ []) is) at (along is (pre ++ (i ∷ [])) (threads-join t pre (i ∷ []) all (l .0, tt)) (l .1) (turn t i x) next)
 
 pub listing-agrees : Listing-agrees
-unfolding Listing-agrees at-first All-threads run run-of steps state-after memory-of fresh-words place-of plain-place
+unfolding Listing-agrees at-first All-threads run run-of steps state-after memory-of fresh-words place-of plain-place place-of-control place-at
 listing-agrees t bits ok is all =
     let idle : (i : ℕ) → place fresh-words i ≡ Idle = λ i. replicate-all (λ x. place-of x ≡ Idle) 256 i (place-words 0 0 0 0) refl in
-    let start : Together-all t at-first fresh-words = record { memory = refl; corresponds = λ i h. rw (idle i) c-idle } in
+    let start : Together-all t at-first fresh-words = record { memory = refl; stands-there = λ i h. rw (idle i) at-idle; placed = λ i h. rw (idle i) } in
     let y = along t bits ok is [] tt all at-first start in
-    record { memory = y .memory; places = λ i h. corresponding (y .corresponds i h) }
+    record { memory = y .memory; places = y .placed }

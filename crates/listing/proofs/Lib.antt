@@ -4,4 +4,5 @@ pub mod Entries
 pub mod Acquiring
 pub mod Returning
 pub mod Releasing
+pub mod Standing
 pub mod Agreement

@@ -123,7 +123,7 @@ module _ (t : Tree) (𝓐 : Accepted t) (i : ℕ) (h : i < t .threads) (s : Stat
         let p = Grant M (next s Q - 1) W in
         rw (own-record-at t 𝓐 i h k l, e)
         (together t 𝓐 i h s room (goes (line-55 (next s Q - 1) W) (helper-stack t i k back fs) (memory-of s)) p (help-some t i M Q back fs (memory-of s) W e) refl
-        (moved refl) (c-55 k (next s Q - 1) back fs l x helps))
+        (moved refl) (c-55 k (next s Q - 1) W back fs l x helps))
 
     pub cas-together : (c : Bool) → eqb (tail s M) (Q + 1) ≡ c → Together t i s (cas-row t i M s) (entry t i (standing (control (line-57 W) (helper-stack t i k back fs)) s))
     unfolding cas-row memory-of next-line line top-domain top-node
@@ -149,24 +149,24 @@ module _ (t : Tree) (𝓐 : Accepted t) (i : ℕ) (h : i < t .threads) (s : Stat
         let p = Grant M (next s Q - 1) W in
         rw (own-record-at t 𝓐 i h k l, e)
         (together t 𝓐 i h s room (goes (line-59 (next s Q - 1) W) (helper-stack t i k back fs) (memory-of s)) p (linger-sees t i M Q back fs (memory-of s) W e) refl
-        (moved refl) (c-59 k (next s Q - 1) back fs l x helps))
+        (moved refl) (c-59 k (next s Q - 1) W back fs l x helps))
 
-    pub line-55-together : (r : ℕ) → Together t i s (grant-row t i M r W s) (entry t i (standing (control (line-55 r W) (helper-stack t i k back fs)) s))
+    pub line-55-together : (r w : ℕ) → Together t i s (grant-row t i M r w s) (entry t i (standing (control (line-55 r w) (helper-stack t i k back fs)) s))
     unfolding grant-row memory-of next-line line
-    line-55-together r =
-        let m = store-status r W (memory-of s) in
+    line-55-together r w =
+        let m = store-status r w (memory-of s) in
         let z = ended t i 𝓐 h k fs m l x in
         rw (done-place-at t 𝓐 i h k l)
         (together t 𝓐 i h s room (record { thread = z .thread; memory = m }) (done-at t i k)
-        (begins t i (goes (line-55 r W) (helper-stack t i k back fs) (memory-of s)) (record { thread = returns fs; memory = m }) (rw (helper-returns M Q fs helps)) ∙ z .same) refl
+        (begins t i (goes (line-55 r w) (helper-stack t i k back fs) (memory-of s)) (record { thread = returns fs; memory = m }) (rw (helper-returns M Q fs helps)) ∙ z .same) refl
         (moved refl) (z .corresponds))
 
-    pub line-59-together : (r : ℕ) → Together t i s (grant-row t i M r W s) (entry t i (standing (control (line-59 r W) (helper-stack t i k back fs)) s))
+    pub line-59-together : (r w : ℕ) → Together t i s (grant-row t i M r w s) (entry t i (standing (control (line-59 r w) (helper-stack t i k back fs)) s))
     unfolding grant-row memory-of next-line line
-    line-59-together r =
-        let m = store-status r W (memory-of s) in
+    line-59-together r w =
+        let m = store-status r w (memory-of s) in
         let z = ended t i 𝓐 h k fs m l x in
         rw (done-place-at t 𝓐 i h k l)
         (together t 𝓐 i h s room (record { thread = z .thread; memory = m }) (done-at t i k)
-        (begins t i (goes (line-59 r W) (helper-stack t i k back fs) (memory-of s)) (record { thread = returns fs; memory = m }) (rw (helper-returns M Q fs helps)) ∙ z .same) refl
+        (begins t i (goes (line-59 r w) (helper-stack t i k back fs) (memory-of s)) (record { thread = returns fs; memory = m }) (rw (helper-returns M Q fs helps)) ∙ z .same) refl
         (moved refl) (z .corresponds))

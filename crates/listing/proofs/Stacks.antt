@@ -86,11 +86,11 @@ pub data Corresponds (t : Tree) (i : ℕ) : Control → Place → Type 0 where
       (k : ℕ) (b : Return) (fs : List Frame) → k ≤ height t i → Release-stack t i k fs → Helper-back b →
       Corresponds t i (control (line-58 (release-word (ancestor t i k))) (helper-stack t i k b fs)) (Linger (ancestor t i k))
   c-55 :
-      (k r : ℕ) (b : Return) (fs : List Frame) → k ≤ height t i → Release-stack t i k fs → Helper-back b →
-      Corresponds t i (control (line-55 r (release-word (ancestor t i k))) (helper-stack t i k b fs)) (Grant (ancestor t i k) r (release-word (ancestor t i k)))
+      (k r w : ℕ) (b : Return) (fs : List Frame) → k ≤ height t i → Release-stack t i k fs → Helper-back b →
+      Corresponds t i (control (line-55 r w) (helper-stack t i k b fs)) (Grant (ancestor t i k) r w)
   c-59 :
-      (k r : ℕ) (b : Return) (fs : List Frame) → k ≤ height t i → Release-stack t i k fs → Helper-back b →
-      Corresponds t i (control (line-59 r (release-word (ancestor t i k))) (helper-stack t i k b fs)) (Grant (ancestor t i k) r (release-word (ancestor t i k)))
+      (k r w : ℕ) (b : Return) (fs : List Frame) → k ≤ height t i → Release-stack t i k fs → Helper-back b →
+      Corresponds t i (control (line-59 r w) (helper-stack t i k b fs)) (Grant (ancestor t i k) r w)
 
 -- the innermost call of ReleaseReal
 pub record Shape (t : Tree) (i k : ℕ) (fs : List Frame) : Type 0 where

@@ -2,18 +2,20 @@
 use mathlib.Core.Path.{_≡_}
 use mathlib.Core.Bool.{Bool, true, false, cond}
 use mathlib.Core.List.{List, [], _∷_}
-use Prim.Native.Nat.{ℕ, zero, suc, _+_, _<_}
+use mathlib.Core.Logic.{_≢_}
+use Prim.Native.Nat.{ℕ, zero, suc, _+_, _≤_, _<_}
 use lib.Dec.{eqb}
 use lib.ListN.{replicate}
 use Rattle.model.specs.declared.Place.{Place}
 use Rattle.model.specs.declared.Place.the-variants.{Idle, Prep, Swap, Link, Wait, Inside, Check, Help, Cas, Linger, Grant, Invalid}
 use Rattle.model.specs.declared.State.{State}
-use Rattle.model.specs.Trees.{Tree}
-use Rattle.model.specs.States.{place, fresh-words}
+use Rattle.model.specs.Trees.{Tree, own-record}
+use Rattle.model.specs.States.{status, place, fresh-words}
+use Rattle.model.specs.Steps.{release-word, step}
 use Rattle.model.specs.Runs.{run}
 use Rattle.model.specs.Refusals.{tree-refusal}
-use Rattle.model.specs.Laws.{All-threads, Sixteen-bit}
-use Rattle.listing.specs.Listing.{Memory, Return, from-acquire, from-release, behind-17, behind-29, behind-31, behind-41, behind-43, behind-82, Point, outside, critical, line-7, line-9, line-10, line-11, line-13, line-14, line-16, line-17, line-25, line-27, line-29, line-31, line-35, line-36, line-37, line-41, line-43, line-53, line-54, line-55, line-57, line-58, line-59, line-66, line-67, line-68, line-69, line-71, line-72, line-82, Control, control, After, top-domain, top-back, next-line}
+use Rattle.model.specs.Laws.{All-threads, Sixteen-bit, Formed}
+use Rattle.listing.specs.Listing.{Memory, Return, from-acquire, from-release, behind-17, behind-29, behind-31, behind-41, behind-43, behind-82, Frame, frame, Point, outside, critical, line-7, line-9, line-10, line-11, line-13, line-14, line-16, line-17, line-25, line-27, line-29, line-31, line-35, line-36, line-37, line-41, line-43, line-53, line-54, line-55, line-57, line-58, line-59, line-66, line-67, line-68, line-69, line-71, line-72, line-82, Control, control, After, top-domain, top-node, top-back, next-line}
 
 -- THE TABLE: the place of a thread that stands at a point, in a call with L that returns where it says. At a point where no thread stands between entries, Invalid
 -- line 7 or 66 at home is no such point: Idle does Prep(home) in one entry
@@ -112,12 +114,67 @@ turns t (i ∷ is) x = turns t is (turn t i x)
 unfoldable pub memory-of : State → Memory
 memory-of s = record { locks = s .tails; nexts = s .nexts; statuses = s .statuses }
 
+-- WHERE A THREAD STANDS, by the calls that it has made. AcquireReal of its home, and by line 17 of one parent after another up to L
+pub data Acquiring (t : Tree) (i : ℕ) : (L : ℕ) → (calls : List Frame) → Type 0 where
+  acquire-home : Acquiring t i (t .home i) (frame (t .home i) i from-acquire ∷ [])
+  by-17 : (L : ℕ) (fs : List Frame) → L ≢ 0 → Acquiring t i L fs → Acquiring t i (t .parent L) (frame (t .parent L) (256 + L) behind-17 ∷ fs)
+
+-- ReleaseReal of its home, and by line 29 or 41 of one parent after another up to L
+pub data Releasing (t : Tree) (i : ℕ) : (L : ℕ) → (calls : List Frame) → Type 0 where
+  release-home : Releasing t i (t .home i) (frame (t .home i) i from-release ∷ [])
+  by-29 : (L : ℕ) (fs : List Frame) → L ≢ 0 → Releasing t i L fs → Releasing t i (t .parent L) (frame (t .parent L) (256 + L) behind-29 ∷ fs)
+  by-41 : (L : ℕ) (fs : List Frame) → L ≢ 0 → Releasing t i L fs → Releasing t i (t .parent L) (frame (t .parent L) (256 + L) behind-41 ∷ fs)
+
+-- in the last of these, ReleaseHelper by line 31, 43 or 82
+pub data Helping (t : Tree) (i : ℕ) : (L : ℕ) → (calls : List Frame) → Type 0 where
+  by-31 : (L : ℕ) (fs : List Frame) → Releasing t i L fs → Helping t i L (frame L (top-node fs) behind-31 ∷ fs)
+  by-43 : (L : ℕ) (fs : List Frame) → Releasing t i L fs → Helping t i L (frame L (top-node fs) behind-43 ∷ fs)
+  by-82 : (L : ℕ) (fs : List Frame) → Releasing t i L fs → Helping t i L (frame L (top-node fs) behind-82 ∷ fs)
+
+-- a control that stands at a place. Prep(home) is none of those that a schedule reaches; Grant's word is free
+pub data Stands-at (t : Tree) (i : ℕ) : Control → Place → Type 0 where
+  at-idle : Stands-at t i (control outside []) Idle
+  at-prep : (L : ℕ) (fs : List Frame) → Acquiring t i L fs → Stands-at t i (control (cond (eqb L 0) line-66 line-7) fs) (Prep L)
+  at-swap : (L : ℕ) (fs : List Frame) → Acquiring t i L fs → Stands-at t i (control (cond (eqb L 0) line-67 line-9) fs) (Swap L)
+  at-link : (L p : ℕ) (fs : List Frame) → Acquiring t i L fs → Stands-at t i (control (cond (eqb L 0) (line-71 p) (line-11 p)) fs) (Link L p)
+  at-wait : (L : ℕ) (fs : List Frame) → Acquiring t i L fs → Stands-at t i (control (cond (eqb L 0) line-72 line-13) fs) (Wait L)
+  at-inside : Stands-at t i (control critical []) Inside
+  at-check : (L : ℕ) (fs : List Frame) → L ≢ 0 → Releasing t i L fs → Stands-at t i (control line-25 fs) (Check L)
+  at-37 : (L c r : ℕ) (fs : List Frame) → L ≢ 0 → Releasing t i L fs → Stands-at t i (control (line-37 c r) fs) (Grant L r (c + 1))
+  at-help : (L : ℕ) (fs : List Frame) → Helping t i L fs → Stands-at t i (control (line-53 (release-word L)) fs) (Help L)
+  at-cas : (L : ℕ) (fs : List Frame) → Helping t i L fs → Stands-at t i (control (line-57 (release-word L)) fs) (Cas L)
+  at-linger : (L : ℕ) (fs : List Frame) → Helping t i L fs → Stands-at t i (control (line-58 (release-word L)) fs) (Linger L)
+  at-55 : (L r w : ℕ) (fs : List Frame) → Helping t i L fs → Stands-at t i (control (line-55 r w) fs) (Grant L r w)
+  at-59 : (L r w : ℕ) (fs : List Frame) → Helping t i L fs → Stands-at t i (control (line-59 r w) fs) (Grant L r w)
+
+-- EVERY WELL-FORMED STATE OF A CALLER. The entry of a thread whose control is c, beside the step of the table
+pub record Does-row (t : Tree) (i : ℕ) (s : State) (c : Control) : Type 0 where
+  -- the same memory
+  pub memory : entry t i (record { thread = c; memory = memory-of s }) .memory ≡ memory-of (step t i s .state)
+  -- the thread stands at its place after the step, which is that of its point and calls; no other place changes
+  pub stands : Stands-at t i (entry t i (record { thread = c; memory = memory-of s }) .thread) (place (step t i s .state) i)
+  pub placed : place-of-control (entry t i (record { thread = c; memory = memory-of s }) .thread) ≡ place (step t i s .state) i
+  pub others : (j : ℕ) → j ≢ i → place (step t i s .state) j ≡ place s j
+
+-- a Check's status is not above the threshold; where it is, the table goes
+unfoldable pub Not-above : Tree → (i : ℕ) → State → Type 0
+Not-above t i s = (l : ℕ) → place s i ≡ Check l → status s (own-record t i l) ≤ t .threshold l
+
+-- some control stands at the thread's place, and each that does so does the row
+pub record Does-rows (t : Tree) (i : ℕ) (s : State) : Type 0 where
+  pub some-control : Control
+  pub some-stands : Stands-at t i some-control (place s i)
+  pub does : Not-above t i s → (c : Control) → Stands-at t i c (place s i) → Does-row t i s c
+
+unfoldable pub Entry-law : Type 0
+Entry-law = (t : Tree) → tree-refusal t .number ≡ 0 → (s : State) → Formed t s → (i : ℕ) → i < t .threads → Does-rows t i s
+
 -- AGREEMENT with a state of the step table: the whole memory, and every thread's place, so also who is in the critical section
 pub record Agrees (t : Tree) (x : Threads) (s : State) : Type 0 where
   pub memory : x .memory ≡ memory-of s
   pub places : (i : ℕ) → i < t .threads → place-of-control (x .controls i) ≡ place s i
 
--- after every schedule from fresh, and so after each of its entries
+-- after every schedule from fresh, and so after each of its entries: no Check reached from fresh has a status above the threshold
 unfoldable pub Listing-agrees : Type 0
 Listing-agrees =
     (t : Tree) → Sixteen-bit t → tree-refusal t .number ≡ 0 → (is : List ℕ) → All-threads t is →

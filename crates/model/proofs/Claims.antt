@@ -1,6 +1,8 @@
 -- The third demand: what holds along every schedule from fresh, and the one claim of a list of calls.
 pub mod Reached
 pub mod Alone
+pub mod Counting
+pub mod Meanings
 pub mod Order
 pub mod Bounded
 pub mod Calls

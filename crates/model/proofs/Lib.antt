@@ -8,3 +8,4 @@ pub mod Cases
 pub mod Queues
 pub mod Words
 pub mod Claims
+pub mod ClaimCases

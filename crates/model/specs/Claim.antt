@@ -11,7 +11,8 @@ use Rattle.model.specs.declared.State.{State}
 use Rattle.model.specs.declared.StepReply.{StepReply}
 use Rattle.model.specs.declared.RunReply.{RunReply}
 use Rattle.model.specs.Trees.{Tree, tree-of, is-member, allowance}
-use Rattle.model.specs.States.{fresh-words, inside-count}
+use Rattle.model.specs.declared.Place.the-variants.{Inside}
+use Rattle.model.specs.States.{place, fresh-words}
 use Rattle.model.specs.Steps.{begins, Step}
 use Rattle.model.specs.Runs.{steps, run-of, run, begun, ended, entries-under, occurrences}
 use Rattle.model.specs.Refusals.{Refusal, step-refusal, run-refusal}
@@ -114,8 +115,8 @@ pub record Claim (t : Tree) (cs : List Call) (S : List ℕ) : Type 0 where
   -- each call gives what the refusals and the step table give at that point of the whole schedule
   pub each : answers cs fresh-words ≡ expected-answers t S 0 cs
   pub stretches : Stretches t S 0 cs
-  -- after every schedule entry at most one thread is at Inside
-  pub alone : (k : ℕ) → inside-count (state-at t S k) ≤ 1
+  -- after every schedule entry at most one thread is at Inside, over all room: two at Inside are the same thread
+  pub alone : (k i j : ℕ) → place (state-at t S k) i ≡ Inside → place (state-at t S k) j ≡ Inside → i ≡ j
   -- in each domain, after every entry: the members at the ends of standing ungranted are a prefix of those at its beginnings
   pub in-order : (k d : ℕ) → Prefix (ended d (take k (steps t S fresh-words))) (begun d (take k (steps t S fresh-words)))
   -- for two different members of a domain, while m stands ungranted, also where the list ends first: the entries of threads under q are at most its allowance

@@ -12,4 +12,6 @@ pub mod Answers
 pub mod Claim
 pub mod Laws
 pub mod Reached
+pub mod Meanings
 pub mod Cases
+pub mod ClaimCases

@@ -38,10 +38,12 @@ fn fresh(tree: &TreeWords) -> Reply {
     Reply { number, place, state: StateWords::of(&state) }
 }
 
-/// The fresh words are written, accepted or refused.
+/// The fresh words are written where the tree is accepted; a refused call leaves the words as they came.
 fn fresh_in_place(tree: &TreeWords, words: &mut StateWords) -> (u32, u32) {
     let reply = fresh(tree);
-    *words = reply.state;
+    if reply.number == 0 {
+        *words = reply.state;
+    }
     (reply.number, reply.place)
 }
 

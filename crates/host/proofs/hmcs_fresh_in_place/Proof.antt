@@ -1,6 +1,5 @@
--- `host::hmcs_fresh_in_place` meets its contract: a walk of its MIR, by hand. The borrow is opened, the state is copied out of it and passed to the step by value, the state of the reply is stored back, and the borrow is closed at it.
--- It differs from `hmcs_fresh_in_place` in what it returns, a struct that is made of two fields of the reply.
--- All that the proof knows of the step is that it meets its contract, `r ≡ fresh-answer ..`. No field of the state is named, so the walk holds for any `State` and `Tree` of plain data.
+-- `host::hmcs_fresh_in_place` meets its contract: a walk of its MIR, by hand. The borrow is opened, the state is copied out of it and passed to `fresh_kept` by value, the state of the reply is stored back, and the borrow is closed at it.
+-- All that the proof knows of `fresh_kept` is that it meets its contract, `r ≡ fresh-kept (fresh-answer ..) ..`. No field of the state is named, so the walk holds for any `State` and `Tree` of plain data.
 -- Assumes nothing.
 use mathlib.Core.Path.{_≡_, refl, ap}
 use Prim.Native.Nat.{ℕ, _<_, _^_}
@@ -18,7 +17,7 @@ use ghost.Atoms.{Atoms, sem}
 use contract.Monad.{Fun, fact}
 use contract.Running.{givenOf, tables, tablesOf}
 use types.Kit.{Given, ‵, raw, _⊛_, some, later, _$_, _∵_, !, qed, by, move, keep, drop, use1, split, join, pick, rewrite, fsplit, fsplit3, fjoin, fjoin3, feqI, suffices, frame, await, done}
-use types.Run.{look, init, store-raw, forget, stop, hop, fld, from, load, of-opd, and-then, no-more, assigns, land, returns, enter, alloc1, alloc0, params1, pass1, pass0, free1, free0}
+use types.Run.{look, look-raw, init, store-raw, forget, stop, hop, fld, from, load, of-opd, and-then, no-more, assigns, land, returns, enter, alloc1, alloc0, params1, pass1, pass0, free1, free0}
 use types.Part.{agg, whole, sub, look-in}
 use types.SemTy.{Body}
 use sound.WpLaws.{FmC, fmOf, WpFn-mono}
@@ -47,15 +46,15 @@ use Rattle.model.proofs.State.Laws as S′
 use Rattle.model.specs.declared.FreshReply.{FreshReply}
 use Rattle.host.specs.declared.Answer.{Answer}
 use Rattle.model.specs.Answers.{fresh-answer}
-use Rattle.host.specs.InPlace.{fresh-number}
+use Rattle.host.specs.InPlace.{fresh-kept, fresh-number}
 use Rattle.host.proofs.Answer as An
 use Rattle.host.proofs.Answer.Laws as An′
 use Rattle.model.proofs.FreshReply as Rp
 use Rattle.model.proofs.FreshReply.Laws as Rp′
-use Rattle.host.proofs.hmcs_fresh as step
-use Rattle.host.proofs.hmcs_fresh.Symbol as step-def
-use Rattle.host.proofs.hmcs_fresh.Symbol.{name as #step}
-use Rattle.host.proofs.hmcs_fresh.Met as step-thm
+use Rattle.host.proofs.fresh_kept as step
+use Rattle.host.proofs.fresh_kept.Symbol as step-def
+use Rattle.host.proofs.fresh_kept.Symbol.{name as #step}
+use Rattle.host.proofs.fresh_kept.Met as step-thm
 use Rattle.host.proofs.hmcs_fresh_in_place.Key.{name as #self}
 use Rattle.host.proofs.hmcs_fresh_in_place as self
 use Rattle.host.proofs.hmcs_fresh_in_place.Statement as stated
@@ -94,16 +93,17 @@ module _ {M : Type 1} (𝓤 : URA M) (H : Heap 𝓤) (A : Atoms 𝓤) (W : Given
 
   -- what the step's triple binds outside, what it asks, and what it says of its reply
   abbrev to-step : Step 𝓤 H A at-mem run .Ghost
-  to-step = ((tt, tt, tt, (t, tt), (tree-vals t, tt)), tt)
+  to-step = ((tt, tt, tt, (t, (h, tt)), (tree-vals t, (state-vals h, tt))), tt)
 
-  goes : ent 𝓤 (sem 𝓤 H A ftrue) (Step 𝓤 H A at-mem run .pre to-step)
-  goes =
-      qed W (‵ ftrue ∷ []) ∵ owned ! Tr.the-row (Is Tr.the-row) (LL.makes Tr.the-type Tr′.the-plain 𝓤 H A) t _ is-t $ fjoin ! $ nothing ! $ join ! $ frame ! $ done !
+  goes : Is S.the-row h (state-vals h) → ent 𝓤 (sem 𝓤 H A ftrue) (Step 𝓤 H A at-mem run .pre to-step)
+  goes is-h =
+      qed W (‵ ftrue ∷ []) ∵ owned ! S.the-row (Is S.the-row) (LL.makes S.the-type S′.the-plain 𝓤 H A) h _ is-h $ fjoin ! $
+      owned ! Tr.the-row (Is Tr.the-row) (LL.makes Tr.the-type Tr′.the-plain 𝓤 H A) t _ is-t $ fjoin ! $ nothing ! $ join ! $ frame ! $ done !
 
-  told : (r : FreshReply) → ent 𝓤 (ensured 𝓤 H A step.ended (step.clauses 𝓤 H A at-mem run) tt (t, tt) tt r) (fact 𝓤 (r ≡ fresh-answer t))
-  told r = exE 𝓤 _ (λ ws. snd∗ 𝓤 (sem 𝓤 H A (lasts step.ended tt (t, tt) ws)) (fact 𝓤 (r ≡ fresh-answer t)))
+  told : (r : FreshReply) → ent 𝓤 (ensured 𝓤 H A step.ended (step.clauses 𝓤 H A at-mem run) tt (t, (h, tt)) tt r) (fact 𝓤 (r ≡ fresh-kept (fresh-answer t) h))
+  told r = exE 𝓤 _ (λ ws. snd∗ 𝓤 (sem 𝓤 H A (lasts step.ended tt (t, (h, tt)) ws)) (fact 𝓤 (r ≡ fresh-kept (fresh-answer t) h)))
 
-  exits : (r : FreshReply) → r .number < 2 ^ 32 → r .place < 2 ^ 32 → r ≡ fresh-answer t
+  exits : (r : FreshReply) → r .number < 2 ^ 32 → r .place < 2 ^ 32 → r ≡ fresh-kept (fresh-answer t) h
       → ent 𝓤 (sep 𝓤 (A .obs γ (S.the-row .coded .code (r .state))) (sep 𝓤 (A .bor κ (Body (mem S.the-row) b o γ)) (A .lft κ q))) (Post (only (answer-vals (fresh-number r))))
   exits r small near e =
       qed W (‵ (fobs γ (S.the-row .coded .code (r .state))) ∷ ‵ (fbor κ (Body (mem S.the-row) b o γ)) ∷ ‵ (flft κ q) ∷ []) ∵
@@ -117,28 +117,30 @@ module _ {M : Type 1} (𝓤 : URA M) (H : Heap 𝓤) (A : Atoms 𝓤) (W : Given
     walk : ent 𝓤 (onEntry 𝓤 H A self.signature (κ, tt) (q, tt) x at) (WpFn 𝓤 H C Λ code.function (only (tree-vals t) ∷ vptr b o ∷ []) Post)
     walk =
         qed W ((‵ (flft κ q) ⊛ ‵ ftrue) ∷ ‵ (owns (Tr.the-row ∷ MutRef (named 0) κ S.the-row ∷ []) x at) ∷ []) ∵ enter ! C Λ code.function (only (tree-vals t) ∷ vptr b o ∷ []) _ $
-        alloc1 ! (λ l₀. alloc1 ! (λ l₁. alloc1 ! (λ l₂. alloc1 ! (λ l₃. alloc0 ! $ params1 ! $
-        pass1 ! (init ! 4 refl (LL.lawful Tr.the-type Tr′.the-laws 𝓤 H A W .typed t _ is-t .0)) $ pass1 ! (init ! 2 refl (tt, tt)) $ pass0 ! $
+        alloc1 ! (λ l₀. alloc1 ! (λ l₁. alloc1 ! (λ l₂. alloc1 ! (λ l₃. alloc1 ! (λ l₄. alloc0 ! $ params1 ! $
+        pass1 ! (init ! 6 refl (LL.lawful Tr.the-type Tr′.the-laws 𝓤 H A W .typed t _ is-t .0)) $ pass1 ! (init ! 4 refl (tt, tt)) $ pass0 ! $
         -- the borrow is opened
-        move ! (9 ∷ []) $ fsplit ! $ drop ! $ fsplit ! $ fsplit3 ! $ drop ! $ move ! (11 ∷ []) $ split ! $ move ! (2 ∷ 3 ∷ 0 ∷ []) $
+        move ! (11 ∷ []) $ fsplit ! $ drop ! $ fsplit ! $ fsplit3 ! $ drop ! $ move ! (13 ∷ []) $ split ! $ move ! (2 ∷ 3 ∷ 0 ∷ []) $
         opens ! tt S.the-row {h = h} b o (λ vs. spelt ! S.the-row (Is S.the-row) (shows 𝓤 H A S.the-row) state-vals (LL.tells S.the-type S′.the-laws) fullShare h vs b o $
         move ! (1 ∷ []) $ peeks ! S.the-row (Is S.the-row) (shows 𝓤 H A S.the-row) h (state-vals h) (λ is-h. move ! (1 ∷ 0 ∷ []) $
-        -- [the state's cell; what a State owns; the open borrow; obs; auth; true; nothing more; _3; …; _2; …; _1; …; room for _0; …]: _3 = hmcs_fresh(_1)
-        nothing ! $ use1 W (raw (Step 𝓤 H A at-mem run .pre to-step)) goes $
-        calls-at ! fm (Step 𝓤 H A at-mem run) known to-step (and-then ! (load ! (from ! (stop !)) (look ! 12 refl)) (no-more !)) (λ v.
-        use1 W (later (some (λ (r : FreshReply). (‵ ftrue ⊛ ‵ (Rp.the-row .own r (v ∷ []))) ⊛ raw (ensured 𝓤 H A step.ended (step.clauses 𝓤 H A at-mem run) tt (t, tt) tt r)))) (id⊢ 𝓤 _) $ await ! tt $ pick ! (λ r.
-        split ! $ move ! (1 ∷ []) $ use1 W (raw (fact 𝓤 (r ≡ fresh-answer t))) (told r) $ heard ! (r ≡ fresh-answer t) (λ e. split ! $ drop ! $
+        -- [the state's cell; what a State owns; the open borrow; obs; auth; true; nothing more; _4; …; _3; …; _2; …; _1; …; room for _0; …]: _4 = *_2
+        assigns ! (of-opd ! (load ! (from ! (hop ! (look ! 11 refl) (stop !))) (look-raw ! 0 refl))) (from ! (stop !)) (init ! 7 refl (LL.lawful S.the-type S′.the-laws 𝓤 H A W .typed h _ is-h .0)) $
+        -- _3 = fresh_kept(_1, _4)
+        nothing ! $ use1 W (raw (Step 𝓤 H A at-mem run .pre to-step)) (goes is-h) $
+        calls-at ! fm (Step 𝓤 H A at-mem run) known to-step (and-then ! (load ! (from ! (stop !)) (look ! 14 refl)) (and-then ! (load ! (from ! (stop !)) (look ! 8 refl)) (no-more !))) (λ v.
+        use1 W (later (some (λ (r : FreshReply). (‵ ftrue ⊛ ‵ (Rp.the-row .own r (v ∷ []))) ⊛ raw (ensured 𝓤 H A step.ended (step.clauses 𝓤 H A at-mem run) tt (t, (h, tt)) tt r)))) (id⊢ 𝓤 _) $ await ! tt $ pick ! (λ r.
+        split ! $ move ! (1 ∷ []) $ use1 W (raw (fact 𝓤 (r ≡ fresh-kept (fresh-answer t) h))) (told r) $ heard ! (r ≡ fresh-kept (fresh-answer t) h) (λ e. split ! $ drop ! $
         peeks ! Rp.the-row (Is Rp.the-row) (shows 𝓤 H A Rp.the-row) r (v ∷ []) (λ is.
-        land ! (from ! (stop !)) (init ! 8 refl (LL.lawful Rp.the-type Rp′.the-laws 𝓤 H A W .typed r _ is .0)) $
-        rewrite ! 8 (λ (us : List Val). ‵ (fat fullShare Rp′.mir l₃ 0 (only us))) (LL.tells Rp.the-type Rp′.the-laws r (v ∷ []) is) refl $ drop ! $
+        land ! (from ! (stop !)) (init ! 10 refl (LL.lawful Rp.the-type Rp′.the-laws 𝓤 H A W .typed r _ is .0)) $
+        rewrite ! 10 (λ (us : List Val). ‵ (fat fullShare Rp′.mir l₃ 0 (only us))) (LL.tells Rp.the-type Rp′.the-laws r (v ∷ []) is) refl $ drop ! $
         -- *_2 = _3.state; _0 = Answer { _3.number, _3.place }
-        assigns ! (of-opd ! (load ! (from ! (fld ! refl (stop !))) (look-in ! 7 (sub ! 2 refl (whole !))))) (from ! (hop ! (look ! 9 refl) (stop !))) (store-raw ! 0 refl (LL.lawful S.the-type S′.the-laws 𝓤 H A W .typed (r .state) _ (kept r _ is) .0)) $
-        assigns ! (agg ! (and-then ! (load ! (from ! (fld ! refl (stop !))) (look-in ! 7 (sub ! 0 refl (whole !)))) (and-then ! (load ! (from ! (fld ! refl (stop !))) (look-in ! 7 (sub ! 1 refl (whole !)))) (no-more !)))) (from ! (stop !)) (init ! 13 refl (tt, (record { fits = small r _ is }, (record { fits = near r _ is }, tt)))) $
+        assigns ! (of-opd ! (load ! (from ! (fld ! refl (stop !))) (look-in ! 9 (sub ! 2 refl (whole !))))) (from ! (hop ! (look ! 11 refl) (stop !))) (store-raw ! 0 refl (LL.lawful S.the-type S′.the-laws 𝓤 H A W .typed (r .state) _ (kept r _ is) .0)) $
+        assigns ! (agg ! (and-then ! (load ! (from ! (fld ! refl (stop !))) (look-in ! 9 (sub ! 0 refl (whole !)))) (and-then ! (load ! (from ! (fld ! refl (stop !))) (look-in ! 9 (sub ! 1 refl (whole !)))) (no-more !)))) (from ! (stop !)) (init ! 15 refl (tt, (record { fits = small r _ is }, (record { fits = near r _ is }, tt)))) $
         -- the borrow is closed at the reply's state
         move ! (1 ∷ []) $ drop ! $ owned ! S.the-row (Is S.the-row) (LL.makes S.the-type S′.the-plain 𝓤 H A) (r .state) _ (kept r _ is) $ move ! (1 ∷ 0 ∷ []) $ closes ! tt S.the-row (r .state) (state-vals (r .state)) b o $
-        returns ! (look ! 11 refl) $ forget ! 5 refl $ forget ! 7 refl $ forget ! 9 refl $ forget ! 11 refl $
-        move ! (11 ∷ 12 ∷ []) $ free1 ! $ move ! (9 ∷ 10 ∷ []) $ free1 ! $ move ! (7 ∷ 8 ∷ []) $ free1 ! $ move ! (5 ∷ 6 ∷ []) $ free1 ! $ free0 ! $
-        keep ! (0 ∷ 1 ∷ 2 ∷ []) $ by ! (exits r (small r _ is) (near r _ is) e)))))))))))
+        returns ! (look ! 13 refl) $ forget ! 5 refl $ forget ! 7 refl $ forget ! 9 refl $ forget ! 11 refl $ forget ! 13 refl $
+        move ! (13 ∷ 14 ∷ []) $ free1 ! $ move ! (11 ∷ 12 ∷ []) $ free1 ! $ move ! (9 ∷ 10 ∷ []) $ free1 ! $ move ! (7 ∷ 8 ∷ []) $ free1 ! $ move ! (5 ∷ 6 ∷ []) $ free1 ! $ free0 ! $
+        keep ! (0 ∷ 1 ∷ 2 ∷ []) $ by ! (exits r (small r _ is) (near r _ is) e))))))))))))
       where
         -- what a reply's relation says of its number and of its state
         small : (r : FreshReply) (vs : List Val) → Is Rp.the-row r vs → r .number < 2 ^ 32
@@ -172,4 +174,4 @@ hmcs-fresh-in-place-spec 𝓤 H 𝓜 𝓖 𝓡 =
     entered 𝓤 H (tripleOf 𝓤 H (𝓖 .A) self.signature (self.spec 𝓤 H (𝓖 .A) (𝓜 .mem) (𝓡 .run)))
     (tables 𝓤 H 𝓜 𝓡 code.env .C) (tables 𝓤 H 𝓜 𝓡 code.env .Λ) #self code.function (code.unfolded 𝓤 H 𝓜 𝓡)
     (self-meets 𝓤 H (𝓖 .A) (givenOf 𝓤 H 𝓜 𝓖) (𝓜 .mem) (𝓡 .run) (tablesOf 𝓤 H 𝓜 (tables 𝓤 H 𝓜 𝓡 code.env))
-    (cited 𝓤 H (Step 𝓤 H (𝓖 .A) (𝓜 .mem) (𝓡 .run)) 𝓜 𝓡 code.env #step step-def.routine code.calls-host·hmcs-fresh (step-thm.met 𝓤 H 𝓜 𝓖 𝓡)))
+    (cited 𝓤 H (Step 𝓤 H (𝓖 .A) (𝓜 .mem) (𝓡 .run)) 𝓜 𝓡 code.env #step step-def.routine code.calls-host·fresh-kept (step-thm.met 𝓤 H 𝓜 𝓖 𝓡)))

@@ -1,6 +1,5 @@
--- `host::hmcs_step_in_place` meets its contract: a walk of its MIR, by hand. The borrow is opened, the state is copied out of it and passed to the step by value, the state of the reply is stored back, and the borrow is closed at it.
--- It differs from `hmcs_step_in_place` in what it returns, a struct that is made of two fields of the reply.
--- All that the proof knows of the step is that it meets its contract, `r ≡ step-answer ..`. No field of the state is named, so the walk holds for any `State` and `Tree` of plain data.
+-- `host::hmcs_step_in_place` meets its contract: a walk of its MIR, by hand. The borrow is opened, the state is copied out of it and passed to `hmcs_step` by value, the state of the reply is stored back, and the borrow is closed at it.
+-- All that the proof knows of `hmcs_step` is that it meets its contract, `r ≡ step-answer ..`. No field of the state is named, so the walk holds for any `State` and `Tree` of plain data.
 -- Assumes nothing.
 use mathlib.Core.Path.{_≡_, refl, ap}
 use Prim.Native.Nat.{ℕ, _<_, _^_}

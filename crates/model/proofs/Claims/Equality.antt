@@ -48,7 +48,7 @@ checking l e (at-linger k b c) = absurd (let z : _≡_ {A = ℕ} 0 1 = cc in ome
 checking l e (at-grant k r b c n) = absurd (let z : _≡_ {A = ℕ} 0 1 = cc in omega arith)
 
 -- at or below the threshold, below it and other than it are one test
-same-test : (v h : ℕ) → v ≤ h → ltb v h ≡ not (eqb v h)
+pub same-test : (v h : ℕ) → v ≤ h → ltb v h ≡ not (eqb v h)
 same-test v h b = same-or v h _ (λ z. rw (eq-eqb v h z) (le-ltb v h (omega arith))) (λ z. rw (ne-eqb v h z) (lt-ltb v h (omega arith)))
 
 counts-at-check :

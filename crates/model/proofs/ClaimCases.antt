@@ -1,0 +1,114 @@
+-- The allowances are reached, and the claim holds of a list with refused calls. Assumes nothing.
+use mathlib.Core.Path.{_≡_, refl, sym, ap, _∙_}
+use mathlib.Core.Bool.{Bool, true, false, cond}
+use mathlib.Core.List.{List, [], _∷_, _++_}
+use Prim.Native.Nat.{ℕ, zero, suc, _<_}
+use native.Mathlib.Omega.{arith}
+use lib.Dec.{eqb}
+use lib.ListN.{length, getD}
+use borrow.Author.Tests.{eqb-true}
+use Rattle.model.specs.declared.State.{State}
+use Rattle.model.specs.Scans.{any-below, all-below, largest-below}
+use Rattle.model.specs.Trees.{Tree, read-word, tree-of, is-child, is-leaf, depth-from, depth, level, meets, on-path, child-from, child, own-record, is-record, is-member, owner-domain, under, domain-allowance, allowance}
+use Rattle.model.specs.Places.{plain-place, place-of, is-idle}
+use Rattle.model.specs.States.{fresh-words}
+use Rattle.model.specs.Steps.{is-kind, is-entry, prep-row, swap-row, link-row, wait-row, leave-row, check-row, help-row, cas-row, linger-row, grant-row, row, step}
+use Rattle.model.specs.Runs.{Run, steps, state-after, how-many, entering, counts-of, run-of, run, begun-in, ended-in, begun, ended, entries-under, occurrences}
+use Rattle.model.specs.WellFormed.{good-tail, good-next, good-status, good-place, good-thread, well-formed}
+use Rattle.model.specs.Refusals.{Refusal, refusal, accepted, lowest-bad, first-refusal, bad-domains, bad-threads, bad-parent, too-deep, no-threshold, bad-home, tree-tests, bad-state, bad-length, bad-entry, bad-room, step-tests, run-tests, tree-refusal, step-refusal, run-refusal}
+use Rattle.model.specs.Answers.{fresh-answer, step-reply, step-answer, run-reply, run-buffer, run-answer, trace-answer}
+use Rattle.model.specs.Laws.{Unread-law}
+use Rattle.model.specs.Claim.{Ask, one-step, a-run, Call, state-in, answer-to, answer, ask-refusal, call-refusal, asked-entries, added, answers, joined, Names, Demand-three}
+use Rattle.model.specs.Cases.{padded, tree, count-up, same-numbers, two-homes}
+use Rattle.model.specs.ClaimCases.{reaches, one-leaf, thread-allowance-reached, two-leaves-below, until-leaf-stands, while-leaf-stands, inner-allowance-reached, Allowances-reached, too-many-domains, two-homes-again, mixed-calls, mixed-schedule, refusal-in, refusals-in, Refused-calls-allowed}
+use Rattle.model.proofs.Laws.Unread.{unread-law}
+use Rattle.model.proofs.Claims.Demand.{demand-three}
+
+pub allowances-reached : Allowances-reached
+unfolding any-below largest-below read-word tree-of is-child is-leaf meets on-path child-from child own-record is-member under domain-allowance allowance plain-place place-of fresh-words is-entry prep-row swap-row link-row wait-row leave-row check-row help-row cas-row linger-row grant-row row step steps state-after run-of run begun-in ended-in begun ended entries-under occurrences padded tree same-numbers reaches one-leaf thread-allowance-reached two-leaves-below until-leaf-stands while-leaf-stands inner-allowance-reached Allowances-reached
+allowances-reached = (refl, refl)
+
+-- what holds of 0, 1 and 2 holds below 3
+below-three : (P : ℕ → Type 0) → P 0 → P 1 → P 2 → (k : ℕ) → k < 3 → P k
+below-three P a b c zero h = a
+below-three P a b c (suc zero) h = b
+below-three P a b c (suc (suc zero)) h = c
+below-three P a b c (suc (suc (suc k))) h = absurd (omega arith)
+
+same-tree : tree-of two-homes-again ≡ tree-of two-homes
+unfolding Unread-law two-homes two-homes-again tree padded
+same-tree =
+    unread-law two-homes two-homes-again (record {
+      domains = refl;
+      threads = refl;
+      parents = λ d p s. below-three (λ d. 0 < d → getD (two-homes-again .parents) d 0 ≡ getD (two-homes .parents) d 0) (λ p. absurd (omega arith)) (λ p. refl) (λ p. refl) d s p;
+      thresholds = λ d p s. below-three (λ d. 0 < d → getD (two-homes-again .thresholds) d 0 ≡ getD (two-homes .thresholds) d 0) (λ p. absurd (omega arith)) (λ p. refl) (λ p. refl) d s p;
+      homes = λ i s. below-three (λ i. getD (two-homes-again .homes) i 0 ≡ getD (two-homes .homes) i 0) refl refl refl i s;
+    })
+
+-- FROM THE REFUSALS THAT A LIST IS ANSWERED WITH, its names and its schedule
+call-refused : (c : Call) (s : State) → refusal-in (answer c s) .number ≡ call-refusal c s .number
+unfolding refusal refusal-in answer answer-to call-refusal ask-refusal step-answer step-reply run-answer run-reply
+call-refused c s = by (c .ask)
+  where
+    by : (a : Ask) → refusal-in (answer-to (c .tree) a s) .number ≡ ask-refusal (tree-of (c .tree)) a s .number
+    by (one-step i) = refl
+    by (a-run is b) = go (run-refusal (tree-of (c .tree)) s is (length b)) (run (tree-of (c .tree)) is s) _ refl
+      where
+        go : (r : Refusal) (x : Run) (b : Bool) → eqb (r .number) 0 ≡ b → run-reply r s x .number ≡ r .number
+        go r x true e = rw e (sym (eqb-true _ _ e))
+        go r x false e = rw e
+
+-- each call that is answered with number 0 names the tree
+Names-by : Tree → List Call → List Refusal → Type 0
+Names-by t [] rs = Unit {0}
+Names-by t (c ∷ cs) [] = ⊥
+Names-by t (c ∷ cs) (r ∷ rs) = (r .number ≡ 0 → tree-of (c .tree) ≡ t) × Names-by t cs rs
+
+names-by : (t : Tree) (cs : List Call) (s : State) → Names-by t cs (refusals-in (answers cs s)) → Names t cs s
+unfolding Names-by Names answers refusals-in
+names-by t [] s n = tt
+names-by t (c ∷ cs) s n = (λ e. n .0 (rw (call-refused c s) e), names-by t cs _ (n .1))
+
+joined-by : List Call → List Refusal → List ℕ
+joined-by [] rs = []
+joined-by (c ∷ cs) [] = []
+joined-by (c ∷ cs) (r ∷ rs) = cond (eqb (r .number) 0) (asked-entries (c .ask)) [] ++ joined-by cs rs
+
+joined-same : (cs : List Call) (s : State) → joined cs s ≡ joined-by cs (refusals-in (answers cs s))
+unfolding joined joined-by added answers refusals-in
+joined-same [] s = refl
+joined-same (c ∷ cs) s = rw (call-refused c s, joined-same cs (state-in (answer c s)))
+
+abbrev mixed-refusals : List Refusal
+mixed-refusals = accepted ∷ refusal 4 0 ∷ accepted ∷ refusal 12 1 ∷ accepted ∷ accepted ∷ []
+
+refused : refusals-in (answers mixed-calls fresh-words) ≡ mixed-refusals
+unfolding any-below all-below read-word tree-of is-child is-leaf depth-from depth level meets on-path child-from child own-record is-record is-member owner-domain plain-place place-of is-idle fresh-words is-kind is-entry prep-row swap-row link-row wait-row leave-row check-row help-row cas-row linger-row grant-row row step steps state-after how-many entering counts-of run-of run good-tail good-next good-status good-place good-thread well-formed refusal accepted lowest-bad first-refusal bad-domains bad-threads bad-parent too-deep no-threshold bad-home tree-tests bad-state bad-length bad-entry bad-room step-tests run-tests tree-refusal step-refusal run-refusal fresh-answer step-reply step-answer run-reply run-buffer run-answer trace-answer padded tree count-up two-homes state-in answer-to answer answers too-many-domains two-homes-again mixed-calls refusal-in refusals-in
+refused = refl
+
+named : Names-by (tree-of two-homes) mixed-calls mixed-refusals
+unfolding Names-by mixed-calls refusal accepted
+named = (λ e. refl, (λ e. absurd (omega arith), (λ e. refl, (λ e. absurd (omega arith), (λ e. same-tree, (λ e. refl, tt))))))
+
+names : Names (tree-of two-homes) mixed-calls fresh-words
+names = names-by (tree-of two-homes) mixed-calls fresh-words (rw refused named)
+
+schedule : joined mixed-calls fresh-words ≡ mixed-schedule
+unfolding joined-by mixed-calls asked-entries mixed-schedule refusal accepted
+schedule = joined-same mixed-calls fresh-words ∙ ap (joined-by mixed-calls) refused
+
+fresh-accepted : fresh-answer two-homes .number ≡ 0
+unfolding any-below read-word tree-of is-child is-leaf depth-from depth level refusal accepted lowest-bad first-refusal bad-domains bad-threads bad-parent too-deep no-threshold bad-home tree-tests tree-refusal fresh-answer padded tree two-homes
+fresh-accepted = refl
+
+pub refused-calls-allowed : Refused-calls-allowed
+unfolding Demand-three fresh-answer
+refused-calls-allowed =
+    record {
+      fresh = fresh-accepted;
+      names = names;
+      refused = refused;
+      schedule = schedule;
+      claim = rw schedule at (demand-three two-homes mixed-calls fresh-accepted names);
+    }
