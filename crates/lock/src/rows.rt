@@ -3,13 +3,14 @@ ghost use mathlib.Core.Path.{_≡_};
 ghost use Prim.Native.Nat.{_<_, _≤_};
 ghost use Rattle.model.specs.States.{root-word};
 ghost use Rattle.model.specs.Places.{words-of};
-ghost use Rattle.model.specs.Trees.{child-from};
+ghost use Rattle.model.specs.Search.{search-from};
 ghost use Rattle.model.specs.Refusals.{tree-refusal};
 ghost use Rattle.model.specs.Steps.{prep-row, swap-row, link-row, wait-row, leave-row, check-row, help-row, cas-row, linger-row, grant-row};
 ghost use Rattle.refusals.specs.Arrays.{tree-in, parents-in, Lower};
 ghost use Rattle.lock.specs.Effects.{moved, Effect-of, Inner-effect-of, Within, Read};
 ghost use Rattle.lock.specs.Running.{Ready, Decided};
 use crate::places;
+use model::Found;
 use model::Place;
 use model::PlaceWords;
 
@@ -39,29 +40,32 @@ pub(crate) struct Effect {
     pub place: PlaceWords,
 }
 
-// The child of a domain on the path from a home up.
-fn child_at(parents: &[u8; 64], domains: u32, home: u8, l: u8) -> u8
+// The search for the child of a domain on the path from a home up, level by level: it leaves as soon as it has the child, and says how many domains it looked at.
+fn search_at(parents: &[u8; 64], domains: u32, home: u8, l: u8) -> Found
     requires { ⌜ domains ≤ 64 ⌝ }
     requires { ⌜ Lower domains (now parents) ⌝ }
     requires { ⌜ home < domains ⌝ }
-    ensures { λ r. ⌜ r ≡ child-from 6 (parents-in domains (now (parents .entry))) l home ⌝ }
-    ensures { λ r. ⌜ r < 64 ⌝ }
+    ensures { λ r. ⌜ r ≡ search-from 6 (parents-in domains (now (parents .entry))) l home 0 ⌝ }
+    ensures { λ r. ⌜ r .child < 64 ⌝ }
 {
     let mut c = home;
-    let mut left: u32 = 6;
-    while 0 < left {
+    let mut looked: u32 = 0;
+    let child = loop {
+        if looked == 6 {
+            break c;
+        }
+        looked += 1;
         if c == 0 {
-            return c;
+            break c;
         }
         let at = c as usize;
         let p = parents[at];
         if p == l {
-            return c;
+            break c;
         }
         c = p;
-        left -= 1;
-    }
-    c
+    };
+    Found { child, looked }
 }
 
 fn effect_at(kind: u8, place: PlaceWords) -> Effect
@@ -292,7 +296,8 @@ fn words_at<'t, 's>(
             place,
         };
     }
-    let child = child_at(parents, domains, home, l);
+    let found = search_at(parents, domains, home, l);
+    let child = found.child;
     let own = 256 + child as u16;
     let r = own as usize;
     let next = nexts[r];

@@ -8,3 +8,4 @@ pub mod Form
 pub mod Kinds
 pub mod Words
 pub mod Unread
+pub mod Search

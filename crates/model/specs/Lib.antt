@@ -1,4 +1,4 @@
--- In the order of document 01: what a reader must believe. The laws' proofs are in proofs/.
+-- In the order of document 01, then of document 02: what a reader must believe. The laws' proofs are in proofs/.
 pub mod Scans
 pub mod Trees
 pub mod Places
@@ -15,3 +15,4 @@ pub mod Reached
 pub mod Meanings
 pub mod Cases
 pub mod ClaimCases
+pub mod Search

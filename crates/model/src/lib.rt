@@ -66,6 +66,12 @@ pub enum Place {
     Invalid,
 }
 
+// What the search for a domain's child on a thread's path finds: the child, and how many domains it looked at.
+pub struct Found {
+    pub child: u8,
+    pub looked: u32,
+}
+
 // What is counted of a run's steps: all of them, stays among them; entries, stays, root entries, passed entries, crossed entries.
 #[repr(C)]
 pub struct Counts {

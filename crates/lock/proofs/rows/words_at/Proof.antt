@@ -1,5 +1,8 @@
 -- `lock::rows::words_at` meets its contract. Assumes nothing.
+use mathlib.Core.Path.{ap, _∙_}
 use native.Mathlib.Omega.{arith}
+use Rattle.model.specs.declared.Found.{Found}
+use Rattle.model.proofs.Laws.Search.{same-child-from}
 use Rattle.lock.proofs.WordsRead.{rooms, read-home, read-above}
 use borrow.Author.Needs.{needs}
 use Rattle.lock.proofs.rows.words_at.Statement.{statement}
@@ -38,8 +41,8 @@ element-copy-out-status c = omega (arith, rooms _ _ _ _ _ (c .before .before .be
 returns : tie.Need-returns
 returns c = read-home _ _ _ _ _ (c .before .before .before .before .before .before .before .pre .0) _ _ (c .before .before .before .before .before .before .before .pre .1 .0) (c .before .before .before .before .before .before .before .pre .1 .1) _ _ _ _ (c .before .before .if1 .taken)
 
-child-at-requires : tie.Need-child-at-requires
-child-at-requires c κs =
+search-at-requires : tie.Need-search-at-requires
+search-at-requires c κs =
     let r = rooms _ _ _ _ _ (c .before .before .before .before .before .pre .0) in
     (r .few-domains, (r .low, r .home-real _ (c .before .before .before .before .before .pre .1 .0)))
 
@@ -65,7 +68,7 @@ element-copy-out-status-2 : tie.Need-element-copy-out-status-2
 element-copy-out-status-2 c = search needs
 
 returns-2 : tie.Need-returns-2
-returns-2 c = read-above _ _ _ _ _ (c .before .before .before .before .before .before .before .before .pre .0) _ _ (c .before .before .before .before .before .before .before .before .pre .1 .0) (c .before .before .before .before .before .before .before .before .pre .1 .1) _ _ _ _ _ (c .before .before .before .if1 .left) (c .before .before .child-at .ensures .0) (c .before .before .child-at .ensures .1)
+returns-2 c = read-above _ _ _ _ _ (c .before .before .before .before .before .before .before .before .pre .0) _ _ (c .before .before .before .before .before .before .before .before .pre .1 .0) (c .before .before .before .before .before .before .before .before .pre .1 .1) _ _ _ _ _ (c .before .before .before .if1 .left) (ap (λ (r : Found). r .child) (c .before .before .search-at .ensures .0) ∙ same-child-from 6 _ _ _ 0) (c .before .before .search-at .ensures .1)
 
 pub words-at-spec : {M : Type 1} → statement M
 words-at-spec =
@@ -82,7 +85,7 @@ words-at-spec =
     mul-status
     element-copy-out-status
     returns
-    child-at-requires
+    search-at-requires
     cast-own
     add-own
     cast-r

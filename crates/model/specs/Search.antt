@@ -1,0 +1,69 @@
+-- Document 02, (viii): the search for a domain's child on a thread's path leaves as soon as it has the child, and says how many domains it looked at. Its laws, and computed cases. Assumes nothing: these are definitions and statements; proofs/ has their proofs.
+use mathlib.Core.Path.{_≡_}
+use mathlib.Core.Bool.{true, false, cond}
+use mathlib.Core.List.{List, [], _∷_, map}
+use mathlib.Core.Logic.{_≢_, _⊎_}
+use Prim.Native.Nat.{ℕ, zero, suc, _+_, _≤_, _<_}
+use lib.Dec.{eqb}
+use lib.ListN.{replicate}
+use Rattle.model.specs.declared.TreeWords.{TreeWords}
+use Rattle.model.specs.declared.Found.{Found}
+use Rattle.model.specs.Trees.{Tree, tree-of, is-child, depth, level, on-path, child}
+use Rattle.model.specs.Refusals.{tree-refusal}
+use Rattle.model.specs.Cases.{tree, count-up, three-levels}
+
+abbrev pub found : (child looked : ℕ) → Found
+found c n = record { child = c; looked = n }
+
+-- the search goes on at a domain, so many looked at before it: it looks at this one, and leaves with it if it is the root or a child of the domain asked for; else it goes one level up
+unfoldable pub search-from : (levels : ℕ) → Tree → (domain from looked : ℕ) → Found
+search-from zero t l c n = found c n
+search-from (suc k) t l c n =
+    let higher = search-from k t l (t .parent c) (n + 1) in
+    cond (eqb c 0) (found c (n + 1)) (cond (eqb (t .parent c) l) (found c (n + 1)) higher)
+
+-- level by level from the thread's home; six levels are enough
+unfoldable pub search : Tree → (thread domain : ℕ) → Found
+search t i l = search-from 6 t l (t .home i) 0
+
+-- 1. WHAT IT RETURNS STAYS THE SAME: the child, in every tree and for every domain
+unfoldable pub Same-child-law : Type 0
+Same-child-law = (t : Tree) (i l : ℕ) → search t i l .child ≡ child t i l
+
+-- another tree has the thread's home, and the parent of each domain from there up to a domain of its path, where numbers fall towards the root; beyond, it may be any
+pub record Same-up-to (domain : ℕ) (t u : Tree) (i : ℕ) : Type 0 where
+  pub home : u .home i ≡ t .home i
+  pub parent : (d : ℕ) → on-path t i d ≡ true → domain ≤ d → u .parent d ≡ t .parent d
+
+-- 2. IT LEAVES AS SOON AS IT HAS THE CHILD. A search that finds the child of a domain on the thread's path
+pub record Leaves-at-child (t : Tree) (i l : ℕ) : Type 0 where
+  pub hangs : is-child t l (search t i l .child) ≡ true
+  pub there : on-path t i (search t i l .child) ≡ true
+  -- as many as the domains from the home up to the child, both among them
+  pub exactly : search t i l .looked + depth t (search t i l .child) ≡ depth t (t .home i) + 1
+  -- what lies beyond the child is not looked at: no parent there makes a difference
+  pub not-beyond : (u : Tree) → Same-up-to (search t i l .child) t u i → search u i l ≡ search t i l
+
+pub record Searches (t : Tree) (i : ℕ) : Type 0 where
+  pub above-home : (l : ℕ) → on-path t i l ≡ true → l ≢ t .home i → Leaves-at-child t i l
+  -- of the home, and of a domain off the path, no child is on the path: the search ends at the root and has looked at every domain of the path
+  pub no-child : (l : ℕ) → (l ≡ t .home i) ⊎ (on-path t i l ≡ false) → search t i l ≡ found 0 (level t (t .home i))
+
+unfoldable pub Search-law : Type 0
+Search-law = (t : Tree) → tree-refusal t .number ≡ 0 → (i : ℕ) → i < t .threads → Searches t i
+
+-- 3. CASES, computed: what is found of the domains from 0 on
+unfoldable pub found-of : TreeWords → (thread many : ℕ) → List Found
+found-of w i n = map (search (tree-of w) i) (count-up 0 n)
+
+-- six levels, one domain each, the thread in the last; 5 is its home, 6 no domain
+unfoldable pub six-levels : TreeWords
+six-levels = tree 6 1 (0 ∷ count-up 0 5) (0 ∷ replicate 5 1) (5 ∷ [])
+
+unfoldable pub Six-levels-searched : Type 0
+Six-levels-searched =
+    found-of six-levels 0 7 ≡ found 1 5 ∷ found 2 4 ∷ found 3 3 ∷ found 4 2 ∷ found 5 1 ∷ found 0 6 ∷ found 0 6 ∷ []
+
+-- three levels, the thread's home domain 3; domain 2 is off its path
+unfoldable pub Three-levels-searched : Type 0
+Three-levels-searched = found-of three-levels 1 4 ≡ found 1 2 ∷ found 3 1 ∷ found 0 3 ∷ found 0 3 ∷ []
