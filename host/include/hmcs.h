@@ -8,7 +8,7 @@
  * that call at the same time must write to different ones. hmcs_run_file needs 160 KB of stack, every other function at
  * most 28 KB beside its arguments and its result, which are up to 16 KB in the caller.
  *
- * Compare two states field by field, never by memcmp: struct hmcs_place has padding.
+ * Compare two states field by field, never by memcmp: struct hmcs_place has padding, and so has struct hmcs_text_reply.
  */
 #ifndef HMCS_H
 #define HMCS_H
@@ -90,6 +90,7 @@ enum hmcs_refusal {
     HMCS_BAD_ENTRY = 12,       /* A schedule entry is not below the number of threads, the place being its position from 0. */
     HMCS_TRACE_SHORT = 13,     /* The trace buffer has fewer elements than the schedule. */
     HMCS_OUTPUT_SHORT = 14,    /* The output buffer is shorter than the listing. */
+    HMCS_TEXT_WRONG = 15,      /* The text leaves the grammar, the place being the first byte that no text could continue with, or the length. */
     HMCS_BAD_TIME = 24         /* A passing time isn't a number from 1/1024 to 1,048,576, the place being 1 to 3. */
 };
 
@@ -111,6 +112,7 @@ static inline const char *hmcs_refusal_text(uint32_t number) {
     case HMCS_BAD_ENTRY: return "a schedule entry is not below the number of threads";
     case HMCS_TRACE_SHORT: return "the trace buffer has fewer elements than the schedule";
     case HMCS_OUTPUT_SHORT: return "the output buffer is shorter than the listing";
+    case HMCS_TEXT_WRONG: return "the text leaves the grammar of trees";
     case HMCS_BAD_TIME: return "a passing time isn't a number from 1/1024 to 1,048,576";
     default: return "no refusal has this number";
     }
@@ -171,6 +173,20 @@ hmcs_answer hmcs_step_in_place(hmcs_tree tree, hmcs_state *state, uint16_t threa
  * number; *place is its place, *length the listing's length, 0 where it is refused. Refused by 1 to 9, 12 and 14; then the output is as it
  * came. */
 uint32_t hmcs_run_file(const uint8_t *file, size_t file_length, uint8_t *output, size_t output_length, uint32_t *place, uint32_t *length);
+
+/* What reading a text returns: number and place, and the tree; refused, all its words are 0. The place is a position in the text, however
+ * long that is. */
+typedef struct hmcs_text_reply {
+    uint32_t number;
+    size_t place;
+    hmcs_tree tree;
+} hmcs_text_reply;
+
+/* Reads a tree from its text, as `(2(#2) 16(#1))`: in parentheses either `#` and a thread count, or domains separated by one space, each a
+ * threshold and again such parentheses, down to level 6. Numbers are decimal from 1 without leading zeros, thresholds at most 65,535.
+ * Domains count in the order of their opening parenthesis, threads leaf by leaf. No byte stands before the tree and none behind it, no line
+ * feed either. Refused by 15, 4 and 5, in this order; an accepted tree passes 4 to 9. */
+hmcs_text_reply hmcs_read_text(const uint8_t *text, size_t text_length);
 
 /* How long it takes to pass the lock on in a tree of three levels: p1 between two threads of one home, p2 between two homes below one domain,
  * p3 between two such domains, across the root. All three in one unit, whichever; each from 1/1024 to 1,048,576. */

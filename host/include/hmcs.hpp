@@ -9,6 +9,7 @@
 #include <cstdint>
 #include <optional>
 #include <string>
+#include <string_view>
 #include <vector>
 
 namespace hmcs {
@@ -23,6 +24,7 @@ static_assert(sizeof(hmcs_fresh_reply) == 7432 && offsetof(hmcs_fresh_reply, sta
 static_assert(sizeof(hmcs_run_reply) == 7456 && offsetof(hmcs_run_reply, crossed) == 28 && offsetof(hmcs_run_reply, state) == 32, "layout of hmcs_run_reply");
 static_assert(sizeof(hmcs_passing_times) == 24 && offsetof(hmcs_passing_times, p3) == 16, "layout of hmcs_passing_times");
 static_assert(sizeof(hmcs_rate_reply) == 16 && offsetof(hmcs_rate_reply, rate) == 8, "layout of hmcs_rate_reply");
+static_assert(sizeof(hmcs_text_reply) == 472 && offsetof(hmcs_text_reply, place) == 8 && offsetof(hmcs_text_reply, tree) == 16, "layout of hmcs_text_reply");
 
 // Number and place of an answer.
 struct Refusal {
@@ -58,6 +60,13 @@ public:
     }
 
     const hmcs_tree &words() const { return words_; }
+
+    // The tree that some words are.
+    static Tree of(const hmcs_tree &words) {
+        Tree tree;
+        tree.words_ = words;
+        return tree;
+    }
 
 private:
     // No domain has the number 255, so that a number which does not fit is refused and not cut.
@@ -156,6 +165,62 @@ inline RateResult rate(std::uint32_t h1, std::uint32_t h2, const PassingTimes &t
     const auto threshold = [](std::uint32_t h) { return h <= 65535 ? static_cast<std::uint16_t>(h) : std::uint16_t{0}; };
     const hmcs_rate_reply reply = hmcs_rate(threshold(h1), threshold(h2), times);
     return RateResult{Refusal{reply.number, reply.place}, reply.rate};
+}
+
+// Why a text is no tree.
+struct TextRefusal {
+    std::uint32_t number = 0;
+    std::size_t place = 0; // of 15, a position in the text; else 0
+
+    explicit operator bool() const { return number != 0; }
+    const char *text() const { return hmcs_refusal_text(number); }
+};
+
+struct TextResult {
+    TextRefusal refusal;
+    Tree tree;           // refused, a tree without domains and threads
+    std::string message; // refused, for people: what is wrong and, of 15, the text with a mark below the byte
+};
+
+namespace detail {
+
+// Some bytes of a text on a line, each other than a printable one as a dot, and a mark below the place.
+inline std::string marked(std::string_view text, std::size_t place) {
+    constexpr std::size_t around = 30;
+    const std::size_t from = place > around ? place - around : 0;
+    const std::size_t shown = std::min(text.size() - from, 2 * around);
+    std::string line = from > 0 ? "..." : "";
+    const std::size_t mark = line.size() + (place - from);
+    for (const char byte : text.substr(from, shown)) {
+        line += byte >= ' ' && byte <= '~' ? byte : '.';
+    }
+    if (from + shown < text.size()) {
+        line += "...";
+    }
+    return line + "\n" + std::string(mark, ' ') + "^\n";
+}
+
+inline std::string text_message(const TextRefusal &refusal, std::string_view text) {
+    std::string message = hmcs_refusal_text(refusal.number);
+    if (refusal.number != HMCS_TEXT_WRONG) {
+        return message + "\n";
+    }
+    message += refusal.place < text.size() ? ": no tree goes on like this at byte " : ": it ends too soon, at byte ";
+    return message + std::to_string(refusal.place) + "\n" + marked(text, refusal.place);
+}
+
+} // namespace detail
+
+// A tree from its text, as `(2(#2) 16(#1))`. A line feed behind it belongs to the file and not to the text.
+inline TextResult read_tree(std::string_view text) {
+    const hmcs_text_reply reply = hmcs_read_text(reinterpret_cast<const std::uint8_t *>(text.data()), text.size());
+    TextResult result;
+    result.refusal = TextRefusal{reply.number, reply.place};
+    result.tree = Tree::of(reply.tree);
+    if (result.refusal) {
+        result.message = detail::text_message(result.refusal, text);
+    }
+    return result;
 }
 
 } // namespace hmcs

@@ -4,6 +4,7 @@ ghost use Rattle.model.specs.Answers.{fresh-answer, step-answer, run-answer, tr
 ghost use Rattle.host.specs.InPlace.{fresh-kept, fresh-left, fresh-number, step-number};
 ghost use Rattle.lock_file.specs.FileAnswers.{file-answer, output-answer};
 ghost use Rattle.rate.specs.Answers.{rate-answer, reply-of};
+ghost use Rattle.text_tree.specs.Answers.{text-answer};
 use model::FreshReply;
 use model::RunReply;
 use model::State;
@@ -11,6 +12,7 @@ use model::StepReply;
 use model::TreeWords;
 use rate::PassingTimes;
 use rate::RateReply;
+use text_tree::TextReply;
 
 // Number and place of an answer.
 #[repr(C)]
@@ -115,4 +117,12 @@ pub extern "C" fn hmcs_rate(h1: u16, h2: u16, times: PassingTimes) -> RateReply
     ensures { λ r. ⌜ r ≡ reply-of (rate-answer h1 h2 times) ⌝ }
 {
     rate::reply(rate::rate(h1, h2, times))
+}
+
+// A tree from its text.
+#[no_mangle]
+pub extern "C" fn hmcs_read_text(text: &[u8]) -> TextReply
+    ensures { λ r. ⌜ r ≡ text-answer (now (text .entry)) ⌝ }
+{
+    text_tree::read_text(text)
 }

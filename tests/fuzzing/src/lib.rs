@@ -1,4 +1,4 @@
-//! The step table's file call under the C form of the library's, for the fuzzer.
+//! The step table's file call, and the reference's reader of texts, under the C form of the library's, for the fuzzer.
 
 use std::slice;
 
@@ -12,4 +12,12 @@ pub unsafe extern "C" fn reference_run_file(file: *const u8, file_length: usize,
     *place = answer.place;
     *length = answer.length;
     answer.number
+}
+
+/// # Safety
+/// The pointer is valid for its length.
+#[no_mangle]
+pub unsafe extern "C" fn reference_read_text(text: *const u8, text_length: usize) -> reference::text_tree::TextAnswer {
+    let text = if text_length == 0 { &[] } else { slice::from_raw_parts(text, text_length) };
+    reference::text_tree::read_text(text)
 }

@@ -3,6 +3,7 @@
 use crate::calls::Calls;
 use crate::lock_file::FileAnswer;
 use crate::rate::RateCall;
+use crate::text_tree::TextAnswer;
 
 /// The form of the file call, the step table's and the library's.
 pub type RunFile = fn(&[u8], &mut [u8]) -> FileAnswer;
@@ -112,5 +113,33 @@ pub fn rate() -> Option<RateCall> {
 
 #[cfg(not(calls))]
 pub fn rate() -> Option<RateCall> {
+    None
+}
+
+/// The form of reading a text, the reference's and the library's.
+pub type ReadText = fn(&[u8]) -> TextAnswer;
+
+#[cfg(library)]
+mod text_entry {
+    use super::TextAnswer;
+
+    extern "C" {
+        fn hmcs_read_text(text: *const u8, text_len: usize) -> TextAnswer;
+    }
+
+    pub fn read_text(text: &[u8]) -> TextAnswer {
+        // The pointer is valid for its length.
+        unsafe { hmcs_read_text(text.as_ptr(), text.len()) }
+    }
+}
+
+/// The library's reader of texts, if the program was built with the library.
+#[cfg(library)]
+pub fn read_text() -> Option<ReadText> {
+    Some(text_entry::read_text)
+}
+
+#[cfg(not(library))]
+pub fn read_text() -> Option<ReadText> {
     None
 }

@@ -2,6 +2,7 @@
 
 mod calls;
 mod files;
+mod texts;
 
 use reference::draft::Draft;
 use reference::random::Random;
@@ -72,6 +73,7 @@ fn main() {
     }
     println!("best of {ROUNDS} rounds; buffers are not cleared between calls");
     let ratios = [files::print(), calls::print()].concat();
+    texts::print();
     match ratios.into_iter().reduce(f64::max) {
         Some(ratio) => println!("ratio {ratio:.2}"),
         None => println!("ratio none, no library named"),

@@ -1,0 +1,78 @@
+-- `read_more_threshold` meets its contract: digit by digit, the text comes to the same. Assumes nothing.
+use mathlib.Core.Path.{_≡_, refl, sym, _∙_, ap}
+use mathlib.Core.List.{List}
+use Prim.Native.Nat.{ℕ, _-_, _≤_}
+use native.Mathlib.Omega.{arith}
+use borrow.Author.Needs.{needs}
+use lib.ListN.{length, getD}
+use Rattle.model.specs.declared.TreeWords.{TreeWords}
+use Rattle.text_tree.specs.Reading.{grown, grows, in-threshold}
+use Rattle.text_tree.specs.Inner.{from}
+use Rattle.text_tree.proofs.Digits.{digit-bounds, grows-digit, grows-limit}
+use Rattle.text_tree.proofs.Moving.{digit-in-text, threshold-goes-on}
+use Rattle.text_tree.proofs.numbers.read_more_threshold.Statement.{statement}
+use Rattle.text_tree.proofs.numbers.read_more_threshold.Tie as tie
+
+abbrev Inv-loop : tie.InvT-loop
+Inv-loop text start first at₀ number₀ at number =
+    ((d : ℕ) (ds : List ℕ) (w : TreeWords) → from text start (in-threshold first d ds start w) ≡ from text at (in-threshold number d ds at w))
+    × (start ≤ at) × (number ≤ 65535)
+
+abbrev μ-loop : tie.MeasureT-loop
+μ-loop text start first at₀ number₀ at number = length text - at
+
+loop-holds : tie.Need-loop-holds Inv-loop μ-loop
+loop-holds c = (λ d ds w. refl, search needs, search needs)
+
+byte-at-requires : tie.Need-byte-at-requires Inv-loop μ-loop
+byte-at-requires c κs = search needs
+
+grows-with-requires : tie.Need-grows-with-requires Inv-loop μ-loop
+grows-with-requires c κs = search needs
+
+byte-at-requires-2 : tie.Need-byte-at-requires-2 Inv-loop μ-loop
+byte-at-requires-2 c κs = search needs
+
+grow-requires : tie.Need-grow-requires Inv-loop μ-loop
+grow-requires c κs = (search needs, rw (c .byte-at2 .ensures) (digit-bounds _ (grows-digit (c .before .before .before .before .loop .number) (getD (c .before .before .before .before .before .before .args .text .now) (c .before .before .before .before .loop .at) 0) (sym (ap (grows (c .before .before .before .before .loop .number)) (c .before .before .before .byte-at .ensures)) ∙ sym (c .before .before .grows-with .ensures) ∙ c .before .if1 .taken)) .0))
+
+add-at : tie.Need-add-at Inv-loop μ-loop
+add-at c = omega (arith, digit-in-text (c .before .before .before .before .before .before .before .args .text .now) (c .before .before .before .before .before .loop .at) (grows-digit (c .before .before .before .before .before .loop .number) (getD (c .before .before .before .before .before .before .before .args .text .now) (c .before .before .before .before .before .loop .at) 0) (sym (ap (grows (c .before .before .before .before .before .loop .number)) (c .before .before .before .before .byte-at .ensures)) ∙ sym (c .before .before .before .grows-with .ensures) ∙ c .before .before .if1 .taken)))
+
+loop-less : tie.Need-loop-less Inv-loop μ-loop
+loop-less c = omega (arith, digit-in-text (c .before .before .before .before .before .before .before .args .text .now) (c .before .before .before .before .before .loop .at) (grows-digit (c .before .before .before .before .before .loop .number) (getD (c .before .before .before .before .before .before .before .args .text .now) (c .before .before .before .before .before .loop .at) 0) (sym (ap (grows (c .before .before .before .before .before .loop .number)) (c .before .before .before .before .byte-at .ensures)) ∙ sym (c .before .before .before .grows-with .ensures) ∙ c .before .before .if1 .taken)))
+
+loop-again : tie.Need-loop-again Inv-loop μ-loop
+loop-again c =
+    let grew = c .grow .ensures ∙ ap (grown (c .before .before .before .before .before .loop .number)) (c .before .byte-at2 .ensures) in (
+      λ d ds w. c .before .before .before .before .before .loop .inv .0 d ds w ∙ threshold-goes-on _ _ d ds w _ (sym (ap (grows (c .before .before .before .before .before .loop .number)) (c .before .before .before .before .byte-at .ensures)) ∙ sym (c .before .before .before .grows-with .ensures) ∙ c .before .before .if1 .taken) ∙ rw grew,
+      search needs,
+      rw grew (grows-limit (c .before .before .before .before .before .loop .number) (getD (c .before .before .before .before .before .before .before .args .text .now) (c .before .before .before .before .before .loop .at) 0) (sym (ap (grows (c .before .before .before .before .before .loop .number)) (c .before .before .before .before .byte-at .ensures)) ∙ sym (c .before .before .before .grows-with .ensures) ∙ c .before .before .if1 .taken)),
+    )
+
+returns : tie.Need-returns Inv-loop μ-loop
+returns c =
+    record {
+      same = λ d ds w. c .before .before .before .loop .inv .0 d ds w;
+      stopped = (
+        c .before .before .before .loop .inv .1,
+        sym (ap (grows (c .before .before .before .loop .number)) (c .before .before .byte-at .ensures)) ∙ sym (c .before .grows-with .ensures) ∙ c .if1 .left,
+        c .before .before .before .loop .inv .2,
+      );
+    }
+
+pub read-more-threshold-spec : {M : Type 1} → statement M
+read-more-threshold-spec =
+    tie.close
+    (tie.spec
+    Inv-loop
+    μ-loop
+    loop-holds
+    byte-at-requires
+    grows-with-requires
+    byte-at-requires-2
+    grow-requires
+    add-at
+    loop-less
+    loop-again
+    returns)

@@ -1,0 +1,12 @@
+-- `no_tree` meets its contract. Assumes nothing.
+use mathlib.Core.Path.{refl}
+use Rattle.text_tree.specs.Words.{no-words}
+use Rattle.text_tree.proofs.tree.no_tree.Statement.{statement}
+use Rattle.text_tree.proofs.tree.no_tree.Tie as tie
+
+returns : tie.Need-returns
+unfolding no-words
+returns c = refl
+
+pub no-tree-spec : {M : Type 1} → statement M
+no-tree-spec = tie.close (tie.spec returns)

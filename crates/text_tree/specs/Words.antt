@@ -1,0 +1,55 @@
+-- The words of a tree while its text is read: counts stop at one more than there is room for, and words without room are not stored. Assumes nothing: these are definitions.
+use mathlib.Core.Bool.{cond}
+use mathlib.Core.List.{List}
+use Prim.Native.Nat.{ℕ, _+_, _-_}
+use lib.Dec.{ltb, leb}
+use lib.ListN.{set, replicate}
+use lib.Seq.{sets}
+use Rattle.model.specs.declared.TreeWords.{TreeWords}
+
+unfoldable pub least : (limit number : ℕ) → ℕ
+least limit n = cond (ltb n limit) n limit
+
+-- refused, the reader gives no domains and no threads
+unfoldable pub no-words : TreeWords
+no-words = record { domains = 0; threads = 0; parents = replicate 64 0; thresholds = replicate 64 0; homes = replicate 256 0 }
+
+-- behind the first parenthesis: the root alone
+unfoldable pub root-words : TreeWords
+root-words = record { domains = 1; threads = 0; parents = replicate 64 0; thresholds = replicate 64 0; homes = replicate 256 0 }
+
+-- the number of the domain whose parenthesis opens next
+unfoldable pub new-number : (domains : ℕ) → ℕ
+new-number n = cond (ltb n 64) n 64
+
+-- one domain more, with its parent and threshold
+unfoldable pub domain-added : TreeWords → (parent threshold : ℕ) → TreeWords
+domain-added w p h =
+    cond (leb 64 (w .domains))
+    (record { domains = 65; threads = w .threads; parents = w .parents; thresholds = w .thresholds; homes = w .homes })
+    (record {
+      domains = w .domains + 1;
+      threads = w .threads;
+      parents = set (w .parents) (w .domains) p;
+      thresholds = set (w .thresholds) (w .domains) h;
+      homes = w .homes;
+    })
+
+-- the threads' number with some more
+unfoldable pub threads-after : (threads count : ℕ) → ℕ
+threads-after t n = least 257 t + least (257 - least 257 t) n
+
+-- the homes of the threads from one on to before another
+abbrev pub filled-from : (homes : List ℕ) → (thread end home : ℕ) → List ℕ
+filled-from hs i end d = sets hs i (replicate (end - i) d)
+
+-- as many threads more, with one home
+unfoldable pub threads-added : TreeWords → (home count : ℕ) → TreeWords
+threads-added w d n =
+    record {
+      domains = w .domains;
+      threads = threads-after (w .threads) n;
+      parents = w .parents;
+      thresholds = w .thresholds;
+      homes = filled-from (w .homes) (least 257 (w .threads)) (least 256 (threads-after (w .threads) n)) d;
+    }
