@@ -124,7 +124,39 @@ typedef struct hmcs_answer {
     uint32_t place;
 } hmcs_answer;
 
-/* What the fresh call and a step return. */
+/* What a step was, by its kind. */
+enum hmcs_kind {
+    HMCS_STAY = 0,          /* it changed nothing */
+    HMCS_OTHER_MOVE = 1,    /* any other move */
+    HMCS_ROOT_ENTRY = 2,    /* the thread entered through the root */
+    HMCS_PASSED_ENTRY = 3,  /* it entered, the lock passed on within its home */
+    HMCS_CROSSED_ENTRY = 4, /* it entered, the lock passed on within a domain between its home and the root */
+    HMCS_LEAVING = 5        /* it was inside and left */
+};
+
+/* A kind in words, for people. */
+static inline const char *hmcs_kind_text(uint32_t kind) {
+    switch (kind) {
+    case HMCS_STAY: return "stays";
+    case HMCS_OTHER_MOVE: return "moves on";
+    case HMCS_ROOT_ENTRY: return "enters through the root";
+    case HMCS_PASSED_ENTRY: return "enters, passed on at home";
+    case HMCS_CROSSED_ENTRY: return "enters, passed on between home and root";
+    case HMCS_LEAVING: return "leaves";
+    default: return "no kind has this number";
+    }
+}
+
+/* What a step in place returns: number and place, the kind and the domain that it was at (the thread's home where it was idle or inside);
+ * refused, kind 0 and domain 0. */
+typedef struct hmcs_step_answer {
+    uint32_t number;
+    uint32_t place;
+    uint32_t kind;
+    uint32_t domain;
+} hmcs_step_answer;
+
+/* What the fresh call returns, and what a step does: besides the state, what a step in place returns. */
 typedef struct hmcs_fresh_reply {
     uint32_t number;
     uint32_t place;
@@ -134,6 +166,8 @@ typedef struct hmcs_fresh_reply {
 typedef struct hmcs_step_reply {
     uint32_t number;
     uint32_t place;
+    uint32_t kind;
+    uint32_t domain;
     hmcs_state state;
 } hmcs_step_reply;
 
@@ -155,7 +189,7 @@ typedef struct hmcs_run_reply {
 /* A fresh lock of the tree. Refused by 4 to 9. The state is fresh, accepted or refused. */
 hmcs_fresh_reply hmcs_fresh(hmcs_tree tree);
 
-/* One step of a thread. Refused by 4 to 10 and 12; then the state is as it came. */
+/* One step of a thread. Refused by 4 to 10 and 12; then kind and domain are 0 and the state is as it came. */
 hmcs_step_reply hmcs_step(hmcs_tree tree, hmcs_state state, uint16_t thread);
 
 /* The steps of a schedule, one after another. Refused by 4 to 13; then no step is taken, the counts are 0, and state and trace are as they
@@ -167,7 +201,7 @@ hmcs_run_reply hmcs_run(hmcs_tree tree, hmcs_state state, const uint16_t *schedu
 hmcs_answer hmcs_fresh_in_place(hmcs_tree tree, hmcs_state *state);
 
 /* One step of the state that the host keeps, in place: the same as hmcs_step. Refused, the state is as it was. */
-hmcs_answer hmcs_step_in_place(hmcs_tree tree, hmcs_state *state, uint16_t thread);
+hmcs_step_answer hmcs_step_in_place(hmcs_tree tree, hmcs_state *state, uint16_t thread);
 
 /* The file call: reads a lock file, runs its schedule from a fresh lock, and writes the listing at the front of the output. Returns the
  * number; *place is its place, *length the listing's length, 0 where it is refused. Refused by 1 to 9, 12 and 14; then the output is as it

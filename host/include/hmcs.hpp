@@ -19,7 +19,8 @@ static_assert(offsetof(hmcs_tree, parents) == 8 && offsetof(hmcs_tree, threshold
 static_assert(sizeof(hmcs_place) == 16 && offsetof(hmcs_place, peer) == 2 && offsetof(hmcs_place, word) == 8, "layout of hmcs_place");
 static_assert(sizeof(hmcs_state) == 7424 && offsetof(hmcs_state, nexts) == 128, "layout of hmcs_state");
 static_assert(offsetof(hmcs_state, statuses) == 768 && offsetof(hmcs_state, places) == 3328, "layout of hmcs_state");
-static_assert(sizeof(hmcs_step_reply) == 7432 && offsetof(hmcs_step_reply, state) == 8, "layout of hmcs_step_reply");
+static_assert(sizeof(hmcs_step_reply) == 7440 && offsetof(hmcs_step_reply, domain) == 12 && offsetof(hmcs_step_reply, state) == 16, "layout of hmcs_step_reply");
+static_assert(sizeof(hmcs_step_answer) == 16 && offsetof(hmcs_step_answer, domain) == 12, "layout of hmcs_step_answer");
 static_assert(sizeof(hmcs_fresh_reply) == 7432 && offsetof(hmcs_fresh_reply, state) == 8, "layout of hmcs_fresh_reply");
 static_assert(sizeof(hmcs_run_reply) == 7456 && offsetof(hmcs_run_reply, crossed) == 28 && offsetof(hmcs_run_reply, state) == 32, "layout of hmcs_run_reply");
 static_assert(sizeof(hmcs_passing_times) == 24 && offsetof(hmcs_passing_times, p3) == 16, "layout of hmcs_passing_times");
@@ -86,6 +87,25 @@ struct RunResult {
     std::vector<std::uint16_t> trace; // the entering threads
 };
 
+// What a step was.
+enum class Kind : std::uint32_t {
+    stay = HMCS_STAY,
+    other_move = HMCS_OTHER_MOVE,
+    root_entry = HMCS_ROOT_ENTRY,
+    passed_entry = HMCS_PASSED_ENTRY,
+    crossed_entry = HMCS_CROSSED_ENTRY,
+    leaving = HMCS_LEAVING
+};
+
+inline const char *text(Kind kind) { return hmcs_kind_text(static_cast<std::uint32_t>(kind)); }
+
+// What a step said: refused, kind stay and domain 0.
+struct StepResult {
+    Refusal refusal;
+    Kind kind = Kind::stay;
+    std::uint32_t domain = 0; // where it was; the thread's home where it was idle or inside
+};
+
 // A lock that the host keeps: a tree and a state, stepped where it stands.
 class Lock {
 public:
@@ -97,7 +117,10 @@ public:
     const hmcs_tree &tree() const { return tree_; }
 
     // One step of a thread. Refused, the state is as it was. A thread above 65,535 is no thread, as 65,535 is none.
-    Refusal step(std::uint32_t thread) { return of(hmcs_step_in_place(tree_, &state_, static_cast<std::uint16_t>(std::min<std::uint32_t>(thread, 65535)))); }
+    StepResult step(std::uint32_t thread) {
+        const hmcs_step_answer a = hmcs_step_in_place(tree_, &state_, static_cast<std::uint16_t>(std::min<std::uint32_t>(thread, 65535)));
+        return StepResult{Refusal{a.number, a.place}, static_cast<Kind>(a.kind), a.domain};
+    }
 
     // A schedule. Refused, the state is as it was and no step is taken.
     RunResult run(const std::uint16_t *schedule, std::size_t length) {

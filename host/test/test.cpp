@@ -108,7 +108,7 @@ void layouts() {
     }
     const hmcs::Tree tree = example_tree();
     const hmcs_step_reply step = hmcs_step(tree.words(), *state, 0);
-    CHECK(step.number == HMCS_BAD_STATE && step.place == 0);
+    CHECK(step.number == HMCS_BAD_STATE && step.place == 0 && step.kind == 0 && step.domain == 0);
     CHECK(same(step.state, *state));
     std::uint16_t trace[1] = {77};
     const std::uint16_t schedule[1] = {0};
@@ -116,7 +116,7 @@ void layouts() {
     CHECK(run.number == HMCS_BAD_STATE && run.place == 0 && run.steps == 0 && run.entries == 0 && run.stays == 0 && run.root == 0 && run.passed == 0 && run.crossed == 0);
     CHECK(same(run.state, *state) && trace[0] == 77);
     auto kept = std::make_unique<hmcs_state>(*state);
-    const hmcs_answer answer = hmcs_step_in_place(tree.words(), kept.get(), 0);
+    const hmcs_step_answer answer = hmcs_step_in_place(tree.words(), kept.get(), 0);
     CHECK(answer.number == HMCS_BAD_STATE && answer.place == 0 && same(*kept, *state));
 }
 
@@ -168,7 +168,7 @@ void example() {
         const hmcs_step_reply r = hmcs_step(tree.words(), by_value, i);
         CHECK(r.number == 0 && r.place == 0);
         by_value = r.state;
-        const hmcs_answer a = hmcs_step_in_place(tree.words(), in_place, i);
+        const hmcs_step_answer a = hmcs_step_in_place(tree.words(), in_place, i);
         CHECK(a.number == 0 && a.place == 0 && same(*in_place, by_value));
     }
     for (bool at_end : {false, true}) {
@@ -185,7 +185,7 @@ void example() {
         const hmcs_run_reply s = hmcs_run(tree.words(), fresh.state, schedule.as<std::uint16_t>(), 22, trace.as<std::uint16_t>(), 21);
         CHECK(s.number == HMCS_TRACE_SHORT && s.steps == 0 && same(s.state, fresh.state));
     }
-    const hmcs_answer refused = hmcs_step_in_place(tree.words(), in_place, 3);
+    const hmcs_step_answer refused = hmcs_step_in_place(tree.words(), in_place, 3);
     CHECK(refused.number == HMCS_BAD_ENTRY && refused.place == 0 && same(*in_place, by_value));
     hmcs_tree bad = tree.words();
     bad.domains = 0;
@@ -257,7 +257,7 @@ void wide_numbers() {
     home.add_thread(257);
     CHECK(hmcs::Lock(home).refusal().number == HMCS_BAD_HOME && hmcs::Lock(home).refusal().place == 0);
     hmcs::Lock lock(example_tree());
-    CHECK(lock.step(65536).number == HMCS_BAD_ENTRY);
+    CHECK(lock.step(65536).refusal.number == HMCS_BAD_ENTRY);
     CHECK(lock.run(std::vector<std::uint16_t>(65537, 0)).refusal.number == HMCS_SCHEDULE_LONG);
     CHECK(!lock.run(std::vector<std::uint16_t>(65536, 0)).refusal);
 }
@@ -276,8 +276,61 @@ void null_pointers() {
 
 } // namespace
 
+// What single steps say, by value and in place, against a run's counts: some thousand random steps in three trees.
+void kinds() {
+    std::uint32_t seed = 7;
+    const auto random = [&seed](std::uint32_t below) {
+        seed = seed * 1664525u + 1013904223u;
+        return (seed >> 8) % below;
+    };
+    for (std::uint32_t depth = 0; depth < 3; ++depth) {
+        hmcs::Tree tree;
+        std::vector<std::uint32_t> homes = {0};
+        for (std::uint32_t level = 0; level < depth; ++level) {
+            std::vector<std::uint32_t> below;
+            for (const std::uint32_t parent : homes) {
+                below.push_back(tree.add_domain(parent, 2));
+                below.push_back(tree.add_domain(parent, 3));
+            }
+            homes = below;
+        }
+        for (const std::uint32_t home : homes) {
+            tree.add_thread(home);
+            tree.add_thread(home);
+        }
+        hmcs::Lock lock(tree);
+        const hmcs_state before = lock.state();
+        hmcs_state by_value = before;
+        std::vector<std::uint16_t> schedule;
+        std::uint32_t told[6] = {};
+        for (std::uint32_t k = 0; k < 3000; ++k) {
+            const auto thread = static_cast<std::uint16_t>(random(tree.words().threads));
+            schedule.push_back(thread);
+            const hmcs_place place = by_value.places[thread];
+            const bool at_home = place.row == HMCS_IDLE || place.row == HMCS_INSIDE;
+            const hmcs_step_reply step = hmcs_step(tree.words(), by_value, thread);
+            const hmcs::StepResult kept = lock.step(thread);
+            CHECK(step.number == 0 && !kept.refusal && step.kind < 6 && same(lock.state(), step.state));
+            CHECK(static_cast<std::uint32_t>(kept.kind) == step.kind && kept.domain == step.domain);
+            CHECK(step.domain == (at_home ? tree.words().homes[thread] : place.domain));
+            CHECK((step.kind == HMCS_LEAVING) == (place.row == HMCS_INSIDE));
+            CHECK((step.kind == HMCS_STAY) == same(by_value, step.state));
+            ++told[step.kind];
+            by_value = step.state;
+        }
+        hmcs::Lock other(tree);
+        const hmcs::Counts counts = other.run(schedule).counts;
+        CHECK(counts.steps == 3000 && counts.stays == told[HMCS_STAY] && counts.root == told[HMCS_ROOT_ENTRY]);
+        CHECK(counts.passed == told[HMCS_PASSED_ENTRY] && counts.crossed == told[HMCS_CROSSED_ENTRY]);
+        CHECK(counts.entries == told[HMCS_ROOT_ENTRY] + told[HMCS_PASSED_ENTRY] + told[HMCS_CROSSED_ENTRY]);
+        CHECK(told[HMCS_LEAVING] + (other.holder() ? 1 : 0) == counts.entries);
+        CHECK((counts.crossed > 0) == (depth == 2) && (counts.passed > 0) == (depth > 0));
+    }
+}
+
 int main() {
     layouts();
+    kinds();
     tree_layout();
     example();
     wrapper();

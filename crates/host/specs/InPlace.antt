@@ -1,4 +1,4 @@
--- What the calls on a state that the host keeps return: number and place alone; and that they are calls of the third demand's lists. Assumes nothing: these are definitions.
+-- What the calls on a state that the host keeps return: all but the state; and that they are calls of the third demand's lists. Assumes nothing: these are definitions.
 use mathlib.Core.Path.{_≡_}
 use mathlib.Core.Bool.{cond}
 use mathlib.Core.Logic.{_≢_}
@@ -12,6 +12,7 @@ use Rattle.model.specs.States.{fresh-words}
 use Rattle.model.specs.Answers.{fresh-answer, step-answer}
 use Rattle.model.specs.Claim.{one-step, stepped, answer}
 use Rattle.host.specs.declared.Answer.{Answer}
+use Rattle.host.specs.declared.StepAnswer.{StepAnswer}
 
 abbrev pub fresh-number : FreshReply → Answer
 fresh-number r = record { number = r .number; place = r .place }
@@ -24,8 +25,8 @@ fresh-left r s = cond (eqb (r .number) 0) (r .state) s
 abbrev pub fresh-kept : FreshReply → (before : State) → FreshReply
 fresh-kept r s = record { number = r .number; place = r .place; state = fresh-left r s }
 
-abbrev pub step-number : StepReply → Answer
-step-number r = record { number = r .number; place = r .place }
+abbrev pub step-told : StepReply → StepAnswer
+step-told r = record { number = r .number; place = r .place; kind = r .kind; domain = r .domain }
 
 -- so an accepted fresh call in place leaves the fresh words, and a refused one the state as it came
 pub record Leaves (w : TreeWords) (s : State) : Type 0 where
@@ -35,12 +36,12 @@ pub record Leaves (w : TreeWords) (s : State) : Type 0 where
 unfoldable pub Fresh-in-place-law : Type 0
 Fresh-in-place-law = (w : TreeWords) (s : State) → Leaves w s
 
--- number and place of an answer with the state that is left in place
-abbrev pub with-state : Answer → State → StepReply
-with-state a s = record { number = a .number; place = a .place; state = s }
+-- what a step in place returns, with the state that is left in place
+abbrev pub with-state : StepAnswer → State → StepReply
+with-state a s = record { number = a .number; place = a .place; kind = a .kind; domain = a .domain; state = s }
 
 -- whatever a step in place returns and leaves by its contract is the answer of that step as a call of a list, so the third demand's claim speaks of it
 unfoldable pub In-place-law : Type 0
 In-place-law =
-    (w : TreeWords) (s : State) (i : ℕ) (returned : Answer) (left : State) → returned ≡ step-number (step-answer w s i) → left ≡ step-answer w s i .state →
+    (w : TreeWords) (s : State) (i : ℕ) (returned : StepAnswer) (left : State) → returned ≡ step-told (step-answer w s i) → left ≡ step-answer w s i .state →
     stepped (with-state returned left) ≡ answer (record { tree = w; ask = one-step i }) s

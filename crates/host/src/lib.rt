@@ -1,7 +1,7 @@
 // What a C or C++ host calls; host/include/hmcs.h declares it there. Numbers, arrays and structs of them alone cross.
 ghost use mathlib.Core.Path.{_≡_};
 ghost use Rattle.model.specs.Answers.{fresh-answer, step-answer, run-answer, trace-answer};
-ghost use Rattle.host.specs.InPlace.{fresh-kept, fresh-left, fresh-number, step-number};
+ghost use Rattle.host.specs.InPlace.{fresh-kept, fresh-left, fresh-number, step-told};
 ghost use Rattle.lock_file.specs.FileAnswers.{file-answer, output-answer};
 ghost use Rattle.rate.specs.Answers.{rate-answer, reply-of};
 ghost use Rattle.text_tree.specs.Answers.{text-answer};
@@ -21,6 +21,15 @@ pub struct Answer {
     pub place: u32,
 }
 
+// Number and place of a step's answer, its kind and the domain it was at; refused, kind 0 and domain 0.
+#[repr(C)]
+pub struct StepAnswer {
+    pub number: u32,
+    pub place: u32,
+    pub kind: u32,
+    pub domain: u32,
+}
+
 // A fresh lock: the fresh words, accepted or refused.
 #[no_mangle]
 pub extern "C" fn hmcs_fresh(tree: TreeWords) -> FreshReply
@@ -29,7 +38,7 @@ pub extern "C" fn hmcs_fresh(tree: TreeWords) -> FreshReply
     lock::fresh_lock(tree)
 }
 
-// One step by value: the state after it; refused, the state as it came.
+// One step by value: its kind, the domain it was at and the state after it; refused, kind 0, domain 0 and the state as it came.
 #[no_mangle]
 pub extern "C" fn hmcs_step(tree: TreeWords, state: State, thread: u16) -> StepReply
     ensures { λ r. ⌜ r ≡ step-answer tree state thread ⌝ }
@@ -81,14 +90,16 @@ pub extern "C" fn hmcs_fresh_in_place(tree: TreeWords, state: &mut State) -> Ans
 
 // One step of the state that the host keeps, where it stands.
 #[no_mangle]
-pub extern "C" fn hmcs_step_in_place(tree: TreeWords, state: &mut State, thread: u16) -> Answer
-    ensures { λ r. ⌜ (r ≡ step-number (step-answer tree (now (state .entry)) thread)) × (now (state .exit) ≡ step-answer tree (now (state .entry)) thread .state) ⌝ }
+pub extern "C" fn hmcs_step_in_place(tree: TreeWords, state: &mut State, thread: u16) -> StepAnswer
+    ensures { λ r. ⌜ (r ≡ step-told (step-answer tree (now (state .entry)) thread)) × (now (state .exit) ≡ step-answer tree (now (state .entry)) thread .state) ⌝ }
 {
     let r = hmcs_step(tree, *state, thread);
     *state = r.state;
-    Answer {
+    StepAnswer {
         number: r.number,
         place: r.place,
+        kind: r.kind,
+        domain: r.domain,
     }
 }
 

@@ -1,30 +1,41 @@
 -- From what the refusals and the run answer to the answers of the calls. Assumes nothing.
 use mathlib.Core.Path.{_≡_, refl, sym, ap, _∙_}
-use mathlib.Core.Bool.{Bool, true, false}
+use mathlib.Core.Bool.{Bool, true, false, _&&_}
+use mathlib.Core.Logic.{_≢_}
 use mathlib.Core.List.{List, [], _∷_}
-use Prim.Native.Nat.{ℕ, _≤_}
+use Prim.Native.Nat.{ℕ, _≤_, _<_}
 use native.Mathlib.Omega.{arith}
 use native.Mathlib.Decide.{ℕ-discrete}
-use lib.ListN.{length}
-use borrow.Author.Tests.{ne-eqb, eq-eqb}
+use lib.ListN.{length, getD}
+use borrow.Author.Tests.{ne-eqb, eq-eqb, lt-ltb, le-leb}
 use Rattle.model.specs.declared.TreeWords.{TreeWords}
 use Rattle.model.specs.declared.State.{State}
 use Rattle.model.specs.declared.Counts.{Counts}
 use Rattle.model.specs.declared.RunReply.{RunReply}
-use Rattle.model.specs.Trees.{Tree, tree-of}
+use Rattle.model.specs.declared.Place.the-variants.{Invalid}
+use Rattle.model.specs.Scans.{all-below}
+use Rattle.model.specs.Trees.{Tree, tree-of, read-word}
+use Rattle.model.specs.Places.{place-words, place-of, place-domain}
+use Rattle.model.specs.States.{place}
+use Rattle.model.specs.Steps.{kind-number, step}
+use Rattle.model.specs.WellFormed.{good-tail, good-next, good-status, good-thread, well-formed}
+use Rattle.model.specs.Laws.{All-threads}
 use Rattle.model.specs.Runs.{steps, state-after, counts-of, run-of, run}
-use Rattle.model.specs.Refusals.{refusal, accepted, Test, test, first-refusal, tree-tests, bad-length, bad-entry, bad-room, step-tests, run-tests, step-refusal, run-refusal}
-use Rattle.model.specs.Answers.{step-reply, step-answer, run-refused, run-reply, run-buffer, run-answer, trace-answer}
+use Rattle.model.specs.Refusals.{refusal, Test, test, first-refusal, tree-tests, bad-length, bad-entry, bad-room, step-tests, run-tests, step-refusal, run-refusal}
+use Rattle.model.specs.Answers.{first-kind, first-domain, step-reply, step-answer, run-refused, run-reply, run-buffer, run-answer, trace-answer}
 use Rattle.model.proofs.Laws.Refusals.{step-refuses-exactly}
 use Rattle.model.proofs.Laws.Runs.{steps-length}
-use Rattle.model.proofs.Laws.Calls.{run-facts}
+use Rattle.model.proofs.Laws.Calls.{Good-run, run-facts}
+use Rattle.model.proofs.Laws.Form.{valid}
+use Rattle.model.proofs.Tests.{and-both, all-each}
+use Rattle.model.proofs.Trees.Accepted.{accepted}
 use Rattle.refusals.specs.declared.Refusal.{Refusal}
 use Rattle.refusals.specs.Arrays.{told}
 use Rattle.refusals.proofs.Scanning.{single-hit, single-missed}
 use Rattle.refusals.proofs.Joining.{first-decides, other-decides, state-tests, state-numbered}
 use Rattle.refusals.proofs.RunTests.{told-not, told-zero}
-use Rattle.lock.proofs.SoFar.{counts-kinds}
-use Rattle.lock.specs.Running.{kinds-of, counts-by, trace-front}
+use Rattle.lock.proofs.SoFar.{kind-small, only-one, counts-kinds}
+use Rattle.lock.specs.Running.{kinds-of, counts-by, only-kind, trace-front}
 
 -- A STEP is refused as a run of its one entry is, with room for it
 module _ (t : Tree) (i : ℕ) where
@@ -57,19 +68,49 @@ module _ (t : Tree) (i : ℕ) where
       ]
 
 module _ (w : TreeWords) (s : State) (i : ℕ) (r : Refusal) (e : r ≡ told (run-refusal (tree-of w) s (i ∷ []) 1)) where
-  pub step-refused : (r .number ≡ 0 → ⊥) → record { number = r .number; place = r .place; state = s } ≡ step-answer w s i
+  pub step-refuses : (r .number ≡ 0 → ⊥) → record { number = r .number; place = r .place; kind = 0; domain = 0; state = s } ≡ step-answer w s i
   unfolding step-answer step-reply
-  step-refused n = rw (e, one-refusal (tree-of w) i s, ne-eqb (run-refusal (tree-of w) s (i ∷ []) 1 .number) 0 (told-not r _ e n))
+  step-refuses n = rw (e, one-refusal (tree-of w) i s, ne-eqb (run-refusal (tree-of w) s (i ∷ []) 1 .number) 0 (told-not r _ e n))
 
   module _ (z : r .number ≡ 0) where
     pub one-runs : run-refusal (tree-of w) s (i ∷ []) 1 .number ≡ 0
     one-runs = told-zero r _ e z
 
-    pub step-answered : (n : State) → n ≡ run (tree-of w) (i ∷ []) s .state → record { number = 0; place = 0; state = n } ≡ step-answer w s i
-    unfolding step-answer step-reply accepted refusal run run-of steps state-after step-refusal
-    step-answered n f =
+    one-facts : Good-run (tree-of w) s (i ∷ []) 1
+    one-facts = run-facts (tree-of w) s (i ∷ []) 1 one-runs
+
+    pub thread-small : i < 256
+    unfolding All-threads tree-of
+    thread-small = omega (arith, accepted (tree-of w) (one-facts .tree) .few-threads, one-facts .threads .0)
+
+    -- the thread's place is one of the table's
+    pub place-valid : place-of (getD (s .places) i (place-words 0 0 0 0)) ≢ Invalid
+    unfolding well-formed good-thread All-threads
+    place-valid =
+        let t = tree-of w in
+        let halves = and-both (all-below 64 (good-tail t s) && all-below 320 (good-next t s)) (all-below 320 (good-status t s) && all-below 256 (good-thread t s)) (one-facts .form) in
+        let threads = and-both (all-below 320 (good-status t s)) (all-below 256 (good-thread t s)) (halves .1) .1 in
+        let good = rw (lt-ltb i (t .threads) (one-facts .threads .0)) at (all-each 256 (good-thread t s) threads i thread-small) in
+        valid t i (place s i) good
+
+    home-read : getD (w .homes) i 0 ≡ tree-of w .home i
+    unfolding tree-of read-word All-threads
+    home-read = let h : i < w .threads = one-facts .threads .0 in rw (lt-ltb i (w .threads) h, le-leb 0 i (omega arith))
+
+    pub kind-few : (kinds : List ℕ) → kinds ≡ kinds-of (steps (tree-of w) (i ∷ []) s) → only-kind kinds ≤ 5
+    unfolding steps
+    kind-few kinds f = let k = ap only-kind f ∙ only-one (step (tree-of w) i s) in omega (arith, k, kind-small (step (tree-of w) i s .kind))
+
+    pub step-answered :
+        (n : State) (kinds : List ℕ) (kind domain : ℕ) → n ≡ run (tree-of w) (i ∷ []) s .state → kinds ≡ kinds-of (steps (tree-of w) (i ∷ []) s) →
+        kind ≡ only-kind kinds → domain ≡ place-domain (getD (w .homes) i 0) (place-of (getD (s .places) i (place-words 0 0 0 0))) →
+        record { number = 0; place = 0; kind = kind; domain = domain; state = n } ≡ step-answer w s i
+    unfolding step-answer step-reply first-kind first-domain run run-of steps state-after step step-refusal
+    step-answered n kinds kind domain f g k d =
         let y = ap (λ x. x .number) (one-refusal (tree-of w) i s) ∙ one-runs in
-        rw (f, step-refuses-exactly (tree-of w) s i .zero-accepted y)
+        let told-kind : kind ≡ kind-number (step (tree-of w) i s .kind) = k ∙ ap only-kind g ∙ only-one (step (tree-of w) i s) in
+        let told-domain : domain ≡ place-domain (tree-of w .home i) (place s i) = d ∙ ap (λ h. place-domain h (place s i)) home-read in
+        rw (f, told-kind, told-domain, eq-eqb (step-refusal (tree-of w) s i .number) 0 y)
 
 -- A RUN
 module _ (w : TreeWords) (s : State) (is b : List ℕ) (r : Refusal) (e : r ≡ told (run-refusal (tree-of w) s is (length b))) where

@@ -2,7 +2,7 @@
 use mathlib.Core.Path.{_≡_, refl, sym, ap, _∙_}
 use mathlib.Core.Bool.{Bool, true, false, cond}
 use mathlib.Core.List.{List, [], _∷_, _++_, append-nil, append-assoc}
-use Prim.Native.Nat.{ℕ, zero, suc, _+_, _≤_, _<_}
+use Prim.Native.Nat.{ℕ, zero, suc, _+_, _*_, _≤_, _<_}
 use native.Mathlib.Omega.{arith}
 use native.Mathlib.Nat.{add-zero}
 use native.Mathlib.Numerals.{add-one}
@@ -13,7 +13,7 @@ use Rattle.model.specs.Trees.{Tree}
 use Rattle.model.specs.Places.{place-words}
 use Rattle.model.specs.States.{place}
 use Rattle.model.specs.Refusals.{tree-refusal}
-use Rattle.model.specs.Steps.{Kind, stay, other, root-entry, passed-entry, crossed-entry, kind-number, is-kind, is-entry, Step, row, step}
+use Rattle.model.specs.Steps.{Kind, stay, other, root-entry, passed-entry, crossed-entry, leaving, kind-number, is-kind, is-entry, Step, row, step}
 use Rattle.model.specs.Runs.{steps, state-after, how-many, entering, counts-of, Run, run-of, run}
 use Rattle.model.specs.Laws.{All-threads, Sixteen-bit, Formed, Form-law, Count-law, Kind-law}
 use Rattle.model.proofs.Laws.Runs.{steps-join, steps-length, how-many-join, entering-join, state-after-join, entries-all, count-law}
@@ -21,15 +21,16 @@ use Rattle.model.proofs.Laws.Form.{form-law}
 use Rattle.model.proofs.Laws.Kinds.{kind-law}
 use Rattle.lock.specs.declared.rows.Effect.{Effect}
 use Rattle.lock.specs.Effects.{apply, Does}
-use Rattle.lock.specs.Running.{kinds-of, counted, counts-by, is-entry-number, traced-at, trace-front}
+use Rattle.lock.specs.Running.{kinds-of, counted, counts-by, only-kind, is-entry-number, traced-at, trace-front}
 
 -- KINDS by their numbers
-kind-small : (k : Kind) → kind-number k < 5
+pub kind-small : (k : Kind) → kind-number k < 6
 kind-small stay = omega arith
 kind-small other = omega arith
 kind-small root-entry = omega arith
 kind-small passed-entry = omega arith
 kind-small crossed-entry = omega arith
+kind-small leaving = omega arith
 
 entry-number : (k : Kind) → is-entry-number (kind-number k) ≡ is-entry k
 unfolding is-entry
@@ -38,6 +39,7 @@ entry-number other = refl
 entry-number root-entry = refl
 entry-number passed-entry = refl
 entry-number crossed-entry = refl
+entry-number leaving = refl
 
 zero-stay : (k : Kind) → kind-number k ≡ 0 → k ≡ stay
 zero-stay stay e = refl
@@ -45,27 +47,46 @@ zero-stay other e = absurd (omega arith)
 zero-stay root-entry e = absurd (omega arith)
 zero-stay passed-entry e = absurd (omega arith)
 zero-stay crossed-entry e = absurd (omega arith)
+zero-stay leaving e = absurd (omega arith)
 
 -- COUNTS by kinds. One step more is counted in
 count-kind :
-    (k : Kind) (a b c d f : ℕ) →
+    (k : Kind) (a b c d f g : ℕ) →
     (a + cond (is-kind stay k) 1 0) ∷ (b + cond (is-kind other k) 1 0) ∷ (c + cond (is-kind root-entry k) 1 0) ∷ (d + cond (is-kind passed-entry k) 1 0)
-    ∷ (f + cond (is-kind crossed-entry k) 1 0) ∷ []
-    ≡ counted (a ∷ b ∷ c ∷ d ∷ f ∷ []) (kind-number k)
+    ∷ (f + cond (is-kind crossed-entry k) 1 0) ∷ (g + cond (is-kind leaving k) 1 0) ∷ []
+    ≡ counted (a ∷ b ∷ c ∷ d ∷ f ∷ g ∷ []) (kind-number k)
 unfolding is-kind
-count-kind stay a b c d f = rw (add-zero b, add-zero c, add-zero d, add-zero f)
-count-kind other a b c d f = rw (add-zero a, add-zero c, add-zero d, add-zero f)
-count-kind root-entry a b c d f = rw (add-zero a, add-zero b, add-zero d, add-zero f)
-count-kind passed-entry a b c d f = rw (add-zero a, add-zero b, add-zero c, add-zero f)
-count-kind crossed-entry a b c d f = rw (add-zero a, add-zero b, add-zero c, add-zero d)
+count-kind stay a b c d f g = rw (add-zero b, add-zero c, add-zero d, add-zero f, add-zero g)
+count-kind other a b c d f g = rw (add-zero a, add-zero c, add-zero d, add-zero f, add-zero g)
+count-kind root-entry a b c d f g = rw (add-zero a, add-zero b, add-zero d, add-zero f, add-zero g)
+count-kind passed-entry a b c d f g = rw (add-zero a, add-zero b, add-zero c, add-zero f, add-zero g)
+count-kind crossed-entry a b c d f g = rw (add-zero a, add-zero b, add-zero c, add-zero d, add-zero g)
+count-kind leaving a b c d f g = rw (add-zero a, add-zero b, add-zero c, add-zero d, add-zero f)
 
 kinds-next : (xs : List Step) (x : Step) → kinds-of (xs ++ (x ∷ [])) ≡ counted (kinds-of xs) (kind-number (x .kind))
 unfolding kinds-of how-many
 kinds-next xs x =
     let one : (f : Kind → Bool) → how-many f (xs ++ (x ∷ [])) ≡ how-many f xs + cond (f (x .kind)) 1 0 =
     λ f. how-many-join f xs (x ∷ []) ∙ ap (λ v. how-many f xs + v) (add-zero (cond (f (x .kind)) 1 0)) in
-    rw (one (is-kind stay), one (is-kind other), one (is-kind root-entry), one (is-kind passed-entry), one (is-kind crossed-entry))
-    (count-kind (x .kind) (how-many (is-kind stay) xs) (how-many (is-kind other) xs) (how-many (is-kind root-entry) xs) (how-many (is-kind passed-entry) xs) (how-many (is-kind crossed-entry) xs))
+    rw (one (is-kind stay), one (is-kind other), one (is-kind root-entry), one (is-kind passed-entry), one (is-kind crossed-entry), one (is-kind leaving))
+    (count-kind (x .kind) (how-many (is-kind stay) xs) (how-many (is-kind other) xs) (how-many (is-kind root-entry) xs) (how-many (is-kind passed-entry) xs) (how-many (is-kind crossed-entry) xs) (how-many (is-kind leaving) xs))
+
+-- one step's kind
+unfoldable one-if : (k j : Kind) → ℕ
+one-if k j = cond (is-kind k j) 1 0 + 0
+
+only-of : (k : Kind) → one-if other k + 2 * one-if root-entry k + 3 * one-if passed-entry k + 4 * one-if crossed-entry k + 5 * one-if leaving k ≡ kind-number k
+unfolding one-if is-kind
+only-of stay = refl
+only-of other = refl
+only-of root-entry = refl
+only-of passed-entry = refl
+only-of crossed-entry = refl
+only-of leaving = refl
+
+pub only-one : (x : Step) → only-kind (kinds-of (x ∷ [])) ≡ kind-number (x .kind)
+unfolding kinds-of how-many one-if
+only-one x = only-of (x .kind)
 
 -- no more of a kind than there are steps
 at-most : (b : Bool) → cond b 1 0 ≤ 1
@@ -84,21 +105,23 @@ kind-at other xs = refl
 kind-at root-entry xs = refl
 kind-at passed-entry xs = refl
 kind-at crossed-entry xs = refl
+kind-at leaving xs = refl
 
 one-long : (b : Bool) (i : ℕ) → length (cond b (i ∷ []) [] ++ []) ≡ cond b 1 0
 one-long true i = refl
 one-long false i = refl
 
-one-kind : (k : Kind) → cond (is-kind stay k) 1 0 + cond (is-kind other k) 1 0 + cond (is-kind root-entry k) 1 0 + cond (is-kind passed-entry k) 1 0 + cond (is-kind crossed-entry k) 1 0 ≡ 1
+one-kind : (k : Kind) → cond (is-kind stay k) 1 0 + cond (is-kind other k) 1 0 + cond (is-kind root-entry k) 1 0 + cond (is-kind passed-entry k) 1 0 + cond (is-kind crossed-entry k) 1 0 + cond (is-kind leaving k) 1 0 ≡ 1
 unfolding is-kind
 one-kind stay = refl
 one-kind other = refl
 one-kind root-entry = refl
 one-kind passed-entry = refl
 one-kind crossed-entry = refl
+one-kind leaving = refl
 
 -- the kinds add up to the steps, and those of entries to the entries
-kinds-all : (xs : List Step) → how-many (is-kind stay) xs + how-many (is-kind other) xs + how-many (is-kind root-entry) xs + how-many (is-kind passed-entry) xs + how-many (is-kind crossed-entry) xs ≡ length xs
+kinds-all : (xs : List Step) → how-many (is-kind stay) xs + how-many (is-kind other) xs + how-many (is-kind root-entry) xs + how-many (is-kind passed-entry) xs + how-many (is-kind crossed-entry) xs + how-many (is-kind leaving) xs ≡ length xs
 unfolding how-many
 kinds-all [] = refl
 kinds-all (x ∷ xs) = omega (arith, kinds-all xs, one-kind (x .kind))
@@ -125,6 +148,7 @@ front-kind other T b n i e h = rw (append-nil T)
 front-kind root-entry T b n i e h = front-next T b n i e h
 front-kind passed-entry T b n i e h = front-next T b n i e h
 front-kind crossed-entry T b n i e h = front-next T b n i e h
+front-kind leaving T b n i e h = rw (append-nil T)
 
 traced-long : (b : List ℕ) (n k i : ℕ) → length (traced-at b n k i) ≡ length b
 traced-long b n k i = by (is-entry-number k)
@@ -155,7 +179,7 @@ module _ (t : Tree) (is b₀ : List ℕ) (s₀ : State) where
     pub entries-fit : entries ≤ k
     pub trace-is : b ≡ trace-front b₀ (run t (take k is) s₀)
 
-  pub start : Formed t s₀ → So-far b₀ s₀ (0 ∷ 0 ∷ 0 ∷ 0 ∷ 0 ∷ []) 0 0
+  pub start : Formed t s₀ → So-far b₀ s₀ (0 ∷ 0 ∷ 0 ∷ 0 ∷ 0 ∷ 0 ∷ []) 0 0
   unfolding run run-of steps state-after how-many entering kinds-of
   start f =
       record {
@@ -180,7 +204,7 @@ module _ (t : Tree) (is b₀ : List ℕ) (s₀ : State) where
   pub kind-room :
       (b : List ℕ) (s : State) (kinds : List ℕ) (entries k : ℕ) (e : Effect) → So-far b s kinds entries k →
       Does (row t (getD is k 0) (place s (getD is k 0)) s) (getD is k 0) e s → k < length is → length is ≤ 65536 →
-      (e .kind < 5) × (getD kinds (e .kind) 0 < 65536)
+      (e .kind < 6) × (getD kinds (e .kind) 0 < 65536)
   kind-room b s kinds entries k e g D h short =
       let x = row t (getD is k 0) (place s (getD is k 0)) s .kind in
       let few : how-many (is-kind x) (first-steps k) ≤ k = omega (arith, few-kinds (is-kind x) (first-steps k), steps-length t (take k is) s₀, length-take-le k is (g .within)) in

@@ -2,7 +2,7 @@
 use mathlib.Core.Path.{_≡_}
 use mathlib.Core.Bool.{Bool, true, _||_, cond}
 use mathlib.Core.List.{List, [], _∷_, _++_}
-use Prim.Native.Nat.{ℕ, _+_, _<_}
+use Prim.Native.Nat.{ℕ, _+_, _*_, _<_}
 use lib.Dec.{eqb}
 use lib.ListN.{getD, set, length, drop}
 use Rattle.model.specs.declared.PlaceWords.{PlaceWords}
@@ -10,7 +10,7 @@ use Rattle.model.specs.Places.{place-words, place-of}
 use Rattle.model.specs.Trees.{Tree}
 use Rattle.model.specs.Refusals.{tree-refusal}
 use Rattle.model.specs.declared.Counts.{Counts}
-use Rattle.model.specs.Steps.{stay, other, root-entry, passed-entry, crossed-entry, is-kind, Step, row}
+use Rattle.model.specs.Steps.{stay, other, root-entry, passed-entry, crossed-entry, leaving, is-kind, Step, row}
 use Rattle.model.specs.Runs.{how-many, Run}
 use Rattle.model.specs.WellFormed.{good-place}
 use Rattle.lock.specs.declared.rows.Effect.{Effect}
@@ -30,7 +30,7 @@ pub record Decided (t : Tree) (i : ℕ) (q : PlaceWords) (tails nexts statuses :
 unfoldable pub kinds-of : List Step → List ℕ
 kinds-of xs =
     how-many (is-kind stay) xs ∷ how-many (is-kind other) xs ∷ how-many (is-kind root-entry) xs ∷ how-many (is-kind passed-entry) xs
-    ∷ how-many (is-kind crossed-entry) xs ∷ []
+    ∷ how-many (is-kind crossed-entry) xs ∷ how-many (is-kind leaving) xs ∷ []
 
 -- one step of a kind more
 abbrev pub counted : (kinds : List ℕ) → (kind : ℕ) → List ℕ
@@ -40,13 +40,17 @@ counted ks k = set ks k (getD ks k 0 + 1)
 abbrev pub counts-by : (kinds : List ℕ) → Counts
 counts-by ks =
     record {
-      steps = getD ks 0 0 + getD ks 1 0 + getD ks 2 0 + getD ks 3 0 + getD ks 4 0;
+      steps = getD ks 0 0 + getD ks 1 0 + getD ks 2 0 + getD ks 3 0 + getD ks 4 0 + getD ks 5 0;
       entries = getD ks 2 0 + getD ks 3 0 + getD ks 4 0;
       stays = getD ks 0 0;
       root = getD ks 2 0;
       passed = getD ks 3 0;
       crossed = getD ks 4 0;
     }
+
+-- the number of the kind that one step was of, where the others are 0
+abbrev pub only-kind : (kinds : List ℕ) → ℕ
+only-kind ks = getD ks 1 0 + 2 * getD ks 2 0 + 3 * getD ks 3 0 + 4 * getD ks 4 0 + 5 * getD ks 5 0
 
 -- the kind of a number is an entry
 abbrev pub is-entry-number : (kind : ℕ) → Bool

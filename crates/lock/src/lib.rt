@@ -50,7 +50,7 @@ pub fn fresh_lock(tree: TreeWords) -> FreshReply
     }
 }
 
-// One step of a thread: the state after it; refused, the state as it came.
+// One step of a thread: its kind, the domain it was at and the state after it; refused, kind 0, domain 0 and the state as it came.
 pub fn step_lock(tree: TreeWords, state: State, thread: u16) -> StepReply
     ensures { λ r. ⌜ r ≡ step-answer tree state thread ⌝ }
 {
@@ -60,15 +60,22 @@ pub fn step_lock(tree: TreeWords, state: State, thread: u16) -> StepReply
         return StepReply {
             number: r.number,
             place: r.place,
+            kind: 0,
+            domain: 0,
             state,
         };
     }
+    let at = thread as usize;
+    let domain = places::domain_of(tree.homes[at], state.places[at]);
     let mut trace = [0u16];
-    let mut kinds = [0u32; 5];
+    let mut kinds = [0u32; 6];
     let after = run::run_steps(tree, state, &schedule, &mut trace, &mut kinds);
+    let kind = run::kind_of_one(&kinds);
     StepReply {
         number: 0,
         place: 0,
+        kind,
+        domain,
         state: after,
     }
 }
@@ -101,7 +108,7 @@ pub fn run_lock(tree: TreeWords, state: State, schedule: &[u16], trace: &mut [u1
     if r.number != 0 {
         return refused(r.number, r.place, state);
     }
-    let mut kinds = [0u32; 5];
+    let mut kinds = [0u32; 6];
     let after = run::run_steps(tree, state, schedule, trace, &mut kinds);
     let counts = run::counts_of(&kinds);
     RunReply {

@@ -103,3 +103,18 @@ pub(crate) fn domain_at(home: u8, p: Place) -> u8
         Place::Invalid => home,
     }
 }
+
+// The domain of the place of four numbers that give one.
+pub(crate) fn domain_of(home: u8, words: PlaceWords) -> u32
+    requires { ⌜ place-of words ≢ Invalid ⌝ }
+    ensures { λ r. ⌜ r ≡ place-domain home (place-of words) ⌝ }
+{
+    let p = place_by_row(words);
+    wide(domain_at(home, p))
+}
+
+fn wide(x: u8) -> u32
+    ensures { λ r. ⌜ r ≡ x ⌝ }
+{
+    x as u32
+}

@@ -185,7 +185,7 @@ fn leave(w: Words) -> Effect
     ensures { λ r. ⌜ Effect-of w (λ t i s. leave-row t i s) r ⌝ }
 {
     let home = w.home;
-    moves(model::OTHER_MOVE, places::release_place_at(home))
+    moves(model::LEAVING, places::release_place_at(home))
 }
 
 fn check(w: Words) -> Effect

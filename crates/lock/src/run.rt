@@ -7,7 +7,7 @@ ghost use Rattle.model.specs.Trees.{tree-of};
 ghost use Rattle.model.specs.Refusals.{run-refusal};
 ghost use Rattle.model.specs.Runs.{steps, run};
 ghost use Rattle.lock.specs.Effects.{stored};
-ghost use Rattle.lock.specs.Running.{kinds-of, counted, counts-by, is-entry-number, traced-at, trace-front};
+ghost use Rattle.lock.specs.Running.{kinds-of, counted, counts-by, only-kind, is-entry-number, traced-at, trace-front};
 use crate::rows;
 use model::Counts;
 use model::State;
@@ -44,8 +44,8 @@ fn store_status(statuses: &mut [u64; 320], r: u16, v: u64)
 }
 
 // One step of a kind more, where the steps of each kind are counted.
-fn count_in(kinds: &mut [u32; 5], kind: u8)
-    requires { ⌜ kind < 5 ⌝ }
+fn count_in(kinds: &mut [u32; 6], kind: u8)
+    requires { ⌜ kind < 6 ⌝ }
     requires { ⌜ getD (now kinds) kind 0 < 65536 ⌝ }
     ensures { λ r. ⌜ now (kinds .exit) ≡ counted (now (kinds .entry)) kind ⌝ }
 {
@@ -54,7 +54,7 @@ fn count_in(kinds: &mut [u32; 5], kind: u8)
 }
 
 // What a run counts, by how many of its steps are of each kind.
-pub(crate) fn counts_of(kinds: &[u32; 5]) -> Counts
+pub(crate) fn counts_of(kinds: &[u32; 6]) -> Counts
     requires { ⌜ counts-by (now kinds) .steps ≤ 65536 ⌝ }
     ensures { λ r. ⌜ r ≡ counts-by (now (kinds .entry)) ⌝ }
 {
@@ -63,14 +63,28 @@ pub(crate) fn counts_of(kinds: &[u32; 5]) -> Counts
     let root = kinds[2];
     let passed = kinds[3];
     let crossed = kinds[4];
+    let leaving = kinds[5];
     Counts {
-        steps: stays + others + root + passed + crossed,
+        steps: stays + others + root + passed + crossed + leaving,
         entries: root + passed + crossed,
         stays,
         root,
         passed,
         crossed,
     }
+}
+
+// The kind of one step, by how many steps are of each kind: one is, and the others are 0.
+pub(crate) fn kind_of_one(kinds: &[u32; 6]) -> u32
+    requires { ⌜ only-kind (now kinds) ≤ 5 ⌝ }
+    ensures { λ r. ⌜ r ≡ only-kind (now (kinds .entry)) ⌝ }
+{
+    let others = kinds[1];
+    let root = kinds[2];
+    let passed = kinds[3];
+    let crossed = kinds[4];
+    let leaving = kinds[5];
+    others + 2 * root + 3 * passed + 4 * crossed + 5 * leaving
 }
 
 // An entry arrives Inside.
@@ -107,7 +121,7 @@ pub(crate) fn run_steps(
     state: State,
     schedule: &[u16],
     trace: &mut [u16],
-    kinds: &mut [u32; 5],
+    kinds: &mut [u32; 6],
 ) -> State
     requires { ⌜ run-refusal (tree-of tree) state (now schedule) (length (now trace)) .number ≡ 0 ⌝ }
     ensures { λ r. ⌜ r ≡ run (tree-of tree) (now (schedule .entry)) state .state ⌝ }
@@ -115,7 +129,7 @@ pub(crate) fn run_steps(
     ensures { λ r. ⌜ now (kinds .exit) ≡ kinds-of (steps (tree-of tree) (now (schedule .entry)) state) ⌝ }
 {
     let mut n = state;
-    let mut tally = [0u32; 5];
+    let mut tally = [0u32; 6];
     let mut entries: u32 = 0;
     let mut k: u32 = 0;
     while (k as usize) < schedule.len() {

@@ -21,6 +21,7 @@ use Rattle.model.specs.Answers.{run-accepted, run-refused, run-reply, run-answe
 use Rattle.model.specs.Laws.{Passes}
 use Rattle.model.proofs.Tests.{all-true, by-test}
 use Rattle.model.proofs.Refusing.{lowest-none}
+use Rattle.model.proofs.Laws.Calls.{run-reply-number}
 use Rattle.lock_file.specs.FileAnswers.{file-run}
 use Rattle.lock_file.proofs.Stored.{zeros}
 
@@ -71,15 +72,6 @@ never-answered n (x ∷ xs) h g =
     by (inl o) r = lowest-other (x .number) n (x .bad) (x .places) 0 (first-refusal xs) o r
     by (inr p) r = rw (lowest-passed (x .number) (x .bad) (x .places) (first-refusal xs) p) r
 
--- the number that a run replies is that of its refusal
-replied : (r : Refusal) (s : State) (x : Run) → run-reply r s x .number ≡ r .number
-unfolding run-reply
-replied r s x = by (eqb (r .number) 0) refl
-  where
-    by : (b : Bool) → eqb (r .number) 0 ≡ b → cond b (run-accepted x) (run-refused r s) .number ≡ r .number
-    by true e = sym (eqb-true (r .number) 0 e)
-    by false e = refl
-
 -- a run from fresh words, with a schedule that is short enough and room for its trace, meets no number but 4 to 9 and 12
 module _ (t : Tree) (is : List ℕ) (room : ℕ) (short : length is ≤ 65536) (enough : length is ≤ room) where
   formed : Passes (test 10 1 (bad-state t fresh-words))
@@ -125,7 +117,7 @@ run-met w is short =
     let buffer : List ℕ = replicate (length is) 0 in
     let enough : length is ≤ length buffer = omega (arith, length-replicate {A = ℕ} (length is) 0) in
     let r = run-refusal (tree-of w) fresh-words is (length buffer) in
-    rw (replied r fresh-words (run (tree-of w) is fresh-words))
+    rw (run-reply-number r fresh-words (run (tree-of w) is fresh-words))
     (by (r .number) (ltb 9 (r .number)) refl (run-never (tree-of w) is (length buffer) short enough (r .number)))
   where
     by : (n : ℕ) (b : Bool) → ltb 9 n ≡ b → (9 < n → n ≢ 12 → n ≢ n) → (n ≤ 9) ⊎ (n ≡ 12)

@@ -6,7 +6,6 @@ use Prim.Native.Nat.{ℕ, zero, suc, _<_}
 use native.Mathlib.Omega.{arith}
 use lib.Dec.{eqb}
 use lib.ListN.{length, getD}
-use borrow.Author.Tests.{eqb-true}
 use Rattle.model.specs.declared.State.{State}
 use Rattle.model.specs.Scans.{any-below, all-below, largest-below}
 use Rattle.model.specs.Trees.{Tree, read-word, tree-of, is-child, is-leaf, depth-from, depth, level, meets, on-path, child-from, child, own-record, is-record, is-member, owner-domain, under, domain-allowance, allowance}
@@ -21,6 +20,7 @@ use Rattle.model.specs.Laws.{Unread-law}
 use Rattle.model.specs.Claim.{Ask, one-step, a-run, Call, state-in, answer-to, answer, ask-refusal, call-refusal, asked-entries, added, answers, joined, Names, Demand-three}
 use Rattle.model.specs.Cases.{padded, tree, count-up, same-numbers, two-homes}
 use Rattle.model.specs.ClaimCases.{reaches, one-leaf, thread-allowance-reached, two-leaves-below, until-leaf-stands, while-leaf-stands, inner-allowance-reached, Allowances-reached, too-many-domains, two-homes-again, mixed-calls, mixed-schedule, refusal-in, refusals-in, Refused-calls-allowed}
+use Rattle.model.proofs.Laws.Calls.{step-reply-number, run-reply-number}
 use Rattle.model.proofs.Laws.Unread.{unread-law}
 use Rattle.model.proofs.Claims.Demand.{demand-three}
 
@@ -48,16 +48,12 @@ same-tree =
 
 -- FROM THE REFUSALS THAT A LIST IS ANSWERED WITH, its names and its schedule
 call-refused : (c : Call) (s : State) → refusal-in (answer c s) .number ≡ call-refusal c s .number
-unfolding refusal refusal-in answer answer-to call-refusal ask-refusal step-answer step-reply run-answer run-reply
+unfolding refusal refusal-in answer answer-to call-refusal ask-refusal step-answer run-answer
 call-refused c s = by (c .ask)
   where
     by : (a : Ask) → refusal-in (answer-to (c .tree) a s) .number ≡ ask-refusal (tree-of (c .tree)) a s .number
-    by (one-step i) = refl
-    by (a-run is b) = go (run-refusal (tree-of (c .tree)) s is (length b)) (run (tree-of (c .tree)) is s) _ refl
-      where
-        go : (r : Refusal) (x : Run) (b : Bool) → eqb (r .number) 0 ≡ b → run-reply r s x .number ≡ r .number
-        go r x true e = rw e (sym (eqb-true _ _ e))
-        go r x false e = rw e
+    by (one-step i) = step-reply-number (step-refusal (tree-of (c .tree)) s i) s (steps (tree-of (c .tree)) (i ∷ []) s)
+    by (a-run is b) = run-reply-number (run-refusal (tree-of (c .tree)) s is (length b)) s (run (tree-of (c .tree)) is s)
 
 -- each call that is answered with number 0 names the tree
 Names-by : Tree → List Call → List Refusal → Type 0

@@ -7,6 +7,7 @@ pub mod Order
 pub mod Bounded
 pub mod Calls
 pub mod Demand
+pub mod Telling
 pub mod Accepts
 pub mod Equality
 pub mod Passing

@@ -1,6 +1,6 @@
 -- What the fresh call, a step and a run answer, for every input. Assumes nothing: these are definitions.
 use mathlib.Core.Bool.{cond}
-use mathlib.Core.List.{List, _++_}
+use mathlib.Core.List.{List, [], _∷_, _++_}
 use Prim.Native.Nat.{ℕ}
 use lib.Dec.{eqb}
 use lib.ListN.{length, drop}
@@ -12,8 +12,8 @@ use Rattle.model.specs.declared.StepReply.{StepReply}
 use Rattle.model.specs.declared.RunReply.{RunReply}
 use Rattle.model.specs.Trees.{tree-of}
 use Rattle.model.specs.States.{fresh-words}
-use Rattle.model.specs.Steps.{step}
-use Rattle.model.specs.Runs.{Run, run}
+use Rattle.model.specs.Steps.{kind-number, Step}
+use Rattle.model.specs.Runs.{steps, state-after, Run, run}
 use Rattle.model.specs.Refusals.{Refusal, tree-refusal, step-refusal, run-refusal}
 
 -- a fresh call returns the fresh words, accepted or refused
@@ -22,12 +22,29 @@ fresh-answer w =
     let r = tree-refusal (tree-of w) in
     record { number = r .number; place = r .place; state = fresh-words }
 
--- a step by its refusal, the state handed in and the state after the step
-unfoldable pub step-reply : Refusal → (before after : State) → StepReply
-step-reply r s n = record { number = r .number; place = r .place; state = cond (eqb (r .number) 0) n s }
+-- the number of the first step's kind, and its domain
+unfoldable pub first-kind : List Step → ℕ
+first-kind [] = 0
+first-kind (x ∷ xs) = kind-number (x .kind)
+
+unfoldable pub first-domain : List Step → ℕ
+first-domain [] = 0
+first-domain (x ∷ xs) = x .domain
+
+-- an accepted step: its kind, the domain it was at and the state after it
+abbrev pub step-accepted : State → (taken : List Step) → StepReply
+step-accepted s xs = record { number = 0; place = 0; kind = first-kind xs; domain = first-domain xs; state = state-after s xs }
+
+-- a refused step: kind 0, domain 0, the state as it came
+abbrev pub step-refused : Refusal → State → StepReply
+step-refused r s = record { number = r .number; place = r .place; kind = 0; domain = 0; state = s }
+
+-- a step by its refusal, the state handed in and the one step taken
+unfoldable pub step-reply : Refusal → State → (taken : List Step) → StepReply
+step-reply r s xs = cond (eqb (r .number) 0) (step-accepted s xs) (step-refused r s)
 
 unfoldable pub step-answer : TreeWords → State → (thread : ℕ) → StepReply
-step-answer w s i = step-reply (step-refusal (tree-of w) s i) s (step (tree-of w) i s .state)
+step-answer w s i = step-reply (step-refusal (tree-of w) s i) s (steps (tree-of w) (i ∷ []) s)
 
 abbrev pub no-counts : Counts
 no-counts = record { steps = 0; entries = 0; stays = 0; root = 0; passed = 0; crossed = 0 }

@@ -46,9 +46,10 @@ passes = ok 0 0 0 0 0 0 []
 -- THE TABLE'S LINES. What a fresh call of a tree, a step in a state, and a run in a state with a trace buffer as long as the schedule are expected to answer
 pub data Case : Type 0 where
   fresh-call : TreeWords → Expected → Case
+  -- a refused step, which tells kind 0 and domain 0
   step-call : TreeWords → State → (thread : ℕ) → Expected → Case
-  -- an accepted step, with the whole state after it
-  step-gives : TreeWords → (before : State) → (thread : ℕ) → (after : State) → Case
+  -- an accepted step, with the number of its kind, the domain it was at and the whole state after it
+  step-gives : TreeWords → (before : State) → (thread : ℕ) → (kind domain : ℕ) → (after : State) → Case
   run-call : TreeWords → State → (schedule : List ℕ) → Expected → Case
 
 -- the tree of document 01's input: two domains below the root, thresholds 2 and 16; two threads in the first, one in the second
@@ -114,19 +115,27 @@ cases =
     -- Inside in unused room
     ∷ step-call root-alone (with-place 1 Inside fresh-words) 0 (refused 10 0)
     -- Swap at the root that finds none: UNLOCKED
-    ∷ step-gives root-alone (with-place 0 (Swap 0) (with-status 0 locked fresh-words)) 0 (with-place 0 Inside (with-tail 0 1 fresh-words))
+    ∷ step-gives root-alone (with-place 0 (Swap 0) (with-status 0 locked fresh-words)) 0 2 0 (with-place 0 Inside (with-tail 0 1 fresh-words))
     -- Wait at the root with a status that no schedule reaches: any but LOCKED goes Inside
-    ∷ step-gives root-alone (with-place 0 (Wait 0) (with-status 0 7 fresh-words)) 0 (with-place 0 Inside (with-status 0 7 fresh-words))
+    ∷ step-gives root-alone (with-place 0 (Wait 0) (with-status 0 7 fresh-words)) 0 2 0 (with-place 0 Inside (with-status 0 7 fresh-words))
     -- Check with status 0 passes 1
-    ∷ step-gives one-home (with-place 0 (Check 1) (with-next 0 2 fresh-words)) 0 (with-place 0 (Grant 1 1 1) (with-next 0 2 fresh-words))
+    ∷ step-gives one-home (with-place 0 (Check 1) (with-next 0 2 fresh-words)) 0 1 1 (with-place 0 (Grant 1 1 1) (with-next 0 2 fresh-words))
     -- Check with a status above the threshold releases the parent first
-    ∷ step-gives one-home (with-place 0 (Check 1) (with-next 0 2 (with-status 0 900 fresh-words))) 0 (with-place 0 (Help 0) (with-next 0 2 (with-status 0 900 fresh-words)))
+    ∷ step-gives one-home (with-place 0 (Check 1) (with-next 0 2 (with-status 0 900 fresh-words))) 0 1 1 (with-place 0 (Help 0) (with-next 0 2 (with-status 0 900 fresh-words)))
     -- Help at the root: UNLOCKED is granted
-    ∷ step-gives two-in-root (with-place 0 (Help 0) (with-next 0 2 fresh-words)) 0 (with-place 0 (Grant 0 1 0) (with-next 0 2 fresh-words))
+    ∷ step-gives two-in-root (with-place 0 (Help 0) (with-next 0 2 fresh-words)) 0 1 0 (with-place 0 (Grant 0 1 0) (with-next 0 2 fresh-words))
     -- Grant writes the status of its record alone
-    ∷ step-gives two-in-root (with-place 0 (Grant 0 1 0) (with-next 0 2 (with-status 1 locked fresh-words))) 0 (with-place 0 Idle (with-next 0 2 fresh-words))
+    ∷ step-gives two-in-root (with-place 0 (Grant 0 1 0) (with-next 0 2 (with-status 1 locked fresh-words))) 0 1 0 (with-place 0 Idle (with-next 0 2 fresh-words))
     -- Prep at home steps as Idle does
-    ∷ step-gives one-home (with-place 0 (Prep 1) fresh-words) 0 (with-place 0 (Swap 1) (with-status 0 wait-word fresh-words))
+    ∷ step-gives one-home (with-place 0 (Prep 1) fresh-words) 0 1 1 (with-place 0 (Swap 1) (with-status 0 wait-word fresh-words))
+    -- Idle is at home, and so is leaving
+    ∷ step-gives one-home fresh-words 0 1 1 (with-place 0 (Swap 1) (with-status 0 wait-word fresh-words))
+    ∷ step-gives one-home (with-place 1 Inside fresh-words) 1 5 1 (with-place 1 (Check 1) fresh-words)
+    -- Wait at home: WAIT stays, a count is a passed entry
+    ∷ step-gives one-home (with-place 0 (Wait 1) (with-status 0 wait-word fresh-words)) 0 0 1 (with-place 0 (Wait 1) (with-status 0 wait-word fresh-words))
+    ∷ step-gives one-home (with-place 0 (Wait 1) (with-status 0 2 fresh-words)) 0 3 1 (with-place 0 Inside (with-status 0 2 fresh-words))
+    -- Wait between home and root: a crossed entry, at that domain
+    ∷ step-gives three-levels (with-place 1 (Wait 1) (with-status 259 2 fresh-words)) 1 4 1 (with-place 1 Inside (with-status 259 2 fresh-words))
     -- three levels: 0 six times, 1 six times, 0 four times, 1 once
     ∷ run-call three-levels fresh-words (replicate 6 0 ++ replicate 6 1 ++ replicate 4 0 ++ 1 ∷ []) (ok 17 2 1 1 0 1 (0 ∷ 1 ∷ []))
     -- four levels: 0 eight times, 1 eight times, 0 five times, 1 once: a crossed entry two levels above the home
@@ -171,8 +180,12 @@ run-holds w s is b x =
 
 unfoldable pub holds : Case → Bool
 holds (fresh-call w x) = let r = fresh-answer w in gives (r .number) (r .place) x && same-state (r .state) fresh-words
-holds (step-call w s i x) = let r = step-answer w s i in gives (r .number) (r .place) x && kept (x .number) s (r .state)
-holds (step-gives w s i n) = let r = step-answer w s i in eqb (r .number) 0 && (eqb (r .place) 0 && same-state (r .state) n)
+holds (step-call w s i x) =
+    let r = step-answer w s i in
+    (gives (r .number) (r .place) x && kept (x .number) s (r .state)) && (eqb (r .kind) 0 && eqb (r .domain) 0)
+holds (step-gives w s i k d n) =
+    let r = step-answer w s i in
+    (eqb (r .number) 0 && eqb (r .place) 0) && ((eqb (r .kind) k && eqb (r .domain) d) && same-state (r .state) n)
 holds (run-call w s is x) = run-holds w s is (replicate (length is) 999) x
 
 unfoldable pub all-hold : List Case → Bool

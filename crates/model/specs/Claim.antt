@@ -86,7 +86,7 @@ stretch t S k n = take n (drop k (steps t S fresh-words))
 
 -- a call at that point: refused or not by the table's state there; accepted, what the table gives over its stretch
 unfoldable pub expected-ask : Tree → (schedule : List ℕ) → (k : ℕ) → (named : Tree) → Ask → Answer
-expected-ask t S k u (one-step i) = stepped (step-reply (step-refusal u (state-at t S k) i) (state-at t S k) (state-at t S (k + 1)))
+expected-ask t S k u (one-step i) = stepped (step-reply (step-refusal u (state-at t S k) i) (state-at t S k) (stretch t S k 1))
 expected-ask t S k u (a-run is b) =
     let r = run-refusal u (state-at t S k) is (length b) in
     let x = run-of (state-at t S k) (stretch t S k (length is)) in

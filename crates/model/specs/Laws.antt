@@ -11,12 +11,13 @@ use Rattle.model.specs.declared.State.{State}
 use Rattle.model.specs.declared.Counts.{Counts}
 use Rattle.model.specs.declared.Place.{Place}
 use Rattle.model.specs.declared.Place.the-variants.{Idle, Prep, Swap, Link, Wait, Inside, Check, Help, Cas, Linger, Grant, Invalid}
-use Rattle.model.specs.Trees.{Tree, tree-of, is-member}
+use Rattle.model.specs.Trees.{Tree, tree-of, on-path, is-member}
 use Rattle.model.specs.Places.{place-words}
 use Rattle.model.specs.States.{acquire-parent, wait-word, status, place, fresh-words}
-use Rattle.model.specs.Steps.{stay, root-entry, passed-entry, crossed-entry, is-entry, Step, step}
-use Rattle.model.specs.Runs.{steps, Run, run-of, run}
+use Rattle.model.specs.Steps.{stay, root-entry, passed-entry, crossed-entry, leaving, is-entry, kind-number, Step, step}
+use Rattle.model.specs.Runs.{steps, Run, run-of, run, occurrences}
 use Rattle.model.specs.WellFormed.{well-formed}
+use Rattle.model.specs.Answers.{step-answer, run-answer}
 use Rattle.model.specs.Refusals.{refusal, accepted, Test, first-refusal, tree-tests, step-tests, run-tests, tree-refusal}
 
 -- both ways
@@ -89,7 +90,7 @@ pub record Adds-up (schedule : List ℕ) (x : Run) : Type 0 where
 unfoldable pub Count-law : Type 0
 Count-law = (t : Tree) (is : List ℕ) (s : State) → Adds-up is (run t is s)
 
--- 3. KINDS. A stay changes nothing, and only a stay; an entry arrives Inside; a root entry came from Swap or Wait at the root, a passed entry from Wait at the home, other than the root, a crossed entry from Wait between home and root
+-- 3. KINDS. A stay changes nothing, and only a stay; an entry arrives Inside; a root entry came from Swap or Wait at the root, a passed entry from Wait at the home, other than the root, a crossed entry from Wait between home and root; leaving are exactly the steps from Inside
 pub record Tells-kind (t : Tree) (i : ℕ) (s : State) : Type 0 where
   pub stays-exactly : (step t i s .kind ≡ stay) ⟺ (step t i s .state ≡ s)
   pub enters-exactly : (is-entry (step t i s .kind) ≡ true) ⟺ ((place (step t i s .state) i ≡ Inside) × (place s i ≢ Inside))
@@ -102,9 +103,39 @@ pub record Tells-kind (t : Tree) (i : ℕ) (s : State) : Type 0 where
   pub crossed-exactly :
       (step t i s .kind ≡ crossed-entry)
       ⟺ ((place (step t i s .state) i ≡ Inside) × ((l : ℕ) × (l ≢ 0) × (l ≢ t .home i) × (place s i ≡ Wait l)))
+  pub leaving-exactly : (step t i s .kind ≡ leaving) ⟺ (place s i ≡ Inside)
 
 unfoldable pub Kind-law : Type 0
 Kind-law = (t : Tree) (i : ℕ) (s : State) → tree-refusal t .number ≡ 0 → i < t .threads → Formed t s → Tells-kind t i s
+
+-- the domain that a step was at: home for Idle and leaving, else the domain that its place names; in every well-formed state one of its path
+pub record Tells-domain (t : Tree) (i : ℕ) (s : State) : Type 0 where
+  pub at-home : (place s i ≡ Idle) ⊎ (place s i ≡ Inside) → step t i s .domain ≡ t .home i
+  pub at-place : place s i ≢ Idle → place s i ≢ Inside → step t i s .domain ≡ getD (s .places) i (place-words 0 0 0 0) .domain
+  pub path : on-path t i (step t i s .domain) ≡ true
+
+unfoldable pub Domain-law : Type 0
+Domain-law = (t : Tree) (i : ℕ) (s : State) → tree-refusal t .number ≡ 0 → i < t .threads → Formed t s → Tells-domain t i s
+
+-- an accepted step says the kind and the domain of the step table's step; a run's counts are those of the kinds that single calls say, each on the state that the one before returned
+unfoldable pub told-kinds : TreeWords → (schedule : List ℕ) → State → List ℕ
+told-kinds w [] s = []
+told-kinds w (i ∷ is) s = let r = step-answer w s i in r .kind ∷ told-kinds w is (r .state)
+
+unfoldable pub told-counts : (kinds : List ℕ) → Counts
+told-counts ks =
+    record {
+      steps = length ks;
+      entries = occurrences 2 ks + occurrences 3 ks + occurrences 4 ks;
+      stays = occurrences 0 ks;
+      root = occurrences 2 ks;
+      passed = occurrences 3 ks;
+      crossed = occurrences 4 ks;
+    }
+
+unfoldable pub Told-law : Type 0
+Told-law =
+    (w : TreeWords) (s : State) (is b : List ℕ) → Formed (tree-of w) s → run-answer w s is b .number ≡ 0 → run-answer w s is b .counts ≡ told-counts (told-kinds w is s)
 
 -- What document 01 counted as passed, before document 02 told crossed entries apart: an entry from Wait at any domain but the root
 unfoldable pub waits-below : Place → Bool

@@ -9,9 +9,9 @@ use Rattle.model.specs.Trees.{Tree, child, own-record}
 use Rattle.model.specs.Places.{place-domain}
 use Rattle.model.specs.States.{cohort-start, acquire-parent, wait-word, unlocked, locked, root-word, none, tail, next, status, place, with-tail, with-next, with-status, with-place}
 
--- what a step is: a stay, any other move, a root entry, a passed entry or a crossed entry
+-- what a step is: a stay, any other move, a root entry, a passed entry, a crossed entry, or leaving
 pub data Kind : Type 0 where
-  stay other root-entry passed-entry crossed-entry : Kind
+  stay other root-entry passed-entry crossed-entry leaving : Kind
 
 -- the number of a kind
 abbrev pub kind-number : Kind → ℕ
@@ -20,6 +20,7 @@ kind-number other = 1
 kind-number root-entry = 2
 kind-number passed-entry = 3
 kind-number crossed-entry = 4
+kind-number leaving = 5
 
 -- a kind is the one that is named
 unfoldable pub is-kind : (named kind : Kind) → Bool
@@ -32,6 +33,7 @@ is-entry other = false
 is-entry root-entry = true
 is-entry passed-entry = true
 is-entry crossed-entry = true
+is-entry leaving = false
 
 -- standing ungranted: a step may begin it for a member, or end it
 pub data Standing : Type 0 where
@@ -118,7 +120,7 @@ wait-row t i l s =
 
 -- Inside: the thread leaves; to Help(home) if home is the root, else Check(home)
 unfoldable pub leave-row : Tree → (thread : ℕ) → State → Row-result
-leave-row t i s = moves (with-place i (release-place (t .home i)) s)
+leave-row t i s = record { kind = leaving; standing = unchanged; state = with-place i (release-place (t .home i)) s }
 
 -- Check(L): if status of I is below the threshold and next of I is s, to Grant(L, s, status + 1). Otherwise the parent is released first
 unfoldable pub check-row : Tree → (thread domain : ℕ) → State → Row-result

@@ -22,6 +22,8 @@ pub const PASSED_ENTRY: u8 = 3;
 
 pub const CROSSED_ENTRY: u8 = 4;
 
+pub const LEAVING: u8 = 5;
+
 // A tree with its threads. The root's parent and threshold, and room that the tree lacks, are not read.
 #[repr(C)]
 pub struct TreeWords {
@@ -95,6 +97,8 @@ pub struct FreshReply {
 pub struct StepReply {
     pub number: u32,
     pub place: u32,
+    pub kind: u32,
+    pub domain: u32,
     pub state: State,
 }
 

@@ -9,8 +9,8 @@ use crate::words::*;
 pub struct Calls {
     pub fresh: fn(&TreeWords) -> Reply,
     pub fresh_in_place: fn(&TreeWords, &mut StateWords) -> (u32, u32),
-    pub step: fn(&TreeWords, &StateWords, u16) -> Reply,
-    pub step_in_place: fn(&TreeWords, &mut StateWords, u16) -> (u32, u32),
+    pub step: fn(&TreeWords, &StateWords, u16) -> StepReply,
+    pub step_in_place: fn(&TreeWords, &mut StateWords, u16) -> StepAnswer,
     pub run: fn(&TreeWords, &StateWords, &[u16], &mut [u16]) -> RunReply,
 }
 
@@ -47,21 +47,24 @@ fn fresh_in_place(tree: &TreeWords, words: &mut StateWords) -> (u32, u32) {
     (reply.number, reply.place)
 }
 
-/// A refused step leaves the words as they came.
-fn step_in_place(tree: &TreeWords, words: &mut StateWords, thread: u16) -> (u32, u32) {
+/// A refused step leaves the words as they came and tells kind 0 and domain 0.
+fn step_in_place(tree: &TreeWords, words: &mut StateWords, thread: u16) -> StepAnswer {
     let tree = tree.tree();
     let outcome = read_state(&tree, words).and_then(|mut state| {
-        step_lock(&tree, &mut state, thread)?;
+        let before = state.clone();
+        let kind = step_lock(&tree, &mut state, thread)?;
         *words = StateWords::of(&state);
-        Ok(())
+        Ok((kind.number(), domain_of(&tree, &before, thread as usize) as u32))
     });
-    number_and_place(&outcome)
+    let (number, place) = number_and_place(&outcome);
+    let (kind, domain) = outcome.unwrap_or((0, 0));
+    StepAnswer { number, place, kind, domain }
 }
 
-fn step_words(tree: &TreeWords, words: &StateWords, thread: u16) -> Reply {
+fn step_words(tree: &TreeWords, words: &StateWords, thread: u16) -> StepReply {
     let mut state = *words;
-    let (number, place) = step_in_place(tree, &mut state, thread);
-    Reply { number, place, state }
+    let answer = step_in_place(tree, &mut state, thread);
+    StepReply { answer, state }
 }
 
 fn run_words(tree: &TreeWords, words: &StateWords, schedule: &[u16], trace: &mut [u16]) -> RunReply {

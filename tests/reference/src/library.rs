@@ -51,8 +51,8 @@ mod call_entries {
     extern "C" {
         fn hmcs_fresh(tree: TreeWords) -> Reply;
         fn hmcs_fresh_in_place(tree: TreeWords, state: *mut StateWords) -> Answer;
-        fn hmcs_step(tree: TreeWords, state: StateWords, thread: u16) -> Reply;
-        fn hmcs_step_in_place(tree: TreeWords, state: *mut StateWords, thread: u16) -> Answer;
+        fn hmcs_step(tree: TreeWords, state: StateWords, thread: u16) -> StepReply;
+        fn hmcs_step_in_place(tree: TreeWords, state: *mut StateWords, thread: u16) -> StepAnswer;
         fn hmcs_run(tree: TreeWords, state: StateWords, schedule: *const u16, schedule_len: usize, trace: *mut u16, trace_len: usize) -> RunReply;
     }
 
@@ -65,13 +65,12 @@ mod call_entries {
         (answer.number, answer.place)
     }
 
-    pub fn step(tree: &TreeWords, state: &StateWords, thread: u16) -> Reply {
+    pub fn step(tree: &TreeWords, state: &StateWords, thread: u16) -> StepReply {
         unsafe { hmcs_step(*tree, *state, thread) }
     }
 
-    pub fn step_in_place(tree: &TreeWords, state: &mut StateWords, thread: u16) -> (u32, u32) {
-        let answer = unsafe { hmcs_step_in_place(*tree, state, thread) };
-        (answer.number, answer.place)
+    pub fn step_in_place(tree: &TreeWords, state: &mut StateWords, thread: u16) -> StepAnswer {
+        unsafe { hmcs_step_in_place(*tree, state, thread) }
     }
 
     pub fn run(tree: &TreeWords, state: &StateWords, schedule: &[u16], trace: &mut [u16]) -> RunReply {

@@ -52,6 +52,7 @@ pub enum Kind {
     RootEntry,
     PassedEntry,
     CrossedEntry,
+    Leaving,
 }
 
 #[derive(Clone, Copy, Debug, Default, PartialEq, Eq)]
@@ -112,6 +113,16 @@ impl State {
     }
 }
 
+/// The domain that a thread's next step is at: home for Idle and leaving.
+pub fn domain_of(tree: &Tree, state: &State, thread: usize) -> usize {
+    match state.places[thread] {
+        Place::Idle | Place::Inside => tree.home(thread),
+        Place::Prep(domain) | Place::Swap(domain) | Place::Link(domain, _) | Place::Wait(domain) => domain as usize,
+        Place::Check(domain) | Place::Help(domain) | Place::Cas(domain) | Place::Linger(domain) => domain as usize,
+        Place::Grant(domain, _, _) => domain as usize,
+    }
+}
+
 /// One schedule entry: one row of the table.
 #[inline]
 pub fn step(tree: &Tree, state: &mut State, thread: usize) -> Kind {
@@ -121,7 +132,7 @@ pub fn step(tree: &Tree, state: &mut State, thread: usize) -> Kind {
         Place::Swap(domain) => swap(tree, state, thread, domain as usize),
         Place::Link(domain, before) => link(tree, state, thread, domain as usize, before as usize),
         Place::Wait(domain) => wait(tree, state, thread, domain as usize),
-        Place::Inside => go(state, thread, released_next(tree.home(thread))),
+        Place::Inside => leave(tree, state, thread),
         Place::Check(domain) => check(tree, state, thread, domain as usize),
         Place::Help(domain) => help(tree, state, thread, domain as usize),
         Place::Cas(domain) => cas(tree, state, thread, domain as usize),
@@ -133,6 +144,11 @@ pub fn step(tree: &Tree, state: &mut State, thread: usize) -> Kind {
 fn go(state: &mut State, thread: usize, place: Place) -> Kind {
     state.places[thread] = place;
     Kind::Move
+}
+
+fn leave(tree: &Tree, state: &mut State, thread: usize) -> Kind {
+    go(state, thread, released_next(tree.home(thread)));
+    Kind::Leaving
 }
 
 fn enter(state: &mut State, thread: usize, entry: Kind) -> Kind {
@@ -265,6 +281,18 @@ impl Counts {
 }
 
 impl Kind {
+    /// As a step's answer tells it.
+    pub fn number(self) -> u32 {
+        match self {
+            Kind::Stay => 0,
+            Kind::Move => 1,
+            Kind::RootEntry => 2,
+            Kind::PassedEntry => 3,
+            Kind::CrossedEntry => 4,
+            Kind::Leaving => 5,
+        }
+    }
+
     pub fn is_entry(self) -> bool {
         matches!(self, Kind::RootEntry | Kind::PassedEntry | Kind::CrossedEntry)
     }

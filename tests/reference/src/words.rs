@@ -40,6 +40,23 @@ pub struct Reply {
     pub state: StateWords,
 }
 
+/// Number and place of a step's answer, its kind and the domain it was at.
+#[repr(C)]
+#[derive(Clone, Copy, Debug, Default, PartialEq, Eq)]
+pub struct StepAnswer {
+    pub number: u32,
+    pub place: u32,
+    pub kind: u32,
+    pub domain: u32,
+}
+
+#[repr(C)]
+#[derive(Clone, Copy, Debug, PartialEq, Eq)]
+pub struct StepReply {
+    pub answer: StepAnswer,
+    pub state: StateWords,
+}
+
 #[repr(C)]
 #[derive(Clone, Copy, Debug, PartialEq, Eq)]
 pub struct RunReply {

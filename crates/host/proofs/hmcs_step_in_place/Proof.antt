@@ -46,11 +46,11 @@ use Rattle.model.proofs.TreeWords.Laws as Tr′
 use Rattle.model.proofs.State as S
 use Rattle.model.proofs.State.Laws as S′
 use Rattle.model.specs.declared.StepReply.{StepReply}
-use Rattle.host.specs.declared.Answer.{Answer}
+use Rattle.host.specs.declared.StepAnswer.{StepAnswer}
 use Rattle.model.specs.Answers.{step-answer}
-use Rattle.host.specs.InPlace.{step-number}
-use Rattle.host.proofs.Answer as An
-use Rattle.host.proofs.Answer.Laws as An′
+use Rattle.host.specs.InPlace.{step-told}
+use Rattle.host.proofs.StepAnswer as An
+use Rattle.host.proofs.StepAnswer.Laws as An′
 use Rattle.model.proofs.StepReply as Rp
 use Rattle.model.proofs.StepReply.Laws as Rp′
 use Rattle.host.proofs.hmcs_step as step
@@ -72,7 +72,7 @@ tree-vals = LL.vals Tr.the-type Tr′.the-laws
 abbrev state-vals : State → List Val
 state-vals = LL.vals S.the-type S′.the-laws
 
-abbrev answer-vals : Answer → List Val
+abbrev answer-vals : StepAnswer → List Val
 answer-vals = LL.vals An.the-type An′.the-laws
 
 -- the contract that the proof cites
@@ -105,15 +105,15 @@ module _ {M : Type 1} (𝓤 : URA M) (H : Heap 𝓤) (A : Atoms 𝓤) (W : Given
   told : (r : StepReply) → ent 𝓤 (ensured 𝓤 H A step.ended (step.clauses 𝓤 H A at-mem run) tt (t, (h, (n, tt))) tt r) (fact 𝓤 (r ≡ step-answer t h n))
   told r = exE 𝓤 _ (λ ws. snd∗ 𝓤 (sem 𝓤 H A (lasts step.ended tt (t, (h, (n, tt))) ws)) (fact 𝓤 (r ≡ step-answer t h n)))
 
-  exits : (r : StepReply) → r .number < 2 ^ 32 → r .place < 2 ^ 32 → r ≡ step-answer t h n
-      → ent 𝓤 (sep 𝓤 (A .obs γ (S.the-row .coded .code (r .state))) (sep 𝓤 (A .bor κ (Body (mem S.the-row) b o γ)) (A .lft κ q))) (Post (only (answer-vals (step-number r))))
-  exits r small near e =
+  exits : (r : StepReply) → r .number < 2 ^ 32 → r .place < 2 ^ 32 → r .kind < 2 ^ 32 → r .domain < 2 ^ 32 → r ≡ step-answer t h n
+      → ent 𝓤 (sep 𝓤 (A .obs γ (S.the-row .coded .code (r .state))) (sep 𝓤 (A .bor κ (Body (mem S.the-row) b o γ)) (A .lft κ q))) (Post (only (answer-vals (step-told r))))
+  exits r small near kind-fits domain-fits e =
       qed W (‵ (fobs γ (S.the-row .coded .code (r .state))) ∷ ‵ (fbor κ (Body (mem S.the-row) b o γ)) ∷ ‵ (flft κ q) ∷ []) ∵
-      suffices ! _ (ends-at 𝓤 H A self.ended stayed (self.clauses 𝓤 H A at-mem run) W (((κ, tt), (q, tt), tt, x, at), tt) (only (answer-vals (step-number r))) (step-number r) (tt, (r .state, (tt, tt))) (tt, (tt, (tt, tt)))) $
-      says ! (ap step-number e, ap (λ (y : StepReply). y .state) e) $ nothing ! $ move ! (3 ∷ 0 ∷ []) $ join ! $ frame ! $
+      suffices ! _ (ends-at 𝓤 H A self.ended stayed (self.clauses 𝓤 H A at-mem run) W (((κ, tt), (q, tt), tt, x, at), tt) (only (answer-vals (step-told r))) (step-told r) (tt, (r .state, (tt, tt))) (tt, (tt, (tt, tt)))) $
+      says ! (ap step-told e, ap (λ (y : StepReply). y .state) e) $ nothing ! $ move ! (3 ∷ 0 ∷ []) $ join ! $ frame ! $
       feqI ! (List Val) (vptr b o ∷ []) (vptr b o ∷ []) refl $ fjoin3 ! $ nothing ! $ owned ! u16 (Is u16) (uint-makes 𝓤 H A W w16) n _ (refl, fits) $ fjoin ! $ move ! (1 ∷ 0 ∷ []) $ fjoin ! $
       owned ! Tr.the-row (Is Tr.the-row) (LL.makes Tr.the-type Tr′.the-plain 𝓤 H A) t _ is-t $ fjoin ! $
-      owned ! An.the-row (Is An.the-row) (LL.makes An.the-type An′.the-plain 𝓤 H A) (step-number r) _ (LL.owes An.the-type An′.the-laws (step-number r) ((refl, small), ((refl, near), tt))) $ move ! (1 ∷ 0 ∷ []) $ done !
+      owned ! An.the-row (Is An.the-row) (LL.makes An.the-type An′.the-plain 𝓤 H A) (step-told r) _ (LL.owes An.the-type An′.the-laws (step-told r) ((refl, small), ((refl, near), ((refl, kind-fits), ((refl, domain-fits), tt))))) $ move ! (1 ∷ 0 ∷ []) $ done !
 
   module _ (C : Calls 𝓤 H) (Λ : Loops 𝓤 H) (fm : FmC 𝓤 H (W .laws) C) (known : Triple 𝓤 (C #step) (Step 𝓤 H A at-mem run)) where
     walk : ent 𝓤 (onEntry 𝓤 H A self.signature (κ, tt) (q, tt) x at) (WpFn 𝓤 H C Λ code.function (only (tree-vals t) ∷ vptr b o ∷ vint w16 n ∷ []) Post)
@@ -135,14 +135,14 @@ module _ {M : Type 1} (𝓤 : URA M) (H : Heap 𝓤) (A : Atoms 𝓤) (W : Given
         peeks ! Rp.the-row (Is Rp.the-row) (shows 𝓤 H A Rp.the-row) r (v ∷ []) (λ is.
         land ! (from ! (stop !)) (init ! 10 refl (LL.lawful Rp.the-type Rp′.the-laws 𝓤 H A W .typed r _ is .0)) $
         rewrite ! 10 (λ (us : List Val). ‵ (fat fullShare Rp′.mir l₄ 0 (only us))) (LL.tells Rp.the-type Rp′.the-laws r (v ∷ []) is) refl $ drop ! $
-        -- *_2 = _4.state; _0 = Answer { _4.number, _4.place }
-        assigns ! (of-opd ! (load ! (from ! (fld ! refl (stop !))) (look-in ! 9 (sub ! 2 refl (whole !))))) (from ! (hop ! (look ! 13 refl) (stop !))) (store-raw ! 0 refl (LL.lawful S.the-type S′.the-laws 𝓤 H A W .typed (r .state) _ (kept r _ is) .0)) $
-        assigns ! (agg ! (and-then ! (load ! (from ! (fld ! refl (stop !))) (look-in ! 9 (sub ! 0 refl (whole !)))) (and-then ! (load ! (from ! (fld ! refl (stop !))) (look-in ! 9 (sub ! 1 refl (whole !)))) (no-more !)))) (from ! (stop !)) (init ! 17 refl (tt, (record { fits = small r _ is }, (record { fits = near r _ is }, tt)))) $
+        -- *_2 = _4.state; _0 = StepAnswer { _4.number, _4.place, _4.kind, _4.domain }
+        assigns ! (of-opd ! (load ! (from ! (fld ! refl (stop !))) (look-in ! 9 (sub ! 4 refl (whole !))))) (from ! (hop ! (look ! 13 refl) (stop !))) (store-raw ! 0 refl (LL.lawful S.the-type S′.the-laws 𝓤 H A W .typed (r .state) _ (kept r _ is) .0)) $
+        assigns ! (agg ! (and-then ! (load ! (from ! (fld ! refl (stop !))) (look-in ! 9 (sub ! 0 refl (whole !)))) (and-then ! (load ! (from ! (fld ! refl (stop !))) (look-in ! 9 (sub ! 1 refl (whole !)))) (and-then ! (load ! (from ! (fld ! refl (stop !))) (look-in ! 9 (sub ! 2 refl (whole !)))) (and-then ! (load ! (from ! (fld ! refl (stop !))) (look-in ! 9 (sub ! 3 refl (whole !)))) (no-more !)))))) (from ! (stop !)) (init ! 17 refl (tt, (record { fits = small r _ is }, (record { fits = near r _ is }, (record { fits = kind-small r _ is }, (record { fits = domain-small r _ is }, tt)))))) $
         -- the borrow is closed at the reply's state
         move ! (1 ∷ []) $ drop ! $ owned ! S.the-row (Is S.the-row) (LL.makes S.the-type S′.the-plain 𝓤 H A) (r .state) _ (kept r _ is) $ move ! (1 ∷ 0 ∷ []) $ closes ! tt S.the-row (r .state) (state-vals (r .state)) b o $
         returns ! (look ! 15 refl) $ forget ! 5 refl $ forget ! 7 refl $ forget ! 9 refl $ forget ! 11 refl $ forget ! 13 refl $ forget ! 15 refl $
         move ! (15 ∷ 16 ∷ []) $ free1 ! $ move ! (13 ∷ 14 ∷ []) $ free1 ! $ move ! (11 ∷ 12 ∷ []) $ free1 ! $ move ! (9 ∷ 10 ∷ []) $ free1 ! $ move ! (7 ∷ 8 ∷ []) $ free1 ! $ move ! (5 ∷ 6 ∷ []) $ free1 ! $ free0 ! $
-        keep ! (0 ∷ 1 ∷ 2 ∷ []) $ by ! (exits r (small r _ is) (near r _ is) e)))))))))))))
+        keep ! (0 ∷ 1 ∷ 2 ∷ []) $ by ! (exits r (small r _ is) (near r _ is) (kind-small r _ is) (domain-small r _ is) e)))))))))))))
       where
         -- what a reply's relation says of its number and of its state
         small : (r : StepReply) (vs : List Val) → Is Rp.the-row r vs → r .number < 2 ^ 32
@@ -151,8 +151,14 @@ module _ {M : Type 1} (𝓤 : URA M) (H : Heap 𝓤) (A : Atoms 𝓤) (W : Given
         near : (r : StepReply) (vs : List Val) → Is Rp.the-row r vs → r .place < 2 ^ 32
         near r vs is = LL.owed Rp.the-type Rp′.the-laws r vs is .1 .0 .1
 
+        kind-small : (r : StepReply) (vs : List Val) → Is Rp.the-row r vs → r .kind < 2 ^ 32
+        kind-small r vs is = LL.owed Rp.the-type Rp′.the-laws r vs is .1 .1 .0 .1
+
+        domain-small : (r : StepReply) (vs : List Val) → Is Rp.the-row r vs → r .domain < 2 ^ 32
+        domain-small r vs is = LL.owed Rp.the-type Rp′.the-laws r vs is .1 .1 .1 .0 .1
+
         kept : (r : StepReply) (vs : List Val) → Is Rp.the-row r vs → Is S.the-row (r .state) (state-vals (r .state))
-        kept r vs is = LL.owed Rp.the-type Rp′.the-laws r vs is .1 .1 .0
+        kept r vs is = LL.owed Rp.the-type Rp′.the-laws r vs is .1 .1 .1 .1 .0
 
 module _ {M : Type 1} (𝓤 : URA M) (H : Heap 𝓤) (A : Atoms 𝓤) (W : Given 𝓤 H A) (mem : Memory → SProp 𝓤) (run : Routine → Fun 𝓤) where
   self-walks : (C : Calls 𝓤 H) (Λ : Loops 𝓤 H) → FmC 𝓤 H (W .laws) C → Triple 𝓤 (C #step) (Step 𝓤 H A mem run) → Walks 𝓤 H A self.ended stayed (WpFn 𝓤 H C Λ code.function) (self.clauses 𝓤 H A mem run)

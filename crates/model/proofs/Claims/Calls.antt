@@ -61,8 +61,8 @@ module _ (t : Tree) (w : TreeWords) (pre rest : List ℕ) (s : State) (here : s 
       answer-to w a s ≡ expected-ask t (pre ++ (asked-entries a ++ rest)) (length pre) u a
   unfolding answer-to expected-ask asked-entries step-answer run-answer trace-answer run
   accepted-expected (one-step i) e z =
-      rw (at-seam t pre [] ((i ∷ []) ++ rest), at-next-seam t pre (i ∷ []) rest, run-behind t pre (i ∷ []) rest, ← here)
-      (ap (λ n. stepped (step-reply (step-refusal u s i) s n)) (ap (λ (v : Tree). step v i s .state) e ∙ sym (run-one t i s)))
+      rw (at-seam t pre [] ((i ∷ []) ++ rest), stretch-between t pre (i ∷ []) rest, ← here)
+      (ap (λ (v : Tree). stepped (step-reply (step-refusal u s i) s (steps v (i ∷ []) s))) e)
   accepted-expected (a-run is b) e z =
       rw (at-seam t pre [] (is ++ rest), stretch-between t pre is rest, ← here)
       (ap (λ (v : Tree). ran (run-reply (run-refusal u s is (length b)) s (run-of s (steps v is s))) (run-buffer (run-refusal u s is (length b)) b (run-of s (steps v is s)))) e)
@@ -84,9 +84,9 @@ module _ (t : Tree) (w : TreeWords) (pre rest : List ℕ) (s : State) (here : s 
   returned-by :
       (a : Ask) → (ask-refusal u a s .number ≡ 0 → u ≡ t) → (b : Bool) → eqb (ask-refusal u a s .number) 0 ≡ b →
       state-in (answer-to w a s) ≡ run t (pre ++ cond b (asked-entries a) []) fresh-words .state
-  unfolding state-in answer-to asked-entries ask-refusal step-answer run-answer step-reply run-reply
+  unfolding state-in answer-to asked-entries ask-refusal step-answer run-answer step-reply run-reply run run-of
   returned-by (one-step i) n true z =
-      rw (z, run-behind t pre (i ∷ []) [], ← here) (ap (λ (v : Tree). step v i s .state) (n (eqb-true _ _ z)) ∙ sym (run-one t i s))
+      rw (z, run-behind t pre (i ∷ []) [], ← here) (ap (λ (v : Tree). run v (i ∷ []) s .state) (n (eqb-true _ _ z)))
   returned-by (one-step i) n false z = rw (z, append-nil pre) here
   returned-by (a-run is b) n true z = rw (z, run-behind t pre is [], ← here) (ap (λ (v : Tree). run v is s .state) (n (eqb-true _ _ z)))
   returned-by (a-run is b) n false z = rw (z, append-nil pre) here

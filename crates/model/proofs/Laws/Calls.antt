@@ -1,16 +1,23 @@
 -- Accepted calls: what acceptance says of tree, state and schedule, and that this is all it asks. Assumes nothing.
-use mathlib.Core.Path.{_≡_, ap, _∙_}
+use mathlib.Core.Path.{_≡_, refl, sym, ap, _∙_}
 use mathlib.Core.Bool.{true, false}
 use mathlib.Core.List.{List, [], _∷_, _++_}
 use Prim.Native.Nat.{ℕ, zero, suc, _≤_, _<_}
 use native.Mathlib.Omega.{arith}
+use lib.Dec.{eqb}
 use lib.ListN.{length}
-use borrow.Author.Tests.{ltb-false, leb-false, not-false, le-ltb, lt-leb}
+use borrow.Author.Tests.{eqb-true, ltb-false, leb-false, not-false, le-ltb, lt-leb}
 use Rattle.model.specs.declared.State.{State}
+use Rattle.model.specs.declared.StepReply.{StepReply}
+use Rattle.model.specs.declared.RunReply.{RunReply}
 use Rattle.model.specs.Trees.{Tree}
+use Rattle.model.specs.Steps.{Step}
+use Rattle.model.specs.Runs.{Run}
 use Rattle.model.specs.WellFormed.{well-formed}
-use Rattle.model.specs.Refusals.{accepted, Test, tree-tests, bad-state, bad-length, bad-entry, bad-room, step-tests, run-tests, tree-refusal, step-refusal, run-refusal}
+use Rattle.model.specs.Refusals.{Refusal, accepted, Test, tree-tests, bad-state, bad-length, bad-entry, bad-room, step-tests, run-tests, tree-refusal, step-refusal, run-refusal}
+use Rattle.model.specs.Answers.{step-reply, run-reply}
 use Rattle.model.specs.Laws.{All-threads, All-pass}
+use Rattle.model.proofs.Tests.{by-test}
 use Rattle.model.proofs.Laws.Refusals.{accepted-number, tree-refuses-exactly, step-refuses-exactly, run-refuses-exactly}
 
 -- an accepted step's tree, state and thread
@@ -90,3 +97,12 @@ run-accepted t s is room g =
     run-refuses-exactly t s is room .passed .1
     (pass-join (tree-tests t) _ (tree-passed t (g .tree))
     (λ p l. rw (g .form), (λ p l. le-ltb _ _ (g .short), (no-bad-entry t is (g .threads), (λ p l. le-ltb _ _ (g .fits), tt)))))
+
+-- the number of an answer is its refusal's
+pub run-reply-number : (r : Refusal) (s : State) (x : Run) → run-reply r s x .number ≡ r .number
+unfolding run-reply
+run-reply-number r s x = by-test (λ (y : RunReply). y .number ≡ r .number) (eqb (r .number) 0) _ _ (λ e. sym (eqb-true (r .number) 0 e)) (λ e. refl)
+
+pub step-reply-number : (r : Refusal) (s : State) (xs : List Step) → step-reply r s xs .number ≡ r .number
+unfolding step-reply
+step-reply-number r s xs = by-test (λ (y : StepReply). y .number ≡ r .number) (eqb (r .number) 0) _ _ (λ e. sym (eqb-true (r .number) 0 e)) (λ e. refl)

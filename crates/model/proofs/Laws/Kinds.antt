@@ -12,7 +12,7 @@ use Rattle.model.specs.declared.State.{State}
 use Rattle.model.specs.Trees.{Tree, on-path, child, own-record}
 use Rattle.model.specs.Places.{words-of}
 use Rattle.model.specs.States.{acquire-parent, wait-word, locked, none, tail, next, status, place, with-place}
-use Rattle.model.specs.Steps.{Kind, stay, other, root-entry, passed-entry, crossed-entry, is-entry, Row-result, enters, passing-kind, acquired-place, release-place, done-place, release-word, prep-row, swap-row, link-row, wait-row, leave-row, check-row, help-row, cas-row, linger-row, grant-row, row, step}
+use Rattle.model.specs.Steps.{Kind, stay, other, root-entry, passed-entry, crossed-entry, leaving, is-entry, Row-result, enters, passing-kind, acquired-place, release-place, done-place, release-word, prep-row, swap-row, link-row, wait-row, leave-row, check-row, help-row, cas-row, linger-row, grant-row, row, step}
 use Rattle.model.specs.WellFormed.{good-place}
 use Rattle.model.specs.Laws.{Tells-kind, Kind-law}
 use Rattle.model.proofs.Tests.{by-test, and-both, or-neither}
@@ -21,11 +21,14 @@ use Rattle.model.proofs.Trees.Accepted.{Accepted, accepted}
 use Rattle.model.proofs.Trees.Paths.{path-real}
 use Rattle.model.proofs.Laws.Facts.{Facts, well-formed-facts}
 
--- a move to another place, not Inside
+-- a move to another place, not to Inside
 abbrev Moves-to : (before after : Place) → Type 0
 Moves-to p q = (q ≢ p) × (q ≢ Inside)
 
 -- places of different rows differ
+not-inside : (p : Place) → eqb (words-of p .row) 5 ≡ false → p ≢ Inside
+not-inside p f e = eqb-false _ _ f (ap (λ x. words-of x .row) e)
+
 moves-to : (p q : Place) → eqb (words-of q .row) (words-of p .row) || eqb (words-of q .row) 5 ≡ false → Moves-to p q
 moves-to p q f =
     let both = or-neither (eqb (words-of q .row) (words-of p .row)) (eqb (words-of q .row) 5) f in
@@ -33,8 +36,9 @@ moves-to p q f =
 
 -- what a step of a thread from a place comes to
 pub data Outcome (home : ℕ) (s : State) (i : ℕ) (p : Place) (x : Row-result) : Type 0 where
-  stayed : x .kind ≡ stay → x .state ≡ s → Outcome home s i p x
-  moved : (q : Place) → x .kind ≡ other → place (x .state) i ≡ q → Moves-to p q → Outcome home s i p x
+  stayed : x .kind ≡ stay → x .state ≡ s → p ≢ Inside → Outcome home s i p x
+  moved : (q : Place) → x .kind ≡ other → place (x .state) i ≡ q → Moves-to p q → p ≢ Inside → Outcome home s i p x
+  left : (q : Place) → x .kind ≡ leaving → place (x .state) i ≡ q → Moves-to p q → p ≡ Inside → Outcome home s i p x
   entered-root : x .kind ≡ root-entry → place (x .state) i ≡ Inside → (p ≡ Swap 0) ⊎ (p ≡ Wait 0) → Outcome home s i p x
   entered-passed : x .kind ≡ passed-entry → place (x .state) i ≡ Inside → (home ≢ 0) × (p ≡ Wait home) → Outcome home s i p x
   entered-crossed :
@@ -54,9 +58,9 @@ module _ (t : Tree) (𝓐 : Accepted t) (i : ℕ) (h : i < t .threads) (s : Stat
   done-moves : (p : Place) (l : ℕ) → Moves-to p Idle → Moves-to p (Help (child t i l)) → Moves-to p (done-place t i l)
   done-moves p l f g = by-test (Moves-to p) (eqb l (t .home i)) Idle (Help (child t i l)) (λ _. f) (λ _. g)
 
-  prep-outcome : (p : Place) (l : ℕ) → Moves-to p (Swap l) → Of p (prep-row t i l s)
+  prep-outcome : (p : Place) (l : ℕ) → Moves-to p (Swap l) → p ≢ Inside → Of p (prep-row t i l s)
   unfolding prep-row
-  prep-outcome p l f = moved (Swap l) refl (stored (Swap l)) f
+  prep-outcome p l f n = moved (Swap l) refl (stored (Swap l)) f n
 
   swap-outcome : (l : ℕ) → Of (Swap l) (swap-row t i l s)
   unfolding swap-row
@@ -64,12 +68,12 @@ module _ (t : Tree) (𝓐 : Accepted t) (i : ℕ) (h : i < t .threads) (s : Stat
       by-test (Of (Swap l)) (eqb (tail s l) none) _ _
       (λ e. by-test (Of (Swap l)) (eqb l 0) _ _
       (λ z. entered-root refl (stored Inside) (inl (ap Swap (eqb-true l 0 z))))
-      (λ z. moved (acquired-place t l) refl (stored (acquired-place t l)) (moves-to (Swap l) (acquired-place t l) refl)))
-      (λ e. moved (Link l (tail s l - 1)) refl (stored (Link l (tail s l - 1))) (moves-to (Swap l) (Link l (tail s l - 1)) refl))
+      (λ z. moved (acquired-place t l) refl (stored (acquired-place t l)) (moves-to (Swap l) (acquired-place t l) refl) (not-inside (Swap l) refl)))
+      (λ e. moved (Link l (tail s l - 1)) refl (stored (Link l (tail s l - 1))) (moves-to (Swap l) (Link l (tail s l - 1)) refl) (not-inside (Swap l) refl))
 
   link-outcome : (l p : ℕ) → Of (Link l p) (link-row t i l p s)
   unfolding link-row
-  link-outcome l p = moved (Wait l) refl (stored (Wait l)) (moves-to (Link l p) (Wait l) refl)
+  link-outcome l p = moved (Wait l) refl (stored (Wait l)) (moves-to (Link l p) (Wait l) refl) (not-inside (Link l p) refl)
 
   -- from Wait below the root
   passes-on : (l : ℕ) → l ≢ 0 → Of (Wait l) (enters (passing-kind t i l) i s)
@@ -85,18 +89,18 @@ module _ (t : Tree) (𝓐 : Accepted t) (i : ℕ) (h : i < t .threads) (s : Stat
       let v = status s (own-record t i l) in
       let O = Of (Wait l) in
       by-test O (eqb l 0) _ _
-      (λ z. by-test O (eqb v locked) _ _ (λ _. stayed refl refl) (λ _. entered-root refl (stored Inside) (inr (ap Wait (eqb-true l 0 z)))))
-      (λ z. by-test O (eqb v wait-word) _ _ (λ _. stayed refl refl)
+      (λ z. by-test O (eqb v locked) _ _ (λ _. stayed refl refl (not-inside _ refl)) (λ _. entered-root refl (stored Inside) (inr (ap Wait (eqb-true l 0 z)))))
+      (λ z. by-test O (eqb v wait-word) _ _ (λ _. stayed refl refl (not-inside _ refl))
       (λ _. by-test O (eqb v acquire-parent) _ _
-      (λ _. moved (acquired-place t l) refl (stored (acquired-place t l)) (moves-to (Wait l) (acquired-place t l) refl))
+      (λ _. moved (acquired-place t l) refl (stored (acquired-place t l)) (moves-to (Wait l) (acquired-place t l) refl) (not-inside (Wait l) refl))
       (λ _. passes-on l (eqb-false l 0 z))))
 
   leave-outcome : Of Inside (leave-row t i s)
   unfolding leave-row
   leave-outcome =
       let d = t .home i in
-      moved (release-place d) refl (stored (release-place d))
-      (release-moves Inside d (moves-to Inside (Help d) refl) (moves-to Inside (Check d) refl))
+      left (release-place d) refl (stored (release-place d))
+      (release-moves Inside d (moves-to Inside (Help d) refl) (moves-to Inside (Check d) refl)) refl
 
   -- a parent is another domain
   check-outcome : (l : ℕ) → on-path t i l ≡ true → l ≢ 0 → Of (Check l) (check-row t i l s)
@@ -107,10 +111,10 @@ module _ (t : Tree) (𝓐 : Accepted t) (i : ℕ) (h : i < t .threads) (s : Stat
       let lower = 𝓐 .parent-lower l (omega arith) (path-real t 𝓐 i h l o) in
       let to = Grant l (next s I - 1) (status s I + 1) in
       by-test (Of (Check l)) (ltb (status s I) (t .threshold l) && not (eqb (next s I) none)) _ _
-      (λ _. moved to refl (stored to) (moves-to (Check l) to refl))
+      (λ _. moved to refl (stored to) (moves-to (Check l) to refl) (not-inside (Check l) refl))
       (λ _. moved (release-place d) refl (stored (release-place d))
       (release-moves (Check l) d (moves-to (Check l) (Help d) refl)
-      (λ e. let z = ap (λ x. words-of x .domain) e in omega arith, λ e. let z = ap (λ x. words-of x .row) e in omega arith)))
+      (λ e. let z = ap (λ x. words-of x .domain) e in omega arith, λ e. let z = ap (λ x. words-of x .row) e in omega arith)) (not-inside (Check l) refl))
 
   help-outcome : (l : ℕ) → Of (Help l) (help-row t i l s)
   unfolding help-row
@@ -118,8 +122,8 @@ module _ (t : Tree) (𝓐 : Accepted t) (i : ℕ) (h : i < t .threads) (s : Stat
       let n = next s (own-record t i l) in
       let to = Grant l (n - 1) (release-word l) in
       by-test (Of (Help l)) (eqb n none) _ _
-      (λ _. moved (Cas l) refl (stored (Cas l)) (moves-to (Help l) (Cas l) refl))
-      (λ _. moved to refl (stored to) (moves-to (Help l) to refl))
+      (λ _. moved (Cas l) refl (stored (Cas l)) (moves-to (Help l) (Cas l) refl) (not-inside (Help l) refl))
+      (λ _. moved to refl (stored to) (moves-to (Help l) to refl) (not-inside (Help l) refl))
 
   cas-outcome : (l : ℕ) → Of (Cas l) (cas-row t i l s)
   unfolding cas-row
@@ -127,16 +131,16 @@ module _ (t : Tree) (𝓐 : Accepted t) (i : ℕ) (h : i < t .threads) (s : Stat
       let d = child t i l in
       by-test (Of (Cas l)) (eqb (tail s l) (own-record t i l + 1)) _ _
       (λ _. moved (done-place t i l) refl (stored (done-place t i l))
-      (done-moves (Cas l) l (moves-to (Cas l) Idle refl) (moves-to (Cas l) (Help d) refl)))
-      (λ _. moved (Linger l) refl (stored (Linger l)) (moves-to (Cas l) (Linger l) refl))
+      (done-moves (Cas l) l (moves-to (Cas l) Idle refl) (moves-to (Cas l) (Help d) refl)) (not-inside (Cas l) refl))
+      (λ _. moved (Linger l) refl (stored (Linger l)) (moves-to (Cas l) (Linger l) refl) (not-inside (Cas l) refl))
 
   linger-outcome : (l : ℕ) → Of (Linger l) (linger-row t i l s)
   unfolding linger-row
   linger-outcome l =
       let n = next s (own-record t i l) in
       let to = Grant l (n - 1) (release-word l) in
-      by-test (Of (Linger l)) (eqb n none) _ _ (λ _. stayed refl refl)
-      (λ _. moved to refl (stored to) (moves-to (Linger l) to refl))
+      by-test (Of (Linger l)) (eqb n none) _ _ (λ _. stayed refl refl (not-inside _ refl))
+      (λ _. moved to refl (stored to) (moves-to (Linger l) to refl) (not-inside (Linger l) refl))
 
   grant-outcome : (l r w : ℕ) → Of (Grant l r w) (grant-row t i l r w s)
   unfolding grant-row
@@ -144,12 +148,12 @@ module _ (t : Tree) (𝓐 : Accepted t) (i : ℕ) (h : i < t .threads) (s : Stat
       let p = Grant l r w in
       let d = child t i l in
       moved (done-place t i l) refl (stored (done-place t i l))
-      (done-moves p l (moves-to p Idle refl) (moves-to p (Help d) refl))
+      (done-moves p l (moves-to p Idle refl) (moves-to p (Help d) refl)) (not-inside p refl)
 
   row-outcome : (p : Place) → good-place t i p ≡ true → Of p (row t i p s)
   unfolding row good-place
-  row-outcome Idle g = prep-outcome Idle (t .home i) (moves-to Idle (Swap (t .home i)) refl)
-  row-outcome (Prep l) g = prep-outcome (Prep l) l (moves-to (Prep l) (Swap l) refl)
+  row-outcome Idle g = prep-outcome Idle (t .home i) (moves-to Idle (Swap (t .home i)) refl) (not-inside Idle refl)
+  row-outcome (Prep l) g = prep-outcome (Prep l) l (moves-to (Prep l) (Swap l) refl) (not-inside (Prep l) refl)
   row-outcome (Swap l) g = swap-outcome l
   row-outcome (Link l p) g = link-outcome l p
   row-outcome (Wait l) g = wait-outcome l
@@ -174,6 +178,7 @@ entry-kinds other e = absurd (false≢true e)
 entry-kinds root-entry e = inl refl
 entry-kinds passed-entry e = inr (inl refl)
 entry-kinds crossed-entry e = inr (inr refl)
+entry-kinds leaving e = absurd (false≢true e)
 
 kind-entry : (k j : Kind) → k ≡ j → is-entry j ≡ true → is-entry k ≡ true
 kind-entry k j e f = rw e f
@@ -228,7 +233,7 @@ module _ (t : Tree) (i : ℕ) (s : State) where
 
   tells : Outcome (t .home i) s i before (row t i (place s i) s) → Tells-kind t i s
   unfolding step is-entry
-  tells (stayed e f) =
+  tells (stayed e f n) =
       let same : after ≡ before = ap (λ x. place x i) f in
       record {
         stays-exactly = (λ _. f, λ _. e);
@@ -236,14 +241,25 @@ module _ (t : Tree) (i : ℕ) (s : State) where
         root-exactly = (λ g. never (cc), λ g. never (root-not-inside (g .1) (sym same ∙ g .0)));
         passed-exactly = (λ g. never (cc), λ g. never (home-not-inside (g .1) (sym same ∙ g .0)));
         crossed-exactly = (λ g. never (cc), λ g. never (between-not-inside (g .1) (sym same ∙ g .0)));
+        leaving-exactly = (λ g. never (cc), λ g. absurd (n g));
       }
-  tells (moved q e f m) =
+  tells (moved q e f m n) =
       record {
         stays-exactly = (λ g. never (cc), λ g. absurd (m .0 (sym f ∙ ap (λ x. place x i) g)));
         enters-exactly = (λ g. absurd (not-entry other e refl g), λ g. absurd (m .1 (sym f ∙ g .0)));
         root-exactly = (λ g. never (cc), λ g. absurd (m .1 (sym f ∙ g .0)));
         passed-exactly = (λ g. never (cc), λ g. absurd (m .1 (sym f ∙ g .0)));
         crossed-exactly = (λ g. never (cc), λ g. absurd (m .1 (sym f ∙ g .0)));
+        leaving-exactly = (λ g. never (cc), λ g. absurd (n g));
+      }
+  tells (left q e f m n) =
+      record {
+        stays-exactly = (λ g. never (cc), λ g. absurd (m .0 (sym f ∙ ap (λ x. place x i) g)));
+        enters-exactly = (λ g. absurd (not-entry leaving e refl g), λ g. absurd (m .1 (sym f ∙ g .0)));
+        root-exactly = (λ g. never (cc), λ g. absurd (m .1 (sym f ∙ g .0)));
+        passed-exactly = (λ g. never (cc), λ g. absurd (m .1 (sym f ∙ g .0)));
+        crossed-exactly = (λ g. never (cc), λ g. absurd (m .1 (sym f ∙ g .0)));
+        leaving-exactly = (λ _. n, λ _. e);
       }
   tells (entered-root e f m) =
       record {
@@ -252,6 +268,7 @@ module _ (t : Tree) (i : ℕ) (s : State) where
         root-exactly = (λ _. (f, m), λ _. e);
         passed-exactly = (λ g. never (cc), λ g. never (root-not-home m (g .1)));
         crossed-exactly = (λ g. never (cc), λ g. never (root-not-between m (g .1)));
+        leaving-exactly = (λ g. never (cc), λ g. never (root-not-inside m g));
       }
   tells (entered-passed e f m) =
       record {
@@ -260,6 +277,7 @@ module _ (t : Tree) (i : ℕ) (s : State) where
         root-exactly = (λ g. never (cc), λ g. never (root-not-home (g .1) m));
         passed-exactly = (λ _. (f, m), λ _. e);
         crossed-exactly = (λ g. never (cc), λ g. never (home-not-between m (g .1)));
+        leaving-exactly = (λ g. never (cc), λ g. never (home-not-inside m g));
       }
   tells (entered-crossed e f m) =
       record {
@@ -268,6 +286,7 @@ module _ (t : Tree) (i : ℕ) (s : State) where
         root-exactly = (λ g. never (cc), λ g. never (root-not-between (g .1) m));
         passed-exactly = (λ g. never (cc), λ g. never (home-not-between (g .1) m));
         crossed-exactly = (λ _. (f, m), λ _. e);
+        leaving-exactly = (λ g. never (cc), λ g. never (between-not-inside m g));
       }
 
 pub kind-law : Kind-law

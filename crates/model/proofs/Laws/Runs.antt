@@ -7,7 +7,7 @@ use native.Mathlib.Omega.{arith}
 use lib.ListN.{length, take, drop, length-append}
 use Rattle.model.specs.declared.State.{State}
 use Rattle.model.specs.Trees.{Tree}
-use Rattle.model.specs.Steps.{Kind, stay, other, root-entry, passed-entry, crossed-entry, is-kind, is-entry, Step, step}
+use Rattle.model.specs.Steps.{Kind, stay, other, root-entry, passed-entry, crossed-entry, leaving, is-kind, is-entry, Step, step}
 use Rattle.model.specs.Runs.{steps, state-after, how-many, entering, counts-of, run-of, run, begun, ended, entries-under}
 use Rattle.model.specs.Laws.{All-threads, add-counts, then-run, Run-law, Count-law}
 
@@ -95,6 +95,7 @@ entry-one other = refl
 entry-one root-entry = refl
 entry-one passed-entry = refl
 entry-one crossed-entry = refl
+entry-one leaving = refl
 
 pub entries-all : (xs : List Step) → how-many (is-kind root-entry) xs + how-many (is-kind passed-entry) xs + how-many (is-kind crossed-entry) xs ≡ how-many is-entry xs
 unfolding how-many

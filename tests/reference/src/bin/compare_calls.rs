@@ -32,10 +32,11 @@ struct Case {
     trace: Vec<u16>,
 }
 
-/// What a call returned and left in its buffers; a call that is no run has no counts.
+/// What a call returned and left in its buffers; a call that is no run has no counts, and one that is no step tells no kind and no domain.
 #[derive(PartialEq, Eq)]
 struct Left {
     reply: RunReply,
+    told: StepAnswer,
     trace: Vec<u16>,
 }
 
@@ -85,23 +86,28 @@ fn case_schedule(random: &mut Random, mut schedule: Vec<u16>, threads: u32) -> V
 
 fn make(calls: Calls, case: &Case) -> Left {
     let (mut state, mut trace) = (case.state, case.trace.clone());
+    let mut told = StepAnswer::default();
     let reply = match case.call {
         Call::Fresh => without_counts((calls.fresh)(&case.tree)),
         Call::FreshInPlace => {
             let (number, place) = (calls.fresh_in_place)(&case.tree, &mut state);
             without_counts(Reply { number, place, state })
         }
-        Call::Step => without_counts((calls.step)(&case.tree, &state, case.schedule[0])),
+        Call::Step => {
+            let StepReply { answer, state } = (calls.step)(&case.tree, &state, case.schedule[0]);
+            told = answer;
+            without_counts(Reply { number: answer.number, place: answer.place, state })
+        }
         Call::StepInPlace => {
-            let (number, place) = (calls.step_in_place)(&case.tree, &mut state, case.schedule[0]);
-            without_counts(Reply { number, place, state })
+            told = (calls.step_in_place)(&case.tree, &mut state, case.schedule[0]);
+            without_counts(Reply { number: told.number, place: told.place, state })
         }
         Call::Run => {
             let end = trace.len() - CANARY;
             (calls.run)(&case.tree, &state, &case.schedule, &mut trace[CANARY..end])
         }
     };
-    Left { reply, trace }
+    Left { reply, told, trace }
 }
 
 fn without_counts(Reply { number, place, state }: Reply) -> RunReply {
@@ -151,9 +157,9 @@ fn report(case: &Case, table: &Left, other: &Left) {
     println!("trace buffers are {}", if table.trace == other.trace { "the same" } else { "not the same" });
 }
 
-fn summary(Left { reply, .. }: &Left) -> String {
+fn summary(Left { reply, told, .. }: &Left) -> String {
     let RunReply { number, place, steps, entries, stays, root, passed, crossed, .. } = reply;
-    format!("number {number} place {place} steps {steps} entries {entries} stays {stays} root {root} passed {passed} crossed {crossed}")
+    format!("number {number} place {place} steps {steps} entries {entries} stays {stays} root {root} passed {passed} crossed {crossed} kind {} domain {}", told.kind, told.domain)
 }
 
 fn differences(one: &StateWords, other: &StateWords) -> String {

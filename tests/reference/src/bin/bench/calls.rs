@@ -55,8 +55,8 @@ fn round(calls: Calls, tree: &TreeWords, schedule: &[u16], after: &StateWords, t
         run: run(&fresh, schedule),
         first: best(|| run(&fresh, &schedule[..1])),
         one: best(|| run(after, &schedule[..1])),
-        step: best(|| time(|| assert_eq!((calls.step)(tree, opaque(after), next()).number, 0))),
-        in_place: best(|| time(|| assert_eq!((calls.step_in_place)(tree, &mut state, next()), (0, 0)))),
+        step: best(|| time(|| assert_eq!((calls.step)(tree, opaque(after), next()).answer.number, 0))),
+        in_place: best(|| time(|| assert_eq!((calls.step_in_place)(tree, &mut state, next()).number, 0))),
     }
 }
 
