@@ -2,7 +2,7 @@
 use mathlib.Core.Path.{_≡_, refl, sym, ap, _∙_}
 use mathlib.Core.Bool.{Bool, true, false, _&&_}
 use mathlib.Core.Logic.{_≢_}
-use mathlib.Core.List.{List, [], _∷_}
+use mathlib.Core.List.{List, [], _∷_, _++_}
 use Prim.Native.Nat.{ℕ, _≤_, _<_}
 use native.Mathlib.Omega.{arith}
 use native.Mathlib.Decide.{ℕ-discrete}
@@ -21,7 +21,7 @@ use Rattle.model.specs.Steps.{kind-number, step}
 use Rattle.model.specs.WellFormed.{good-tail, good-next, good-status, good-thread, well-formed}
 use Rattle.model.specs.Laws.{All-threads}
 use Rattle.model.specs.Runs.{steps, state-after, counts-of, run-of, run}
-use Rattle.model.specs.Refusals.{refusal, Test, test, first-refusal, tree-tests, bad-length, bad-entry, bad-room, step-tests, run-tests, step-refusal, run-refusal}
+use Rattle.model.specs.Refusals.{refusal, Test, first-refusal, entry-tests, room-tests, tree-tests, bad-length, bad-entry, bad-room, step-tests, run-tests, step-refusal, run-refusal}
 use Rattle.model.specs.Answers.{first-kind, first-domain, step-reply, step-answer, run-refused, run-reply, run-buffer, run-answer, trace-answer}
 use Rattle.model.proofs.Laws.Refusals.{step-refuses-exactly}
 use Rattle.model.proofs.Laws.Runs.{steps-length}
@@ -30,41 +30,41 @@ use Rattle.model.proofs.Laws.Form.{valid}
 use Rattle.model.proofs.Tests.{and-both, all-each}
 use Rattle.model.proofs.Trees.Accepted.{accepted}
 use Rattle.refusals.specs.declared.Refusal.{Refusal}
-use Rattle.refusals.specs.Arrays.{told}
+use Rattle.refusals.specs.Arrays.{told, tree-state-tests, schedule-room-tests}
 use Rattle.refusals.proofs.Scanning.{single-hit, single-missed}
-use Rattle.refusals.proofs.Joining.{first-decides, other-decides, state-tests, state-numbered}
+use Rattle.refusals.proofs.Joining.{first-decides, other-decides, state-numbered}
 use Rattle.refusals.proofs.RunTests.{told-not, told-zero}
 use Rattle.lock.proofs.SoFar.{kind-small, only-one, counts-kinds}
 use Rattle.lock.specs.Running.{kinds-of, counts-by, only-kind, trace-front}
 
 -- A STEP is refused as a run of its one entry is, with room for it
 module _ (t : Tree) (i : ℕ) where
-  abbrev short : Test
-  short = test 11 1 (bad-length (i ∷ []))
+  abbrev entry : List Test
+  entry = entry-tests t (i ∷ [])
 
-  abbrev entry : Test
-  entry = test 12 1 (bad-entry t (i ∷ []))
+  abbrev fits : List Test
+  fits = room-tests (i ∷ []) 1
 
-  abbrev fits : Test
-  fits = test 13 1 (bad-room (i ∷ []) 1)
+  abbrev one-run : List Test
+  one-run = schedule-room-tests t (i ∷ []) 1
 
-  one-schedule : first-refusal (short ∷ entry ∷ fits ∷ []) ≡ first-refusal (entry ∷ [])
+  one-schedule : first-refusal one-run ≡ first-refusal entry
   unfolding bad-length bad-room
-  one-schedule = single-missed short (entry ∷ fits ∷ []) refl refl ∙ by (bad-entry t (i ∷ []) 0) refl
+  one-schedule = single-missed _ (entry ++ fits) refl refl ∙ by (bad-entry t (i ∷ []) 0) refl
     where
-      by : (b : Bool) → bad-entry t (i ∷ []) 0 ≡ b → first-refusal (entry ∷ fits ∷ []) ≡ first-refusal (entry ∷ [])
-      by true e = single-hit entry (fits ∷ []) refl e ∙ sym (single-hit entry [] refl e)
-      by false e = single-missed entry (fits ∷ []) refl e ∙ single-missed fits [] refl refl ∙ sym (single-missed entry [] refl e)
+      by : (b : Bool) → bad-entry t (i ∷ []) 0 ≡ b → first-refusal (entry ++ fits) ≡ first-refusal entry
+      by true e = single-hit _ fits refl e ∙ sym (single-hit _ [] refl e)
+      by false e = single-missed _ fits refl e ∙ single-missed _ [] refl refl ∙ sym (single-missed _ [] refl e)
 
   one-refusal : (s : State) → step-refusal t s i ≡ run-refusal t s (i ∷ []) 1
   unfolding step-refusal step-tests run-refusal run-tests tree-tests
   one-refusal s =
-      let xs = state-tests t s in
+      let xs = tree-state-tests t s in
       elim (ℕ-discrete (first-refusal xs .number) 0) [
         | yes z ↦
-            other-decides xs (entry ∷ []) (state-numbered t s) z ∙ sym one-schedule
-            ∙ sym (other-decides xs (short ∷ entry ∷ fits ∷ []) (state-numbered t s) z)
-        | no z ↦ first-decides xs (entry ∷ []) z ∙ sym (first-decides xs (short ∷ entry ∷ fits ∷ []) z)
+            other-decides xs entry (state-numbered t s) z ∙ sym one-schedule
+            ∙ sym (other-decides xs one-run (state-numbered t s) z)
+        | no z ↦ first-decides xs entry z ∙ sym (first-decides xs one-run z)
       ]
 
 module _ (w : TreeWords) (s : State) (i : ℕ) (r : Refusal) (e : r ≡ told (run-refusal (tree-of w) s (i ∷ []) 1)) where

@@ -1,7 +1,7 @@
--- REFUSALS OF THE FILE CALL: 1 to 9, 12 and 14. Assumes nothing.
+-- REFUSALS OF THE FILE CALL: 1 to 3, those of the tree, 12 and 14. Assumes nothing.
 use mathlib.Core.Path.{_≡_, refl}
 use mathlib.Core.List.{List}
-use mathlib.Core.Logic.{_⊎_, inl, inr}
+use mathlib.Core.Logic.{inl, inr}
 use Prim.Native.Nat.{ℕ, zero, suc, _+_, _-_, _/_, _≤_}
 use native.Mathlib.Omega.{arith}
 use lib.Dec.{ltb, eqb}
@@ -17,7 +17,7 @@ use Rattle.lock_file.specs.Reading.{reached-refusal, entries-from, entri
 use Rattle.lock_file.specs.Listing.{listing}
 use Rattle.lock_file.specs.FileAnswers.{Outcome, refused-by, lists, listing-outcome, run-outcome, file-run, file-trace, reading-outcome, file-outcome, outcome-reply, file-answer}
 use Rattle.lock_file.specs.FileLaws.{Met, File-refusal-law}
-use Rattle.lock_file.proofs.FileRunLaw.{run-met}
+use Rattle.lock_file.proofs.FileRunLaw.{Run-met, run-met}
 
 pub entries-length : (bs : List ℕ) (k at : ℕ) → length (entries-from bs k at) ≡ k
 unfolding entries-from
@@ -30,15 +30,16 @@ Met-by o = Met (outcome-reply o .number)
 listing-met : (ls : List ℕ) (room : ℕ) → Met-by (listing-outcome ls room)
 unfolding listing-outcome outcome-reply refusal Met
 listing-met ls room =
-    by-test (λ o. Met-by o) (ltb room (length ls)) (refused-by (refusal 14 0)) (lists ls) (λ e. inr (inr refl)) (λ e. inl (omega arith))
+    by-test (λ o. Met-by o) (ltb room (length ls)) (refused-by (refusal 14 0)) (lists ls) (λ e. inr (inr (inr refl))) (λ e. inl (omega arith))
 
-refusal-met : (r : RunReply) → (r .number ≤ 9) ⊎ (r .number ≡ 12) → Met-by (refused-by (refusal (r .number) (r .place)))
+refusal-met : (r : RunReply) → Run-met (r .number) → Met-by (refused-by (refusal (r .number) (r .place)))
 unfolding outcome-reply refusal Met
-refusal-met r (inl h) = inl h
-refusal-met r (inr e) = inr (inl e)
+refusal-met r (inl e) = inl (omega arith)
+refusal-met r (inr (inl h)) = inr (inl h)
+refusal-met r (inr (inr e)) = inr (inr (inl e))
 
 run-outcome-met :
-    (r : RunReply) (trace : List ℕ) (room : ℕ) → (r .number ≤ 9) ⊎ (r .number ≡ 12) → Met-by (run-outcome r trace room)
+    (r : RunReply) (trace : List ℕ) (room : ℕ) → Run-met (r .number) → Met-by (run-outcome r trace room)
 unfolding run-outcome
 run-outcome-met r trace room h =
     let ls = listing (r .counts) trace in

@@ -1,14 +1,14 @@
 -- REFUSALS OF THE FILE CALL'S RUN: a fresh lock is well formed, and schedule and trace buffer have the right length. Assumes nothing.
-use mathlib.Core.Path.{_≡_, refl, sym}
+use mathlib.Core.Path.{_≡_, refl, sym, _∙_}
 use mathlib.Core.Bool.{Bool, true, false, cond}
-use mathlib.Core.List.{List, [], _∷_}
+use mathlib.Core.List.{List, [], _∷_, _++_}
 use mathlib.Core.Logic.{_≢_, _⊎_, inl, inr}
 use Prim.Native.Nat.{ℕ, zero, suc, _+_, _≤_, _<_}
 use native.Mathlib.Omega.{arith}
 use native.Mathlib.Decide.{ℕ-discrete}
-use lib.Dec.{ltb, eqb}
+use lib.Dec.{eqb, ltb}
 use lib.ListN.{length, getD, replicate, length-replicate}
-use borrow.Author.Tests.{ltb-true, ltb-false, le-ltb, eqb-true}
+use borrow.Author.Tests.{le-ltb, eqb-true, eqb-false}
 use Rattle.model.specs.declared.TreeWords.{TreeWords}
 use Rattle.model.specs.declared.State.{State}
 use Rattle.model.specs.Trees.{Tree, tree-of}
@@ -16,10 +16,10 @@ use Rattle.model.specs.Places.{place-words, plain-place, place-of, is-idle}
 use Rattle.model.specs.States.{fresh-words}
 use Rattle.model.specs.Runs.{Run, run}
 use Rattle.model.specs.WellFormed.{good-tail, good-next, good-status, good-place, good-thread, well-formed}
-use Rattle.model.specs.Refusals.{Refusal, refusal, accepted, Test, test, lowest-bad, first-refusal, bad-state, bad-length, bad-room, tree-tests, run-tests, run-refusal}
+use Rattle.model.specs.Refusals.{Refusal, refusal, accepted, Test, lowest-bad, first-refusal, bad-state, bad-length, bad-room, state-tests, schedule-tests, room-tests, tree-tests, run-tests, has-number, run-refusal}
 use Rattle.model.specs.Answers.{run-accepted, run-refused, run-reply, run-answer}
 use Rattle.model.specs.Laws.{Passes}
-use Rattle.model.proofs.Tests.{all-true, by-test}
+use Rattle.model.proofs.Tests.{or-neither, all-true, by-test}
 use Rattle.model.proofs.Refusing.{lowest-none}
 use Rattle.model.proofs.Laws.Calls.{run-reply-number}
 use Rattle.lock_file.specs.FileAnswers.{file-run}
@@ -72,54 +72,55 @@ never-answered n (x ∷ xs) h g =
     by (inl o) r = lowest-other (x .number) n (x .bad) (x .places) 0 (first-refusal xs) o r
     by (inr p) r = rw (lowest-passed (x .number) (x .bad) (x .places) (first-refusal xs) p) r
 
--- a run from fresh words, with a schedule that is short enough and room for its trace, meets no number but 4 to 9 and 12
+-- a list without a number does not answer it
+other-numbers : (n : ℕ) (xs : List Test) → has-number xs n ≡ false → Never n xs
+unfolding has-number Never
+other-numbers n [] e = tt
+other-numbers n (x ∷ xs) e =
+    let both = or-neither (eqb (x .number) n) (has-number xs n) e in
+    (inl (eqb-false (x .number) n (both .0)), other-numbers n xs (both .1))
+
+never-joined : (n : ℕ) (xs ys : List Test) → Never n xs → Never n ys → Never n (xs ++ ys)
+unfolding Never
+never-joined n [] ys g h = h
+never-joined n (x ∷ xs) ys g h = (g .0, never-joined n xs ys (g .1) h)
+
+-- a number that the file call's run answers: none, one of the tree's tests, or 12
+abbrev pub Run-met : ℕ → Type 0
+Run-met n = (n ≡ 0) ⊎ (((t : Tree) → has-number (tree-tests t) n ≡ true) ⊎ (n ≡ 12))
+
+-- the numbers do not depend on the tree
+same-numbers : (t u : Tree) (n : ℕ) → has-number (tree-tests t) n ≡ has-number (tree-tests u) n
+unfolding has-number tree-tests
+same-numbers t u n = refl
+
+-- a run from fresh words, with a schedule that is short enough and room for its trace, meets no other
 module _ (t : Tree) (is : List ℕ) (room : ℕ) (short : length is ≤ 65536) (enough : length is ≤ room) where
-  formed : Passes (test 10 1 (bad-state t fresh-words))
-  unfolding bad-state
-  formed p l = rw (fresh-well-formed t)
+  behind : (n : ℕ) → n ≢ 12 → Never n (state-tests t fresh-words ++ (schedule-tests t is ++ room-tests is room))
+  unfolding Never bad-state bad-length bad-room
+  behind n o = (
+    inr (λ p l. rw (fresh-well-formed t)),
+    (inr (λ p l. le-ltb 65536 (length is) short), (inl (λ e. o (sym e)), (inr (λ p l. le-ltb room (length is) enough), tt))),
+  )
 
-  few : Passes (test 11 1 (bad-length is))
-  unfolding bad-length
-  few p l = le-ltb 65536 (length is) short
+  pub run-never : (n : ℕ) → 0 < n → has-number (tree-tests t) n ≡ false → n ≢ 12 → run-refusal t fresh-words is room .number ≢ n
+  unfolding run-refusal run-tests
+  run-never n h e o =
+      never-answered n (run-tests t fresh-words is room) h (never-joined n (tree-tests t) _ (other-numbers n (tree-tests t) e) (behind n o))
 
-  roomy : Passes (test 13 1 (bad-room is room))
-  unfolding bad-room
-  roomy p l = le-ltb room (length is) enough
-
-  never : (n : ℕ) → 9 < n → n ≢ 12 → Never n (run-tests t fresh-words is room)
-  unfolding run-tests tree-tests Never
-  never n h o =
-      let other : (m : ℕ) → m ≤ 9 → m ≢ n = λ m l e. omega arith in (
-        inl (other 4 (omega arith)),
-        (
-          inl (other 5 (omega arith)),
-          (
-            inl (other 6 (omega arith)),
-            (
-              inl (other 7 (omega arith)),
-              (
-                inl (other 8 (omega arith)),
-                (inl (other 9 (omega arith)), (inr formed, (inr few, (inl (λ e. o (sym e)), (inr roomy, tt))))),
-              ),
-            ),
-          ),
-        ),
-      )
-
-  pub run-never : (n : ℕ) → 9 < n → n ≢ 12 → run-refusal t fresh-words is room .number ≢ n
-  unfolding run-refusal
-  run-never n h o = never-answered n (run-tests t fresh-words is room) (omega arith) (never n h o)
-
--- so it is 4 to 9 or 12, if any
-pub run-met : (w : TreeWords) (is : List ℕ) → length is ≤ 65536 → (file-run w is .number ≤ 9) ⊎ (file-run w is .number ≡ 12)
+pub run-met : (w : TreeWords) (is : List ℕ) → length is ≤ 65536 → Run-met (file-run w is .number)
 unfolding file-run run-answer
 run-met w is short =
     let buffer : List ℕ = replicate (length is) 0 in
     let enough : length is ≤ length buffer = omega (arith, length-replicate {A = ℕ} (length is) 0) in
     let r = run-refusal (tree-of w) fresh-words is (length buffer) in
     rw (run-reply-number r fresh-words (run (tree-of w) is fresh-words))
-    (by (r .number) (ltb 9 (r .number)) refl (run-never (tree-of w) is (length buffer) short enough (r .number)))
+    (by (r .number) (has-number (tree-tests (tree-of w)) (r .number)) refl (run-never (tree-of w) is (length buffer) short enough (r .number)))
   where
-    by : (n : ℕ) (b : Bool) → ltb 9 n ≡ b → (9 < n → n ≢ 12 → n ≢ n) → (n ≤ 9) ⊎ (n ≡ 12)
-    by n false e f = inl (ltb-false 9 n e)
-    by n true e f = elim (ℕ-discrete n 12) [ yes z ↦ inr z | no z ↦ absurd (f (ltb-true 9 n e) z refl) ]
+    by : (n : ℕ) (b : Bool) → has-number (tree-tests (tree-of w)) n ≡ b → (0 < n → b ≡ false → n ≢ 12 → n ≢ n) → Run-met n
+    by n true e f = inr (inl (λ t. same-numbers t (tree-of w) n ∙ e))
+    by n false e f =
+        elim (ℕ-discrete n 0) [
+          | yes z ↦ inl z
+          | no z ↦ elim (ℕ-discrete n 12) [ yes y ↦ inr (inr y) | no y ↦ absurd (f (omega arith) refl y refl) ]
+        ]

@@ -1,13 +1,14 @@
 -- THE LAWS OF THE LOCK FILE AND THE LISTING. Each is a statement; proofs/ has its proof. Assumes nothing.
 use mathlib.Core.Path.{_≡_}
+use mathlib.Core.Bool.{true}
 use mathlib.Core.List.{List, [], _∷_, _++_}
 use mathlib.Core.Logic.{_≢_, _⊎_}
 use Prim.Native.Nat.{ℕ, _+_, _*_, _-_, _≤_, _<_}
 use lib.ListN.{length, take, getD, replicate}
 use Rattle.model.specs.declared.TreeWords.{TreeWords}
-use Rattle.model.specs.Trees.{tree-of}
+use Rattle.model.specs.Trees.{Tree, tree-of}
 use Rattle.model.specs.States.{fresh-words}
-use Rattle.model.specs.Refusals.{Refusal, refusal}
+use Rattle.model.specs.Refusals.{Refusal, refusal, tree-tests, has-number}
 use Rattle.model.specs.Answers.{fresh-answer, trace-answer}
 use Rattle.model.specs.Claim.{Call, a-run, ran, answers, joined, Claim}
 use Rattle.model.specs.Laws.{_⟺_}
@@ -62,9 +63,9 @@ pub record Decimal (v : ℕ) (bytes : List ℕ) : Type 0 where
 unfoldable pub Numeral-law : Type 0
 Numeral-law = (v : ℕ) → Decimal v (numeral v)
 
--- 4. REFUSALS. The file call meets 1 to 9, 12 and 14: it runs from a fresh lock, its schedules are short, its trace buffer has room
+-- 4. REFUSALS. The file call is accepted, or meets 1 to 3, a number of the tree's tests, 12 or 14: it runs from a fresh lock, its schedules are short, its trace buffer has room
 unfoldable pub Met : (number : ℕ) → Type 0
-Met n = (n ≤ 9) ⊎ ((n ≡ 12) ⊎ (n ≡ 14))
+Met n = (n ≤ 3) ⊎ (((t : Tree) → has-number (tree-tests t) n ≡ true) ⊎ ((n ≡ 12) ⊎ (n ≡ 14)))
 
 unfoldable pub File-refusal-law : Type 0
 File-refusal-law = (bytes output : List ℕ) → Met (file-answer bytes output .number)

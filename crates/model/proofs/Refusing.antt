@@ -1,11 +1,15 @@
 -- Tests in order: what an answer says of them. Assumes nothing.
 use mathlib.Core.Path.{_≡_, refl}
 use mathlib.Core.Bool.{Bool, true, false, cond}
-use mathlib.Core.List.{List, _∷_}
+use mathlib.Core.List.{List, [], _∷_}
 use Prim.Native.Nat.{ℕ, zero, suc, _+_, _<_}
 use native.Mathlib.Nat.{add-zero}
 use native.Mathlib.Omega.{arith}
-use Rattle.model.specs.Refusals.{Refusal, refusal, Test, lowest-bad, first-refusal}
+use lib.Dec.{eqb}
+use borrow.Author.Tests.{eqb-false}
+use Rattle.model.specs.Refusals.{Refusal, refusal, Test, lowest-bad, first-refusal, has-number}
+use Rattle.model.specs.Laws.{Numbered}
+use Rattle.model.proofs.Tests.{or-neither}
 
 -- a test that finds no bad place gives the answer of those behind it
 pub lowest-none : (n : ℕ) (f : ℕ → Bool) (k p : ℕ) (r : Refusal) → ((j : ℕ) → j < k → f (p + j) ≡ false) → lowest-bad n f k p r ≡ r
@@ -48,3 +52,12 @@ pub test-skipped : (x : Test) (xs : List Test) → ((p : ℕ) → p < x .places 
 unfolding first-refusal
 test-skipped x xs h =
     lowest-none (x .number) (x .bad) (x .places) 0 (first-refusal xs) (λ p l. let z : 0 + p ≡ p = omega arith in rw z (h p l))
+
+-- numbers that are computed and are not 0
+pub numbered : (xs : List Test) → has-number xs 0 ≡ false → Numbered xs
+unfolding has-number Numbered
+numbered [] e = tt
+numbered (x ∷ xs) e =
+    let both = or-neither (eqb (x .number) 0) (has-number xs 0) e in
+    let n = eqb-false (x .number) 0 (both .0) in
+    (omega arith, numbered xs (both .1))

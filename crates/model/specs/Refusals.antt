@@ -1,5 +1,5 @@
 -- Document 01, "When a call says no": numbers 4 to 13. Assumes nothing: these are definitions.
-use mathlib.Core.Bool.{Bool, _&&_, _||_, not, cond}
+use mathlib.Core.Bool.{Bool, false, _&&_, _||_, not, cond}
 use mathlib.Core.List.{List, [], _∷_, _++_}
 use Prim.Native.Nat.{ℕ, zero, suc}
 use lib.Dec.{ltb, leb, eqb}
@@ -62,12 +62,6 @@ no-threshold t d = not (eqb d 0) && eqb (t .threshold d) 0
 unfoldable pub bad-home : Tree → (thread : ℕ) → Bool
 bad-home t i = leb (t .domains) (t .home i) || not (is-leaf t (t .home i))
 
--- making a fresh lock meets 4 to 9
-unfoldable pub tree-tests : Tree → List Test
-tree-tests t =
-    test 4 1 (bad-domains t) ∷ test 5 1 (bad-threads t) ∷ test 6 (t .domains) (bad-parent t) ∷ test 7 (t .domains) (too-deep t)
-    ∷ test 8 (t .domains) (no-threshold t) ∷ test 9 (t .threads) (bad-home t) ∷ []
-
 -- 10: the state handed in is not well formed
 unfoldable pub bad-state : Tree → State → ℕ → Bool
 bad-state t s p = not (well-formed t s)
@@ -84,15 +78,47 @@ bad-entry t is p = leb (t .threads) (getD is p 0)
 unfoldable pub bad-room : (schedule : List ℕ) → (room : ℕ) → ℕ → Bool
 bad-room is room p = ltb room (length is)
 
+-- THE GROUPS, each over what its tests look at: the counts, the domains and the homes of a tree
+abbrev pub count-tests : Tree → List Test
+count-tests t = test 4 1 (bad-domains t) ∷ test 5 1 (bad-threads t) ∷ []
+
+abbrev pub domain-tests : Tree → List Test
+domain-tests t = test 6 (t .domains) (bad-parent t) ∷ test 7 (t .domains) (too-deep t) ∷ test 8 (t .domains) (no-threshold t) ∷ []
+
+abbrev pub home-tests : Tree → List Test
+home-tests t = test 9 (t .threads) (bad-home t) ∷ []
+
+-- a state handed in
+abbrev pub state-tests : Tree → State → List Test
+state-tests t s = test 10 1 (bad-state t s) ∷ []
+
+-- a schedule's entries, and its length before them
+abbrev pub entry-tests : Tree → (schedule : List ℕ) → List Test
+entry-tests t is = test 12 (length is) (bad-entry t is) ∷ []
+
+abbrev pub schedule-tests : Tree → (schedule : List ℕ) → List Test
+schedule-tests t is = test 11 1 (bad-length is) ∷ entry-tests t is
+
+-- the room for a trace
+abbrev pub room-tests : (schedule : List ℕ) → (room : ℕ) → List Test
+room-tests is room = test 13 1 (bad-room is room) ∷ []
+
+-- THE CALLS: making a fresh lock meets 4 to 9
+unfoldable pub tree-tests : Tree → List Test
+tree-tests t = count-tests t ++ (domain-tests t ++ home-tests t)
+
 -- one step meets 4 to 10 and 12
 unfoldable pub step-tests : Tree → State → (thread : ℕ) → List Test
-step-tests t s i = tree-tests t ++ (test 10 1 (bad-state t s) ∷ test 12 1 (bad-entry t (i ∷ [])) ∷ [])
+step-tests t s i = tree-tests t ++ (state-tests t s ++ entry-tests t (i ∷ []))
 
 -- a run meets 4 to 13
 unfoldable pub run-tests : Tree → State → (schedule : List ℕ) → (room : ℕ) → List Test
-run-tests t s is room =
-    tree-tests t
-    ++ (test 10 1 (bad-state t s) ∷ test 11 1 (bad-length is) ∷ test 12 (length is) (bad-entry t is) ∷ test 13 1 (bad-room is room) ∷ [])
+run-tests t s is room = tree-tests t ++ (state-tests t s ++ (schedule-tests t is ++ room-tests is room))
+
+-- a number is one of a list's
+unfoldable pub has-number : List Test → (number : ℕ) → Bool
+has-number [] n = false
+has-number (x ∷ xs) n = eqb (x .number) n || has-number xs n
 
 unfoldable pub tree-refusal : Tree → Refusal
 tree-refusal t = first-refusal (tree-tests t)

@@ -6,8 +6,8 @@ use Prim.Native.Nat.{ℕ, _+_, _≤_, _<_}
 use native.Mathlib.Omega.{arith}
 use lib.ListN.{getD, set, replicate}
 use borrow.Author.Tests.{ne-eqb, lt-leb}
-use Rattle.model.specs.Refusals.{accepted, first-refusal, bad-parent, no-threshold}
-use Rattle.refusals.specs.Arrays.{tree-in, parents-in, domain-tests}
+use Rattle.model.specs.Refusals.{accepted, first-refusal, domain-tests, bad-parent, no-threshold}
+use Rattle.refusals.specs.Arrays.{tree-in, parents-in}
 use Rattle.refusals.specs.Lowest.{Lowest}
 use Rattle.refusals.proofs.Reading.{parent-in, threshold-in}
 use Rattle.refusals.proofs.Scanning.{one-more, single}

@@ -3,12 +3,12 @@ use mathlib.Core.Path.{_≡_, refl, _∙_}
 use mathlib.Core.Bool.{Bool, true, false, cond}
 use mathlib.Core.List.{List, [], _∷_, _++_}
 use Prim.Native.Nat.{ℕ, zero, suc}
-use native.Mathlib.Omega.{arith}
 use Rattle.model.specs.declared.State.{State}
 use Rattle.model.specs.Trees.{Tree}
-use Rattle.model.specs.Refusals.{Refusal, refusal, accepted, Test, test, lowest-bad, first-refusal, tree-tests, bad-state}
+use Rattle.model.specs.Refusals.{Refusal, refusal, accepted, Test, lowest-bad, first-refusal, tree-tests, has-number}
 use Rattle.model.specs.Laws.{Numbered}
-use Rattle.model.proofs.Refusing.{tests-pass, test-skipped}
+use Rattle.model.proofs.Refusing.{tests-pass, test-skipped, numbered}
+use Rattle.refusals.specs.Arrays.{tree-state-tests}
 
 lowest-else :
     (n : ℕ) (f : ℕ → Bool) (k p : ℕ) (r q : Refusal) → (lowest-bad n f k p r .number ≡ 0 → ⊥) → ((r .number ≡ 0 → ⊥) → q ≡ r) →
@@ -37,14 +37,6 @@ other-decides (x ∷ xs) ys n e =
     let both = tests-pass x xs (n .0) e in
     test-skipped x (xs ++ ys) (both .0) ∙ other-decides xs ys (n .1) (both .1)
 
-pub tree-numbered : (t : Tree) → Numbered (tree-tests t)
-unfolding Numbered tree-tests
-tree-numbered t = (omega arith, (omega arith, (omega arith, (omega arith, (omega arith, (omega arith, tt))))))
-
--- 4 to 10, of a tree and a state
-abbrev pub state-tests : Tree → State → List Test
-state-tests t s = tree-tests t ++ (test 10 1 (bad-state t s) ∷ [])
-
-pub state-numbered : (t : Tree) (s : State) → Numbered (state-tests t s)
-unfolding Numbered tree-tests
-state-numbered t s = (omega arith, (omega arith, (omega arith, (omega arith, (omega arith, (omega arith, (omega arith, tt)))))))
+pub state-numbered : (t : Tree) (s : State) → Numbered (tree-state-tests t s)
+unfolding has-number tree-tests
+state-numbered t s = numbered (tree-state-tests t s) refl

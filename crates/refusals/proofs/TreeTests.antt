@@ -1,20 +1,20 @@
 -- The tests of a tree in order: what the scans answer is the tree's refusal. Assumes nothing.
 use mathlib.Core.Path.{_≡_, refl, sym, ap, fun-ext, _∙_}
 use mathlib.Core.Bool.{Bool}
-use mathlib.Core.List.{List, [], _∷_}
+use mathlib.Core.List.{List, []}
 use Prim.Native.Nat.{ℕ, zero, suc, _≤_, _<_}
 use native.Mathlib.Omega.{arith}
 use lib.Dec.{eqb, ltb}
+use lib.ListN.{drop}
 use borrow.Author.Tests.{eq-eqb, ne-eqb, lt-ltb, le-ltb, eqb-false, ltb-false, leb-false}
 use Rattle.model.specs.declared.TreeWords.{TreeWords}
 use Rattle.model.specs.Trees.{Tree, tree-of, depth-from, depth, level, is-child, is-leaf}
-use Rattle.model.specs.Refusals.{refusal, accepted, Test, test, first-refusal, tree-tests, tree-refusal, bad-domains, bad-threads, bad-parent, too-deep, no-threshold, bad-home}
-use Rattle.model.specs.Laws.{Numbered}
+use Rattle.model.specs.Refusals.{refusal, accepted, first-refusal, count-tests, domain-tests, home-tests, tree-tests, has-number, tree-refusal, bad-domains, bad-threads, bad-parent, too-deep, no-threshold, bad-home}
 use Rattle.model.proofs.Tests.{or-neither}
-use Rattle.model.proofs.Refusing.{tests-pass}
+use Rattle.model.proofs.Refusing.{tests-pass, numbered}
 use Rattle.model.proofs.Trees.Accepted.{but-zero}
 use Rattle.refusals.specs.declared.Refusal.{Refusal}
-use Rattle.refusals.specs.Arrays.{tree-in, parents-in, Lower, told, count-tests, domain-tests, shape-tests}
+use Rattle.refusals.specs.Arrays.{tree-in, parents-in, Lower, told, shape-tests}
 use Rattle.refusals.specs.Lowest.{Lowest}
 use Rattle.refusals.proofs.Reading.{parent-in}
 use Rattle.refusals.proofs.Scanning.{single-hit, single-missed, test-hit, test-missed}
@@ -48,28 +48,19 @@ module _ (w : TreeWords) where
   abbrev t : Tree
   t = tree-of w
 
-  abbrev six : Test
-  six = test 6 (t .domains) (bad-parent t)
-
-  abbrev seven : Test
-  seven = test 7 (t .domains) (too-deep t)
-
-  abbrev eight : Test
-  eight = test 8 (t .domains) (no-threshold t)
-
-  abbrev nine : Test
-  nine = test 9 (t .threads) (bad-home t)
-
   -- what each scan answers, of the whole tree
   parents-of : (p : ℕ) → Lowest (w .domains) (bad-parent (parents-in (w .domains) (w .parents))) p → Lowest (t .domains) (bad-parent t) p
   unfolding bad-parent tree-of
   parents-of p L = lowest-same (w .domains) (bad-parent (parents-in (w .domains) (w .parents))) (bad-parent t) p (λ j. refl) L
 
-  levels-of : (p : ℕ) → Lowest (w .domains) (too-deep (parents-in (w .domains) (w .parents))) p → Lowest (t .domains) (too-deep t) p
+  -- levels read the parents alone
+  levels-alone : (m : ℕ) (ts hs : List ℕ) → too-deep (tree-in (w .domains) m (w .parents) ts hs) ≡ too-deep t
   unfolding too-deep level depth tree-of
-  levels-of p L =
-      lowest-same (w .domains) (too-deep (parents-in (w .domains) (w .parents))) (too-deep t) p
-      (λ j. rw (depth-same (w .domains) (parents-in (w .domains) (w .parents)) t j (λ e. refl))) L
+  levels-alone m ts hs = fun-ext (λ d. rw (depth-same (w .domains) (tree-in (w .domains) m (w .parents) ts hs) t d (λ e. refl)))
+
+  levels-of : (p : ℕ) → Lowest (w .domains) (too-deep (parents-in (w .domains) (w .parents))) p → Lowest (t .domains) (too-deep t) p
+  unfolding tree-of
+  levels-of p L = rw (← levels-alone 0 [] []) L
 
   thresholds-of : (p : ℕ) → Lowest (w .domains) (no-threshold (tree-in (w .domains) 0 [] (w .thresholds) [])) p → Lowest (t .domains) (no-threshold t) p
   unfolding no-threshold tree-of
@@ -80,39 +71,33 @@ module _ (w : TreeWords) where
   homes-of p L =
       lowest-same (w .threads) (bad-home (tree-in (w .domains) (w .threads) (w .parents) [] (w .homes))) (bad-home t) p (λ j. refl) L
 
-  abbrev four : Test
-  four = test 4 1 (bad-domains t)
-
-  abbrev five : Test
-  five = test 5 1 (bad-threads t)
-
   -- 4 and 5
   pub no-domains : w .domains ≡ 0 → first-refusal (count-tests t) ≡ refusal 4 0
   unfolding bad-domains tree-of
-  no-domains e = single-hit four _ refl (rw (eq-eqb (w .domains) 0 e))
+  no-domains e = single-hit _ _ refl (rw (eq-eqb (w .domains) 0 e))
 
   module _ (n : w .domains ≡ 0 → ⊥) where
     pub many-domains : 64 < w .domains → first-refusal (count-tests t) ≡ refusal 4 0
     unfolding bad-domains tree-of
-    many-domains e = single-hit four _ refl (rw (ne-eqb (w .domains) 0 n, lt-ltb 64 (w .domains) e))
+    many-domains e = single-hit _ _ refl (rw (ne-eqb (w .domains) 0 n, lt-ltb 64 (w .domains) e))
 
     module _ (e : w .domains ≤ 64) where
-      after-four : first-refusal (count-tests t) ≡ first-refusal (five ∷ [])
+      after-four : first-refusal (count-tests t) ≡ first-refusal (drop 1 (count-tests t))
       unfolding bad-domains tree-of
-      after-four = single-missed four _ refl (rw (ne-eqb (w .domains) 0 n, le-ltb 64 (w .domains) e))
+      after-four = single-missed _ _ refl (rw (ne-eqb (w .domains) 0 n, le-ltb 64 (w .domains) e))
 
       pub no-threads : w .threads ≡ 0 → first-refusal (count-tests t) ≡ refusal 5 0
       unfolding bad-threads tree-of
-      no-threads f = after-four ∙ single-hit five _ refl (rw (eq-eqb (w .threads) 0 f))
+      no-threads f = after-four ∙ single-hit _ _ refl (rw (eq-eqb (w .threads) 0 f))
 
       module _ (m : w .threads ≡ 0 → ⊥) where
         pub many-threads : 256 < w .threads → first-refusal (count-tests t) ≡ refusal 5 0
         unfolding bad-threads tree-of
-        many-threads f = after-four ∙ single-hit five _ refl (rw (ne-eqb (w .threads) 0 m, lt-ltb 256 (w .threads) f))
+        many-threads f = after-four ∙ single-hit _ _ refl (rw (ne-eqb (w .threads) 0 m, lt-ltb 256 (w .threads) f))
 
         pub counts-pass : w .threads ≤ 256 → first-refusal (count-tests t) ≡ accepted
         unfolding bad-threads tree-of first-refusal
-        counts-pass f = after-four ∙ single-missed five [] refl (rw (ne-eqb (w .threads) 0 m, le-ltb 256 (w .threads) f))
+        counts-pass f = after-four ∙ single-missed _ [] refl (rw (ne-eqb (w .threads) 0 m, le-ltb 256 (w .threads) f))
 
   -- they read nothing else
   counts-alone : first-refusal (count-tests (tree-in (w .domains) (w .threads) [] [] [])) ≡ first-refusal (count-tests t)
@@ -123,36 +108,34 @@ module _ (w : TreeWords) where
   module _ (p₆ : ℕ) (L₆ : Lowest (w .domains) (bad-parent (parents-in (w .domains) (w .parents))) p₆) where
     pub parent-refused : p₆ < w .domains → first-refusal (domain-tests t) ≡ refusal 6 p₆
     unfolding tree-of
-    parent-refused h = test-hit six _ p₆ (parents-of p₆ L₆) h
+    parent-refused h = test-hit _ _ p₆ (parents-of p₆ L₆) h
 
-    after-six : w .domains ≤ p₆ → first-refusal (domain-tests t) ≡ first-refusal (seven ∷ eight ∷ [])
+    after-six : w .domains ≤ p₆ → first-refusal (domain-tests t) ≡ first-refusal (drop 1 (domain-tests t))
     unfolding tree-of
-    after-six h = test-missed six _ p₆ (parents-of p₆ L₆) h
+    after-six h = test-missed _ _ p₆ (parents-of p₆ L₆) h
 
     module _ (h₆ : w .domains ≤ p₆) (p₇ : ℕ) (L₇ : Lowest (w .domains) (too-deep (parents-in (w .domains) (w .parents))) p₇) where
       pub level-refused : p₇ < w .domains → first-refusal (domain-tests t) ≡ refusal 7 p₇
       unfolding tree-of
-      level-refused h = after-six h₆ ∙ test-hit seven _ p₇ (levels-of p₇ L₇) h
+      level-refused h = after-six h₆ ∙ test-hit _ _ p₇ (levels-of p₇ L₇) h
 
-      after-seven : w .domains ≤ p₇ → first-refusal (domain-tests t) ≡ first-refusal (eight ∷ [])
+      after-seven : w .domains ≤ p₇ → first-refusal (domain-tests t) ≡ first-refusal (drop 2 (domain-tests t))
       unfolding tree-of
-      after-seven h = after-six h₆ ∙ test-missed seven _ p₇ (levels-of p₇ L₇) h
+      after-seven h = after-six h₆ ∙ test-missed _ _ p₇ (levels-of p₇ L₇) h
 
       module _ (h₇ : w .domains ≤ p₇) (p₈ : ℕ) (L₈ : Lowest (w .domains) (no-threshold (tree-in (w .domains) 0 [] (w .thresholds) [])) p₈) where
         pub threshold-refused : p₈ < w .domains → first-refusal (domain-tests t) ≡ refusal 8 p₈
         unfolding tree-of
-        threshold-refused h = after-seven h₇ ∙ test-hit eight _ p₈ (thresholds-of p₈ L₈) h
+        threshold-refused h = after-seven h₇ ∙ test-hit _ _ p₈ (thresholds-of p₈ L₈) h
 
         pub domains-pass : w .domains ≤ p₈ → first-refusal (domain-tests t) ≡ accepted
         unfolding tree-of first-refusal
-        domains-pass h = after-seven h₇ ∙ test-missed eight [] p₈ (thresholds-of p₈ L₈) h
+        domains-pass h = after-seven h₇ ∙ test-missed _ [] p₈ (thresholds-of p₈ L₈) h
 
   -- they read neither threads nor homes
   domains-alone : first-refusal (domain-tests (tree-in (w .domains) 0 (w .parents) (w .thresholds) [])) ≡ first-refusal (domain-tests t)
-  unfolding bad-parent too-deep no-threshold level depth tree-of
-  domains-alone =
-      ap (λ deep. first-refusal (six ∷ test 7 (w .domains) deep ∷ eight ∷ []))
-      (fun-ext (λ d. rw (depth-same (w .domains) (tree-in (w .domains) 0 (w .parents) (w .thresholds) []) t d (λ e. refl))))
+  unfolding bad-parent no-threshold tree-of
+  domains-alone = rw (levels-alone 0 (w .thresholds) [])
 
   -- 4 and 5, then 6 to 8
   module _ (k : Refusal) (f : k ≡ told (first-refusal (count-tests (tree-in (w .domains) (w .threads) [] [] [])))) where
@@ -166,7 +149,7 @@ module _ (w : TreeWords) where
       pub few-domains : (0 < w .domains) × (w .domains ≤ 64)
       unfolding bad-domains tree-of
       few-domains =
-          let c₄ = tests-pass four (five ∷ []) (omega arith) (sym (ap (λ q. q .number) counted) ∙ z) in
+          let c₄ = tests-pass _ (drop 1 (count-tests t)) (omega arith) (sym (ap (λ q. q .number) counted) ∙ z) in
           let d₄ = or-neither (eqb (w .domains) 0) (ltb 64 (w .domains)) (c₄ .0 0 (omega arith)) in
           let some = eqb-false (w .domains) 0 (d₄ .0) in
           (omega arith, ltb-false 64 (w .domains) (d₄ .1))
@@ -174,19 +157,17 @@ module _ (w : TreeWords) where
       pub domains-decide :
           (q : Refusal) → q ≡ told (first-refusal (domain-tests (tree-in (w .domains) 0 (w .parents) (w .thresholds) []))) →
           q ≡ told (first-refusal (shape-tests t))
-      unfolding Numbered
+      unfolding has-number
       domains-decide q g =
           g
           ∙ ap told
           (domains-alone
-          ∙ sym (other-decides (count-tests t) (domain-tests t) (omega arith, (omega arith, tt)) (sym (ap (λ q. q .number) counted) ∙ z)))
+          ∙ sym (other-decides (count-tests t) (domain-tests t) (numbered (count-tests t) refl) (sym (ap (λ q. q .number) counted) ∙ z)))
 
   -- they do not read homes
   shape-alone : first-refusal (shape-tests (tree-in (w .domains) (w .threads) (w .parents) (w .thresholds) [])) ≡ first-refusal (shape-tests t)
-  unfolding bad-domains bad-threads bad-parent too-deep no-threshold level depth tree-of
-  shape-alone =
-      ap (λ deep. first-refusal (four ∷ five ∷ six ∷ test 7 (w .domains) deep ∷ eight ∷ []))
-      (fun-ext (λ d. rw (depth-same (w .domains) (tree-in (w .domains) (w .threads) (w .parents) (w .thresholds) []) t d (λ e. refl))))
+  unfolding bad-domains bad-threads bad-parent no-threshold tree-of
+  shape-alone = rw (levels-alone (w .threads) (w .thresholds) [])
 
   -- 4 to 8, then 9
   module _ (r : Refusal) (e : r ≡ told (first-refusal (shape-tests (tree-in (w .domains) (w .threads) (w .parents) (w .thresholds) [])))) where
@@ -195,7 +176,7 @@ module _ (w : TreeWords) where
 
     pub shape-refused : (r .number ≡ 0 → ⊥) → r ≡ told (tree-refusal t)
     unfolding tree-refusal tree-tests
-    shape-refused n = whole ∙ ap told (sym (first-decides (shape-tests t) (nine ∷ []) (λ z. n (ap (λ q. q .number) whole ∙ z))))
+    shape-refused n = whole ∙ ap told (sym (first-decides (shape-tests t) (home-tests t) (λ z. n (ap (λ q. q .number) whole ∙ z))))
 
     module _ (z : r .number ≡ 0) where
       passed : first-refusal (shape-tests t) .number ≡ 0
@@ -204,9 +185,9 @@ module _ (w : TreeWords) where
       pub shape : Shape w
       unfolding bad-domains bad-threads bad-parent tree-of
       shape =
-          let c₄ = tests-pass four (five ∷ domain-tests t) (omega arith) passed in
-          let c₅ = tests-pass five (domain-tests t) (omega arith) (c₄ .1) in
-          let c₆ = tests-pass six (seven ∷ eight ∷ []) (omega arith) (c₅ .1) in
+          let c₄ = tests-pass _ (drop 1 (shape-tests t)) (omega arith) passed in
+          let c₅ = tests-pass _ (domain-tests t) (omega arith) (c₄ .1) in
+          let c₆ = tests-pass _ (drop 1 (domain-tests t)) (omega arith) (c₅ .1) in
           let d₄ = or-neither (eqb (w .domains) 0) (ltb 64 (w .domains)) (c₄ .0 0 (omega arith)) in
           let d₅ = or-neither (eqb (w .threads) 0) (ltb 256 (w .threads)) (c₅ .0 0 (omega arith)) in
           let some = eqb-false (w .domains) 0 (d₄ .0) in
@@ -217,15 +198,15 @@ module _ (w : TreeWords) where
             low = lower-by (w .domains) (w .parents) (w .domains) (record { within = omega arith; passed = c₆ .0; fails = λ l. absurd (omega arith) }) (omega arith);
           }
 
-      after-eight : tree-refusal t ≡ first-refusal (nine ∷ [])
-      unfolding tree-refusal tree-tests Numbered
-      after-eight = other-decides (shape-tests t) (nine ∷ []) (omega arith, (omega arith, (omega arith, (omega arith, (omega arith, tt))))) passed
+      after-eight : tree-refusal t ≡ first-refusal (home-tests t)
+      unfolding tree-refusal tree-tests has-number
+      after-eight = other-decides (shape-tests t) (home-tests t) (numbered (shape-tests t) refl) passed
 
       module _ (p₉ : ℕ) (L₉ : Lowest (w .threads) (bad-home (tree-in (w .domains) (w .threads) (w .parents) [] (w .homes))) p₉) where
         pub home-refused : p₉ < w .threads → tree-refusal t ≡ refusal 9 p₉
         unfolding tree-of
-        home-refused h = after-eight ∙ test-hit nine _ p₉ (homes-of p₉ L₉) h
+        home-refused h = after-eight ∙ test-hit _ _ p₉ (homes-of p₉ L₉) h
 
         pub tree-passes : w .threads ≤ p₉ → tree-refusal t ≡ accepted
         unfolding tree-of first-refusal
-        tree-passes h = after-eight ∙ test-missed nine [] p₉ (homes-of p₉ L₉) h
+        tree-passes h = after-eight ∙ test-missed _ [] p₉ (homes-of p₉ L₉) h

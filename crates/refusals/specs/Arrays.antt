@@ -1,13 +1,14 @@
 -- A tree by the arrays that a test reads, and what earlier tests have shown of them. Assumes nothing: these are definitions.
 use mathlib.Core.Path.{_≡_}
 use mathlib.Core.Bool.{Bool, true, false, _||_, not}
-use mathlib.Core.List.{List, [], _∷_, _++_}
+use mathlib.Core.List.{List, [], _++_}
 use Prim.Native.Nat.{ℕ, _<_}
 use lib.Dec.{leb}
 use lib.ListN.{getD, length}
+use Rattle.model.specs.declared.State.{State}
 use Rattle.model.specs.Trees.{Tree, tree-of, is-leaf}
 use Rattle.model.specs.Refusals as model
-use Rattle.model.specs.Refusals.{accepted, Test, test, first-refusal, bad-domains, bad-threads, bad-parent, too-deep, no-threshold, bad-length, bad-entry, bad-room}
+use Rattle.model.specs.Refusals.{accepted, Test, first-refusal, count-tests, domain-tests, state-tests, schedule-tests, room-tests, tree-tests}
 use Rattle.refusals.specs.declared.Refusal.{Refusal}
 
 abbrev pub tree-in : (domains threads : ℕ) → (parents thresholds homes : List ℕ) → Tree
@@ -21,19 +22,11 @@ parents-in n ps = tree-in n 0 ps [] []
 pub record Lower (domains : ℕ) (parents : List ℕ) : Type 0 where
   pub lower : (d : ℕ) → 0 < d → d < domains → getD parents d 0 < d
 
--- 4 and 5: the tests of the counts
-abbrev pub count-tests : Tree → List Test
-count-tests t = test 4 1 (bad-domains t) ∷ test 5 1 (bad-threads t) ∷ []
-
--- 6 to 8: the tests of the domains
-abbrev pub domain-tests : Tree → List Test
-domain-tests t = test 6 (t .domains) (bad-parent t) ∷ test 7 (t .domains) (too-deep t) ∷ test 8 (t .domains) (no-threshold t) ∷ []
-
--- 4 to 8: the tests of counts and domains, which do not read homes
+-- the tests of counts and domains, which do not read homes
 abbrev pub shape-tests : Tree → List Test
 shape-tests t = count-tests t ++ domain-tests t
 
--- an answer that is true only where no domain fails 6 to 8
+-- an answer that is true only where no domain fails its tests
 pub record Sound (domains : ℕ) (parents thresholds : List ℕ) (answer : Bool) : Type 0 where
   pub sound : answer ≡ true → first-refusal (domain-tests (tree-in domains 0 parents thresholds [])) ≡ accepted
 
@@ -50,7 +43,14 @@ pub record No-homes (domains : ℕ) (parents : List ℕ) (table : List Bool) : T
 abbrev pub told : model.Refusal → Refusal
 told r = record { number = r .number; place = r .place }
 
--- a run's tests behind those of its tree and its state: 11 to 13
-abbrev pub schedule-tests : (threads : ℕ) → (schedule : List ℕ) → (room : ℕ) → List Test
-schedule-tests m is room =
-    test 11 1 (bad-length is) ∷ test 12 (length is) (bad-entry (tree-in 0 m [] [] []) is) ∷ test 13 1 (bad-room is room) ∷ []
+-- where a test reads the number of threads alone
+abbrev pub threads-in : (threads : ℕ) → Tree
+threads-in m = tree-in 0 m [] [] []
+
+-- the tests of a tree and a state
+abbrev pub tree-state-tests : Tree → State → List Test
+tree-state-tests t s = tree-tests t ++ state-tests t s
+
+-- the tests of a schedule and the room for its trace
+abbrev pub schedule-room-tests : Tree → (schedule : List ℕ) → (room : ℕ) → List Test
+schedule-room-tests t is room = schedule-tests t is ++ room-tests is room

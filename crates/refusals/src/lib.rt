@@ -1,12 +1,12 @@
 // The refusals of the calls, numbers 4 to 13, each test over everything before the next.
 ghost use mathlib.Core.Path.{_≡_};
-ghost use mathlib.Core.List.{[], _∷_, _++_};
+ghost use mathlib.Core.List.{[]};
 ghost use Prim.Native.Nat.{_<_, _≤_};
 ghost use lib.Dec.{eqb};
 ghost use lib.ListN.{length};
 ghost use Rattle.model.specs.Trees.{tree-of};
-ghost use Rattle.model.specs.Refusals.{refusal, test, first-refusal, tree-tests, tree-refusal, run-refusal, bad-state, bad-entry};
-ghost use Rattle.refusals.specs.Arrays.{tree-in, told, count-tests, domain-tests, shape-tests, schedule-tests};
+ghost use Rattle.model.specs.Refusals.{refusal, first-refusal, count-tests, domain-tests, tree-refusal, run-refusal, bad-entry};
+ghost use Rattle.refusals.specs.Arrays.{tree-in, threads-in, told, shape-tests, tree-state-tests, schedule-room-tests};
 ghost use Rattle.refusals.specs.Lowest.{Lowest};
 
 mod states;
@@ -105,7 +105,7 @@ pub fn tree_refusal_of(tree: TreeWords) -> Refusal
 
 // Whether 4 to 10 refuse nothing: one walk over the tree's domains, three tables, then one walk over the state's domains and one over its threads.
 fn passes(tree: TreeWords, state: State) -> bool
-    ensures { λ r. ⌜ r ≡ eqb (first-refusal (tree-tests (tree-of tree) ++ (test 10 1 (bad-state (tree-of tree) state) ∷ [])) .number) 0 ⌝ }
+    ensures { λ r. ⌜ r ≡ eqb (first-refusal (tree-state-tests (tree-of tree) state) .number) 0 ⌝ }
 {
     let domains = tree.domains;
     let threads = tree.threads;
@@ -147,7 +147,7 @@ fn passes(tree: TreeWords, state: State) -> bool
 
 // A state handed in meets 4 to 10.
 fn state_refusal_of(tree: TreeWords, state: State) -> Refusal
-    ensures { λ r. ⌜ r ≡ told (first-refusal (tree-tests (tree-of tree) ++ (test 10 1 (bad-state (tree-of tree) state) ∷ []))) ⌝ }
+    ensures { λ r. ⌜ r ≡ told (first-refusal (tree-state-tests (tree-of tree) state)) ⌝ }
 {
     if passes(tree, state) {
         return refusal_at(0, 0);
@@ -161,7 +161,7 @@ fn state_refusal_of(tree: TreeWords, state: State) -> Refusal
 
 fn lowest_bad_entry(schedule: &[u16], threads: u32) -> u32
     requires { ⌜ length (now schedule) ≤ 65536 ⌝ }
-    ensures { λ r. ⌜ Lowest (length (now (schedule .entry))) (bad-entry (tree-in 0 threads [] [] []) (now (schedule .entry))) r ⌝ }
+    ensures { λ r. ⌜ Lowest (length (now (schedule .entry))) (bad-entry (threads-in threads) (now (schedule .entry))) r ⌝ }
 {
     let mut k: u32 = 0;
     while (k as usize) < schedule.len() {
@@ -177,7 +177,7 @@ fn lowest_bad_entry(schedule: &[u16], threads: u32) -> u32
 
 // A run's schedule, and the room for its trace, meet 11 to 13.
 fn schedule_refusal_of(threads: u32, schedule: &[u16], room: usize) -> Refusal
-    ensures { λ r. ⌜ r ≡ told (first-refusal (schedule-tests threads (now (schedule .entry)) room)) ⌝ }
+    ensures { λ r. ⌜ r ≡ told (first-refusal (schedule-room-tests (threads-in threads) (now (schedule .entry)) room)) ⌝ }
 {
     if 65536 < schedule.len() {
         return Refusal {

@@ -9,9 +9,9 @@ use native.Mathlib.Omega.{arith}
 use native.Mathlib.Decide.{ℕ-discrete}
 use Rattle.model.specs.declared.State.{State}
 use Rattle.model.specs.Trees.{Tree}
-use Rattle.model.specs.Refusals.{Refusal, refusal, accepted, Test, lowest-bad, first-refusal, tree-tests, step-tests, run-tests}
+use Rattle.model.specs.Refusals.{Refusal, refusal, accepted, Test, lowest-bad, first-refusal, tree-tests, step-tests, run-tests, has-number}
 use Rattle.model.specs.Laws.{Refuses, here, later, All-pass, Numbered, Refuses-exactly, Refusal-law, Call-refusal-law}
-use Rattle.model.proofs.Refusing.{test-skipped}
+use Rattle.model.proofs.Refusing.{test-skipped, numbered}
 
 -- the lowest bad place p of those that are looked at is the answer
 pub lowest-hit :
@@ -123,22 +123,21 @@ refusal-law xs h =
     }
 
 -- THE CALLS' TESTS are numbered, so the law speaks of what each call meets
-tree-numbered : (t : Tree) (xs : List Test) → Numbered xs → Numbered (tree-tests t ++ xs)
-unfolding Numbered tree-tests
-tree-numbered t xs n = (omega arith, (omega arith, (omega arith, (omega arith, (omega arith, (omega arith, n))))))
+pub tree-numbered : (t : Tree) → Numbered (tree-tests t)
+unfolding has-number tree-tests
+tree-numbered t = numbered (tree-tests t) refl
 
 pub tree-refuses-exactly : (t : Tree) → Refuses-exactly (tree-tests t)
-unfolding Refusal-law Numbered tree-tests
-tree-refuses-exactly t = refusal-law (tree-tests t) (tree-numbered t [] tt)
+unfolding Refusal-law
+tree-refuses-exactly t = refusal-law (tree-tests t) (tree-numbered t)
 
 pub step-refuses-exactly : (t : Tree) (s : State) (i : ℕ) → Refuses-exactly (step-tests t s i)
-unfolding Refusal-law Numbered step-tests
-step-refuses-exactly t s i = refusal-law (step-tests t s i) (tree-numbered t _ (omega arith, (omega arith, tt)))
+unfolding Refusal-law has-number tree-tests step-tests
+step-refuses-exactly t s i = refusal-law (step-tests t s i) (numbered (step-tests t s i) refl)
 
 pub run-refuses-exactly : (t : Tree) (s : State) (is : List ℕ) (room : ℕ) → Refuses-exactly (run-tests t s is room)
-unfolding Refusal-law Numbered run-tests
-run-refuses-exactly t s is room =
-    refusal-law (run-tests t s is room) (tree-numbered t _ (omega arith, (omega arith, (omega arith, (omega arith, tt)))))
+unfolding Refusal-law has-number tree-tests run-tests
+run-refuses-exactly t s is room = refusal-law (run-tests t s is room) (numbered (run-tests t s is room) refl)
 
 pub call-refusal-law : Call-refusal-law
 unfolding Call-refusal-law

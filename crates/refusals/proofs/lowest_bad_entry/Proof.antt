@@ -8,14 +8,14 @@ use lib.ListN.{length}
 use borrow.Author.Tests.{le-leb, lt-leb}
 use Rattle.model.specs.Trees.{tree-of}
 use Rattle.model.specs.Refusals.{bad-entry}
-use Rattle.refusals.specs.Arrays.{tree-in}
+use Rattle.refusals.specs.Arrays.{threads-in}
 use Rattle.refusals.proofs.Scanning.{one-more}
 use borrow.Author.Needs.{needs}
 use Rattle.refusals.proofs.lowest_bad_entry.Statement.{statement}
 use Rattle.refusals.proofs.lowest_bad_entry.Tie as tie
 
 abbrev Inv-loop : tie.InvT-loop
-Inv-loop schedule threads k₀ k = (k ≤ length schedule) × ((j : ℕ) → j < k → bad-entry (tree-in 0 threads [] [] []) schedule j ≡ false)
+Inv-loop schedule threads k₀ k = (k ≤ length schedule) × ((j : ℕ) → j < k → bad-entry (threads-in threads) schedule j ≡ false)
 
 abbrev μ-loop : tie.MeasureT-loop
 μ-loop schedule threads k₀ k = length schedule - k
