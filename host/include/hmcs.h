@@ -32,7 +32,7 @@ typedef struct hmcs_tree {
     uint32_t threads;                  /* 1 to 256 */
     uint8_t parents[HMCS_DOMAINS];     /* of each domain but the root, one with a lower number */
     uint16_t thresholds[HMCS_DOMAINS]; /* of each domain but the root, 1 to 65,535 */
-    uint8_t homes[HMCS_THREADS];       /* of each thread, a domain without child domains */
+    uint8_t homes[HMCS_THREADS];       /* of each thread, a domain without child domains; each such domain is some thread's home */
 } hmcs_tree;
 
 /* Rows of the step table (crates/model/specs/Steps.antt), as a thread's place names them. */
@@ -91,6 +91,7 @@ enum hmcs_refusal {
     HMCS_TRACE_SHORT = 13,     /* The trace buffer has fewer elements than the schedule. */
     HMCS_OUTPUT_SHORT = 14,    /* The output buffer is shorter than the listing. */
     HMCS_TEXT_WRONG = 15,      /* The text leaves the grammar, the place being the first byte that no text could continue with, or the length. */
+    HMCS_EMPTY_DOMAIN = 16,    /* A domain has no thread under it, the place being the lowest such domain. Tested straight after 9. */
     HMCS_BAD_TIME = 24         /* A passing time isn't a number from 1/1024 to 1,048,576, the place being 1 to 3. */
 };
 
@@ -113,6 +114,7 @@ static inline const char *hmcs_refusal_text(uint32_t number) {
     case HMCS_TRACE_SHORT: return "the trace buffer has fewer elements than the schedule";
     case HMCS_OUTPUT_SHORT: return "the output buffer is shorter than the listing";
     case HMCS_TEXT_WRONG: return "the text leaves the grammar of trees";
+    case HMCS_EMPTY_DOMAIN: return "a domain has no thread under it";
     case HMCS_BAD_TIME: return "a passing time isn't a number from 1/1024 to 1,048,576";
     default: return "no refusal has this number";
     }
@@ -186,14 +188,14 @@ typedef struct hmcs_run_reply {
     hmcs_state state;
 } hmcs_run_reply;
 
-/* A fresh lock of the tree. Refused by 4 to 9. The state is fresh, accepted or refused. */
+/* A fresh lock of the tree. Refused by 4 to 9 and 16. The state is fresh, accepted or refused. */
 hmcs_fresh_reply hmcs_fresh(hmcs_tree tree);
 
-/* One step of a thread. Refused by 4 to 10 and 12; then kind and domain are 0 and the state is as it came. */
+/* One step of a thread. Refused by 4 to 9, 16, 10 and 12; then kind and domain are 0 and the state is as it came. */
 hmcs_step_reply hmcs_step(hmcs_tree tree, hmcs_state state, uint16_t thread);
 
-/* The steps of a schedule, one after another. Refused by 4 to 13; then no step is taken, the counts are 0, and state and trace are as they
- * came. Accepted, the entering threads are written at the front of the trace, reply.entries of them, and nothing behind them. The trace must
+/* The steps of a schedule, one after another. Refused by 4 to 9, 16 and 10 to 13; then no step is taken, the counts are 0, and state and
+ * trace are as they came. Accepted, the entering threads are written at the front of the trace, reply.entries of them, and nothing behind them. The trace must
  * have room for as many elements as the schedule has. */
 hmcs_run_reply hmcs_run(hmcs_tree tree, hmcs_state state, const uint16_t *schedule, size_t schedule_length, uint16_t *trace, size_t trace_length);
 
@@ -204,8 +206,8 @@ hmcs_answer hmcs_fresh_in_place(hmcs_tree tree, hmcs_state *state);
 hmcs_step_answer hmcs_step_in_place(hmcs_tree tree, hmcs_state *state, uint16_t thread);
 
 /* The file call: reads a lock file, runs its schedule from a fresh lock, and writes the listing at the front of the output. Returns the
- * number; *place is its place, *length the listing's length, 0 where it is refused. Refused by 1 to 9, 12 and 14; then the output is as it
- * came. */
+ * number; *place is its place, *length the listing's length, 0 where it is refused. Refused by 1 to 9, 16, 12 and 14; then the output is as
+ * it came. */
 uint32_t hmcs_run_file(const uint8_t *file, size_t file_length, uint8_t *output, size_t output_length, uint32_t *place, uint32_t *length);
 
 /* What reading a text returns: number and place, and the tree; refused, all its words are 0. The place is a position in the text, however
@@ -219,7 +221,7 @@ typedef struct hmcs_text_reply {
 /* Reads a tree from its text, as `(2(#2) 16(#1))`: in parentheses either `#` and a thread count, or domains separated by one space, each a
  * threshold and again such parentheses, down to level 6. Numbers are decimal from 1 without leading zeros, thresholds at most 65,535.
  * Domains count in the order of their opening parenthesis, threads leaf by leaf. No byte stands before the tree and none behind it, no line
- * feed either. Refused by 15, 4 and 5, in this order; an accepted tree passes 4 to 9. */
+ * feed either. Refused by 15, 4 and 5, in this order; an accepted tree passes 4 to 9 and 16. */
 hmcs_text_reply hmcs_read_text(const uint8_t *text, size_t text_length);
 
 /* How long it takes to pass the lock on in a tree of three levels: p1 between two threads of one home, p2 between two homes below one domain,

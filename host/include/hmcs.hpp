@@ -41,7 +41,8 @@ class Tree {
 public:
     Tree() : words_{} { words_.domains = 1; }
 
-    // A domain below another; its number. A parent above 255 is refused as one (6).
+    // A domain below another; its number. A parent above 255 is refused as one (6), and a domain that gets no
+    // thread, in it or below it, by 16.
     std::uint32_t add_domain(std::uint32_t parent, std::uint16_t threshold) {
         const std::uint32_t d = words_.domains++;
         if (d < HMCS_DOMAINS) {

@@ -142,6 +142,10 @@ void tree_layout() {
     r = hmcs_fresh(u);
     CHECK(r.number == HMCS_BAD_HOME && r.place == 255);
     u = t;
+    for (int i = 0; i < 256; ++i) u.homes[i] = static_cast<std::uint8_t>(1 + i % 62);
+    r = hmcs_fresh(u);
+    CHECK(r.number == HMCS_EMPTY_DOMAIN && r.place == 63);
+    u = t;
     u.domains = 65;
     CHECK(hmcs_fresh(u).number == HMCS_BAD_DOMAINS);
     u = t;

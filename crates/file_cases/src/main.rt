@@ -48,6 +48,9 @@ fn trees() {
     run(b"threshold-65535");
     run(b"home-with-children");
     run(b"home-no-domain");
+    run(b"empty-leaf");
+    run(b"empty-inner-domain");
+    run(b"empty-leaf-and-home-with-children");
     run(b"last-entry-no-thread");
     run(b"65536-bytes");
     run(b"65537-bytes");

@@ -215,6 +215,17 @@ fn handed_in() {
     step_line(tree, fresh(tree), 2);
 }
 
+// A leaf without threads is refused before a state that is not well formed.
+fn empty_leaf() {
+    let mut tree = two_threads(2);
+    tree.domains = 3;
+    tree.thresholds[2] = 2;
+    let mut root = fresh(tree);
+    root.places[0] = place(6, 0, 0, 0);
+    put(b"a leaf without threads");
+    step_line(tree, root, 0);
+}
+
 fn main() {
     trace_room();
     late_entry();
@@ -225,4 +236,5 @@ fn main() {
     put(b"thresholds of 1");
     turns(1);
     handed_in();
+    empty_leaf();
 }

@@ -17,7 +17,7 @@ use Rattle.model.specs.States.{fresh-words}
 use Rattle.model.specs.Runs.{Run, run}
 use Rattle.model.specs.WellFormed.{good-tail, good-next, good-status, good-place, good-thread, well-formed}
 use Rattle.model.specs.Refusals.{Refusal, refusal, accepted, Test, lowest-bad, first-refusal, bad-state, bad-length, bad-room, state-tests, schedule-tests, room-tests, tree-tests, run-tests, has-number, run-refusal}
-use Rattle.model.specs.Answers.{run-accepted, run-refused, run-reply, run-answer}
+use Rattle.model.specs.Answers.{run-reply, run-answer}
 use Rattle.model.specs.Laws.{Passes}
 use Rattle.model.proofs.Tests.{or-neither, all-true, by-test}
 use Rattle.model.proofs.Refusing.{lowest-none}

@@ -1,4 +1,4 @@
--- Cases of reading and of the file call, in one list: the printed example's bytes, and 1 to 5, 9, 12 and 14 at their places. Assumes nothing: these are definitions.
+-- Cases of reading and of the file call, in one list: the printed example's bytes, and 1 to 5, 9, 16, 12 and 14 at their places. Assumes nothing: these are definitions.
 use mathlib.Core.Bool.{Bool, true, false, _&&_}
 use mathlib.Core.List.{List, [], _∷_, _++_}
 use Prim.Native.Nat.{ℕ, suc}
@@ -88,6 +88,8 @@ cases =
     -- the home of the thread before, even one that is no domain; 9 at the first
     ∷ gives 1 3 (replicate 64 0) (replicate 64 0) (0 ∷ 9 ∷ 9 ∷ replicate 253 0) [] (file-read (1 ∷ 3 ∷ 0 ∷ 0 ∷ 1 ∷ 9 ∷ 0 ∷ []))
     ∷ replies 9 1 0 (file-answer (1 ∷ 3 ∷ 0 ∷ 0 ∷ 1 ∷ 9 ∷ 0 ∷ []) [])
+    -- a leaf without threads, also where a schedule entry is no thread
+    ∷ replies 16 2 0 (file-answer (3 ∷ 0 ∷ 0 ∷ 1 ∷ 0 ∷ 1 ∷ 1 ∷ 9 ∷ 0 ∷ []) [])
     -- "refused 8 1", and an empty schedule's listing "ok 0 0 0 0 0 0"
     ∷ same (refusal-line 8 1) (114 ∷ 101 ∷ 102 ∷ 117 ∷ 115 ∷ 101 ∷ 100 ∷ 32 ∷ 56 ∷ 32 ∷ 49 ∷ 10 ∷ [])
     ∷ same (output-answer (1 ∷ 1 ∷ 0 ∷ 0 ∷ []) (replicate 15 0)) (111 ∷ 107 ∷ 32 ∷ 48 ∷ 32 ∷ 48 ∷ 32 ∷ 48 ∷ 32 ∷ 48 ∷ 32 ∷ 48 ∷ 32 ∷ 48 ∷ 10 ∷ [])

@@ -24,7 +24,7 @@ pub data Outcome : Type 0 where
 unfoldable pub listing-outcome : (bytes : List ℕ) → (room : ℕ) → Outcome
 listing-outcome ls room = cond (ltb room (length ls)) (refused-by (refusal 14 0)) (lists ls)
 
--- what a run answered: 4 to 9 and 12, or the listing of its counts and trace
+-- what a run answered: 4 to 9, 16 and 12, or the listing of its counts and trace
 unfoldable pub run-outcome : RunReply → (trace : List ℕ) → (room : ℕ) → Outcome
 run-outcome r trace room =
     cond (eqb (r .number) 0) (listing-outcome (listing (r .counts) trace) room)

@@ -8,13 +8,13 @@ use Rattle.model.specs.States.{fresh-words}
 use Rattle.model.specs.Steps.{is-kind, is-entry, prep-row, swap-row, link-row, wait-row, leave-row, check-row, help-row, cas-row, linger-row, grant-row, row, step}
 use Rattle.model.specs.Runs.{steps, state-after, how-many, entering, counts-of, run-of, run, begun-in, ended-in, begun, ended, entries-under, occurrences}
 use Rattle.model.specs.WellFormed.{good-tail, good-next, good-status, good-place, good-thread, well-formed}
-use Rattle.model.specs.Refusals.{refusal, accepted, lowest-bad, first-refusal, bad-domains, bad-threads, bad-parent, too-deep, no-threshold, bad-home, tree-tests, bad-state, bad-length, bad-entry, bad-room, step-tests, run-tests, tree-refusal, step-refusal, run-refusal}
+use Rattle.model.specs.Refusals.{refusal, accepted, lowest-bad, first-refusal, bad-domains, bad-threads, bad-parent, too-deep, no-threshold, bad-home, empty-domain, tree-tests, bad-state, bad-length, bad-entry, bad-room, step-tests, run-tests, tree-refusal, step-refusal, run-refusal}
 use Rattle.model.specs.Answers.{fresh-answer, first-kind, first-domain, step-reply, step-answer, run-reply, run-buffer, run-answer, trace-answer}
 use Rattle.model.specs.Cases.{padded, tree, count-up, ok, refused, passes, two-homes, first-entries, root-alone, two-in-root, one-home, three-levels, four-levels, cases, same-numbers, place-numbers, same-state, gives, same-counts, kept, run-holds, holds, all-hold, three-homes, until-standing, while-standing, allowance-reached}
 
 -- each line is computed
 pub cases-hold : all-hold cases ≡ true
-unfolding any-below all-below read-word tree-of is-child is-leaf depth-from depth level meets on-path child-from child own-record is-record is-member owner-domain plain-place place-of is-idle is-inside fresh-words is-kind is-entry prep-row swap-row link-row wait-row leave-row check-row help-row cas-row linger-row grant-row row step steps state-after how-many entering counts-of run-of run good-tail good-next good-status good-place good-thread well-formed refusal accepted lowest-bad first-refusal bad-domains bad-threads bad-parent too-deep no-threshold bad-home tree-tests bad-state bad-length bad-entry bad-room step-tests run-tests tree-refusal step-refusal run-refusal fresh-answer first-kind first-domain step-reply step-answer run-reply run-buffer run-answer trace-answer padded tree count-up ok refused passes two-homes first-entries root-alone two-in-root one-home three-levels four-levels cases same-numbers place-numbers same-state gives same-counts kept run-holds holds all-hold
+unfolding any-below all-below read-word tree-of is-child is-leaf depth-from depth level meets on-path child-from child own-record is-record is-member owner-domain under plain-place place-of is-idle is-inside fresh-words is-kind is-entry prep-row swap-row link-row wait-row leave-row check-row help-row cas-row linger-row grant-row row step steps state-after how-many entering counts-of run-of run good-tail good-next good-status good-place good-thread well-formed refusal accepted lowest-bad first-refusal bad-domains bad-threads bad-parent too-deep no-threshold bad-home empty-domain tree-tests bad-state bad-length bad-entry bad-room step-tests run-tests tree-refusal step-refusal run-refusal fresh-answer first-kind first-domain step-reply step-answer run-reply run-buffer run-answer trace-answer padded tree count-up ok refused passes two-homes first-entries root-alone two-in-root one-home three-levels four-levels cases same-numbers place-numbers same-state gives same-counts kept run-holds holds all-hold
 cases-hold = refl
 
 -- the threads under domain 1 enter as often as its allowance says, while domain 2 stands ungranted

@@ -14,7 +14,7 @@ use Rattle.model.specs.States.{fresh-words}
 use Rattle.model.specs.Steps.{is-kind, is-entry, prep-row, swap-row, link-row, wait-row, leave-row, check-row, help-row, cas-row, linger-row, grant-row, row, step}
 use Rattle.model.specs.Runs.{Run, steps, state-after, how-many, entering, counts-of, run-of, run, begun-in, ended-in, begun, ended, entries-under, occurrences}
 use Rattle.model.specs.WellFormed.{good-tail, good-next, good-status, good-place, good-thread, well-formed}
-use Rattle.model.specs.Refusals.{Refusal, refusal, accepted, lowest-bad, first-refusal, bad-domains, bad-threads, bad-parent, too-deep, no-threshold, bad-home, tree-tests, bad-state, bad-length, bad-entry, bad-room, step-tests, run-tests, tree-refusal, step-refusal, run-refusal}
+use Rattle.model.specs.Refusals.{Refusal, refusal, accepted, lowest-bad, first-refusal, bad-domains, bad-threads, bad-parent, too-deep, no-threshold, bad-home, empty-domain, tree-tests, bad-state, bad-length, bad-entry, bad-room, step-tests, run-tests, tree-refusal, step-refusal, run-refusal}
 use Rattle.model.specs.Answers.{fresh-answer, step-reply, step-answer, run-reply, run-buffer, run-answer, trace-answer}
 use Rattle.model.specs.Laws.{Unread-law}
 use Rattle.model.specs.Claim.{Ask, one-step, a-run, Call, state-in, answer-to, answer, ask-refusal, call-refusal, asked-entries, added, answers, joined, Names, Demand-three}
@@ -80,7 +80,7 @@ abbrev mixed-refusals : List Refusal
 mixed-refusals = accepted ∷ refusal 4 0 ∷ accepted ∷ refusal 12 1 ∷ accepted ∷ accepted ∷ []
 
 refused : refusals-in (answers mixed-calls fresh-words) ≡ mixed-refusals
-unfolding any-below all-below read-word tree-of is-child is-leaf depth-from depth level meets on-path child-from child own-record is-record is-member owner-domain plain-place place-of is-idle fresh-words is-kind is-entry prep-row swap-row link-row wait-row leave-row check-row help-row cas-row linger-row grant-row row step steps state-after how-many entering counts-of run-of run good-tail good-next good-status good-place good-thread well-formed refusal accepted lowest-bad first-refusal bad-domains bad-threads bad-parent too-deep no-threshold bad-home tree-tests bad-state bad-length bad-entry bad-room step-tests run-tests tree-refusal step-refusal run-refusal fresh-answer step-reply step-answer run-reply run-buffer run-answer trace-answer padded tree count-up two-homes state-in answer-to answer answers too-many-domains two-homes-again mixed-calls refusal-in refusals-in
+unfolding any-below all-below read-word tree-of is-child is-leaf depth-from depth level meets on-path child-from child own-record is-record is-member owner-domain under plain-place place-of is-idle fresh-words is-kind is-entry prep-row swap-row link-row wait-row leave-row check-row help-row cas-row linger-row grant-row row step steps state-after how-many entering counts-of run-of run good-tail good-next good-status good-place good-thread well-formed refusal accepted lowest-bad first-refusal bad-domains bad-threads bad-parent too-deep no-threshold bad-home empty-domain tree-tests bad-state bad-length bad-entry bad-room step-tests run-tests tree-refusal step-refusal run-refusal fresh-answer step-reply step-answer run-reply run-buffer run-answer trace-answer padded tree count-up two-homes state-in answer-to answer answers too-many-domains two-homes-again mixed-calls refusal-in refusals-in
 refused = refl
 
 named : Names-by (tree-of two-homes) mixed-calls mixed-refusals
@@ -95,7 +95,7 @@ unfolding joined-by mixed-calls asked-entries mixed-schedule refusal accepted
 schedule = joined-same mixed-calls fresh-words ∙ ap (joined-by mixed-calls) refused
 
 fresh-accepted : fresh-answer two-homes .number ≡ 0
-unfolding any-below read-word tree-of is-child is-leaf depth-from depth level refusal accepted lowest-bad first-refusal bad-domains bad-threads bad-parent too-deep no-threshold bad-home tree-tests tree-refusal fresh-answer padded tree two-homes
+unfolding any-below read-word tree-of is-child is-leaf depth-from depth level meets on-path under refusal accepted lowest-bad first-refusal bad-domains bad-threads bad-parent too-deep no-threshold bad-home empty-domain tree-tests tree-refusal fresh-answer padded tree two-homes
 fresh-accepted = refl
 
 pub refused-calls-allowed : Refused-calls-allowed

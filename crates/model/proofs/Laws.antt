@@ -1,8 +1,9 @@
--- The laws of the step table and the refusals: runs and counts, refusals and accepted calls, form, kinds, words.
+-- The laws of the step table and the refusals: runs and counts, refusals, accepted calls and empty domains, form, kinds, words.
 pub mod Runs
 pub mod Passed
 pub mod Refusals
 pub mod Calls
+pub mod Empty
 pub mod Facts
 pub mod Form
 pub mod Kinds

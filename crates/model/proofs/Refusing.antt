@@ -1,13 +1,13 @@
 -- Tests in order: what an answer says of them. Assumes nothing.
-use mathlib.Core.Path.{_≡_, refl}
+use mathlib.Core.Path.{_≡_, refl, ap, _∙_}
 use mathlib.Core.Bool.{Bool, true, false, cond}
-use mathlib.Core.List.{List, [], _∷_}
+use mathlib.Core.List.{List, [], _∷_, _++_}
 use Prim.Native.Nat.{ℕ, zero, suc, _+_, _<_}
 use native.Mathlib.Nat.{add-zero}
 use native.Mathlib.Omega.{arith}
 use lib.Dec.{eqb}
 use borrow.Author.Tests.{eqb-false}
-use Rattle.model.specs.Refusals.{Refusal, refusal, Test, lowest-bad, first-refusal, has-number}
+use Rattle.model.specs.Refusals.{Refusal, refusal, accepted, Test, lowest-bad, first-refusal, has-number}
 use Rattle.model.specs.Laws.{Numbered}
 use Rattle.model.proofs.Tests.{or-neither}
 
@@ -61,3 +61,11 @@ numbered (x ∷ xs) e =
     let both = or-neither (eqb (x .number) 0) (has-number xs 0) e in
     let n = eqb-false (x .number) 0 (both .0) in
     (omega arith, numbered xs (both .1))
+
+-- two lists that refuse nothing: the first refuses nothing
+pub first-passes : (xs ys : List Test) → Numbered xs → first-refusal (xs ++ ys) .number ≡ 0 → first-refusal xs .number ≡ 0
+unfolding Numbered first-refusal accepted refusal
+first-passes [] ys n e = refl
+first-passes (x ∷ xs) ys n e =
+    let both = tests-pass x (xs ++ ys) (n .0) e in
+    ap (λ r. r .number) (test-skipped x xs (both .0)) ∙ first-passes xs ys (n .1) (both .1)

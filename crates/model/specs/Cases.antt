@@ -102,6 +102,17 @@ cases =
     ∷ fresh-call (tree 3 1 (0 ∷ 0 ∷ 2 ∷ []) (0 ∷ 0 ∷ 1 ∷ []) (1 ∷ [])) (refused 6 2)
     -- a parent not below its domain comes before the level that it would give
     ∷ fresh-call (tree 8 1 (replicate 7 0 ++ 7 ∷ []) (0 ∷ replicate 7 1) (1 ∷ [])) (refused 6 7)
+    -- an empty leaf beside a full one
+    ∷ fresh-call (tree 3 1 (0 ∷ 0 ∷ 0 ∷ []) (0 ∷ 2 ∷ 16 ∷ []) (1 ∷ [])) (refused 16 2)
+    -- an inner domain whose leaves are all empty: its own number is the lower
+    ∷ fresh-call (tree 5 2 (0 ∷ 0 ∷ 0 ∷ 1 ∷ 1 ∷ []) (0 ∷ replicate 4 1) (2 ∷ 2 ∷ [])) (refused 16 1)
+    -- two empty leaves: the lower
+    ∷ fresh-call (tree 4 1 (replicate 4 0) (0 ∷ replicate 3 1) (2 ∷ [])) (refused 16 1)
+    -- an empty leaf and a home that is no leaf: 9 comes before
+    ∷ fresh-call (tree 3 2 (0 ∷ 0 ∷ 0 ∷ []) (0 ∷ 2 ∷ 16 ∷ []) (1 ∷ 0 ∷ [])) (refused 9 1)
+    -- an empty leaf and a state that is not well formed: 16 comes before 10
+    ∷ step-call (tree 3 1 (0 ∷ 0 ∷ 0 ∷ []) (0 ∷ 2 ∷ 16 ∷ []) (1 ∷ [])) (with-place 0 (Check 0) fresh-words) 0 (refused 16 2)
+    ∷ run-call (tree 3 1 (0 ∷ 0 ∷ 0 ∷ []) (0 ∷ 2 ∷ 16 ∷ []) (1 ∷ [])) (with-place 0 (Check 0) fresh-words) (0 ∷ []) (refused 16 2)
     -- one domain, one thread, entries 0 0
     ∷ run-call root-alone fresh-words (0 ∷ 0 ∷ []) (ok 2 1 0 1 0 0 (0 ∷ []))
     -- the empty schedule: all counts 0

@@ -11,14 +11,14 @@ use Rattle.model.specs.declared.State.{State}
 use Rattle.model.specs.declared.Counts.{Counts}
 use Rattle.model.specs.declared.Place.{Place}
 use Rattle.model.specs.declared.Place.the-variants.{Idle, Prep, Swap, Link, Wait, Inside, Check, Help, Cas, Linger, Grant, Invalid}
-use Rattle.model.specs.Trees.{Tree, tree-of, on-path, is-member}
+use Rattle.model.specs.Trees.{Tree, tree-of, on-path, is-member, under}
 use Rattle.model.specs.Places.{place-words}
 use Rattle.model.specs.States.{acquire-parent, wait-word, status, place, fresh-words}
 use Rattle.model.specs.Steps.{stay, root-entry, passed-entry, crossed-entry, leaving, is-entry, kind-number, Step, step}
 use Rattle.model.specs.Runs.{steps, Run, run-of, run, occurrences}
 use Rattle.model.specs.WellFormed.{well-formed}
 use Rattle.model.specs.Answers.{step-answer, run-answer}
-use Rattle.model.specs.Refusals.{refusal, accepted, Test, first-refusal, tree-tests, step-tests, run-tests, tree-refusal}
+use Rattle.model.specs.Refusals.{refusal, accepted, Test, first-refusal, tests-before-16, tree-tests, step-tests, run-tests, tree-refusal}
 
 -- both ways
 infixl 10 _⟺_
@@ -196,6 +196,25 @@ pub record Calls-refuse-exactly (t : Tree) : Type 0 where
 
 unfoldable pub Call-refusal-law : Type 0
 Call-refusal-law = (t : Tree) → Calls-refuse-exactly t
+
+-- EMPTY DOMAINS. A thread of the tree is under the domain
+pub record Has-thread (t : Tree) (domain : ℕ) : Type 0 where
+  pub thread : ℕ
+  pub real : thread < t .threads
+  pub below : under t (256 + domain) thread ≡ true
+
+-- accepted, every domain has a thread under it, and nothing more is asked than before; refused by 16, the place is the lowest that has none; the root always has one
+pub record Refuses-empty (t : Tree) : Type 0 where
+  pub accepted-exactly :
+      (tree-refusal t .number ≡ 0) ⟺ (All-pass (tests-before-16 t) × ((d : ℕ) → d < t .domains → Has-thread t d))
+  pub refused-exactly :
+      (p : ℕ) →
+      (tree-refusal t ≡ refusal 16 p)
+      ⟺ (All-pass (tests-before-16 t) × (p < t .domains) × (¬ Has-thread t p) × ((q : ℕ) → q < p → Has-thread t q))
+  pub root-has-one : All-pass (tests-before-16 t) → Has-thread t 0
+
+unfoldable pub Empty-law : Type 0
+Empty-law = (t : Tree) → Refuses-empty t
 
 -- UNREAD WORDS tell no trees apart: the root's parent and threshold, and room that the tree lacks
 pub record Read-alike (w v : TreeWords) : Type 0 where

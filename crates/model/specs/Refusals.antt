@@ -1,11 +1,12 @@
--- Document 01, "When a call says no": numbers 4 to 13. Assumes nothing: these are definitions.
+-- Document 01, "When a call says no": numbers 4 to 13; and 16 of document 02 (iv). Assumes nothing: these are definitions.
 use mathlib.Core.Bool.{Bool, false, _&&_, _||_, not, cond}
 use mathlib.Core.List.{List, [], _∷_, _++_}
-use Prim.Native.Nat.{ℕ, zero, suc}
+use Prim.Native.Nat.{ℕ, zero, suc, _+_}
 use lib.Dec.{ltb, leb, eqb}
 use lib.ListN.{length, getD}
 use Rattle.model.specs.declared.State.{State}
-use Rattle.model.specs.Trees.{Tree, is-leaf, level}
+use Rattle.model.specs.Scans.{any-below}
+use Rattle.model.specs.Trees.{Tree, is-leaf, level, under}
 use Rattle.model.specs.WellFormed.{well-formed}
 
 -- an answer's number and place; 0 and 0 for accepted
@@ -62,6 +63,10 @@ no-threshold t d = not (eqb d 0) && eqb (t .threshold d) 0
 unfoldable pub bad-home : Tree → (thread : ℕ) → Bool
 bad-home t i = leb (t .domains) (t .home i) || not (is-leaf t (t .home i))
 
+-- 16: a domain has no thread under it
+unfoldable pub empty-domain : Tree → (domain : ℕ) → Bool
+empty-domain t d = not (any-below (t .threads) (under t (256 + d)))
+
 -- 10: the state handed in is not well formed
 unfoldable pub bad-state : Tree → State → ℕ → Bool
 bad-state t s p = not (well-formed t s)
@@ -78,7 +83,7 @@ bad-entry t is p = leb (t .threads) (getD is p 0)
 unfoldable pub bad-room : (schedule : List ℕ) → (room : ℕ) → ℕ → Bool
 bad-room is room p = ltb room (length is)
 
--- THE GROUPS, each over what its tests look at: the counts, the domains and the homes of a tree
+-- THE GROUPS, each over what its tests look at: the counts, the domains and the homes of a tree, and the threads under each domain
 abbrev pub count-tests : Tree → List Test
 count-tests t = test 4 1 (bad-domains t) ∷ test 5 1 (bad-threads t) ∷ []
 
@@ -87,6 +92,9 @@ domain-tests t = test 6 (t .domains) (bad-parent t) ∷ test 7 (t .domains) (too
 
 abbrev pub home-tests : Tree → List Test
 home-tests t = test 9 (t .threads) (bad-home t) ∷ []
+
+abbrev pub empty-tests : Tree → List Test
+empty-tests t = test 16 (t .domains) (empty-domain t) ∷ []
 
 -- a state handed in
 abbrev pub state-tests : Tree → State → List Test
@@ -103,15 +111,18 @@ schedule-tests t is = test 11 1 (bad-length is) ∷ entry-tests t is
 abbrev pub room-tests : (schedule : List ℕ) → (room : ℕ) → List Test
 room-tests is room = test 13 1 (bad-room is room) ∷ []
 
--- THE CALLS: making a fresh lock meets 4 to 9
-unfoldable pub tree-tests : Tree → List Test
-tree-tests t = count-tests t ++ (domain-tests t ++ home-tests t)
+-- THE CALLS: making a fresh lock meets 4 to 9 and 16
+abbrev pub tests-before-16 : Tree → List Test
+tests-before-16 t = count-tests t ++ (domain-tests t ++ home-tests t)
 
--- one step meets 4 to 10 and 12
+unfoldable pub tree-tests : Tree → List Test
+tree-tests t = tests-before-16 t ++ empty-tests t
+
+-- one step meets 4 to 9, 16, 10 and 12
 unfoldable pub step-tests : Tree → State → (thread : ℕ) → List Test
 step-tests t s i = tree-tests t ++ (state-tests t s ++ entry-tests t (i ∷ []))
 
--- a run meets 4 to 13
+-- a run meets 4 to 9, 16 and 10 to 13
 unfoldable pub run-tests : Tree → State → (schedule : List ℕ) → (room : ℕ) → List Test
 run-tests t s is room = tree-tests t ++ (state-tests t s ++ (schedule-tests t is ++ room-tests is room))
 

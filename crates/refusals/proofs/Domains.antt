@@ -14,7 +14,7 @@ use Rattle.refusals.proofs.Scanning.{one-more, single}
 use Rattle.refusals.proofs.Levels.{Levels, levels-first, levels-next, level-passes}
 use Rattle.refusals.proofs.TreeTests.{lower-by, domains-pass}
 
-none-bad : (n : ℕ) (bad : ℕ → Bool) → ((j : ℕ) → j < n → bad j ≡ false) → Lowest n bad n
+pub none-bad : (n : ℕ) (bad : ℕ → Bool) → ((j : ℕ) → j < n → bad j ≡ false) → Lowest n bad n
 none-bad n bad h = record { within = omega arith; passed = h; fails = λ l. absurd (omega arith) }
 
 module _ (n : ℕ) (ps ts : List ℕ) where

@@ -8,17 +8,17 @@ use native.Mathlib.Nat.{add-zero, add-suc}
 use native.Mathlib.Decide.{decLt}
 use lib.Dec.{eqb, ltb}
 use lib.ListN.{getD}
-use borrow.Author.Tests.{ne-eqb, lt-ltb, le-ltb, lt-leb}
+use borrow.Author.Tests.{ne-eqb, lt-ltb, le-ltb}
 use Rattle.model.specs.declared.TreeWords.{TreeWords}
 use Rattle.model.specs.declared.State.{State}
 use Rattle.model.specs.declared.PlaceWords.{PlaceWords}
 use Rattle.model.specs.Scans.{all-below}
 use Rattle.model.specs.Places.{place-words}
 use Rattle.model.specs.States.{tail, next, status}
-use Rattle.model.specs.Trees.{Tree, tree-of, is-child, is-leaf, is-record, owner-domain}
+use Rattle.model.specs.Trees.{Tree, tree-of, is-record, owner-domain}
 use Rattle.model.specs.WellFormed.{good-tail, good-next, good-status, good-thread, well-formed}
 use Rattle.model.proofs.Trees.Accepted.{Accepted}
-use Rattle.refusals.specs.Arrays.{tree-in, parents-in, No-homes}
+use Rattle.refusals.specs.Arrays.{tree-in, parents-in}
 use Rattle.refusals.specs.Tables.{Owners, next-in, record-in, domain-words-in, place-in, idle-in, thread-in}
 use Rattle.refusals.proofs.Reading.{read-in}
 use Rattle.refusals.proofs.Meeting.{meets-same}
@@ -82,19 +82,11 @@ module _ (w : TreeWords) (𝓐 : Accepted (tree-of w)) (os : List ℕ) (𝓞 : O
   unfolding is-record tree-of
   no-owner i l h = owners .owner i (omega arith) ∙ rw (lt-ltb i 256 l, le-ltb i (w .threads) h)
 
-  owner-real : (i : ℕ) → i < w .threads → getD os i 0 < w .domains
+  pub owner-real : (i : ℕ) → i < w .threads → getD os i 0 < w .domains
   unfolding tree-of
   owner-real i l = rw (owner-home i l) (𝓐 .home-real i l)
 
-  -- no home of an accepted tree is marked
-  home-good : (bs : List Bool) → No-homes (w .domains) (w .parents) bs → (i : ℕ) → i < w .threads → getD bs (getD os i 0) false ≡ false
-  unfolding is-leaf is-child tree-of
-  home-good bs 𝓗 i l =
-      let r = owner-real i l in
-      let few = 𝓐 .few-domains in
-      𝓗 .no-home (getD os i 0) (omega arith) ∙ rw (lt-leb (w .domains) (getD os i 0) r) (rw (owner-home i l) (ap not (𝓐 .home-leaf i l)))
-
-  module _ (bs : List Bool) (𝓗 : No-homes (w .domains) (w .parents) bs) (s : State) where
+  module _ (s : State) where
     abbrev place-at : ℕ → Bool
     place-at i =
         let q = getD (s .places) i (place-words 0 0 0 0) in
@@ -116,7 +108,7 @@ module _ (w : TreeWords) (𝓐 : Accepted (tree-of w)) (os : List ℕ) (𝓞 : O
     domain-at d = domain-words-in os d (tail s d) (next s (256 + d)) (status s (256 + d))
 
     abbrev thread-at : ℕ → Bool
-    thread-at i = thread-in (parents-in (w .domains) (w .parents)) os bs (w .threads) i (getD (s .places) i (place-words 0 0 0 0)) (next s i) (status s i)
+    thread-at i = thread-in (parents-in (w .domains) (w .parents)) os (w .threads) i (getD (s .places) i (place-words 0 0 0 0)) (next s i) (status s i)
 
     abbrev record-at : ℕ → Bool
     record-at r = record-in os r (next s r) (status s r)
@@ -128,7 +120,7 @@ module _ (w : TreeWords) (𝓐 : Accepted (tree-of w)) (os : List ℕ) (𝓞 : O
         elim (decLt i (w .threads)) [
           | yes l ↦
               let h = owner-real i l in
-              rw (lt-ltb i (w .threads) l, home-good bs 𝓗 i l, ne-eqb (getD os i 0) 255 (omega (arith, h, 𝓐 .few-domains)))
+              rw (lt-ltb i (w .threads) l, ne-eqb (getD os i 0) 255 (omega (arith, h, 𝓐 .few-domains)))
           | no l ↦
               rw (le-ltb i (w .threads) (omega arith), no-owner i small (omega arith))
               (swapped (idle-in (getD (s .places) i (place-words 0 0 0 0))) (eqb (next s i) 0 && eqb (status s i) 0))

@@ -1,20 +1,20 @@
 -- Which bytes are no homes, in one pass over the parents. Assumes nothing.
 use mathlib.Core.Path.{_≡_, refl, sym, ap, _∙_}
-use mathlib.Core.Bool.{Bool, true, false, _||_}
+use mathlib.Core.Bool.{Bool, true, false, _||_, true≢false, false≢true}
 use mathlib.Core.List.{List, []}
-use Prim.Native.Nat.{ℕ, _+_, _<_}
+use Prim.Native.Nat.{ℕ, _+_, _≤_, _<_}
 use native.Mathlib.Numerals.{add-one}
 use native.Mathlib.Omega.{arith}
 use native.Mathlib.Decide.{ℕ-discrete}
-use lib.Dec.{leb}
-use lib.ListN.{getD, set, length, replicate, length-set, getD-replicate}
+use lib.Dec.{eqb, leb}
+use lib.ListN.{getD, set, length, replicate, length-set, length-replicate, getD-replicate}
 use lib.Seq.{getD-set-same, getD-set-other}
 use borrow.Author.Tests.{eq-eqb, ne-eqb, lt-leb, le-leb, leb-true, leb-false}
-use Rattle.model.specs.Scans.{any-below}
+use Rattle.model.specs.Scans.{any-below, all-below}
 use Rattle.model.specs.Trees.{tree-of, is-child, is-leaf}
 use Rattle.model.specs.Refusals.{bad-home}
-use Rattle.model.proofs.Tests.{or-neither, or-right}
-use Rattle.refusals.specs.Arrays.{tree-in, parents-in, No-domains, No-homes}
+use Rattle.model.proofs.Tests.{or-right, any-found, all-each}
+use Rattle.refusals.specs.Arrays.{tree-in, parents-in, no-home-in, No-domains, No-homes, is-home-in, Marked-homes, Homes-are-leaves, differ}
 use Rattle.refusals.proofs.Reading.{read-in, parent-in, not-not}
 
 -- the bytes below the number of domains
@@ -87,6 +87,60 @@ module _ (n : ℕ) (ps : List ℕ) where
             (C .marks x h ∙ ap (λ k. leb n x || any-below k (is-child (parents-in n ps) x)) e);
       }
 
+-- THE HOMES of the threads below i, in a table of any size that has room for them
+module _ (hs : List ℕ) (size : ℕ) where
+  pub record Marked-below (bs : List Bool) (i : ℕ) : Type 0 where
+    pub room : length bs ≡ size
+    pub marks : (x : ℕ) → x < size → getD bs x false ≡ is-home-in i hs x
+
+  pub marked-none : Marked-below (replicate size false) 0
+  unfolding any-below
+  marked-none = record { room = length-replicate {A = Bool} size false; marks = λ x l. getD-replicate size x false false l }
+
+  pub marked-more : (bs : List Bool) (i : ℕ) → Marked-below bs i → getD hs i 0 < size → Marked-below (set bs (getD hs i 0) true) (i + 1)
+  unfolding any-below
+  marked-more bs i C w =
+      record {
+        room = length-set bs (getD hs i 0) true ∙ C .room;
+        marks = λ x h.
+            elim (ℕ-discrete x (getD hs i 0)) [
+              | yes e ↦
+                  rw (add-one i, eq-eqb (getD hs i 0) x (sym e))
+                  (rw e (getD-set-same bs (getD hs i 0) true false (omega (arith, C .room))) ∙ sym (or-right (is-home-in i hs x) true refl))
+              | no e ↦
+                  rw (add-one i, ne-eqb (getD hs i 0) x (λ y. e (sym y)))
+                  (getD-set-other bs (getD hs i 0) x true false e ∙ C .marks x h ∙ sym (or-none (is-home-in i hs x) false refl))
+            ];
+      }
+
+-- where no byte is marked as often in one table as in the other, homes and leaves are the same
+abbrev pub alike : (marked bad : List Bool) → ℕ → Bool
+alike ms bs x = differ (getD ms x false) (getD bs x false)
+
+pub tables-differ :
+    (n m : ℕ) (ps hs : List ℕ) (ms bs : List Bool) (r : Bool) → n ≤ 64 → Marked-homes m hs ms → No-homes n ps bs → r ≡ all-below 256 (alike ms bs) →
+    Homes-are-leaves n m ps hs r
+tables-differ n m ps hs ms bs r few 𝓜 𝓗 e =
+    record {
+      leaf = λ z i l.
+          let x = getD hs i 0 in
+          let small = 𝓜 .byte i l in
+          sym (𝓗 .no-home x small) ∙ first-so _ _ (each z x small) (𝓜 .home x small ∙ any-found m (λ j. eqb (getD hs j 0) x) i l (eq-eqb x x refl));
+      home = λ z d l f. sym (𝓜 .home d (omega arith)) ∙ other-so _ _ (each z d (omega arith)) (𝓗 .no-home d (omega arith) ∙ f);
+    }
+  where
+    each : r ≡ true → (x : ℕ) → x < 256 → alike ms bs x ≡ true
+    each z x l = all-each 256 (alike ms bs) (sym e ∙ z) x l
+
+    first-so : (a b : Bool) → differ a b ≡ true → a ≡ true → b ≡ false
+    first-so true true e f = absurd (false≢true e)
+    first-so true false e f = refl
+    first-so false b e f = absurd (false≢true f)
+
+    other-so : (a b : Bool) → differ a b ≡ true → b ≡ false → a ≡ true
+    other-so true b e f = refl
+    other-so false b e f = absurd (true≢false (sym e ∙ f))
+
 -- a home by that table
 pub home-test :
     (n m : ℕ) (ps hs : List ℕ) (bs : List Bool) (i h : ℕ) → No-homes n ps bs → i < m → h ≡ getD hs i 0 → h < 256 →
@@ -94,6 +148,8 @@ pub home-test :
 unfolding bad-home is-leaf is-child tree-of
 home-test n m ps hs bs i h N l e f = rw (read-in 0 m hs i (omega arith) l, ← e) (N .no-home h f)
 
--- a byte that is not marked is a domain of the tree
-pub home-below : (n : ℕ) (ps : List ℕ) (bs : List Bool) (h : ℕ) → No-homes n ps bs → h < 256 → getD bs h false ≡ false → h < n
-home-below n ps bs h N f e = leb-false n h (or-neither (leb n h) _ (sym (N .no-home h f) ∙ e) .0)
+-- the same of the answer that all homes are leaves
+pub leaf-test :
+    (n m : ℕ) (ps hs : List ℕ) (i : ℕ) → i < m → no-home-in n ps (getD hs i 0) ≡ false → bad-home (tree-in n m ps [] hs) i ≡ false
+unfolding bad-home is-leaf is-child tree-of
+leaf-test n m ps hs i l e = rw (read-in 0 m hs i (omega arith) l) e

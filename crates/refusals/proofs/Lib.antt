@@ -12,6 +12,7 @@ pub mod ScheduleTests
 pub mod Joining
 pub mod TreeTests
 pub mod Domains
+pub mod Occupying
 pub mod StateTests
 pub mod RunTests
 pub mod Passing

@@ -1,7 +1,7 @@
 -- The tests of a tree in order: what the scans answer is the tree's refusal. Assumes nothing.
 use mathlib.Core.Path.{_≡_, refl, sym, ap, fun-ext, _∙_}
 use mathlib.Core.Bool.{Bool}
-use mathlib.Core.List.{List, []}
+use mathlib.Core.List.{List, [], _++_}
 use Prim.Native.Nat.{ℕ, zero, suc, _≤_, _<_}
 use native.Mathlib.Omega.{arith}
 use lib.Dec.{eqb, ltb}
@@ -9,10 +9,11 @@ use lib.ListN.{drop}
 use borrow.Author.Tests.{eq-eqb, ne-eqb, lt-ltb, le-ltb, eqb-false, ltb-false, leb-false}
 use Rattle.model.specs.declared.TreeWords.{TreeWords}
 use Rattle.model.specs.Trees.{Tree, tree-of, depth-from, depth, level, is-child, is-leaf}
-use Rattle.model.specs.Refusals.{refusal, accepted, first-refusal, count-tests, domain-tests, home-tests, tree-tests, has-number, tree-refusal, bad-domains, bad-threads, bad-parent, too-deep, no-threshold, bad-home}
+use Rattle.model.specs.Refusals.{refusal, accepted, first-refusal, count-tests, domain-tests, home-tests, empty-tests, tree-tests, has-number, tree-refusal, bad-domains, bad-threads, bad-parent, too-deep, no-threshold, bad-home, empty-domain}
 use Rattle.model.proofs.Tests.{or-neither}
 use Rattle.model.proofs.Refusing.{tests-pass, numbered}
-use Rattle.model.proofs.Trees.Accepted.{but-zero}
+use Rattle.model.proofs.Trees.Accepted.{Accepted, but-zero, accepted-before}
+use Rattle.model.proofs.Laws.Refusals.{accepted-number}
 use Rattle.refusals.specs.declared.Refusal.{Refusal}
 use Rattle.refusals.specs.Arrays.{tree-in, parents-in, Lower, told, shape-tests}
 use Rattle.refusals.specs.Lowest.{Lowest}
@@ -169,44 +170,63 @@ module _ (w : TreeWords) where
   unfolding bad-domains bad-threads bad-parent no-threshold tree-of
   shape-alone = rw (levels-alone (w .threads) (w .thresholds) [])
 
-  -- 4 to 8, then 9
+  -- 4 to 8, then 9 and 16
   module _ (r : Refusal) (e : r ≡ told (first-refusal (shape-tests (tree-in (w .domains) (w .threads) (w .parents) (w .thresholds) [])))) where
     whole : r ≡ told (first-refusal (shape-tests t))
     whole = e ∙ ap told shape-alone
 
     pub shape-refused : (r .number ≡ 0 → ⊥) → r ≡ told (tree-refusal t)
     unfolding tree-refusal tree-tests
-    shape-refused n = whole ∙ ap told (sym (first-decides (shape-tests t) (home-tests t) (λ z. n (ap (λ q. q .number) whole ∙ z))))
+    shape-refused n =
+        whole ∙ ap told (sym (first-decides (shape-tests t) (home-tests t ++ empty-tests t) (λ z. n (ap (λ q. q .number) whole ∙ z))))
 
-    module _ (z : r .number ≡ 0) where
-      passed : first-refusal (shape-tests t) .number ≡ 0
-      passed = sym (ap (λ q. q .number) whole) ∙ z
+    pub shape-passed : r .number ≡ 0 → first-refusal (shape-tests t) .number ≡ 0
+    shape-passed z = sym (ap (λ q. q .number) whole) ∙ z
 
-      pub shape : Shape w
-      unfolding bad-domains bad-threads bad-parent tree-of
-      shape =
-          let c₄ = tests-pass _ (drop 1 (shape-tests t)) (omega arith) passed in
-          let c₅ = tests-pass _ (domain-tests t) (omega arith) (c₄ .1) in
-          let c₆ = tests-pass _ (drop 1 (domain-tests t)) (omega arith) (c₅ .1) in
-          let d₄ = or-neither (eqb (w .domains) 0) (ltb 64 (w .domains)) (c₄ .0 0 (omega arith)) in
-          let d₅ = or-neither (eqb (w .threads) 0) (ltb 256 (w .threads)) (c₅ .0 0 (omega arith)) in
-          let some = eqb-false (w .domains) 0 (d₄ .0) in
-          record {
-            some-domain = omega arith;
-            few-domains = ltb-false 64 (w .domains) (d₄ .1);
-            few-threads = ltb-false 256 (w .threads) (d₅ .1);
-            low = lower-by (w .domains) (w .parents) (w .domains) (record { within = omega arith; passed = c₆ .0; fails = λ l. absurd (omega arith) }) (omega arith);
-          }
+  module _ (passed : first-refusal (shape-tests t) .number ≡ 0) where
+    pub shape : Shape w
+    unfolding bad-domains bad-threads bad-parent tree-of
+    shape =
+        let c₄ = tests-pass _ (drop 1 (shape-tests t)) (omega arith) passed in
+        let c₅ = tests-pass _ (domain-tests t) (omega arith) (c₄ .1) in
+        let c₆ = tests-pass _ (drop 1 (domain-tests t)) (omega arith) (c₅ .1) in
+        let d₄ = or-neither (eqb (w .domains) 0) (ltb 64 (w .domains)) (c₄ .0 0 (omega arith)) in
+        let d₅ = or-neither (eqb (w .threads) 0) (ltb 256 (w .threads)) (c₅ .0 0 (omega arith)) in
+        let some = eqb-false (w .domains) 0 (d₄ .0) in
+        record {
+          some-domain = omega arith;
+          few-domains = ltb-false 64 (w .domains) (d₄ .1);
+          few-threads = ltb-false 256 (w .threads) (d₅ .1);
+          low = lower-by (w .domains) (w .parents) (w .domains) (record { within = omega arith; passed = c₆ .0; fails = λ l. absurd (omega arith) }) (omega arith);
+        }
 
-      after-eight : tree-refusal t ≡ first-refusal (home-tests t)
-      unfolding tree-refusal tree-tests has-number
-      after-eight = other-decides (shape-tests t) (home-tests t) (numbered (shape-tests t) refl) passed
+    after-eight : tree-refusal t ≡ first-refusal (home-tests t ++ empty-tests t)
+    unfolding tree-refusal tree-tests has-number
+    after-eight = other-decides (shape-tests t) (home-tests t ++ empty-tests t) (numbered (shape-tests t) refl) passed
 
-      module _ (p₉ : ℕ) (L₉ : Lowest (w .threads) (bad-home (tree-in (w .domains) (w .threads) (w .parents) [] (w .homes))) p₉) where
-        pub home-refused : p₉ < w .threads → tree-refusal t ≡ refusal 9 p₉
+    module _ (p₉ : ℕ) (L₉ : Lowest (w .threads) (bad-home (tree-in (w .domains) (w .threads) (w .parents) [] (w .homes))) p₉) where
+      pub home-refused : p₉ < w .threads → tree-refusal t ≡ refusal 9 p₉
+      unfolding tree-of
+      home-refused h = after-eight ∙ test-hit _ _ p₉ (homes-of p₉ L₉) h
+
+      module _ (h₉ : w .threads ≤ p₉) where
+        pub facts : Accepted t
+        unfolding has-number tree-of first-refusal
+        facts =
+            accepted-before t
+            (ap (λ q. q .number)
+            (other-decides (shape-tests t) (home-tests t) (numbered (shape-tests t) refl) passed ∙ test-missed _ [] p₉ (homes-of p₉ L₉) h₉)
+            ∙ accepted-number)
+
+        after-nine : tree-refusal t ≡ first-refusal (empty-tests t)
         unfolding tree-of
-        home-refused h = after-eight ∙ test-hit _ _ p₉ (homes-of p₉ L₉) h
+        after-nine = after-eight ∙ test-missed _ (empty-tests t) p₉ (homes-of p₉ L₉) h₉
 
-        pub tree-passes : w .threads ≤ p₉ → tree-refusal t ≡ accepted
-        unfolding tree-of first-refusal
-        tree-passes h = after-eight ∙ test-missed _ [] p₉ (homes-of p₉ L₉) h
+        module _ (p₁₆ : ℕ) (L₁₆ : Lowest (w .domains) (empty-domain t) p₁₆) where
+          pub empty-refused : p₁₆ < w .domains → tree-refusal t ≡ refusal 16 p₁₆
+          unfolding tree-of
+          empty-refused h = after-nine ∙ test-hit _ _ p₁₆ L₁₆ h
+
+          pub tree-passes : w .domains ≤ p₁₆ → tree-refusal t ≡ accepted
+          unfolding tree-of first-refusal
+          tree-passes h = after-nine ∙ test-missed _ [] p₁₆ L₁₆ h

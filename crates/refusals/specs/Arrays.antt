@@ -1,12 +1,14 @@
 -- A tree by the arrays that a test reads, and what earlier tests have shown of them. Assumes nothing: these are definitions.
 use mathlib.Core.Path.{_≡_}
-use mathlib.Core.Bool.{Bool, true, false, _||_, not}
+use mathlib.Core.Bool.{Bool, true, false, _||_, not, cond}
 use mathlib.Core.List.{List, [], _++_}
 use Prim.Native.Nat.{ℕ, _<_}
-use lib.Dec.{leb}
+use lib.Dec.{eqb, leb}
 use lib.ListN.{getD, length}
 use Rattle.model.specs.declared.State.{State}
+use Rattle.model.specs.Scans.{any-below}
 use Rattle.model.specs.Trees.{Tree, tree-of, is-leaf}
+use Rattle.model.proofs.Trees.Index.{ancestor}
 use Rattle.model.specs.Refusals as model
 use Rattle.model.specs.Refusals.{accepted, Test, first-refusal, count-tests, domain-tests, state-tests, schedule-tests, room-tests, tree-tests}
 use Rattle.refusals.specs.declared.Refusal.{Refusal}
@@ -35,9 +37,47 @@ pub record No-domains (domains : ℕ) (table : List Bool) : Type 0 where
   pub room : length table ≡ 256
   pub no-domain : (x : ℕ) → x < 256 → getD table x false ≡ leb domains x
 
--- of each byte, whether it is no home: no domain of the tree, or one with child domains
+-- a byte is no home: no domain of the tree, or one with child domains
+abbrev pub no-home-in : (domains : ℕ) → (parents : List ℕ) → ℕ → Bool
+no-home-in n ps x = leb n x || not (is-leaf (parents-in n ps) x)
+
 pub record No-homes (domains : ℕ) (parents : List ℕ) (table : List Bool) : Type 0 where
-  pub no-home : (x : ℕ) → x < 256 → getD table x false ≡ leb domains x || not (is-leaf (parents-in domains parents) x)
+  pub no-home : (x : ℕ) → x < 256 → getD table x false ≡ no-home-in domains parents x
+
+-- a byte is some thread's home
+abbrev pub is-home-in : (threads : ℕ) → (homes : List ℕ) → ℕ → Bool
+is-home-in m hs x = any-below m (λ i. eqb (getD hs i 0) x)
+
+pub record Marked-homes (threads : ℕ) (homes : List ℕ) (table : List Bool) : Type 0 where
+  pub byte : (i : ℕ) → i < threads → getD homes i 0 < 256
+  pub home : (x : ℕ) → x < 256 → getD table x false ≡ is-home-in threads homes x
+
+pub record Home-domains (threads : ℕ) (homes : List ℕ) (table : List Bool) : Type 0 where
+  pub room : length table ≡ 64
+  pub home : (x : ℕ) → x < 64 → getD table x false ≡ is-home-in threads homes x
+
+abbrev pub differ : Bool → Bool → Bool
+differ a b = cond a (not b) b
+
+-- an answer that is true only where the homes are the leaves of the tree
+pub record Homes-are-leaves (domains threads : ℕ) (parents homes : List ℕ) (answer : Bool) : Type 0 where
+  pub leaf : answer ≡ true → (i : ℕ) → i < threads → no-home-in domains parents (getD homes i 0) ≡ false
+  pub home : answer ≡ true → (d : ℕ) → d < domains → no-home-in domains parents d ≡ false → is-home-in threads homes d ≡ true
+
+-- each home is a domain of the tree
+pub record Real-homes (domains threads : ℕ) (homes : List ℕ) : Type 0 where
+  pub real : (i : ℕ) → i < threads → getD homes i 0 < domains
+
+-- of each domain, whether it is on some thread's path
+pub record Passed-by (t : Tree) (domain : ℕ) : Type 0 where
+  pub thread : ℕ
+  pub index : ℕ
+  pub real : thread < t .threads
+  pub there : ancestor t thread index ≡ domain
+
+pub record Occupied (t : Tree) (table : List Bool) : Type 0 where
+  pub marked : (i k : ℕ) → i < t .threads → getD table (ancestor t i k) false ≡ true
+  pub only : (d : ℕ) → d < t .domains → getD table d false ≡ true → Passed-by t d
 
 -- the model's refusal as this crate's struct
 abbrev pub told : model.Refusal → Refusal

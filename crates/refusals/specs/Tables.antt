@@ -1,6 +1,6 @@
 -- The tests of a state by a table of the records' owners. proofs/ shows that they are document 01's. Assumes nothing: these are definitions.
 use mathlib.Core.Path.{_≡_}
-use mathlib.Core.Bool.{Bool, true, false, _&&_, _||_, not, cond}
+use mathlib.Core.Bool.{Bool, true, _&&_, _||_, not, cond}
 use mathlib.Core.List.{List}
 use Prim.Native.Nat.{ℕ, _+_, _*_, _-_, _<_}
 use lib.Dec.{eqb, ltb}
@@ -69,8 +69,14 @@ pub record Resting (threads : ℕ) (homes numbers : List ℕ) : Type 0 where
 pub record Rests (resting : ℕ) (q : PlaceWords) (answer : Bool) : Type 0 where
   pub rests : answer ≡ true → (h : ℕ) → h < 256 → resting ≡ 4 + 256 * h → rests-in h q ≡ true
 
--- a thread's home by a table of what is none, and what the state has of the thread: the next and the status of its record, and its place; beyond the threads, that the room is fresh
-unfoldable pub thread-in : Tree → (owners : List ℕ) → (no-homes : List Bool) → (threads thread : ℕ) → PlaceWords → (next status : ℕ) → Bool
-thread-in t os bs m i q n v =
-    cond (ltb i m) (not (getD bs (getD os i 0) false) && (next-in os (getD os i 0) n && place-in t os (getD os i 0) q))
-    (idle-in q && (eqb n 0 && eqb v 0))
+-- what the state has of a thread: the next of its record, and its place
+abbrev pub used-in : Tree → (owners : List ℕ) → (thread : ℕ) → PlaceWords → (next : ℕ) → Bool
+used-in t os i q n = next-in os (getD os i 0) n && place-in t os (getD os i 0) q
+
+-- beyond the threads, that the room is fresh
+abbrev pub unused-in : PlaceWords → (next status : ℕ) → Bool
+unused-in q n v = idle-in q && (eqb n 0 && eqb v 0)
+
+unfoldable pub thread-in : Tree → (owners : List ℕ) → (threads thread : ℕ) → PlaceWords → (next status : ℕ) → Bool
+thread-in t os m i q n v =
+    cond (ltb i m) (used-in t os i q n) (unused-in q n v)

@@ -1,10 +1,10 @@
-// The refusals of the calls, numbers 4 to 13, each test over everything before the next.
+// The refusals of the calls, numbers 4 to 13 and 16, each test over everything before the next.
 ghost use mathlib.Core.Path.{_≡_};
 ghost use mathlib.Core.List.{[]};
 ghost use Prim.Native.Nat.{_<_, _≤_};
-ghost use lib.Dec.{eqb};
 ghost use lib.ListN.{length};
 ghost use Rattle.model.specs.Trees.{tree-of};
+ghost use Rattle.model.specs.WellFormed.{well-formed};
 ghost use Rattle.model.specs.Refusals.{refusal, first-refusal, count-tests, domain-tests, tree-refusal, run-refusal, bad-entry};
 ghost use Rattle.refusals.specs.Arrays.{tree-in, threads-in, told, shape-tests, tree-state-tests, schedule-room-tests};
 ghost use Rattle.refusals.specs.Lowest.{Lowest};
@@ -85,7 +85,27 @@ fn shape_refusal<'a>(
     domains_refusal(parents, thresholds, domains)
 }
 
-// Making a fresh lock meets 4 to 9.
+// Which home meets 9, or which domain 16, where counts and domains refuse nothing.
+fn homes_refusal(tree: TreeWords) -> Refusal
+    requires { ⌜ first-refusal (shape-tests (tree-of tree)) .number ≡ 0 ⌝ }
+    ensures { λ r. ⌜ r ≡ told (tree-refusal (tree-of tree)) ⌝ }
+{
+    let domains = tree.domains;
+    let threads = tree.threads;
+    let bad = trees::no_homes(&tree.parents, domains);
+    let i = trees::lowest_bad_home(&tree.parents, &bad, &tree.homes, domains, threads);
+    if i < threads {
+        return refusal_at(9, i);
+    }
+    let occupied = trees::occupied(&tree.parents, &tree.homes, domains, threads);
+    let d = trees::lowest_empty(&occupied, domains);
+    if d < domains {
+        return refusal_at(16, d);
+    }
+    refusal_at(0, 0)
+}
+
+// Making a fresh lock meets 4 to 9 and 16. Where the homes are the leaves, no home and no domain is searched.
 pub fn tree_refusal_of(tree: TreeWords) -> Refusal
     ensures { λ r. ⌜ r ≡ told (tree-refusal (tree-of tree)) ⌝ }
 {
@@ -95,49 +115,41 @@ pub fn tree_refusal_of(tree: TreeWords) -> Refusal
     if r.number != 0 {
         return r;
     }
-    let bad = trees::no_homes(&tree.parents, domains);
-    let i = trees::lowest_bad_home(&tree.parents, &bad, &tree.homes, domains, threads);
-    if i < threads {
-        return refusal_at(9, i);
+    if trees::homes_are_leaves(&tree.parents, &tree.homes, domains, threads) {
+        return refusal_at(0, 0);
     }
-    refusal_at(0, 0)
+    homes_refusal(tree)
 }
 
-// Whether 4 to 10 refuse nothing: one walk over the tree's domains, three tables, then one walk over the state's domains and one over its threads.
-fn passes(tree: TreeWords, state: State) -> bool
-    ensures { λ r. ⌜ r ≡ eqb (first-refusal (tree-state-tests (tree-of tree) state) .number) 0 ⌝ }
+// Whether a state is well formed: two tables, then one walk over its domains and one over its threads, in two parts: those of the tree, and the room behind them.
+fn is_well_formed(tree: TreeWords, state: State) -> bool
+    requires { ⌜ tree-refusal (tree-of tree) .number ≡ 0 ⌝ }
+    ensures { λ r. ⌜ r ≡ well-formed (tree-of tree) state ⌝ }
 {
     let domains = tree.domains;
     let threads = tree.threads;
-    let r = shape_refusal(&tree.parents, &tree.thresholds, domains, threads);
-    if r.number != 0 {
-        return false;
-    }
-    let no_homes = trees::no_homes(&tree.parents, domains);
     let owners = states::owners_of(&tree.parents, &tree.homes, domains, threads);
     let resting = states::resting_numbers(&tree.homes, threads);
     if !states::good_domains(&owners, &state.tails, &state.nexts, &state.statuses) {
         return false;
     }
     let mut i: u16 = 0;
+    while (i as u32) < threads {
+        let at = i as usize;
+        let q = state.places[at];
+        let next = state.nexts[at];
+        let numbers = resting[at];
+        if !states::good_thread_at(&tree.parents, &owners, domains, i, q, next, numbers) {
+            return false;
+        }
+        i += 1;
+    }
     while i < 256 {
         let at = i as usize;
         let q = state.places[at];
         let next = state.nexts[at];
         let status = state.statuses[at];
-        let numbers = resting[at];
-        if !states::good_thread_at(
-            &tree.parents,
-            &owners,
-            &no_homes,
-            domains,
-            threads,
-            i,
-            q,
-            next,
-            status,
-            numbers,
-        ) {
+        if !states::is_unused_at(q, next, status) {
             return false;
         }
         i += 1;
@@ -145,16 +157,16 @@ fn passes(tree: TreeWords, state: State) -> bool
     true
 }
 
-// A state handed in meets 4 to 10.
+// A tree meets 4 to 9 and 16, a state handed in 10.
 fn state_refusal_of(tree: TreeWords, state: State) -> Refusal
     ensures { λ r. ⌜ r ≡ told (first-refusal (tree-state-tests (tree-of tree) state)) ⌝ }
 {
-    if passes(tree, state) {
-        return refusal_at(0, 0);
-    }
     let r = tree_refusal_of(tree);
     if r.number != 0 {
         return r;
+    }
+    if is_well_formed(tree, state) {
+        return refusal_at(0, 0);
     }
     refusal_at(10, 0)
 }
@@ -204,7 +216,7 @@ fn schedule_refusal_of(threads: u32, schedule: &[u16], room: usize) -> Refusal
     }
 }
 
-// A run meets 4 to 13. A step is a run of one entry, with room for one.
+// A run meets 4 to 9, 16 and 10 to 13. A step is a run of one entry, with room for one.
 pub fn run_refusal_of(tree: TreeWords, state: State, schedule: &[u16], room: usize) -> Refusal
     ensures { λ r. ⌜ r ≡ told (run-refusal (tree-of tree) state (now (schedule .entry)) room) ⌝ }
 {

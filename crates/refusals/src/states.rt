@@ -7,9 +7,8 @@ ghost use lib.Dec.{eqb};
 ghost use lib.ListN.{getD};
 ghost use Rattle.model.specs.Scans.{all-below};
 ghost use Rattle.model.specs.Trees.{meets};
-ghost use Rattle.refusals.specs.Arrays.{tree-in, parents-in, Lower, No-homes};
-ghost use Rattle.refusals.specs.Tables.{Owners, Thread-owners, member-in, next-in, record-in, domain-words-in, peer-in, domain-in, place-in, idle-in, Joined, Resting, Rests, thread-in};
-use crate::trees;
+ghost use Rattle.refusals.specs.Arrays.{tree-in, parents-in, Lower};
+ghost use Rattle.refusals.specs.Tables.{Owners, Thread-owners, member-in, next-in, record-in, domain-words-in, peer-in, domain-in, place-in, idle-in, Joined, Resting, Rests, used-in, unused-in};
 use model::PlaceWords;
 
 // The homes of the threads, at their records; 255 in all other room.
@@ -295,8 +294,8 @@ fn rests_at(resting: u32, q: PlaceWords) -> bool
 }
 
 // Unused room is fresh.
-fn is_unused_at(q: PlaceWords, next: u16, status: u64) -> bool
-    ensures { λ r. ⌜ r ≡ idle-in q && (eqb next 0 && eqb status 0) ⌝ }
+pub(crate) fn is_unused_at(q: PlaceWords, next: u16, status: u64) -> bool
+    ensures { λ r. ⌜ r ≡ unused-in q next status ⌝ }
 {
     if !is_idle_at(q) {
         return false;
@@ -304,35 +303,24 @@ fn is_unused_at(q: PlaceWords, next: u16, status: u64) -> bool
     next == 0 && status == 0
 }
 
-// A thread's home, and what the state has of the thread: its record and its place; beyond the threads, fresh room. That an owner is a byte is what the caller's proof needs.
+// What the state has of a thread: its record and its place.
 pub(crate) fn good_thread_at<'a>(
     parents: &'a [u8; 64],
     owners: &'a [u8; 320],
-    no_homes: &'a [bool; 256],
     domains: u32,
-    threads: u32,
     i: u16,
     q: PlaceWords,
     next: u16,
-    status: u64,
     resting: u32,
 ) -> bool
-    requires { ⌜ (domains ≤ 64) × (threads ≤ 256) ⌝ }
+    requires { ⌜ (domains ≤ 64) × (i < 256) ⌝ }
     requires { ⌜ Lower domains (now parents) ⌝ }
-    requires { ⌜ No-homes domains (now parents) (now «no_homes») ⌝ }
-    requires { ⌜ (i < threads → resting ≡ 4 + 256 * getD (now owners) i 0) ⌝ }
-    ensures { λ r. ⌜ r ≡ thread-in (parents-in domains (now (parents .entry))) (now (owners .entry)) (now («no_homes» .entry)) threads i q next status ⌝ }
-    ensures { λ r. ⌜ (i < threads → getD (now (owners .entry)) i 0 < 256) ⌝ }
+    requires { ⌜ getD (now owners) i 0 < domains ⌝ }
+    requires { ⌜ resting ≡ 4 + 256 * getD (now owners) i 0 ⌝ }
+    ensures { λ r. ⌜ r ≡ used-in (parents-in domains (now (parents .entry))) (now (owners .entry)) i q next ⌝ }
 {
-    if threads <= i as u32 {
-        return is_unused_at(q, next, status);
-    }
     let at = i as usize;
     let home = owners[at];
-    let h = trees::byte_index(home);
-    if no_homes[h] {
-        return false;
-    }
     if !good_next_at(owners, home, next) {
         return false;
     }

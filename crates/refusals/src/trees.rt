@@ -1,9 +1,11 @@
-// The tests of a tree, each as the lowest place that fails it; a quick test of all domains, and the table of the bytes that are no homes.
+// The tests of a tree, each as the lowest place that fails it; quick tests of all domains and of all homes, and the tables that they need.
 ghost use mathlib.Core.Path.{_≡_};
+ghost use mathlib.Core.Bool.{false, _&&_, not};
 ghost use mathlib.Core.List.{[]};
+ghost use lib.ListN.{getD};
 ghost use Prim.Native.Nat.{_<_, _≤_};
 ghost use Rattle.model.specs.Refusals.{bad-parent, too-deep, no-threshold, bad-home};
-ghost use Rattle.refusals.specs.Arrays.{tree-in, parents-in, Lower, Sound, No-domains, No-homes};
+ghost use Rattle.refusals.specs.Arrays.{tree-in, parents-in, Lower, Sound, No-domains, No-homes, Marked-homes, Real-homes, Home-domains, Occupied, Homes-are-leaves, differ};
 ghost use Rattle.refusals.specs.Lowest.{Lowest};
 
 fn wide(x: u8) -> u32
@@ -185,4 +187,118 @@ pub(crate) fn lowest_bad_home<'a>(
         i += 1;
     }
     i
+}
+
+// Of each byte, whether it is some thread's home.
+fn marked_homes(homes: &[u8; 256], threads: u32) -> [bool; 256]
+    requires { ⌜ threads ≤ 256 ⌝ }
+    ensures { λ r. ⌜ Marked-homes threads (now (homes .entry)) r ⌝ }
+{
+    let mut marked = [false; 256];
+    let mut i: u32 = 0;
+    while i < threads {
+        let at = i as usize;
+        let h = byte_index(homes[at]);
+        marked[h] = true;
+        i += 1;
+    }
+    marked
+}
+
+fn differs(a: bool, b: bool) -> bool
+    ensures { λ r. ⌜ r ≡ differ a b ⌝ }
+{
+    if a {
+        return !b;
+    }
+    b
+}
+
+fn both(a: bool, b: bool) -> bool
+    ensures { λ r. ⌜ r ≡ a && b ⌝ }
+{
+    if a {
+        return b;
+    }
+    false
+}
+
+// True only where each byte is a home exactly if it is a leaf of the tree: then no home fails 9 and no domain 16. The walk has no early end, so that many bytes are compared at once.
+pub(crate) fn homes_are_leaves<'a>(
+    parents: &'a [u8; 64],
+    homes: &'a [u8; 256],
+    domains: u32,
+    threads: u32,
+) -> bool
+    requires { ⌜ (0 < domains) × (domains ≤ 64) × (threads ≤ 256) ⌝ }
+    ensures { λ r. ⌜ Homes-are-leaves domains threads (now (parents .entry)) (now (homes .entry)) r ⌝ }
+{
+    let marked = marked_homes(homes, threads);
+    let bad = no_homes(parents, domains);
+    let mut same = true;
+    let mut x: usize = 0;
+    while x < 256 {
+        let one = differs(marked[x], bad[x]);
+        same = both(same, one);
+        x += 1;
+    }
+    same
+}
+
+// The homes, as domains.
+fn home_domains(homes: &[u8; 256], domains: u32, threads: u32) -> [bool; 64]
+    requires { ⌜ (domains ≤ 64) × (threads ≤ 256) ⌝ }
+    requires { ⌜ Real-homes domains threads (now homes) ⌝ }
+    ensures { λ r. ⌜ Home-domains threads (now (homes .entry)) r ⌝ }
+{
+    let mut occupied = [false; 64];
+    let mut i: u32 = 0;
+    while i < threads {
+        let at = i as usize;
+        let h = byte_index(homes[at]);
+        occupied[h] = true;
+        i += 1;
+    }
+    occupied
+}
+
+// Of each domain, whether a thread is under it. Parents have lower numbers, so a walk from the highest domain down marks them.
+pub(crate) fn occupied<'a>(
+    parents: &'a [u8; 64],
+    homes: &'a [u8; 256],
+    domains: u32,
+    threads: u32,
+) -> [bool; 64]
+    requires { ⌜ (0 < domains) × (domains ≤ 64) × (threads ≤ 256) ⌝ }
+    requires { ⌜ Lower domains (now parents) ⌝ }
+    requires { ⌜ Real-homes domains threads (now homes) ⌝ }
+    ensures { λ r. ⌜ Occupied (tree-in domains threads (now (parents .entry)) [] (now (homes .entry))) r ⌝ }
+{
+    let mut occupied = home_domains(homes, domains, threads);
+    let mut d = domains - 1;
+    while 0 < d {
+        let at = d as usize;
+        let p = byte_index(parents[at]);
+        if occupied[at] {
+            occupied[p] = true;
+        }
+        d -= 1;
+    }
+    occupied
+}
+
+// The lowest domain that is not marked.
+pub(crate) fn lowest_empty(occupied: &[bool; 64], domains: u32) -> u32
+    requires { ⌜ domains ≤ 64 ⌝ }
+    ensures { λ r. ⌜ Lowest domains (λ d. not (getD (now (occupied .entry)) d false)) r ⌝ }
+{
+    let mut d: u32 = 0;
+    while d < domains {
+        let at = d as usize;
+        if !occupied[at] {
+            return d;
+        }
+        d += 1;
+    }
+    d
 }

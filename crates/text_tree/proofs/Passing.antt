@@ -11,8 +11,8 @@ use lib.ListN.{length, getD, replicate, List·getD-append}
 use borrow.Author.Tests.{lt-ltb, le-ltb, le-leb, lt-leb, eq-eqb, ne-eqb}
 use Rattle.model.specs.Scans.{any-below}
 use Rattle.model.specs.Trees.{Tree, read-word, tree-of, is-child, is-leaf, depth-from, depth, level, meets, on-path, under}
-use Rattle.model.specs.Refusals.{accepted, test, first-refusal, bad-domains, bad-threads, bad-parent, too-deep, no-threshold, bad-home, tree-tests, tree-refusal}
-use Rattle.model.proofs.Tests.{or-right, any-one}
+use Rattle.model.specs.Refusals.{accepted, test, first-refusal, bad-domains, bad-threads, bad-parent, too-deep, no-threshold, bad-home, empty-domain, tree-tests, tree-refusal}
+use Rattle.model.proofs.Tests.{any-found, or-right, any-one}
 use Rattle.model.proofs.Refusing.{test-skipped}
 use Rattle.model.proofs.Trees.Accepted.{child-facts}
 use Rattle.text_tree.specs.Grammar.{Shape, Text, root-laid, laid-out, domains-in, threads-in, in-room, words-of}
@@ -103,14 +103,6 @@ module _ (t : Tree) (g : ℕ → ℕ) (b : Block (t .parent) g (t .home) 0 0 1 (
   unfolding bad-home
   homes-pass i h = rw (lt-leb (t .domains) (t .home i) (b .homes-within i (omega arith) h .1), leaf-pass i h)
 
-  all-pass : tree-refusal t ≡ accepted
-  unfolding tree-refusal tree-tests
-  all-pass =
-      test-skipped (test 4 1 (bad-domains t)) _ domains-pass ∙ test-skipped (test 5 1 (bad-threads t)) _ threads-pass
-      ∙ test-skipped (test 6 (t .domains) (bad-parent t)) _ parents-pass ∙ test-skipped (test 7 (t .domains) (too-deep t)) _ level-pass
-      ∙ test-skipped (test 8 (t .domains) (no-threshold t)) _ thresholds-pass ∙ test-skipped (test 9 (t .threads) (bad-home t)) _ homes-pass
-      ∙ no-test
-
   lives-there : (d : ℕ) → Lives (t .parent) (t .home) d 0 (t .threads) 5 → Lived-in t d
   unfolding under on-path
   lives-there d r =
@@ -122,11 +114,26 @@ module _ (t : Tree) (g : ℕ → ℕ) (b : Block (t .parent) g (t .home) 0 0 1 (
         lives = rw (le-ltb (256 + d) 256 far, z) (up-meets t (r .up) 6 (omega (arith, r .few)));
       }
 
+  lived : (d : ℕ) → d < t .domains → Lived-in t d
+  lived d h = lives-there d (by-root d (λ e. rw e (b .lived-top)) (λ l. b .lived d l h))
+
+  empty-pass : (d : ℕ) → d < t .domains → empty-domain t d ≡ false
+  unfolding empty-domain
+  empty-pass d h = let x = lived d h in rw (any-found (t .threads) (under t (256 + d)) (x .thread) (x .of-tree) (x .lives))
+
+  all-pass : tree-refusal t ≡ accepted
+  unfolding tree-refusal tree-tests
+  all-pass =
+      test-skipped (test 4 1 (bad-domains t)) _ domains-pass ∙ test-skipped (test 5 1 (bad-threads t)) _ threads-pass
+      ∙ test-skipped (test 6 (t .domains) (bad-parent t)) _ parents-pass ∙ test-skipped (test 7 (t .domains) (too-deep t)) _ level-pass
+      ∙ test-skipped (test 8 (t .domains) (no-threshold t)) _ thresholds-pass ∙ test-skipped (test 9 (t .threads) (bad-home t)) _ homes-pass
+      ∙ test-skipped (test 16 (t .domains) (empty-domain t)) _ empty-pass ∙ no-test
+
   pub block-passes : Passes t
   block-passes =
       record {
         tests = all-pass;
-        lived-in = λ d h. lives-there d (by-root d (λ e. rw e (b .lived-top)) (λ l. b .lived d l h));
+        lived-in = lived;
       }
 
 -- THE WORDS OF A TEXT

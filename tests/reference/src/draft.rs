@@ -2,7 +2,7 @@
 
 use crate::lock_file::*;
 use crate::random::Random;
-use crate::refusals::leaves;
+use crate::refusals::{leaves, occupied};
 use crate::table::*;
 
 /// The first domain is the root, whose parent and threshold no file holds.
@@ -80,7 +80,19 @@ pub fn random_draft(random: &mut Random, size: Size) -> Draft {
     let threads = random.between(1, size.threads);
     let mut draft = Draft { domains: domains as u8, threads: threads as u16, parents, thresholds, homes: Vec::new(), schedule: Vec::new() };
     draft.homes = random_homes(random, &draft.tree(), threads);
+    leave_out_empty_domains(&mut draft);
     draft
+}
+
+/// Domains that no thread is under go, so that 16 refuses nothing; the others keep their order.
+fn leave_out_empty_domains(draft: &mut Draft) {
+    let occupied = occupied(&draft.tree());
+    let kept: Vec<usize> = (0..draft.parents.len()).filter(|&domain| occupied[domain]).collect();
+    let number = |domain: u8| kept.iter().position(|&other| other == domain as usize).unwrap() as u8;
+    draft.parents = kept.iter().map(|&domain| number(draft.parents[domain])).collect();
+    draft.thresholds = kept.iter().map(|&domain| draft.thresholds[domain]).collect();
+    draft.homes.iter_mut().for_each(|home| *home = number(*home));
+    draft.domains = kept.len() as u8;
 }
 
 /// Parents by one of three habits: the domain just before, one of the last few, or any; never so deep that 7 would refuse.

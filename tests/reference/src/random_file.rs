@@ -55,13 +55,15 @@ fn overlong(random: &mut Random) -> Vec<u8> {
 pub fn broken_draft(random: &mut Random) -> Draft {
     let mut draft = valid_draft(random);
     for _ in 0..random.between(1, 3) {
-        match random.below(8) {
+        match random.below(12) {
             0 => break_number_of_domains(random, &mut draft),
             1 => break_number_of_threads(random, &mut draft),
             2 => break_parent(random, &mut draft),
             3 => break_depth(random, &mut draft),
             4 => break_threshold(random, &mut draft),
             5 | 6 => break_home(random, &mut draft),
+            7 | 8 => empty_a_home(random, &mut draft),
+            9 | 10 => add_empty_domain(random, &mut draft),
             _ => break_entry(random, &mut draft),
         }
     }
@@ -120,6 +122,28 @@ fn break_home(random: &mut Random, draft: &mut Draft) {
         let thread = random.below(draft.homes.len());
         let near = [0, draft.domains.wrapping_sub(1), draft.domains, random.below(256) as u8];
         draft.homes[thread] = random.pick(&near);
+    }
+}
+
+/// The threads of one home go to another.
+fn empty_a_home(random: &mut Random, draft: &mut Draft) {
+    if !draft.homes.is_empty() {
+        let left = random.pick(&draft.homes);
+        let others: Vec<u8> = draft.homes.iter().copied().filter(|&home| home != left).collect();
+        if !others.is_empty() {
+            let other = random.pick(&others);
+            draft.homes.iter_mut().filter(|home| **home == left).for_each(|home| *home = other);
+        }
+    }
+}
+
+/// One more domain, under one that has child domains.
+fn add_empty_domain(random: &mut Random, draft: &mut Draft) {
+    if draft.parents.len() > 1 && draft.parents.len() < 255 {
+        let sibling = random.between(1, draft.parents.len() - 1);
+        draft.parents.push(draft.parents[sibling]);
+        draft.thresholds.push(random.between(1, 20) as u16);
+        draft.domains += 1;
     }
 }
 

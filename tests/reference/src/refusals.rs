@@ -1,4 +1,4 @@
-//! Refusals 4 to 13 of document 01, and the fresh call, the single step and the run that meet them.
+//! Refusals 4 to 13 of document 01 and 16 of document 02, and the fresh call, the single step and the run that meet them.
 
 use crate::table::*;
 
@@ -32,7 +32,7 @@ fn refuse_if(number: u32, bad: bool) -> Outcome<()> {
     }
 }
 
-/// 4 to 9, each over the whole tree before the next.
+/// 4 to 9 and 16, each over the whole tree before the next.
 pub fn accept_tree(tree: &Tree) -> Outcome<()> {
     refuse_if(4, tree.domains == 0 || tree.domains > DOMAIN_ROOM)?;
     refuse_if(5, tree.threads == 0 || tree.threads > THREAD_ROOM)?;
@@ -41,7 +41,24 @@ pub fn accept_tree(tree: &Tree) -> Outcome<()> {
     refuse_first(7, 0..tree.domains, |domain| levels[domain] > DEEPEST_LEVEL)?;
     refuse_first(8, 1..tree.domains, |domain| tree.thresholds[domain] == 0)?;
     let leaves = leaves(tree);
-    refuse_first(9, 0..tree.threads, |thread| tree.home(thread) >= tree.domains || !leaves[tree.home(thread)])
+    refuse_first(9, 0..tree.threads, |thread| tree.home(thread) >= tree.domains || !leaves[tree.home(thread)])?;
+    let occupied = occupied(tree);
+    refuse_first(16, 0..tree.domains, |domain| !occupied[domain])
+}
+
+/// Which domains have a thread under them: every home and all above it.
+pub fn occupied(tree: &Tree) -> [bool; DOMAIN_ROOM] {
+    let mut occupied = [false; DOMAIN_ROOM];
+    for thread in 0..tree.threads {
+        let mut domain = tree.home(thread);
+        while !occupied[domain] {
+            occupied[domain] = true;
+            if domain != ROOT {
+                domain = tree.parent(domain);
+            }
+        }
+    }
+    occupied
 }
 
 /// The level of each domain, the root's being 1; every parent is below its child's number.

@@ -79,6 +79,23 @@ fn homes() {
 }
 
 #[test]
+fn domains_without_threads() {
+    // An empty leaf beside a full one; two empty leaves; an inner domain whose leaves are all empty.
+    prints(&[3, 0, 0, 1, 0, 1, 1], "refused 16 2\n");
+    prints(&[4, 0, 0, 0, 1, 0, 1, 2], "refused 16 1\n");
+    prints(&[5, 0, 0, 1, 1, 1, 1, 2, 0, 1, 2, 0], "refused 16 1\n");
+    // 8 and 9 come before, 10 and 12 after.
+    prints(&[3, 2, 0, 0, 0, 1, 0, 1, 1], "refused 8 1\n");
+    prints(&[3, 0, 0, 2, 0, 1, 1, 1, 0], "refused 9 1\n");
+    prints(&[3, 0, 0, 1, 0, 1, 1, 9, 0], "refused 16 2\n");
+    let spoilt = step_refusal(|tree, state| {
+        tree.homes[2] = 1;
+        state.places[0] = Place::Check(0);
+    });
+    assert_eq!(spoilt, Some((16, 2)));
+}
+
+#[test]
 fn output_buffer() {
     let file = [1, 1, 0, 0, 0, 0, 0, 0];
     let mut output = [7; 20];

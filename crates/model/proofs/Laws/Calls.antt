@@ -35,21 +35,21 @@ pub record Good-run (t : Tree) (s : State) (is : List ℕ) (room : ℕ) : Type 0
   pub fits : length is ≤ room
 
 -- tests that pass, in two lists
-pass-split : (xs ys : List Test) → All-pass (xs ++ ys) → All-pass xs × All-pass ys
+pub pass-split : (xs ys : List Test) → All-pass (xs ++ ys) → All-pass xs × All-pass ys
 unfolding All-pass
 pass-split [] ys h = (tt, h)
 pass-split (x ∷ xs) ys h = let r = pass-split xs ys (h .1) in ((h .0, r .0), r .1)
 
-pass-join : (xs ys : List Test) → All-pass xs → All-pass ys → All-pass (xs ++ ys)
+pub pass-join : (xs ys : List Test) → All-pass xs → All-pass ys → All-pass (xs ++ ys)
 unfolding All-pass
 pass-join [] ys f g = g
 pass-join (x ∷ xs) ys f g = (f .0, pass-join xs ys (f .1) g)
 
-tree-passes : (t : Tree) → All-pass (tree-tests t) → tree-refusal t .number ≡ 0
+pub tree-passes : (t : Tree) → All-pass (tree-tests t) → tree-refusal t .number ≡ 0
 unfolding tree-refusal
 tree-passes t h = ap (λ r. r .number) (tree-refuses-exactly t .passed .1 h) ∙ accepted-number
 
-tree-passed : (t : Tree) → tree-refusal t .number ≡ 0 → All-pass (tree-tests t)
+pub tree-passed : (t : Tree) → tree-refusal t .number ≡ 0 → All-pass (tree-tests t)
 unfolding tree-refusal
 tree-passed t e = tree-refuses-exactly t .passed .0 (tree-refuses-exactly t .zero-accepted e)
 

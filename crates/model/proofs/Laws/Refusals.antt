@@ -1,7 +1,7 @@
 -- REFUSALS. Number n at place p exactly if every earlier test passes, p is bad and none below p is. Assumes nothing.
 use mathlib.Core.Path.{_≡_, refl, sym, ap, _∙_}
 use mathlib.Core.Bool.{Bool, true, false}
-use mathlib.Core.List.{List, [], _∷_, _++_}
+use mathlib.Core.List.{List, [], _∷_}
 use mathlib.Core.Logic.{_⊎_, inl, inr}
 use Prim.Native.Nat.{ℕ, zero, suc, _+_, _-_, _<_}
 use native.Mathlib.Nat.{add-zero}
@@ -93,10 +93,10 @@ pub accepted-number : accepted .number ≡ 0
 unfolding accepted refusal
 accepted-number = refl
 
-same-number : (n p m q : ℕ) → refusal n p ≡ refusal m q → n ≡ m
+pub same-number : (n p m q : ℕ) → refusal n p ≡ refusal m q → n ≡ m
 same-number n p m q e = sym (number-of n p) ∙ ap (λ r. r .number) e ∙ number-of m q
 
-same-place : (n p m q : ℕ) → refusal n p ≡ refusal m q → p ≡ q
+pub same-place : (n p m q : ℕ) → refusal n p ≡ refusal m q → p ≡ q
 same-place n p m q e = sym (place-of n p) ∙ ap (λ r. r .place) e ∙ place-of m q
 
 not-accepted : (n p : ℕ) (r : Refusal) → 0 < n → r ≡ refusal n p → r .number ≡ 0 → ⊥

@@ -1,16 +1,15 @@
 -- An accepted tree as facts. Assumes nothing.
-use mathlib.Core.Path.{_≡_, sym, _∙_}
+use mathlib.Core.Path.{_≡_, refl, sym, _∙_}
 use mathlib.Core.Bool.{Bool, true, false, _&&_, _||_, not, true≢false}
-use mathlib.Core.List.{[]}
 use mathlib.Core.Logic.{_≢_}
 use Prim.Native.Nat.{ℕ, _≤_, _<_}
 use native.Mathlib.Omega.{arith}
 use lib.Dec.{eqb, leb, ltb}
 use borrow.Author.Tests.{ltb-false, leb-false, eqb-true, eqb-false, not-true, not-false, eq-eqb, ne-eqb}
 use Rattle.model.specs.Trees.{Tree, level, is-child, is-leaf}
-use Rattle.model.specs.Refusals.{test, tree-tests, tree-refusal, bad-domains, bad-threads, bad-parent, too-deep, no-threshold, bad-home}
+use Rattle.model.specs.Refusals.{first-refusal, empty-tests, tests-before-16, tree-tests, has-number, tree-refusal, bad-domains, bad-threads, bad-parent, too-deep, no-threshold, bad-home}
 use Rattle.model.proofs.Tests.{and-both, or-neither, any-none}
-use Rattle.model.proofs.Refusing.{tests-pass}
+use Rattle.model.proofs.Refusing.{tests-pass, numbered, first-passes}
 
 pub record Accepted (t : Tree) : Type 0 where
   pub some-domain : 0 < t .domains
@@ -27,15 +26,16 @@ pub record Accepted (t : Tree) : Type 0 where
 pub but-zero : (d : ℕ) (b : Bool) → not (eqb d 0) && b ≡ false → 0 < d → b ≡ false
 but-zero d b e h = let z = ne-eqb d 0 (omega arith) in rw z at e
 
-pub accepted : (t : Tree) → tree-refusal t .number ≡ 0 → Accepted t
-unfolding tree-refusal tree-tests bad-domains bad-threads bad-parent too-deep no-threshold bad-home
-accepted t e =
-    let c₄ = tests-pass (test 4 1 (bad-domains t)) _ (omega arith) e in
-    let c₅ = tests-pass (test 5 1 (bad-threads t)) _ (omega arith) (c₄ .1) in
-    let c₆ = tests-pass (test 6 (t .domains) (bad-parent t)) _ (omega arith) (c₅ .1) in
-    let c₇ = tests-pass (test 7 (t .domains) (too-deep t)) _ (omega arith) (c₆ .1) in
-    let c₈ = tests-pass (test 8 (t .domains) (no-threshold t)) _ (omega arith) (c₇ .1) in
-    let c₉ = tests-pass (test 9 (t .threads) (bad-home t)) [] (omega arith) (c₈ .1) in
+-- where 4 to 9 refuse nothing
+pub accepted-before : (t : Tree) → first-refusal (tests-before-16 t) .number ≡ 0 → Accepted t
+unfolding bad-domains bad-threads bad-parent too-deep no-threshold bad-home
+accepted-before t e =
+    let c₄ = tests-pass _ _ (omega arith) e in
+    let c₅ = tests-pass _ _ (omega arith) (c₄ .1) in
+    let c₆ = tests-pass _ _ (omega arith) (c₅ .1) in
+    let c₇ = tests-pass _ _ (omega arith) (c₆ .1) in
+    let c₈ = tests-pass _ _ (omega arith) (c₇ .1) in
+    let c₉ = tests-pass _ _ (omega arith) (c₈ .1) in
     let d₄ = or-neither (eqb (t .domains) 0) (ltb 64 (t .domains)) (c₄ .0 0 (omega arith)) in
     let d₅ = or-neither (eqb (t .threads) 0) (ltb 256 (t .threads)) (c₅ .0 0 (omega arith)) in
     let n₄ = eqb-false (t .domains) 0 (d₄ .0) in
@@ -54,6 +54,10 @@ accepted t e =
       home-real = λ i h. leb-false _ _ (or-neither _ (not (is-leaf t (t .home i))) (at₉ i h) .0);
       home-leaf = λ i h. not-false _ (or-neither (leb (t .domains) (t .home i)) _ (at₉ i h) .1);
     }
+
+pub accepted : (t : Tree) → tree-refusal t .number ≡ 0 → Accepted t
+unfolding tree-refusal tree-tests has-number
+accepted t e = accepted-before t (first-passes (tests-before-16 t) (empty-tests t) (numbered (tests-before-16 t) refl) e)
 
 -- CHILDREN AND LEAVES
 pub child-yes : (t : Tree) (d c : ℕ) → 0 < c → t .parent c ≡ d → is-child t d c ≡ true

@@ -1,6 +1,7 @@
 -- `refusals::tree_refusal_of` meets its contract: counts and domains, then the homes. Assumes nothing.
 use Rattle.model.specs.Refusals.{accepted}
-use Rattle.refusals.proofs.TreeTests.{shape-refused, shape, home-refused, tree-passes}
+use Rattle.refusals.proofs.TreeTests.{shape-refused, shape-passed, shape}
+use Rattle.refusals.proofs.Occupying.{leaves-pass}
 use borrow.Author.Needs.{needs}
 use Rattle.refusals.proofs.tree_refusal_of.Statement.{statement}
 use Rattle.refusals.proofs.tree_refusal_of.Tie as tie
@@ -11,26 +12,32 @@ shape-refusal-requires c κs = search needs
 returns : tie.Need-returns
 returns c = shape-refused (c .before .before .before .before .before .before .args .t1) _ (c .before .before .shape-refusal .ensures) (c .if1 .taken)
 
-no-homes-requires : tie.Need-no-homes-requires
-no-homes-requires c κs = let k = shape (c .before .before .before .before .before .before .before .before .args .t1) _ (c .before .before .before .before .shape-refusal .ensures) (c .before .before .if1 .left) in (k .some-domain, k .few-domains)
-
-lowest-bad-home-requires : tie.Need-lowest-bad-home-requires
-lowest-bad-home-requires c κs =
-    let k = shape (c .before .before .before .before .before .before .before .before .before .before .before .before .before .args .t1) _ (c .before .before .before .before .before .before .before .before .before .shape-refusal .ensures) (c .before .before .before .before .before .before .before .if1 .left) in
-    ((k .few-domains, k .few-threads), c .before .before .before .before .no-homes .ensures)
+homes-are-leaves-requires : tie.Need-homes-are-leaves-requires
+homes-are-leaves-requires c κs =
+    let shaped = c .before .before .before .before .before in
+    let w = shaped .before .before .before .before .args .t1 in
+    let k = shape w (shape-passed w _ (shaped .shape-refusal .ensures) (c .before .before .before .if1 .left)) in
+    (k .some-domain, k .few-domains, k .few-threads)
 
 refusal-at-requires : tie.Need-refusal-at-requires
 refusal-at-requires c κs = search needs
 
 returns-2 : tie.Need-returns-2
-returns-2 c = rw (c .refusal-at .ensures, home-refused (c .before .before .before .before .before .before .before .before .before .before .before .before .before .before .before .before .args .t1) _ (c .before .before .before .before .before .before .before .before .before .before .before .before .shape-refusal .ensures) (c .before .before .before .before .before .before .before .before .before .before .if1 .left) _ (c .before .before .lowest-bad-home .ensures) (c .before .if2 .taken))
+unfolding accepted
+returns-2 c =
+    let leaves = c .before .before in
+    let shaped = leaves .before .before .before .before .before .before in
+    let w = shaped .before .before .before .before .args .t1 in
+    let passed = shape-passed w _ (shaped .shape-refusal .ensures) (leaves .before .before .before .before .if1 .left) in
+    rw (c .refusal-at .ensures, leaves-pass w passed _ (leaves .homes-are-leaves .ensures) (c .before .if2 .taken))
 
-refusal-at-requires-2 : tie.Need-refusal-at-requires-2
-refusal-at-requires-2 c κs = search needs
+homes-refusal-requires : tie.Need-homes-refusal-requires
+homes-refusal-requires c κs =
+    let shaped = c .before .before .before .before .before .before .before in
+    shape-passed (shaped .before .before .before .before .args .t1) _ (shaped .shape-refusal .ensures) (c .before .before .before .before .before .if1 .left)
 
 returns-3 : tie.Need-returns-3
-unfolding accepted
-returns-3 c = rw (c .refusal-at2 .ensures, tree-passes (c .before .before .before .before .before .before .before .before .before .before .before .before .before .before .before .before .args .t1) _ (c .before .before .before .before .before .before .before .before .before .before .before .before .shape-refusal .ensures) (c .before .before .before .before .before .before .before .before .before .before .if1 .left) _ (c .before .before .lowest-bad-home .ensures) (c .before .if2 .left))
+returns-3 c = c .homes-refusal .ensures
 
 pub tree-refusal-of-spec : {M : Type 1} → statement M
 tree-refusal-of-spec =
@@ -38,9 +45,8 @@ tree-refusal-of-spec =
     (tie.spec
     shape-refusal-requires
     returns
-    no-homes-requires
-    lowest-bad-home-requires
+    homes-are-leaves-requires
     refusal-at-requires
     returns-2
-    refusal-at-requires-2
+    homes-refusal-requires
     returns-3)

@@ -12,7 +12,7 @@ use reference::words::*;
 use std::process::exit;
 
 const CANARY: usize = 16;
-const REFUSALS: [usize; 10] = [4, 5, 6, 7, 8, 9, 10, 11, 12, 13];
+const REFUSALS: [usize; 11] = [4, 5, 6, 7, 8, 9, 16, 10, 11, 12, 13];
 
 #[derive(Clone, Copy, Debug)]
 enum Call {

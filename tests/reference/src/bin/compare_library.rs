@@ -10,7 +10,7 @@ use reference::shrink::{hexadecimal, shrink};
 use std::process::exit;
 
 const CANARY: usize = 64;
-const REFUSALS: [usize; 11] = [1, 2, 3, 4, 5, 6, 7, 8, 9, 12, 14];
+const REFUSALS: [usize; 12] = [1, 2, 3, 4, 5, 6, 7, 8, 9, 16, 12, 14];
 
 /// The length of the output buffer: by itself, or by how much it differs from the listing's.
 #[derive(Clone, Copy, Debug)]

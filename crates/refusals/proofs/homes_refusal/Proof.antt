@@ -1,0 +1,84 @@
+-- `refusals::homes_refusal` meets its contract: the lowest bad home, then the lowest empty domain. Assumes nothing.
+use Rattle.model.specs.Refusals.{accepted}
+use Rattle.refusals.proofs.TreeTests.{shape, home-refused, facts, empty-refused, tree-passes}
+use Rattle.refusals.proofs.Occupying.{homes-real, occupied-lowest}
+use borrow.Author.Needs.{needs}
+use Rattle.refusals.proofs.homes_refusal.Statement.{statement}
+use Rattle.refusals.proofs.homes_refusal.Tie as tie
+
+no-homes-requires : tie.Need-no-homes-requires
+no-homes-requires c κs =
+    let s = c .before .before in
+    let k = shape (s .args .t1) (s .pre) in
+    (k .some-domain, k .few-domains)
+
+lowest-bad-home-requires : tie.Need-lowest-bad-home-requires
+lowest-bad-home-requires c κs =
+    let table = c .before .before .before .before in
+    let s = table .before .before .before in
+    let k = shape (s .args .t1) (s .pre) in
+    ((k .few-domains, k .few-threads), table .no-homes .ensures)
+
+refusal-at-requires : tie.Need-refusal-at-requires
+refusal-at-requires c κs = search needs
+
+returns : tie.Need-returns
+returns c =
+    let nine = c .before .before in
+    let s = nine .before .before .before .before .before .before .before .before in
+    rw (c .refusal-at .ensures, home-refused (s .args .t1) (s .pre) _ (nine .lowest-bad-home .ensures) (c .before .if1 .taken))
+
+occupied-requires : tie.Need-occupied-requires
+occupied-requires c κs =
+    let nine = c .before .before .before .before in
+    let s = nine .before .before .before .before .before .before .before .before in
+    let w = s .args .t1 in
+    let k = shape w (s .pre) in
+    ((k .some-domain, k .few-domains, k .few-threads), (k .low, homes-real w (facts w (s .pre) _ (nine .lowest-bad-home .ensures) (c .before .before .before .if1 .left))))
+
+lowest-empty-requires : tie.Need-lowest-empty-requires
+lowest-empty-requires c κs = let s = c .before .before .before .before .before .before .before .before .before .before .before .before .before .before in shape (s .args .t1) (s .pre) .few-domains
+
+refusal-at-requires-2 : tie.Need-refusal-at-requires-2
+refusal-at-requires-2 c κs = search needs
+
+returns-2 : tie.Need-returns-2
+returns-2 c =
+    let sixteen = c .before .before in
+    let nine = sixteen .before .before .before .before .before .before .before in
+    let s = nine .before .before .before .before .before .before .before .before in
+    let w = s .args .t1 in
+    let l₉ = nine .lowest-bad-home .ensures in
+    let h₉ = sixteen .before .before .before .before .before .before .if1 .left in
+    let l₁₆ = occupied-lowest w (facts w (s .pre) _ l₉ h₉) _ (sixteen .before .before .occupied .ensures) _ (sixteen .lowest-empty .ensures) in
+    rw (c .refusal-at2 .ensures, empty-refused w (s .pre) _ l₉ h₉ _ l₁₆ (c .before .if2 .taken))
+
+refusal-at-requires-3 : tie.Need-refusal-at-requires-3
+refusal-at-requires-3 c κs = search needs
+
+returns-3 : tie.Need-returns-3
+unfolding accepted
+returns-3 c =
+    let sixteen = c .before .before in
+    let nine = sixteen .before .before .before .before .before .before .before in
+    let s = nine .before .before .before .before .before .before .before .before in
+    let w = s .args .t1 in
+    let l₉ = nine .lowest-bad-home .ensures in
+    let h₉ = sixteen .before .before .before .before .before .before .if1 .left in
+    let l₁₆ = occupied-lowest w (facts w (s .pre) _ l₉ h₉) _ (sixteen .before .before .occupied .ensures) _ (sixteen .lowest-empty .ensures) in
+    rw (c .refusal-at3 .ensures, tree-passes w (s .pre) _ l₉ h₉ _ l₁₆ (c .before .if2 .left))
+
+pub homes-refusal-spec : {M : Type 1} → statement M
+homes-refusal-spec =
+    tie.close
+    (tie.spec
+    no-homes-requires
+    lowest-bad-home-requires
+    refusal-at-requires
+    returns
+    occupied-requires
+    lowest-empty-requires
+    refusal-at-requires-2
+    returns-2
+    refusal-at-requires-3
+    returns-3)

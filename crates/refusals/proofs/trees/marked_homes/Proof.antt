@@ -1,0 +1,69 @@
+-- `refusals::trees::marked_homes` meets its contract: the homes of the threads passed are marked. Assumes nothing.
+use mathlib.Core.Path.{_≡_}
+use Prim.Native.Nat.{ℕ, _≤_, _<_, _-_}
+use native.Mathlib.Omega.{arith}
+use native.Mathlib.Decide.{ℕ-discrete}
+use lib.ListN.{getD}
+use Rattle.refusals.proofs.Homes.{Marked-below, marked-none, marked-more}
+use borrow.Author.Needs.{needs}
+use Rattle.refusals.proofs.trees.marked_homes.Statement.{statement}
+use Rattle.refusals.proofs.trees.marked_homes.Tie as tie
+
+abbrev Inv-loop : tie.InvT-loop
+Inv-loop homes threads marked₀ i₀ marked i = (i ≤ threads) × Marked-below homes 256 marked i × ((j : ℕ) → j < i → getD homes j 0 < 256)
+
+abbrev μ-loop : tie.MeasureT-loop
+μ-loop homes threads marked₀ i₀ marked i = threads - i
+
+loop-holds : tie.Need-loop-holds Inv-loop μ-loop
+loop-holds c = (search needs, marked-none _ 256, λ j l. absurd (omega arith))
+
+cast-at : tie.Need-cast-at Inv-loop μ-loop
+cast-at c = omega arith
+
+element-copy-out-byte-index : tie.Need-element-copy-out-byte-index Inv-loop μ-loop
+element-copy-out-byte-index c = omega arith
+
+byte-index-requires : tie.Need-byte-index-requires Inv-loop μ-loop
+byte-index-requires c κs = search needs
+
+array-write-marked : tie.Need-array-write-marked Inv-loop μ-loop
+array-write-marked c = omega (arith, c .byte-index .ensures .1)
+
+add-i : tie.Need-add-i Inv-loop μ-loop
+add-i c = omega arith
+
+loop-less : tie.Need-loop-less Inv-loop μ-loop
+loop-less c = omega arith
+
+loop-again : tie.Need-loop-again Inv-loop μ-loop
+loop-again c =
+    let l = c .before .before .before .loop in
+    let e = c .byte-index .ensures in
+    let small = rw (e .0) at (e .1) in (
+      omega arith,
+      rw (e .0) (marked-more _ 256 _ _ (l .inv .1) small),
+      λ j h. elim (ℕ-discrete j (l .i)) [ yes z ↦ rw z small | no z ↦ l .inv .2 j (omega arith) ],
+    )
+
+returns : tie.Need-returns Inv-loop μ-loop
+returns c =
+    let l = c .before .loop in
+    let done : l .i ≡ c .before .before .args .threads = omega arith in
+    record { byte = λ j h. l .inv .2 j (omega arith); home = rw done at (l .inv .1 .marks) }
+
+pub marked-homes-spec : {M : Type 1} → statement M
+marked-homes-spec =
+    tie.close
+    (tie.spec
+    Inv-loop
+    μ-loop
+    loop-holds
+    cast-at
+    element-copy-out-byte-index
+    byte-index-requires
+    array-write-marked
+    add-i
+    loop-less
+    loop-again
+    returns)
