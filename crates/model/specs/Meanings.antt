@@ -9,7 +9,9 @@ use Rattle.model.specs.declared.Place.the-variants.{Inside}
 use Rattle.model.specs.declared.State.{State}
 use Rattle.model.specs.Trees.{Tree, is-child, is-leaf, on-path, under, allowance}
 use Rattle.model.specs.States.{place, inside-count}
-use Rattle.model.specs.Refusals.{tree-refusal}
+use Rattle.model.specs.Runs.{Run}
+use Rattle.model.specs.Refusals.{Refusal, tree-refusal}
+use Rattle.model.specs.Answers.{run-reply}
 use Rattle.model.specs.Laws.{_⟺_}
 use Rattle.model.specs.Claim.{Call, added, state-at, Stretches, Prefix}
 
@@ -59,3 +61,10 @@ own-entries t S k (c ∷ cs) = let own = added c (state-at t S k) in own ++ own-
 
 unfoldable pub Stretches-law : Type 0
 Stretches-law = (t : Tree) (S : List ℕ) (cs : List Call) → Stretches t S 0 cs → S ≡ own-entries t S 0 cs
+
+-- REFUSED RUNS count nothing
+unfoldable pub Refused-run-law : Type 0
+Refused-run-law =
+    (r : Refusal) (s : State) (x : Run) → r .number ≢ 0 →
+    (run-reply r s x .counts .steps ≡ 0) × (run-reply r s x .counts .entries ≡ 0) × (run-reply r s x .counts .stays ≡ 0)
+    × (run-reply r s x .counts .root ≡ 0) × (run-reply r s x .counts .passed ≡ 0) × (run-reply r s x .counts .crossed ≡ 0)

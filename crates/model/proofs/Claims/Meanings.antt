@@ -9,12 +9,13 @@ use native.Mathlib.Decide.{ℕ-discrete, decLt}
 use lib.Dec.{eqb}
 use lib.ListN.{length, take, drop}
 use lib.Seq.{take-append-seam, drop-drop, drop-length}
-use borrow.Author.Tests.{not-false, eqb-true, eq-eqb, lt-ltb, le-ltb}
+use borrow.Author.Tests.{not-false, eqb-true, eq-eqb, ne-eqb, lt-ltb, le-ltb}
 use Rattle.model.specs.Scans.{any-below, largest-below}
 use Rattle.model.specs.Trees.{Tree, is-child, is-leaf, on-path, under, allowance}
 use Rattle.model.specs.Refusals.{tree-refusal}
+use Rattle.model.specs.Answers.{run-reply}
 use Rattle.model.specs.Claim.{Call, added, state-at, Stretches, Prefix}
-use Rattle.model.specs.Meanings.{Within, itself, below, Tells-under, Under-law, Largest-child, Allows, Allowance-law, Prefix-law, own-entries, Stretches-law}
+use Rattle.model.specs.Meanings.{Within, itself, below, Tells-under, Under-law, Largest-child, Allows, Allowance-law, Prefix-law, own-entries, Stretches-law, Refused-run-law}
 use Rattle.model.proofs.Tests.{or-neither, largest-ge}
 use Rattle.model.proofs.Trees.Index.{ancestor, height, member-allowance}
 use Rattle.model.proofs.Trees.Accepted.{Accepted, accepted}
@@ -147,3 +148,8 @@ stretches-own t S k (c ∷ cs) e =
 pub stretches-law : Stretches-law
 unfolding Stretches-law
 stretches-law t S cs e = stretches-own t S 0 cs e
+
+-- REFUSED RUNS
+pub refused-run-law : Refused-run-law
+unfolding Refused-run-law run-reply
+refused-run-law r s x n = let e = ne-eqb (r .number) 0 n in (rw e, rw e, rw e, rw e, rw e, rw e)
