@@ -183,11 +183,9 @@ struct RateResult {
     double rate = 0; // entries for one unit of the times; 0 where it is refused
 };
 
-// The rate of a busy three-level lock whose threads' homes have threshold h1 and the domains between them and the root h2. A threshold above
-// 65,535 is refused as none (8), as in a tree.
-inline RateResult rate(std::uint32_t h1, std::uint32_t h2, const PassingTimes &times) {
-    const auto threshold = [](std::uint32_t h) { return h <= 65535 ? static_cast<std::uint16_t>(h) : std::uint16_t{0}; };
-    const hmcs_rate_reply reply = hmcs_rate(threshold(h1), threshold(h2), times);
+// The rate of a busy three-level lock whose threads' homes have threshold h1 and the domains between them and the root h2.
+inline RateResult rate(std::uint16_t h1, std::uint16_t h2, const PassingTimes &times) {
+    const hmcs_rate_reply reply = hmcs_rate(h1, h2, times);
     return RateResult{Refusal{reply.number, reply.place}, reply.rate};
 }
 

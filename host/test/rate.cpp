@@ -1,5 +1,6 @@
 // The rate as a host asks for it: layouts, refusals at their places, and a million inputs bit for bit against the formula written here.
 // Built with -ffp-contract=off, so that no product is joined to a sum and every operation below rounds by itself.
+#include "check.hpp"
 #include "hmcs.hpp"
 
 #include <xmmintrin.h>
@@ -18,18 +19,6 @@ static_assert(FLT_EVAL_METHOD == 0, "doubles are computed as doubles");
 static_assert(std::numeric_limits<double>::is_iec559, "doubles are those of IEEE 754");
 
 namespace {
-
-int checks = 0;
-int failures = 0;
-
-void check(bool holds, const char *what, int line) {
-    ++checks;
-    if (!holds) {
-        ++failures;
-        std::printf("line %d: not so: %s\n", line, what);
-    }
-}
-#define CHECK(x) check((x), #x, __LINE__)
 
 std::uint64_t bits(double x) {
     std::uint64_t word;
@@ -165,7 +154,6 @@ void wrapper() {
     const hmcs::PassingTimes times = {1, 1, 1};
     CHECK(hmcs::rate(0, 1, times).refusal.number == HMCS_NO_THRESHOLD && hmcs::rate(0, 1, times).refusal.place == 1);
     CHECK(hmcs::rate(1, 0, times).refusal.place == 2 && hmcs::rate(0, 0, times).refusal.place == 1);
-    CHECK(hmcs::rate(65536, 1, times).refusal.number == HMCS_NO_THRESHOLD && hmcs::rate(1, 65537, times).refusal.place == 2);
     CHECK(!hmcs::rate(65535, 65535, times).refusal && hmcs::rate(65535, 65535, times).rate == 1.0);
     const hmcs::RateResult bad = hmcs::rate(1, 1, {1, 0, std::nan("")});
     CHECK(bad.refusal.number == HMCS_BAD_TIME && bad.refusal.place == 2 && bits(bad.rate) == 0);

@@ -1,4 +1,5 @@
 // The C boundary as a host uses it: layouts by round trips, the specification's cases, and that nothing outside the buffers is touched.
+#include "check.hpp"
 #include "hmcs.hpp"
 
 #include <sys/mman.h>
@@ -13,18 +14,6 @@
 #include <vector>
 
 namespace {
-
-int checks = 0;
-int failures = 0;
-
-void check(bool holds, const char *what, int line) {
-    ++checks;
-    if (!holds) {
-        ++failures;
-        std::printf("line %d: not so: %s\n", line, what);
-    }
-}
-#define CHECK(x) check((x), #x, __LINE__)
 
 // Memory with pages before and behind it that nobody may read or write.
 class Guarded {

@@ -1,4 +1,5 @@
 // Trees as text, as a host reads them: the cases of the table, layouts by round trips, and that nothing outside the text is read.
+#include "check.hpp"
 #include "hmcs.hpp"
 
 #include <sys/mman.h>
@@ -10,18 +11,6 @@
 #include <string>
 
 namespace {
-
-int checks = 0;
-int failures = 0;
-
-void check(bool holds, const char *what, int line) {
-    ++checks;
-    if (!holds) {
-        ++failures;
-        std::printf("line %d: not so: %s\n", line, what);
-    }
-}
-#define CHECK(x) check((x), #x, __LINE__)
 
 const hmcs_tree no_tree{};
 

@@ -1,4 +1,4 @@
-//! What the programs take from the command line: `--long`, `--seed N`, `--count N`.
+//! What the programs take from the command line: `--long`, `--seed N`, `--count N`; and how a comparison ends.
 
 use std::env;
 use std::process::exit;
@@ -31,4 +31,17 @@ fn number(argument: Option<String>) -> u64 {
 fn usage() -> ! {
     eprintln!("options: --long, --seed NUMBER, --count NUMBER");
     exit(2)
+}
+
+/// The end of a comparison: a number that was never met, or a library that is named by all of these variables and not linked, is a failure.
+pub fn conclude(all_met: bool, compared: bool, named_by: &[&str]) {
+    if !all_met {
+        println!("a number was never met");
+        exit(1);
+    }
+    if !compared && named_by.iter().all(|variable| env::var(variable).is_ok()) {
+        println!("a library is named, but not linked");
+        exit(1);
+    }
+    println!("{}", if compared { "no difference" } else { "nothing compared" });
 }

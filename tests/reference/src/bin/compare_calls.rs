@@ -3,7 +3,7 @@
 use reference::calls::{Calls, TABLE};
 use reference::library;
 use reference::met::Met;
-use reference::options::Options;
+use reference::options::{conclude, Options};
 use reference::random::Random;
 use reference::random_file::{broken_draft, valid_draft};
 use reference::random_state::{random_state, spoil, tree_words};
@@ -133,15 +133,7 @@ fn main() {
         met.count(table.reply.number);
     }
     met.print();
-    if !met.complete() {
-        println!("a number was never met");
-        exit(1);
-    }
-    if library.is_none() && std::env::var("HMCS_LIBRARY").is_ok() && std::env::var("HMCS_CALLS").is_ok() {
-        println!("calls of a library are named, but not linked");
-        exit(1);
-    }
-    println!("{}", if library.is_some() { "no difference" } else { "nothing compared" });
+    conclude(met.complete(), library.is_some(), &["HMCS_LIBRARY", "HMCS_CALLS"]);
 }
 
 fn report(case: &Case, table: &Left, other: &Left) {

@@ -3,7 +3,7 @@
 use reference::library::{self, RunFile};
 use reference::lock_file::{self, FileAnswer};
 use reference::met::Met;
-use reference::options::Options;
+use reference::options::{conclude, Options};
 use reference::random::Random;
 use reference::random_file::random_file;
 use reference::shrink::{hexadecimal, shrink};
@@ -84,18 +84,10 @@ fn main() {
     met.print();
     let [steps, entries, stays, root, passed, crossed] = totals;
     println!("in the accepted files: {steps} steps, {entries} entries, {stays} stays, {root} root, {passed} passed and {crossed} crossed entries");
-    if !met.complete() {
-        println!("a number was never met");
-        exit(1);
-    }
-    if library.is_none() && std::env::var("HMCS_LIBRARY").is_ok() {
-        println!("a library is named, but not linked");
-        exit(1);
-    }
-    println!("{}", if library.is_some() { "no difference" } else { "nothing compared" });
+    conclude(met.complete(), library.is_some(), &["HMCS_LIBRARY"]);
 }
 
-/// Adds the five numbers of the listing's first line.
+/// Adds the six numbers of the listing's first line.
 fn add_counts(totals: &mut [u64; 6], result: &Result) {
     let listing = &result.buffer[CANARY..CANARY + result.answer.length as usize];
     let line = String::from_utf8_lossy(listing.split(|&byte| byte == b'\n').next().unwrap_or(&[])).into_owned();

@@ -3,7 +3,7 @@
 
 use reference::library;
 use reference::met::Met;
-use reference::options::Options;
+use reference::options::{conclude, Options};
 use reference::random::Random;
 use reference::rate::{reply, same, PassingTimes, RateCall, RateReply};
 use std::process::exit;
@@ -74,13 +74,5 @@ fn main() {
         met.count(compare(library, h1, h2, PassingTimes { p1, p2, p3 }));
     }
     met.print();
-    if !met.complete() {
-        println!("a number was never met");
-        exit(1);
-    }
-    if library.is_none() && std::env::var("HMCS_LIBRARY").is_ok() && std::env::var("HMCS_CALLS").is_ok() {
-        println!("calls of a library are named, but not linked");
-        exit(1);
-    }
-    println!("{}", if library.is_some() { "no difference" } else { "nothing compared" });
+    conclude(met.complete(), library.is_some(), &["HMCS_LIBRARY", "HMCS_CALLS"]);
 }
