@@ -2,12 +2,13 @@
 use mathlib.Core.Path.{_≡_, refl, sym, ap, _∙_}
 use mathlib.Core.Bool.{Bool, true, false, cond}
 use mathlib.Core.List.{List, [], _∷_, _++_, append-nil, append-assoc}
-use Prim.Native.Nat.{ℕ, zero, suc, _+_, _*_, _≤_, _<_}
+use Prim.Native.Nat.{ℕ, zero, suc, _+_, _≤_, _<_}
 use native.Mathlib.Omega.{arith}
 use native.Mathlib.Nat.{add-zero}
 use native.Mathlib.Numerals.{add-one}
 use lib.ListN.{getD, length, take, drop, set, length-set, length-append}
 use lib.Seq.{length-take-le, take-suc, take-all, drop-cons, set-append-seam}
+use Rattle.model.specs.declared.PlaceWords.{PlaceWords}
 use Rattle.model.specs.declared.State.{State}
 use Rattle.model.specs.Trees.{Tree}
 use Rattle.model.specs.Places.{place-words}
@@ -21,10 +22,10 @@ use Rattle.model.proofs.Laws.Form.{form-law}
 use Rattle.model.proofs.Laws.Kinds.{kind-law}
 use Rattle.lock.specs.declared.rows.Effect.{Effect}
 use Rattle.lock.specs.Effects.{apply, Does}
-use Rattle.lock.specs.Running.{kinds-of, counted, counts-by, only-kind, is-entry-number, traced-at, trace-front}
+use Rattle.lock.specs.Running.{Last-told, kinds-of, counted, counts-by, is-entry-number, traced-at, trace-front}
 
 -- KINDS by their numbers
-pub kind-small : (k : Kind) → kind-number k < 6
+kind-small : (k : Kind) → kind-number k < 6
 kind-small stay = omega arith
 kind-small other = omega arith
 kind-small root-entry = omega arith
@@ -70,23 +71,6 @@ kinds-next xs x =
     λ f. how-many-join f xs (x ∷ []) ∙ ap (λ v. how-many f xs + v) (add-zero (cond (f (x .kind)) 1 0)) in
     rw (one (is-kind stay), one (is-kind other), one (is-kind root-entry), one (is-kind passed-entry), one (is-kind crossed-entry), one (is-kind leaving))
     (count-kind (x .kind) (how-many (is-kind stay) xs) (how-many (is-kind other) xs) (how-many (is-kind root-entry) xs) (how-many (is-kind passed-entry) xs) (how-many (is-kind crossed-entry) xs) (how-many (is-kind leaving) xs))
-
--- one step's kind
-unfoldable one-if : (k j : Kind) → ℕ
-one-if k j = cond (is-kind k j) 1 0 + 0
-
-only-of : (k : Kind) → one-if other k + 2 * one-if root-entry k + 3 * one-if passed-entry k + 4 * one-if crossed-entry k + 5 * one-if leaving k ≡ kind-number k
-unfolding one-if is-kind
-only-of stay = refl
-only-of other = refl
-only-of root-entry = refl
-only-of passed-entry = refl
-only-of crossed-entry = refl
-only-of leaving = refl
-
-pub only-one : (x : Step) → only-kind (kinds-of (x ∷ [])) ≡ kind-number (x .kind)
-unfolding kinds-of how-many one-if
-only-one x = only-of (x .kind)
 
 -- no more of a kind than there are steps
 at-most : (b : Bool) → cond b 1 0 ≤ 1
@@ -169,7 +153,7 @@ module _ (t : Tree) (is b₀ : List ℕ) (s₀ : State) where
   first-steps k = steps t (take k is) s₀
 
   -- k entries of the schedule are done
-  pub record So-far (b : List ℕ) (s : State) (kinds : List ℕ) (entries k : ℕ) : Type 0 where
+  pub record So-far (b : List ℕ) (s : State) (kinds : List ℕ) (entries row domain kind k : ℕ) : Type 0 where
     pub within : k ≤ length is
     pub long : length b ≡ length b₀
     pub formed : Formed t s
@@ -178,8 +162,11 @@ module _ (t : Tree) (is b₀ : List ℕ) (s₀ : State) where
     pub entries-are : entries ≡ length (entering (first-steps k))
     pub entries-fit : entries ≤ k
     pub trace-is : b ≡ trace-front b₀ (run t (take k is) s₀)
+    pub row-is : k ≡ 1 → row ≡ getD (s₀ .places) (getD is 0 0) (place-words 0 0 0 0) .row
+    pub kind-is : k ≡ 1 → kind ≡ kind-number (step t (getD is 0 0) s₀ .kind)
+    pub domain-is : k ≡ 1 → domain ≡ getD (s₀ .places) (getD is 0 0) (place-words 0 0 0 0) .domain
 
-  pub start : Formed t s₀ → So-far b₀ s₀ (0 ∷ 0 ∷ 0 ∷ 0 ∷ 0 ∷ 0 ∷ []) 0 0
+  pub start : Formed t s₀ → So-far b₀ s₀ (0 ∷ 0 ∷ 0 ∷ 0 ∷ 0 ∷ 0 ∷ []) 0 0 0 0 0
   unfolding run run-of steps state-after how-many entering kinds-of
   start f =
       record {
@@ -191,6 +178,9 @@ module _ (t : Tree) (is b₀ : List ℕ) (s₀ : State) where
         entries-are = refl;
         entries-fit = omega arith;
         trace-is = refl;
+        row-is = λ z. absurd (omega arith);
+        domain-is = λ z. absurd (omega arith);
+        kind-is = λ z. absurd (omega arith);
       }
 
   -- one entry more: the steps so far, then one
@@ -202,24 +192,40 @@ module _ (t : Tree) (is b₀ : List ℕ) (s₀ : State) where
 
   -- the kind of a step has its number, and no kind has more steps than entries are done
   pub kind-room :
-      (b : List ℕ) (s : State) (kinds : List ℕ) (entries k : ℕ) (e : Effect) → So-far b s kinds entries k →
+      (b : List ℕ) (s : State) (kinds : List ℕ) (entries row₀ domain₀ kind₀ k : ℕ) (e : Effect) → So-far b s kinds entries row₀ domain₀ kind₀ k →
       Does (row t (getD is k 0) (place s (getD is k 0)) s) (getD is k 0) e s → k < length is → length is ≤ 65536 →
       (e .kind < 6) × (getD kinds (e .kind) 0 < 65536)
-  kind-room b s kinds entries k e g D h short =
+  kind-room b s kinds entries row₀ domain₀ kind₀ k e g D h short =
       let x = row t (getD is k 0) (place s (getD is k 0)) s .kind in
       let few : how-many (is-kind x) (first-steps k) ≤ k = omega (arith, few-kinds (is-kind x) (first-steps k), steps-length t (take k is) s₀, length-take-le k is (g .within)) in
       let at : getD kinds (e .kind) 0 ≡ how-many (is-kind x) (first-steps k) = ap (λ v. getD v (e .kind) 0) (g .kinds-are) ∙ ap (λ v. getD (kinds-of (first-steps k)) v 0) (D .kind-told) ∙ kind-at x (first-steps k) in
       (omega (arith, D .kind-told, kind-small x), omega (arith, at, few))
 
+  -- the first entry is done from the state handed in
+  at-start :
+      (f : PlaceWords → ℕ) (s : State) (k : ℕ) → s ≡ state-after s₀ (first-steps k) → k + 1 ≡ 1 →
+      f (getD (s .places) (getD is k 0) (place-words 0 0 0 0)) ≡ f (getD (s₀ .places) (getD is 0 0) (place-words 0 0 0 0))
+  unfolding steps state-after
+  at-start f s k st z =
+      let e : k ≡ 0 = omega arith in
+      ap (λ j. f (getD (s .places) (getD is j 0) (place-words 0 0 0 0))) e
+      ∙ ap (λ (v : State). f (getD (v .places) (getD is 0 0) (place-words 0 0 0 0))) (st ∙ ap (λ j. state-after s₀ (first-steps j)) e)
+
+  kind-at-start : (s : State) (k : ℕ) → s ≡ state-after s₀ (first-steps k) → k + 1 ≡ 1 → kind-number (step t (getD is k 0) s .kind) ≡ kind-number (step t (getD is 0 0) s₀ .kind)
+  unfolding steps state-after
+  kind-at-start s k st z =
+      let e : k ≡ 0 = omega arith in
+      ap (λ j. kind-number (step t (getD is j 0) s .kind)) e ∙ ap (λ (v : State). kind-number (step t (getD is 0 0) v .kind)) (st ∙ ap (λ j. state-after s₀ (first-steps j)) e)
+
   -- one turn of the loop
   pub turn :
-      (b : List ℕ) (s : State) (kinds : List ℕ) (entries k : ℕ) (e : Effect) (b′ : List ℕ) (s′ : State) (entries′ : ℕ) →
-      tree-refusal t .number ≡ 0 → Sixteen-bit t → All-threads t is → length is ≤ length b₀ → k < length is → So-far b s kinds entries k →
+      (b : List ℕ) (s : State) (kinds : List ℕ) (entries row₀ domain₀ kind₀ k : ℕ) (e : Effect) (b′ : List ℕ) (s′ : State) (entries′ : ℕ) →
+      tree-refusal t .number ≡ 0 → Sixteen-bit t → All-threads t is → length is ≤ length b₀ → k < length is → So-far b s kinds entries row₀ domain₀ kind₀ k →
       Does (row t (getD is k 0) (place s (getD is k 0)) s) (getD is k 0) e s → s′ ≡ apply (getD is k 0) e s →
       entries′ ≡ entries + cond (is-entry-number (e .kind)) 1 0 → b′ ≡ traced-at b entries (e .kind) (getD is k 0) →
-      So-far b′ s′ (counted kinds (e .kind)) entries′ (k + 1)
+      (let q = getD (s .places) (getD is k 0) (place-words 0 0 0 0) in So-far b′ s′ (counted kinds (e .kind)) entries′ (q .row) (q .domain) (e .kind) (k + 1))
   unfolding run run-of steps step state-after how-many entering Form-law
-  turn b s kinds entries k e b′ s′ entries′ accepted sixteen all room h g D es ee eb =
+  turn b s kinds entries row₀ domain₀ kind₀ k e b′ s′ entries′ accepted sixteen all room h g D es ee eb =
       let i = getD is k 0 in
       let x = step t i s in
       let kind : e .kind ≡ kind-number (x .kind) = D .kind-told in
@@ -241,20 +247,24 @@ module _ (t : Tree) (is b₀ : List ℕ) (s₀ : State) where
             eb ∙ ap (λ v. traced-at v entries (e .kind) i) (g .trace-is) ∙ ap (λ v. traced-at (trace-front b₀ (run t (take k is) s₀)) entries v i) kind
             ∙ front-kind (x .kind) (entering xs) b₀ entries i (g .entries-are) (omega (arith, g .entries-fit))
             ∙ sym (ap (λ v. v ++ drop (length v) b₀) traces);
+        row-is = at-start (λ (q : PlaceWords). q .row) s k (g .state-is);
+        domain-is = at-start (λ (q : PlaceWords). q .domain) s k (g .state-is);
+        kind-is = λ z. kind ∙ kind-at-start s k (g .state-is) z;
       }
 
   -- a turn that stays: nothing is stored
   pub turn-stay :
-      (b : List ℕ) (s : State) (kinds : List ℕ) (entries k : ℕ) (e : Effect) → tree-refusal t .number ≡ 0 → Sixteen-bit t → All-threads t is →
-      length is ≤ length b₀ → k < length is → So-far b s kinds entries k →
-      Does (row t (getD is k 0) (place s (getD is k 0)) s) (getD is k 0) e s → e .kind ≡ 0 → So-far b s (counted kinds (e .kind)) entries (k + 1)
+      (b : List ℕ) (s : State) (kinds : List ℕ) (entries row₀ domain₀ kind₀ k : ℕ) (e : Effect) → tree-refusal t .number ≡ 0 → Sixteen-bit t → All-threads t is →
+      length is ≤ length b₀ → k < length is → So-far b s kinds entries row₀ domain₀ kind₀ k →
+      Does (row t (getD is k 0) (place s (getD is k 0)) s) (getD is k 0) e s → e .kind ≡ 0 →
+      (let q = getD (s .places) (getD is k 0) (place-words 0 0 0 0) in So-far b s (counted kinds (e .kind)) entries (q .row) (q .domain) (e .kind) (k + 1))
   unfolding Kind-law step
-  turn-stay b s kinds entries k e accepted sixteen all room h g D z =
+  turn-stay b s kinds entries row₀ domain₀ kind₀ k e accepted sixteen all room h g D z =
       let same = kind-law t (getD is k 0) s accepted (thread-at t is all k h) (g .formed) .stays-exactly .0 (zero-stay _ (sym (D .kind-told) ∙ z)) in
-      turn b s kinds entries k e b s entries accepted sixteen all room h g D (sym (D .state-left ∙ same)) (rw z (sym (add-zero entries))) (rw z)
+      turn b s kinds entries row₀ domain₀ kind₀ k e b s entries accepted sixteen all room h g D (sym (D .state-left ∙ same)) (rw z (sym (add-zero entries))) (rw z)
 
   -- the end
-  module _ (b : List ℕ) (s : State) (kinds : List ℕ) (entries k : ℕ) (g : So-far b s kinds entries k) (h : length is ≤ k) where
+  module _ (b : List ℕ) (s : State) (kinds : List ℕ) (entries row₀ domain₀ kind₀ k : ℕ) (g : So-far b s kinds entries row₀ domain₀ kind₀ k) (h : length is ≤ k) where
     whole : take k is ≡ is
     whole = take-all k is h
 
@@ -267,3 +277,11 @@ module _ (t : Tree) (is b₀ : List ℕ) (s₀ : State) where
 
     pub trace-ends : b ≡ trace-front b₀ (run t is s₀)
     trace-ends = g .trace-is ∙ ap (λ v. trace-front b₀ (run t v s₀)) whole
+
+    pub last-ends : Last-told t is s₀ (row₀ ∷ domain₀ ∷ kind₀ ∷ [])
+    last-ends =
+        record {
+          row = λ z. g .row-is (omega (arith, g .within));
+          domain = λ z. g .domain-is (omega (arith, g .within));
+          kind = λ z. g .kind-is (omega (arith, g .within));
+        }

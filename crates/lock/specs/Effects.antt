@@ -64,6 +64,10 @@ pub record Within (w : Words) : Type 0 where
   pub domain-fits : w .domain < 64
   pub own-fits : w .own < 320
 
+-- the domain of a place by its row and the domain that it names; Idle and Inside are at home
+abbrev pub row-domain : (home row domain : ℕ) → ℕ
+row-domain h r d = cond (eqb r 0) h (cond (eqb r 5) h d)
+
 abbrev pub done-at : (home domain child : ℕ) → Place
 done-at h l c = cond (eqb l h) Idle (Help c)
 

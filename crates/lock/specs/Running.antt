@@ -2,15 +2,16 @@
 use mathlib.Core.Path.{_≡_}
 use mathlib.Core.Bool.{Bool, true, _||_, cond}
 use mathlib.Core.List.{List, [], _∷_, _++_}
-use Prim.Native.Nat.{ℕ, _+_, _*_, _<_}
+use Prim.Native.Nat.{ℕ, _+_, _<_}
 use lib.Dec.{eqb}
 use lib.ListN.{getD, set, length, drop}
 use Rattle.model.specs.declared.PlaceWords.{PlaceWords}
+use Rattle.model.specs.declared.State.{State}
 use Rattle.model.specs.Places.{place-words, place-of}
 use Rattle.model.specs.Trees.{Tree}
 use Rattle.model.specs.Refusals.{tree-refusal}
 use Rattle.model.specs.declared.Counts.{Counts}
-use Rattle.model.specs.Steps.{stay, other, root-entry, passed-entry, crossed-entry, leaving, is-kind, Step, row}
+use Rattle.model.specs.Steps.{stay, other, root-entry, passed-entry, crossed-entry, leaving, kind-number, is-kind, Step, row, step}
 use Rattle.model.specs.Runs.{how-many, Run}
 use Rattle.model.specs.WellFormed.{good-place}
 use Rattle.lock.specs.declared.rows.Effect.{Effect}
@@ -25,6 +26,12 @@ pub record Ready (t : Tree) (i : ℕ) (q : PlaceWords) : Type 0 where
 -- the effect of the row of a place, whatever the places of the other threads are
 pub record Decided (t : Tree) (i : ℕ) (q : PlaceWords) (tails nexts statuses : List ℕ) (e : Effect) : Type 0 where
   pub does : (ps : List PlaceWords) → getD ps i (place-words 0 0 0 0) ≡ q → Does (row t i (place-of q) (state-in tails nexts statuses ps)) i e (state-in tails nexts statuses ps)
+
+-- of the one step of a schedule of one entry: row and domain of the place that it came from, and the number of its kind
+pub record Last-told (t : Tree) (schedule : List ℕ) (s : State) (last : List ℕ) : Type 0 where
+  pub row : length schedule ≡ 1 → getD last 0 0 ≡ getD (s .places) (getD schedule 0 0) (place-words 0 0 0 0) .row
+  pub domain : length schedule ≡ 1 → getD last 1 0 ≡ getD (s .places) (getD schedule 0 0) (place-words 0 0 0 0) .domain
+  pub kind : length schedule ≡ 1 → getD last 2 0 ≡ kind-number (step t (getD schedule 0 0) s .kind)
 
 -- how many of some steps are of each kind, in the order of the kinds' numbers
 unfoldable pub kinds-of : List Step → List ℕ
@@ -47,10 +54,6 @@ counts-by ks =
       passed = getD ks 3 0;
       crossed = getD ks 4 0;
     }
-
--- the number of the kind that one step was of, where the others are 0
-abbrev pub only-kind : (kinds : List ℕ) → ℕ
-only-kind ks = getD ks 1 0 + 2 * getD ks 2 0 + 3 * getD ks 3 0 + 4 * getD ks 4 0 + 5 * getD ks 5 0
 
 -- the kind of a number is an entry
 abbrev pub is-entry-number : (kind : ℕ) → Bool

@@ -65,12 +65,13 @@ pub fn step_lock(tree: TreeWords, state: State, thread: u16) -> StepReply
             state,
         };
     }
-    let at = thread as usize;
-    let domain = places::domain_of(tree.homes[at], state.places[at]);
     let mut trace = [0u16];
     let mut kinds = [0u32; 6];
-    let after = run::run_steps(tree, state, &schedule, &mut trace, &mut kinds);
-    let kind = run::kind_of_one(&kinds);
+    let mut last = [0u8; 3];
+    let after = run::run_steps(tree, state, &schedule, &mut trace, &mut kinds, &mut last);
+    let kind = places::wide(last[2]);
+    let at = thread as usize;
+    let domain = places::domain_by_row(tree.homes[at], last[0], last[1]);
     StepReply {
         number: 0,
         place: 0,
@@ -109,7 +110,8 @@ pub fn run_lock(tree: TreeWords, state: State, schedule: &[u16], trace: &mut [u1
         return refused(r.number, r.place, state);
     }
     let mut kinds = [0u32; 6];
-    let after = run::run_steps(tree, state, schedule, trace, &mut kinds);
+    let mut last = [0u8; 3];
+    let after = run::run_steps(tree, state, schedule, trace, &mut kinds, &mut last);
     let counts = run::counts_of(&kinds);
     RunReply {
         number: 0,

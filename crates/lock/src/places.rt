@@ -4,7 +4,7 @@ ghost use mathlib.Core.Logic.{_≢_};
 ghost use Rattle.model.specs.declared.Place.the-variants.{Invalid};
 ghost use Rattle.model.specs.Places.{place-words, words-of, place-of, place-domain};
 ghost use Rattle.model.specs.Steps.{release-place};
-ghost use Rattle.lock.specs.Effects.{done-at};
+ghost use Rattle.lock.specs.Effects.{done-at, row-domain};
 use model::Place;
 use model::PlaceWords;
 
@@ -104,17 +104,21 @@ pub(crate) fn domain_at(home: u8, p: Place) -> u8
     }
 }
 
-// The domain of the place of four numbers that give one.
-pub(crate) fn domain_of(home: u8, words: PlaceWords) -> u32
-    requires { ⌜ place-of words ≢ Invalid ⌝ }
-    ensures { λ r. ⌜ r ≡ place-domain home (place-of words) ⌝ }
-{
-    let p = place_by_row(words);
-    wide(domain_at(home, p))
-}
-
-fn wide(x: u8) -> u32
+pub(crate) fn wide(x: u8) -> u32
     ensures { λ r. ⌜ r ≡ x ⌝ }
 {
     x as u32
+}
+
+// The domain of a place by its row and the domain that it names; Idle and Inside are at home.
+pub(crate) fn domain_by_row(home: u8, row: u8, domain: u8) -> u32
+    ensures { λ r. ⌜ r ≡ row-domain home row domain ⌝ }
+{
+    if row == 0 {
+        return wide(home);
+    }
+    if row == 5 {
+        return wide(home);
+    }
+    wide(domain)
 }

@@ -7,7 +7,7 @@ ghost use Rattle.model.specs.Trees.{tree-of};
 ghost use Rattle.model.specs.Refusals.{run-refusal};
 ghost use Rattle.model.specs.Runs.{steps, run};
 ghost use Rattle.lock.specs.Effects.{stored};
-ghost use Rattle.lock.specs.Running.{kinds-of, counted, counts-by, only-kind, is-entry-number, traced-at, trace-front};
+ghost use Rattle.lock.specs.Running.{Last-told, kinds-of, counted, counts-by, is-entry-number, traced-at, trace-front};
 use crate::rows;
 use model::Counts;
 use model::State;
@@ -74,19 +74,6 @@ pub(crate) fn counts_of(kinds: &[u32; 6]) -> Counts
     }
 }
 
-// The kind of one step, by how many steps are of each kind: one is, and the others are 0.
-pub(crate) fn kind_of_one(kinds: &[u32; 6]) -> u32
-    requires { ⌜ only-kind (now kinds) ≤ 5 ⌝ }
-    ensures { λ r. ⌜ r ≡ only-kind (now (kinds .entry)) ⌝ }
-{
-    let others = kinds[1];
-    let root = kinds[2];
-    let passed = kinds[3];
-    let crossed = kinds[4];
-    let leaving = kinds[5];
-    others + 2 * root + 3 * passed + 4 * crossed + 5 * leaving
-}
-
 // An entry arrives Inside.
 fn is_entry(kind: u8) -> bool
     ensures { λ r. ⌜ r ≡ is-entry-number kind ⌝ }
@@ -115,22 +102,27 @@ fn trace_at(trace: &mut [u16], at: u32, kind: u8, i: u16) -> u32
     at
 }
 
-// The steps of a schedule, stored one after another into one state, which is copied at the start and at the end alone. How many of them are of each kind is written where the caller lends room, so that the state alone is returned.
+// The steps of a schedule, stored one after another into one state, which is copied at the start and at the end alone. How many of them are of each kind, and of the last one row and domain of the place that it came from and its kind, are written where the caller lends room, so that the state alone is returned.
 pub(crate) fn run_steps(
     tree: TreeWords,
     state: State,
     schedule: &[u16],
     trace: &mut [u16],
     kinds: &mut [u32; 6],
+    last: &mut [u8; 3],
 ) -> State
     requires { ⌜ run-refusal (tree-of tree) state (now schedule) (length (now trace)) .number ≡ 0 ⌝ }
     ensures { λ r. ⌜ r ≡ run (tree-of tree) (now (schedule .entry)) state .state ⌝ }
     ensures { λ r. ⌜ now (trace .exit) ≡ trace-front (now (trace .entry)) (run (tree-of tree) (now (schedule .entry)) state) ⌝ }
     ensures { λ r. ⌜ now (kinds .exit) ≡ kinds-of (steps (tree-of tree) (now (schedule .entry)) state) ⌝ }
+    ensures { λ r. ⌜ Last-told (tree-of tree) (now (schedule .entry)) state (now (last .exit)) ⌝ }
 {
     let mut n = state;
     let mut tally = [0u32; 6];
     let mut entries: u32 = 0;
+    let mut row: u8 = 0;
+    let mut domain: u8 = 0;
+    let mut last_kind: u8 = 0;
     let mut k: u32 = 0;
     while (k as usize) < schedule.len() {
         let position = k as usize;
@@ -149,7 +141,10 @@ pub(crate) fn run_steps(
             i,
             before,
         );
+        row = before.row;
+        domain = before.domain;
         let kind = e.kind;
+        last_kind = kind;
         count_in(&mut tally, kind);
         if kind == model::STAY {
             k += 1;
@@ -164,5 +159,6 @@ pub(crate) fn run_steps(
         k += 1;
     }
     *kinds = tally;
+    *last = [row, domain, last_kind];
     n
 }

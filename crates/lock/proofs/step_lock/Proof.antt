@@ -1,5 +1,5 @@
--- Refused as a run of its one entry, or that run, with the place's domain and the one step's kind. Assumes nothing.
-use Rattle.lock.proofs.Answering.{step-refuses, one-runs, thread-small, place-valid, kind-few, step-answered}
+-- Refused as a run of its one entry, or that run, with the one step's kind and the domain of the place it came from. Assumes nothing.
+use Rattle.lock.proofs.Answering.{step-refuses, one-runs, thread-small, step-answered}
 use native.Mathlib.Omega.{arith}
 use borrow.Author.Needs.{needs}
 use Rattle.lock.proofs.step_lock.Statement.{statement}
@@ -14,18 +14,6 @@ run-refusal-of-requires c κs = search needs
 returns : tie.Need-returns
 returns c = step-refuses _ _ _ _ (c .before .before .run-refusal-of .ensures) (c .if1 .taken)
 
-element-copy-out-domain-of : tie.Need-element-copy-out-domain-of
-element-copy-out-domain-of c = omega (arith, thread-small _ _ _ _ (c .before .before .run-refusal-of .ensures) (c .if1 .left))
-
-mul-domain-of : tie.Need-mul-domain-of
-mul-domain-of c = let other = c .before in omega (arith, thread-small _ _ _ _ (other .before .before .run-refusal-of .ensures) (other .if1 .left))
-
-element-copy-out-domain-of-2 : tie.Need-element-copy-out-domain-of-2
-element-copy-out-domain-of-2 c = let other = c .before in omega (arith, thread-small _ _ _ _ (other .before .before .run-refusal-of .ensures) (other .if1 .left))
-
-domain-of-requires : tie.Need-domain-of-requires
-domain-of-requires c κs = let other = c .before .before in place-valid _ _ _ _ (other .before .before .run-refusal-of .ensures) (other .if1 .left)
-
 slice-aggregate-run-steps : tie.Need-slice-aggregate-run-steps
 slice-aggregate-run-steps c = search needs
 
@@ -33,20 +21,32 @@ slice-aggregate-run-steps-2 : tie.Need-slice-aggregate-run-steps-2
 slice-aggregate-run-steps-2 c = search needs
 
 run-steps-requires : tie.Need-run-steps-requires
-run-steps-requires c κs = let other = c .before .before .before .before .before .before in one-runs _ _ _ _ (other .before .before .run-refusal-of .ensures) (other .if1 .left)
+run-steps-requires c κs = let other = c .before .before .before .before in one-runs _ _ _ _ (other .before .before .run-refusal-of .ensures) (other .if1 .left)
 
-kind-of-one-requires : tie.Need-kind-of-one-requires
-kind-of-one-requires c κs =
-    let ran = c .before .before in
-    let other = ran .before .before .before .before .before .before .before in
-    kind-few _ _ _ _ (other .before .before .run-refusal-of .ensures) (other .if1 .left) _ (ran .run-steps .ensures .1 .1)
+array-read-wide : tie.Need-array-read-wide
+array-read-wide c = search needs
+
+wide-requires : tie.Need-wide-requires
+wide-requires c κs = search needs
+
+element-copy-out-domain-by-row : tie.Need-element-copy-out-domain-by-row
+element-copy-out-domain-by-row c = let other = c .before .before .before .before .before .before .before in omega (arith, thread-small _ _ _ _ (other .before .before .run-refusal-of .ensures) (other .if1 .left))
+
+array-read-domain-by-row : tie.Need-array-read-domain-by-row
+array-read-domain-by-row c = search needs
+
+array-read-domain-by-row-2 : tie.Need-array-read-domain-by-row-2
+array-read-domain-by-row-2 c = search needs
+
+domain-by-row-requires : tie.Need-domain-by-row-requires
+domain-by-row-requires c κs = search needs
 
 returns-2 : tie.Need-returns-2
 returns-2 c =
-    let ran = c .before .before .before in
-    let other = ran .before .before .before .before .before .before .before in
-    step-answered _ _ _ _ (other .before .before .run-refusal-of .ensures) (other .if1 .left) _ _ _ _ (ran .run-steps .ensures .0) (ran .run-steps .ensures .1 .1) (c .kind-of-one .ensures)
-    (ran .before .before .before .before .domain-of .ensures)
+    let told = c .before .before .wide in
+    let ran = c .before .before .before .before in
+    let other = ran .before .before .before .before .before in
+    step-answered _ _ _ _ (other .before .before .run-refusal-of .ensures) (other .if1 .left) _ _ _ _ (ran .run-steps .ensures .0) (ran .run-steps .ensures .1 .1 .1) (told .ensures) (c .domain-by-row .ensures)
 
 pub step-lock-spec : {M : Type 1} → statement M
 step-lock-spec =
@@ -55,12 +55,13 @@ step-lock-spec =
     slice-aggregate-run-refusal-of
     run-refusal-of-requires
     returns
-    element-copy-out-domain-of
-    mul-domain-of
-    element-copy-out-domain-of-2
-    domain-of-requires
     slice-aggregate-run-steps
     slice-aggregate-run-steps-2
     run-steps-requires
-    kind-of-one-requires
+    array-read-wide
+    wide-requires
+    element-copy-out-domain-by-row
+    array-read-domain-by-row
+    array-read-domain-by-row-2
+    domain-by-row-requires
     returns-2)

@@ -5,7 +5,7 @@ use native.Mathlib.Omega.{arith}
 use lib.ListN.{length}
 use Rattle.model.specs.Trees.{tree-of}
 use Rattle.model.proofs.Laws.Calls.{run-facts}
-use Rattle.lock.proofs.SoFar.{So-far, start, kind-room, turn, turn-stay, state-ends, trace-ends, kinds-end}
+use Rattle.lock.proofs.SoFar.{So-far, start, kind-room, turn, turn-stay, state-ends, trace-ends, kinds-end, last-ends}
 use Rattle.lock.proofs.Typing.{typed}
 use Rattle.lock.proofs.Turns.{sixteen, thread-small, ready, all-stored}
 use borrow.Author.Needs.{needs}
@@ -13,10 +13,10 @@ use Rattle.lock.proofs.run.run_steps.Statement.{statement}
 use Rattle.lock.proofs.run.run_steps.Tie as tie
 
 abbrev Inv-loop : tie.InvT-loop
-Inv-loop schedule trace₀ kinds tree n₀ tally₀ entries₀ k₀ trace n tally entries k = So-far (tree-of tree) schedule trace₀ n₀ trace n tally entries k
+Inv-loop schedule trace₀ kinds last tree n₀ tally₀ entries₀ row₀ domain₀ kind₀ k₀ trace n tally entries row domain kind k = So-far (tree-of tree) schedule trace₀ n₀ trace n tally entries row domain kind k
 
 abbrev μ-loop : tie.MeasureT-loop
-μ-loop schedule trace₀ kinds tree n₀ tally₀ entries₀ k₀ trace n tally entries k = length schedule - k
+μ-loop schedule trace₀ kinds last tree n₀ tally₀ entries₀ row₀ domain₀ kind₀ k₀ trace n tally entries row domain kind k = length schedule - k
 
 loop-holds : tie.Need-loop-holds Inv-loop μ-loop
 loop-holds c =
@@ -54,7 +54,7 @@ count-in-requires c κs =
     let decided = c .before in
     let test = decided .before .before .before .before .before .before .before .before .before .before .before in
     let l = test .before .loop in
-    kind-room _ _ _ _ _ _ _ _ _ _ (l .inv) (decided .decide .ensures .does (l .n .places) refl) (test .loop-test .taken) (run-facts _ _ _ _ (test .before .before .before .before .pre) .short)
+    kind-room _ _ _ _ _ _ _ _ _ _ _ _ _ (l .inv) (decided .decide .ensures .does (l .n .places) refl) (test .loop-test .taken) (run-facts _ _ _ _ (test .before .before .before .before .pre) .short)
 
 add-k : tie.Need-add-k Inv-loop μ-loop
 add-k c = let test = c .before .before .before .before .before .before .before .before .before .before .before .before .before .before in omega (arith, test .loop-test .taken, run-facts _ _ _ _ (test .before .before .before .before .pre) .short)
@@ -69,7 +69,7 @@ loop-again c =
     let r = run-facts _ _ _ _ (test .before .before .before .before .pre) in
     let l = test .before .loop in
     rw (c .before .count-in .ensures)
-    (turn-stay _ _ _ _ _ _ _ _ _ (e .result) (r .tree) (sixteen _) (r .threads) (r .fits) (test .loop-test .taken) (l .inv)
+    (turn-stay _ _ _ _ _ _ _ _ _ _ _ _ (e .result) (r .tree) (sixteen _) (r .threads) (r .fits) (test .loop-test .taken) (l .inv)
     (e .ensures .does (l .n .places) refl) (c .if1 .taken))
 
 store-tail-requires : tie.Need-store-tail-requires Inv-loop μ-loop
@@ -109,19 +109,19 @@ loop-again-2 c =
     let r = run-facts _ _ _ _ (test .before .before .before .before .pre) in
     let l = test .before .loop in
     rw (counted-in .ensures)
-    (turn _ _ _ _ _ _ _ _ _ (e .result) _ _ _ (r .tree) (sixteen _) (r .threads) (r .fits) (test .loop-test .taken) (l .inv)
+    (turn _ _ _ _ _ _ _ _ _ _ _ _ (e .result) _ _ _ (r .tree) (sixteen _) (r .threads) (r .fits) (test .loop-test .taken) (l .inv)
     (e .ensures .does (l .n .places) refl)
     (all-stored _ (e .result) (l .n) _ _ _ (c .before .before .before .before .before .before .before .before .before .store-tail .ensures) (c .before .before .before .before .before .before .before .store-next .ensures) (c .before .before .before .before .before .store-status .ensures))
     (traced .ensures .0) (traced .ensures .1))
 
 same-length : tie.Need-same-length Inv-loop μ-loop
-same-length c = c .before .loop .inv .long
+same-length c = c .before .before .loop .inv .long
 
 returns : tie.Need-returns Inv-loop μ-loop
 returns c =
-    let g = c .before .loop .inv in
-    let e = c .loop-test .left in
-    (state-ends _ _ _ _ _ _ _ _ _ g e, (trace-ends _ _ _ _ _ _ _ _ _ g e, kinds-end _ _ _ _ _ _ _ _ _ g e))
+    let g = c .before .before .loop .inv in
+    let e = c .before .loop-test .left in
+    (state-ends _ _ _ _ _ _ _ _ _ _ _ _ g e, (trace-ends _ _ _ _ _ _ _ _ _ _ _ _ g e, (kinds-end _ _ _ _ _ _ _ _ _ _ _ _ g e, last-ends _ _ _ _ _ _ _ _ _ _ _ _ g e)))
 
 pub run-steps-spec : {M : Type 1} → statement M
 run-steps-spec =
