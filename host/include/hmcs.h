@@ -6,7 +6,7 @@
  * Pointers are the one thing that no function can test. A buffer must be valid for its length, and may be null where the length is 0; the
  * pointers to a state, a place or a length must be valid, aligned and not null. The buffers of one call must not overlap, and two threads
  * that call at the same time must write to different ones. hmcs_run_file needs 160 KB of stack, every other function at
- * most 44 KB beside its arguments and its result, which are up to 16 KB in the caller.
+ * most 26 KB beside its arguments and its result, which are up to 16 KB in the caller.
  *
  * Compare two states field by field, never by memcmp: struct hmcs_place has padding, and so has struct hmcs_text_reply.
  */

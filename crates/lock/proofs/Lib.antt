@@ -6,4 +6,5 @@ pub mod Deciding
 pub mod SoFar
 pub mod Typing
 pub mod Turns
+pub mod LastTold
 pub mod Answering

@@ -15,14 +15,15 @@ use Rattle.model.specs.Places.{place-words}
 use Rattle.model.specs.States.{place}
 use Rattle.model.specs.Refusals.{tree-refusal}
 use Rattle.model.specs.Steps.{Kind, stay, other, root-entry, passed-entry, crossed-entry, leaving, kind-number, is-kind, is-entry, Step, row, step}
-use Rattle.model.specs.Runs.{steps, state-after, how-many, entering, counts-of, Run, run-of, run}
-use Rattle.model.specs.Laws.{All-threads, Sixteen-bit, Formed, Form-law, Count-law, Kind-law}
-use Rattle.model.proofs.Laws.Runs.{steps-join, steps-length, how-many-join, entering-join, state-after-join, entries-all, count-law}
+use Rattle.model.specs.Runs.{steps, state-after, how-many, entering, counts-of, run-of, run}
+use Rattle.model.specs.Laws.{All-threads, Sixteen-bit, Formed, Form-law, Kind-law}
+use Rattle.model.proofs.Trees.Accepted.{accepted}
+use Rattle.model.proofs.Laws.Runs.{steps-join, steps-length, how-many-join, entering-join, state-after-join, entries-all}
 use Rattle.model.proofs.Laws.Form.{form-law}
 use Rattle.model.proofs.Laws.Kinds.{kind-law}
 use Rattle.lock.specs.declared.rows.Effect.{Effect}
 use Rattle.lock.specs.Effects.{apply, Does}
-use Rattle.lock.specs.Running.{Last-told, kinds-of, counted, counts-by, is-entry-number, traced-at, trace-front}
+use Rattle.lock.specs.Running.{kinds-of, counted, counts-by, is-entry-number, traced-at, trace-front}
 
 -- KINDS by their numbers
 kind-small : (k : Kind) → kind-number k < 6
@@ -147,13 +148,16 @@ thread-at t [] a k h = absurd (omega arith)
 thread-at t (i ∷ is) a zero h = a .0
 thread-at t (i ∷ is) a (suc k) h = thread-at t is (a .1) k (omega arith)
 
+pub below : (t : Tree) (is : List ℕ) → tree-refusal t .number ≡ 0 → All-threads t is → (k : ℕ) → k < length is → getD is k 0 < 256
+below t is z a k h = omega (arith, accepted t z .few-threads, thread-at t is a k h)
+
 module _ (t : Tree) (is b₀ : List ℕ) (s₀ : State) where
   -- the steps of the first k entries
   abbrev first-steps : ℕ → List Step
   first-steps k = steps t (take k is) s₀
 
   -- k entries of the schedule are done
-  pub record So-far (b : List ℕ) (s : State) (kinds : List ℕ) (entries row domain kind k : ℕ) : Type 0 where
+  pub record So-far (b : List ℕ) (s : State) (kinds : List ℕ) (entries row domain kind thread k : ℕ) : Type 0 where
     pub within : k ≤ length is
     pub long : length b ≡ length b₀
     pub formed : Formed t s
@@ -165,8 +169,10 @@ module _ (t : Tree) (is b₀ : List ℕ) (s₀ : State) where
     pub row-is : k ≡ 1 → row ≡ getD (s₀ .places) (getD is 0 0) (place-words 0 0 0 0) .row
     pub kind-is : k ≡ 1 → kind ≡ kind-number (step t (getD is 0 0) s₀ .kind)
     pub domain-is : k ≡ 1 → domain ≡ getD (s₀ .places) (getD is 0 0) (place-words 0 0 0 0) .domain
+    pub thread-is : k ≡ 1 → thread ≡ getD is 0 0
+    pub thread-below : thread < 256
 
-  pub start : Formed t s₀ → So-far b₀ s₀ (0 ∷ 0 ∷ 0 ∷ 0 ∷ 0 ∷ 0 ∷ []) 0 0 0 0 0
+  pub start : Formed t s₀ → So-far b₀ s₀ (0 ∷ 0 ∷ 0 ∷ 0 ∷ 0 ∷ 0 ∷ []) 0 0 0 0 0 0
   unfolding run run-of steps state-after how-many entering kinds-of
   start f =
       record {
@@ -181,6 +187,8 @@ module _ (t : Tree) (is b₀ : List ℕ) (s₀ : State) where
         row-is = λ z. absurd (omega arith);
         domain-is = λ z. absurd (omega arith);
         kind-is = λ z. absurd (omega arith);
+        thread-is = λ z. absurd (omega arith);
+        thread-below = omega arith;
       }
 
   -- one entry more: the steps so far, then one
@@ -192,10 +200,10 @@ module _ (t : Tree) (is b₀ : List ℕ) (s₀ : State) where
 
   -- the kind of a step has its number, and no kind has more steps than entries are done
   pub kind-room :
-      (b : List ℕ) (s : State) (kinds : List ℕ) (entries row₀ domain₀ kind₀ k : ℕ) (e : Effect) → So-far b s kinds entries row₀ domain₀ kind₀ k →
+      (b : List ℕ) (s : State) (kinds : List ℕ) (entries row₀ domain₀ kind₀ thread₀ k : ℕ) (e : Effect) → So-far b s kinds entries row₀ domain₀ kind₀ thread₀ k →
       Does (row t (getD is k 0) (place s (getD is k 0)) s) (getD is k 0) e s → k < length is → length is ≤ 65536 →
       (e .kind < 6) × (getD kinds (e .kind) 0 < 65536)
-  kind-room b s kinds entries row₀ domain₀ kind₀ k e g D h short =
+  kind-room b s kinds entries row₀ domain₀ kind₀ thread₀ k e g D h short =
       let x = row t (getD is k 0) (place s (getD is k 0)) s .kind in
       let few : how-many (is-kind x) (first-steps k) ≤ k = omega (arith, few-kinds (is-kind x) (first-steps k), steps-length t (take k is) s₀, length-take-le k is (g .within)) in
       let at : getD kinds (e .kind) 0 ≡ how-many (is-kind x) (first-steps k) = ap (λ v. getD v (e .kind) 0) (g .kinds-are) ∙ ap (λ v. getD (kinds-of (first-steps k)) v 0) (D .kind-told) ∙ kind-at x (first-steps k) in
@@ -219,13 +227,13 @@ module _ (t : Tree) (is b₀ : List ℕ) (s₀ : State) where
 
   -- one turn of the loop
   pub turn :
-      (b : List ℕ) (s : State) (kinds : List ℕ) (entries row₀ domain₀ kind₀ k : ℕ) (e : Effect) (b′ : List ℕ) (s′ : State) (entries′ : ℕ) →
-      tree-refusal t .number ≡ 0 → Sixteen-bit t → All-threads t is → length is ≤ length b₀ → k < length is → So-far b s kinds entries row₀ domain₀ kind₀ k →
+      (b : List ℕ) (s : State) (kinds : List ℕ) (entries row₀ domain₀ kind₀ thread₀ k : ℕ) (e : Effect) (b′ : List ℕ) (s′ : State) (entries′ : ℕ) →
+      tree-refusal t .number ≡ 0 → Sixteen-bit t → All-threads t is → length is ≤ length b₀ → k < length is → So-far b s kinds entries row₀ domain₀ kind₀ thread₀ k →
       Does (row t (getD is k 0) (place s (getD is k 0)) s) (getD is k 0) e s → s′ ≡ apply (getD is k 0) e s →
       entries′ ≡ entries + cond (is-entry-number (e .kind)) 1 0 → b′ ≡ traced-at b entries (e .kind) (getD is k 0) →
-      (let q = getD (s .places) (getD is k 0) (place-words 0 0 0 0) in So-far b′ s′ (counted kinds (e .kind)) entries′ (q .row) (q .domain) (e .kind) (k + 1))
+      (let q = getD (s .places) (getD is k 0) (place-words 0 0 0 0) in So-far b′ s′ (counted kinds (e .kind)) entries′ (q .row) (q .domain) (e .kind) (getD is k 0) (k + 1))
   unfolding run run-of steps step state-after how-many entering Form-law
-  turn b s kinds entries row₀ domain₀ kind₀ k e b′ s′ entries′ accepted sixteen all room h g D es ee eb =
+  turn b s kinds entries row₀ domain₀ kind₀ thread₀ k e b′ s′ entries′ accepted sixteen all room h g D es ee eb =
       let i = getD is k 0 in
       let x = step t i s in
       let kind : e .kind ≡ kind-number (x .kind) = D .kind-told in
@@ -250,21 +258,23 @@ module _ (t : Tree) (is b₀ : List ℕ) (s₀ : State) where
         row-is = at-start (λ (q : PlaceWords). q .row) s k (g .state-is);
         domain-is = at-start (λ (q : PlaceWords). q .domain) s k (g .state-is);
         kind-is = λ z. kind ∙ kind-at-start s k (g .state-is) z;
+        thread-is = λ z. ap (λ j. getD is j 0) (omega arith);
+        thread-below = below t is accepted all k h;
       }
 
   -- a turn that stays: nothing is stored
   pub turn-stay :
-      (b : List ℕ) (s : State) (kinds : List ℕ) (entries row₀ domain₀ kind₀ k : ℕ) (e : Effect) → tree-refusal t .number ≡ 0 → Sixteen-bit t → All-threads t is →
-      length is ≤ length b₀ → k < length is → So-far b s kinds entries row₀ domain₀ kind₀ k →
+      (b : List ℕ) (s : State) (kinds : List ℕ) (entries row₀ domain₀ kind₀ thread₀ k : ℕ) (e : Effect) → tree-refusal t .number ≡ 0 → Sixteen-bit t → All-threads t is →
+      length is ≤ length b₀ → k < length is → So-far b s kinds entries row₀ domain₀ kind₀ thread₀ k →
       Does (row t (getD is k 0) (place s (getD is k 0)) s) (getD is k 0) e s → e .kind ≡ 0 →
-      (let q = getD (s .places) (getD is k 0) (place-words 0 0 0 0) in So-far b s (counted kinds (e .kind)) entries (q .row) (q .domain) (e .kind) (k + 1))
+      (let q = getD (s .places) (getD is k 0) (place-words 0 0 0 0) in So-far b s (counted kinds (e .kind)) entries (q .row) (q .domain) (e .kind) (getD is k 0) (k + 1))
   unfolding Kind-law step
-  turn-stay b s kinds entries row₀ domain₀ kind₀ k e accepted sixteen all room h g D z =
+  turn-stay b s kinds entries row₀ domain₀ kind₀ thread₀ k e accepted sixteen all room h g D z =
       let same = kind-law t (getD is k 0) s accepted (thread-at t is all k h) (g .formed) .stays-exactly .0 (zero-stay _ (sym (D .kind-told) ∙ z)) in
-      turn b s kinds entries row₀ domain₀ kind₀ k e b s entries accepted sixteen all room h g D (sym (D .state-left ∙ same)) (rw z (sym (add-zero entries))) (rw z)
+      turn b s kinds entries row₀ domain₀ kind₀ thread₀ k e b s entries accepted sixteen all room h g D (sym (D .state-left ∙ same)) (rw z (sym (add-zero entries))) (rw z)
 
   -- the end
-  module _ (b : List ℕ) (s : State) (kinds : List ℕ) (entries row₀ domain₀ kind₀ k : ℕ) (g : So-far b s kinds entries row₀ domain₀ kind₀ k) (h : length is ≤ k) where
+  module _ (b : List ℕ) (s : State) (kinds : List ℕ) (entries row₀ domain₀ kind₀ thread₀ k : ℕ) (g : So-far b s kinds entries row₀ domain₀ kind₀ thread₀ k) (h : length is ≤ k) where
     whole : take k is ≡ is
     whole = take-all k is h
 
@@ -277,11 +287,3 @@ module _ (t : Tree) (is b₀ : List ℕ) (s₀ : State) where
 
     pub trace-ends : b ≡ trace-front b₀ (run t is s₀)
     trace-ends = g .trace-is ∙ ap (λ v. trace-front b₀ (run t v s₀)) whole
-
-    pub last-ends : Last-told t is s₀ (row₀ ∷ domain₀ ∷ kind₀ ∷ [])
-    last-ends =
-        record {
-          row = λ z. g .row-is (omega (arith, g .within));
-          domain = λ z. g .domain-is (omega (arith, g .within));
-          kind = λ z. g .kind-is (omega (arith, g .within));
-        }

@@ -10,13 +10,12 @@ use Rattle.model.specs.declared.State.{State}
 use Rattle.model.specs.Places.{place-words}
 use Rattle.model.specs.Trees.{Tree, tree-of, read-word}
 use Rattle.model.specs.Laws.{Sixteen-bit, Formed}
-use Rattle.model.proofs.Trees.Accepted.{accepted}
 use Rattle.model.proofs.Laws.Facts.{well-formed-facts}
 use Rattle.model.proofs.Laws.Calls.{Good-run}
 use Rattle.lock.specs.declared.rows.Effect.{Effect}
 use Rattle.lock.specs.Effects.{stored, apply, state-in}
 use Rattle.lock.specs.Running.{Ready}
-use Rattle.lock.proofs.SoFar.{thread-at}
+use Rattle.lock.proofs.SoFar.{thread-at, below}
 
 pub sixteen : (w : TreeWords) → Sixteen-bit (tree-of w)
 unfolding tree-of
@@ -24,7 +23,7 @@ sixteen w d = let h = mod-lt (read-word 1 (w .domains) (w .thresholds) d) {m = 6
 
 -- an entry of an accepted schedule
 pub thread-small : (t : Tree) (s : State) (is : List ℕ) (room k : ℕ) → Good-run t s is room → k < length is → getD is k 0 < 256
-thread-small t s is room k R h = omega (arith, accepted t (R .tree) .few-threads, thread-at t is (R .threads) k h)
+thread-small t s is room k R h = below t is (R .tree) (R .threads) k h
 
 pub ready : (t : Tree) (s₀ s : State) (is : List ℕ) (room k : ℕ) → Good-run t s₀ is room → Formed t s → k < length is → Ready t (getD is k 0) (getD (s .places) (getD is k 0) (place-words 0 0 0 0))
 ready t s₀ s is room k R f h =

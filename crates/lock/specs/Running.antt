@@ -27,11 +27,10 @@ pub record Ready (t : Tree) (i : ℕ) (q : PlaceWords) : Type 0 where
 pub record Decided (t : Tree) (i : ℕ) (q : PlaceWords) (tails nexts statuses : List ℕ) (e : Effect) : Type 0 where
   pub does : (ps : List PlaceWords) → getD ps i (place-words 0 0 0 0) ≡ q → Does (row t i (place-of q) (state-in tails nexts statuses ps)) i e (state-in tails nexts statuses ps)
 
--- of the one step of a schedule of one entry: row and domain of the place that it came from, and the number of its kind
+-- of the one step of a schedule of one entry: the number of its kind, and its domain
 pub record Last-told (t : Tree) (schedule : List ℕ) (s : State) (last : List ℕ) : Type 0 where
-  pub row : length schedule ≡ 1 → getD last 0 0 ≡ getD (s .places) (getD schedule 0 0) (place-words 0 0 0 0) .row
-  pub domain : length schedule ≡ 1 → getD last 1 0 ≡ getD (s .places) (getD schedule 0 0) (place-words 0 0 0 0) .domain
-  pub kind : length schedule ≡ 1 → getD last 2 0 ≡ kind-number (step t (getD schedule 0 0) s .kind)
+  pub kind : length schedule ≡ 1 → getD last 0 0 ≡ kind-number (step t (getD schedule 0 0) s .kind)
+  pub domain : length schedule ≡ 1 → getD last 1 0 ≡ step t (getD schedule 0 0) s .domain
 
 -- how many of some steps are of each kind, in the order of the kinds' numbers
 unfoldable pub kinds-of : List Step → List ℕ

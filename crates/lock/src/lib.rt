@@ -41,7 +41,13 @@ fn fresh_state() -> State
 pub fn fresh_lock(tree: TreeWords) -> FreshReply
     ensures { λ r. ⌜ r ≡ fresh-answer tree ⌝ }
 {
-    let r = refusals::tree_refusal_of(tree);
+    let r = refusals::tree_refusal_of(
+        &tree.parents,
+        &tree.thresholds,
+        &tree.homes,
+        tree.domains,
+        tree.threads,
+    );
     let state = fresh_state();
     FreshReply {
         number: r.number,
@@ -67,11 +73,10 @@ pub fn step_lock(tree: TreeWords, state: State, thread: u16) -> StepReply
     }
     let mut trace = [0u16];
     let mut kinds = [0u32; 6];
-    let mut last = [0u8; 3];
+    let mut last = [0u32; 2];
     let after = run::run_steps(tree, state, &schedule, &mut trace, &mut kinds, &mut last);
-    let kind = places::wide(last[2]);
-    let at = thread as usize;
-    let domain = places::domain_by_row(tree.homes[at], last[0], last[1]);
+    let kind = last[0];
+    let domain = last[1];
     StepReply {
         number: 0,
         place: 0,
@@ -110,7 +115,7 @@ pub fn run_lock(tree: TreeWords, state: State, schedule: &[u16], trace: &mut [u1
         return refused(r.number, r.place, state);
     }
     let mut kinds = [0u32; 6];
-    let mut last = [0u8; 3];
+    let mut last = [0u32; 2];
     let after = run::run_steps(tree, state, schedule, trace, &mut kinds, &mut last);
     let counts = run::counts_of(&kinds);
     RunReply {

@@ -8,6 +8,7 @@ ghost use Rattle.model.specs.Refusals.{run-refusal};
 ghost use Rattle.model.specs.Runs.{steps, run};
 ghost use Rattle.lock.specs.Effects.{stored};
 ghost use Rattle.lock.specs.Running.{Last-told, kinds-of, counted, counts-by, is-entry-number, traced-at, trace-front};
+use crate::places;
 use crate::rows;
 use model::Counts;
 use model::State;
@@ -102,14 +103,14 @@ fn trace_at(trace: &mut [u16], at: u32, kind: u8, i: u16) -> u32
     at
 }
 
-// The steps of a schedule, stored one after another into one state, which is copied at the start and at the end alone. How many of them are of each kind, and of the last one row and domain of the place that it came from and its kind, are written where the caller lends room, so that the state alone is returned.
+// The steps of a schedule, stored one after another into one state, which is copied at the start and at the end alone. How many of them are of each kind, and kind and domain of the last one, are written where the caller lends room, so that the state alone is returned.
 pub(crate) fn run_steps(
     tree: TreeWords,
     state: State,
     schedule: &[u16],
     trace: &mut [u16],
     kinds: &mut [u32; 6],
-    last: &mut [u8; 3],
+    last: &mut [u32; 2],
 ) -> State
     requires { ⌜ run-refusal (tree-of tree) state (now schedule) (length (now trace)) .number ≡ 0 ⌝ }
     ensures { λ r. ⌜ r ≡ run (tree-of tree) (now (schedule .entry)) state .state ⌝ }
@@ -123,6 +124,7 @@ pub(crate) fn run_steps(
     let mut row: u8 = 0;
     let mut domain: u8 = 0;
     let mut last_kind: u8 = 0;
+    let mut thread: u16 = 0;
     let mut k: u32 = 0;
     while (k as usize) < schedule.len() {
         let position = k as usize;
@@ -145,6 +147,7 @@ pub(crate) fn run_steps(
         domain = before.domain;
         let kind = e.kind;
         last_kind = kind;
+        thread = i;
         count_in(&mut tally, kind);
         if kind == model::STAY {
             k += 1;
@@ -159,6 +162,9 @@ pub(crate) fn run_steps(
         k += 1;
     }
     *kinds = tally;
-    *last = [row, domain, last_kind];
+    let at = thread as usize;
+    let kind = places::wide(last_kind);
+    let domain = places::domain_by_row(tree.homes[at], row, domain);
+    *last = [kind, domain];
     n
 }

@@ -6,6 +6,7 @@ use Prim.Native.Nat.{ℕ, _<_}
 use lib.Dec.{eqb, leb}
 use lib.ListN.{getD, length}
 use Rattle.model.specs.declared.State.{State}
+use Rattle.model.specs.declared.TreeWords.{TreeWords}
 use Rattle.model.specs.Scans.{any-below}
 use Rattle.model.specs.Trees.{Tree, tree-of, is-leaf}
 use Rattle.model.proofs.Trees.Index.{ancestor}
@@ -13,8 +14,11 @@ use Rattle.model.specs.Refusals as model
 use Rattle.model.specs.Refusals.{accepted, Test, first-refusal, count-tests, domain-tests, state-tests, schedule-tests, room-tests, tree-tests}
 use Rattle.refusals.specs.declared.Refusal.{Refusal}
 
+abbrev pub words-in : (domains threads : ℕ) → (parents thresholds homes : List ℕ) → TreeWords
+words-in n m ps ts hs = record { domains = n; threads = m; parents = ps; thresholds = ts; homes = hs }
+
 abbrev pub tree-in : (domains threads : ℕ) → (parents thresholds homes : List ℕ) → Tree
-tree-in n m ps ts hs = tree-of (record { domains = n; threads = m; parents = ps; thresholds = ts; homes = hs })
+tree-in n m ps ts hs = tree-of (words-in n m ps ts hs)
 
 -- where a test reads parents alone
 abbrev pub parents-in : (domains : ℕ) → (parents : List ℕ) → Tree

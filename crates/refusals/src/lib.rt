@@ -86,18 +86,23 @@ fn shape_refusal<'a>(
 }
 
 // Which home meets 9, or which domain 16, where counts and domains refuse nothing.
-fn homes_refusal(tree: TreeWords) -> Refusal
-    requires { ⌜ first-refusal (shape-tests (tree-of tree)) .number ≡ 0 ⌝ }
-    ensures { λ r. ⌜ r ≡ told (tree-refusal (tree-of tree)) ⌝ }
+fn homes_refusal<'a>(
+    parents: &'a [u8; 64],
+    thresholds: &'a [u16; 64],
+    homes: &'a [u8; 256],
+    domains: u32,
+    threads: u32,
+) -> Refusal
+    requires { ⌜ first-refusal (shape-tests (tree-in domains threads (now parents) (now thresholds) (now homes))) .number ≡ 0 ⌝ }
+    ensures { λ r. ⌜ r ≡ told (tree-refusal (tree-in domains threads (now (parents .entry)) (now (thresholds .entry)) (now (homes .entry)))) ⌝ }
 {
-    let domains = tree.domains;
-    let threads = tree.threads;
-    let bad = trees::no_homes(&tree.parents, domains);
-    let i = trees::lowest_bad_home(&tree.parents, &bad, &tree.homes, domains, threads);
+    let mut bad = [false; 256];
+    trees::no_homes(&mut bad, parents, domains);
+    let i = trees::lowest_bad_home(parents, &bad, homes, domains, threads);
     if i < threads {
         return refusal_at(9, i);
     }
-    let occupied = trees::occupied(&tree.parents, &tree.homes, domains, threads);
+    let occupied = trees::occupied(parents, homes, domains, threads);
     let d = trees::lowest_empty(&occupied, domains);
     if d < domains {
         return refusal_at(16, d);
@@ -106,19 +111,23 @@ fn homes_refusal(tree: TreeWords) -> Refusal
 }
 
 // Making a fresh lock meets 4 to 9 and 16. Where the homes are the leaves, no home and no domain is searched.
-pub fn tree_refusal_of(tree: TreeWords) -> Refusal
-    ensures { λ r. ⌜ r ≡ told (tree-refusal (tree-of tree)) ⌝ }
+pub fn tree_refusal_of<'a>(
+    parents: &'a [u8; 64],
+    thresholds: &'a [u16; 64],
+    homes: &'a [u8; 256],
+    domains: u32,
+    threads: u32,
+) -> Refusal
+    ensures { λ r. ⌜ r ≡ told (tree-refusal (tree-in domains threads (now (parents .entry)) (now (thresholds .entry)) (now (homes .entry)))) ⌝ }
 {
-    let domains = tree.domains;
-    let threads = tree.threads;
-    let r = shape_refusal(&tree.parents, &tree.thresholds, domains, threads);
+    let r = shape_refusal(parents, thresholds, domains, threads);
     if r.number != 0 {
         return r;
     }
-    if trees::homes_are_leaves(&tree.parents, &tree.homes, domains, threads) {
+    if trees::homes_are_leaves(parents, homes, domains, threads) {
         return refusal_at(0, 0);
     }
-    homes_refusal(tree)
+    homes_refusal(parents, thresholds, homes, domains, threads)
 }
 
 // Whether a state is well formed: two tables, then one walk over its domains and one over its threads, in two parts: those of the tree, and the room behind them.
@@ -128,8 +137,10 @@ fn is_well_formed(tree: TreeWords, state: State) -> bool
 {
     let domains = tree.domains;
     let threads = tree.threads;
-    let owners = states::owners_of(&tree.parents, &tree.homes, domains, threads);
-    let resting = states::resting_numbers(&tree.homes, threads);
+    let mut owners = [0u8; 320];
+    states::owners_of(&mut owners, &tree.parents, &tree.homes, domains, threads);
+    let mut resting = [0u32; 256];
+    states::resting_numbers(&mut resting, &tree.homes, threads);
     if !states::good_domains(&owners, &state.tails, &state.nexts, &state.statuses) {
         return false;
     }
@@ -161,7 +172,13 @@ fn is_well_formed(tree: TreeWords, state: State) -> bool
 fn state_refusal_of(tree: TreeWords, state: State) -> Refusal
     ensures { λ r. ⌜ r ≡ told (first-refusal (tree-state-tests (tree-of tree) state)) ⌝ }
 {
-    let r = tree_refusal_of(tree);
+    let r = tree_refusal_of(
+        &tree.parents,
+        &tree.thresholds,
+        &tree.homes,
+        tree.domains,
+        tree.threads,
+    );
     if r.number != 0 {
         return r;
     }

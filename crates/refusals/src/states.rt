@@ -12,11 +12,11 @@ ghost use Rattle.refusals.specs.Tables.{Owners, Thread-owners, member-in
 use model::PlaceWords;
 
 // The homes of the threads, at their records; 255 in all other room.
-fn thread_owners(homes: &[u8; 256], threads: u32) -> [u8; 320]
+fn thread_owners(owners: &mut [u8; 320], homes: &[u8; 256], threads: u32)
     requires { ⌜ threads ≤ 256 ⌝ }
-    ensures { λ r. ⌜ Thread-owners threads (now (homes .entry)) r ⌝ }
+    ensures { λ r. ⌜ Thread-owners threads (now (homes .entry)) (now (owners .exit)) ⌝ }
 {
-    let mut owners = [255u8; 320];
+    *owners = [255u8; 320];
     let mut i: u32 = 0;
     while i < threads {
         let at = i as usize;
@@ -24,20 +24,20 @@ fn thread_owners(homes: &[u8; 256], threads: u32) -> [u8; 320]
         owners[at] = h;
         i += 1;
     }
-    owners
 }
 
 // Of each record, the domain whose member owns it; 255 where no member does.
 pub(crate) fn owners_of<'a>(
+    owners: &mut [u8; 320],
     parents: &'a [u8; 64],
     homes: &'a [u8; 256],
     domains: u32,
     threads: u32,
-) -> [u8; 320]
+)
     requires { ⌜ (0 < domains) × (domains ≤ 64) × (threads ≤ 256) ⌝ }
-    ensures { λ r. ⌜ Owners (tree-in domains threads (now (parents .entry)) [] (now (homes .entry))) r ⌝ }
+    ensures { λ r. ⌜ Owners (tree-in domains threads (now (parents .entry)) [] (now (homes .entry))) (now (owners .exit)) ⌝ }
 {
-    let mut owners = thread_owners(homes, threads);
+    thread_owners(owners, homes, threads);
     let mut d: u32 = 1;
     while d < domains {
         let at = d as usize;
@@ -46,7 +46,6 @@ pub(crate) fn owners_of<'a>(
         owners[r] = p;
         d += 1;
     }
-    owners
 }
 
 fn is_member_at(owners: &[u8; 320], d: u8, r: u16) -> bool
@@ -264,11 +263,11 @@ fn is_idle_at(q: PlaceWords) -> bool
 }
 
 // Of each thread, row, domain and record of Wait at its home, as one number.
-pub(crate) fn resting_numbers(homes: &[u8; 256], threads: u32) -> [u32; 256]
+pub(crate) fn resting_numbers(resting: &mut [u32; 256], homes: &[u8; 256], threads: u32)
     requires { ⌜ threads ≤ 256 ⌝ }
-    ensures { λ r. ⌜ Resting threads (now (homes .entry)) r ⌝ }
+    ensures { λ r. ⌜ Resting threads (now (homes .entry)) (now (resting .exit)) ⌝ }
 {
-    let mut resting = [0u32; 256];
+    *resting = [0u32; 256];
     let mut i: u32 = 0;
     while i < threads {
         let at = i as usize;
@@ -276,7 +275,6 @@ pub(crate) fn resting_numbers(homes: &[u8; 256], threads: u32) -> [u32; 256]
         resting[at] = joined(4, h, 0);
         i += 1;
     }
-    resting
 }
 
 // Wait at home, as most threads are under contention, or Idle: the places that need no further test.

@@ -136,26 +136,25 @@ pub(crate) fn byte_index(x: u8) -> usize
 }
 
 // Of each byte, whether it is no domain of the tree.
-fn no_domains(domains: u32) -> [bool; 256]
+fn no_domains(outside: &mut [bool; 256], domains: u32)
     requires { ⌜ domains ≤ 64 ⌝ }
-    ensures { λ r. ⌜ No-domains domains r ⌝ }
+    ensures { λ r. ⌜ No-domains domains (now (outside .exit)) ⌝ }
 {
-    let mut outside = [true; 256];
+    *outside = [true; 256];
     let mut d: u32 = 0;
     while d < domains {
         let at = d as usize;
         outside[at] = false;
         d += 1;
     }
-    outside
 }
 
 // Of each byte, whether it is no home: no domain of the tree, or one with child domains.
-pub(crate) fn no_homes(parents: &[u8; 64], domains: u32) -> [bool; 256]
+pub(crate) fn no_homes(bad: &mut [bool; 256], parents: &[u8; 64], domains: u32)
     requires { ⌜ (0 < domains) × (domains ≤ 64) ⌝ }
-    ensures { λ r. ⌜ No-homes domains (now (parents .entry)) r ⌝ }
+    ensures { λ r. ⌜ No-homes domains (now (parents .entry)) (now (bad .exit)) ⌝ }
 {
-    let mut bad = no_domains(domains);
+    no_domains(bad, domains);
     let mut d: u32 = 1;
     while d < domains {
         let at = d as usize;
@@ -163,7 +162,6 @@ pub(crate) fn no_homes(parents: &[u8; 64], domains: u32) -> [bool; 256]
         bad[p] = true;
         d += 1;
     }
-    bad
 }
 
 pub(crate) fn lowest_bad_home<'a>(
@@ -190,11 +188,11 @@ pub(crate) fn lowest_bad_home<'a>(
 }
 
 // Of each byte, whether it is some thread's home.
-fn marked_homes(homes: &[u8; 256], threads: u32) -> [bool; 256]
+fn marked_homes(marked: &mut [bool; 256], homes: &[u8; 256], threads: u32)
     requires { ⌜ threads ≤ 256 ⌝ }
-    ensures { λ r. ⌜ Marked-homes threads (now (homes .entry)) r ⌝ }
+    ensures { λ r. ⌜ Marked-homes threads (now (homes .entry)) (now (marked .exit)) ⌝ }
 {
-    let mut marked = [false; 256];
+    *marked = [false; 256];
     let mut i: u32 = 0;
     while i < threads {
         let at = i as usize;
@@ -202,7 +200,6 @@ fn marked_homes(homes: &[u8; 256], threads: u32) -> [bool; 256]
         marked[h] = true;
         i += 1;
     }
-    marked
 }
 
 fn differs(a: bool, b: bool) -> bool
@@ -233,8 +230,10 @@ pub(crate) fn homes_are_leaves<'a>(
     requires { ⌜ (0 < domains) × (domains ≤ 64) × (threads ≤ 256) ⌝ }
     ensures { λ r. ⌜ Homes-are-leaves domains threads (now (parents .entry)) (now (homes .entry)) r ⌝ }
 {
-    let marked = marked_homes(homes, threads);
-    let bad = no_homes(parents, domains);
+    let mut marked = [false; 256];
+    let mut bad = [false; 256];
+    marked_homes(&mut marked, homes, threads);
+    no_homes(&mut bad, parents, domains);
     let mut same = true;
     let mut x: usize = 0;
     while x < 256 {

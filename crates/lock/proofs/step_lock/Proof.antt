@@ -1,6 +1,5 @@
 -- Refused as a run of its one entry, or that run, with the one step's kind and the domain of the place it came from. Assumes nothing.
-use Rattle.lock.proofs.Answering.{step-refuses, one-runs, thread-small, step-answered}
-use native.Mathlib.Omega.{arith}
+use Rattle.lock.proofs.Answering.{step-refuses, one-runs, step-answered}
 use borrow.Author.Needs.{needs}
 use Rattle.lock.proofs.step_lock.Statement.{statement}
 use Rattle.lock.proofs.step_lock.Tie as tie
@@ -23,30 +22,17 @@ slice-aggregate-run-steps-2 c = search needs
 run-steps-requires : tie.Need-run-steps-requires
 run-steps-requires c κs = let other = c .before .before .before .before in one-runs _ _ _ _ (other .before .before .run-refusal-of .ensures) (other .if1 .left)
 
-array-read-wide : tie.Need-array-read-wide
-array-read-wide c = search needs
+array-read-kind : tie.Need-array-read-kind
+array-read-kind c = search needs
 
-wide-requires : tie.Need-wide-requires
-wide-requires c κs = search needs
-
-element-copy-out-domain-by-row : tie.Need-element-copy-out-domain-by-row
-element-copy-out-domain-by-row c = let other = c .before .before .before .before .before .before .before in omega (arith, thread-small _ _ _ _ (other .before .before .run-refusal-of .ensures) (other .if1 .left))
-
-array-read-domain-by-row : tie.Need-array-read-domain-by-row
-array-read-domain-by-row c = search needs
-
-array-read-domain-by-row-2 : tie.Need-array-read-domain-by-row-2
-array-read-domain-by-row-2 c = search needs
-
-domain-by-row-requires : tie.Need-domain-by-row-requires
-domain-by-row-requires c κs = search needs
+array-read-domain : tie.Need-array-read-domain
+array-read-domain c = search needs
 
 returns-2 : tie.Need-returns-2
 returns-2 c =
-    let told = c .before .before .wide in
-    let ran = c .before .before .before .before in
+    let ran = c .before in
     let other = ran .before .before .before .before .before in
-    step-answered _ _ _ _ (other .before .before .run-refusal-of .ensures) (other .if1 .left) _ _ _ _ (ran .run-steps .ensures .0) (ran .run-steps .ensures .1 .1 .1) (told .ensures) (c .domain-by-row .ensures)
+    step-answered _ _ _ _ (other .before .before .run-refusal-of .ensures) (other .if1 .left) _ _ (ran .run-steps .ensures .0) (ran .run-steps .ensures .1 .1 .1)
 
 pub step-lock-spec : {M : Type 1} → statement M
 step-lock-spec =
@@ -58,10 +44,6 @@ step-lock-spec =
     slice-aggregate-run-steps
     slice-aggregate-run-steps-2
     run-steps-requires
-    array-read-wide
-    wide-requires
-    element-copy-out-domain-by-row
-    array-read-domain-by-row
-    array-read-domain-by-row-2
-    domain-by-row-requires
+    array-read-kind
+    array-read-domain
     returns-2)

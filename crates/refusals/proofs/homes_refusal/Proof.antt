@@ -1,5 +1,6 @@
 -- `refusals::homes_refusal` meets its contract: the lowest bad home, then the lowest empty domain. Assumes nothing.
 use Rattle.model.specs.Refusals.{accepted}
+use Rattle.refusals.specs.Arrays.{words-in}
 use Rattle.refusals.proofs.TreeTests.{shape, home-refused, facts, empty-refused, tree-passes}
 use Rattle.refusals.proofs.Occupying.{homes-real, occupied-lowest}
 use borrow.Author.Needs.{needs}
@@ -8,15 +9,15 @@ use Rattle.refusals.proofs.homes_refusal.Tie as tie
 
 no-homes-requires : tie.Need-no-homes-requires
 no-homes-requires c κs =
-    let s = c .before .before in
-    let k = shape (s .args .t1) (s .pre) in
+    let s = c .before in
+    let k = shape (words-in (s .args .domains) (s .args .threads) (s .args .parents .now) (s .args .thresholds .now) (s .args .homes .now)) (s .pre) in
     (k .some-domain, k .few-domains)
 
 lowest-bad-home-requires : tie.Need-lowest-bad-home-requires
 lowest-bad-home-requires c κs =
-    let table = c .before .before .before .before in
-    let s = table .before .before .before in
-    let k = shape (s .args .t1) (s .pre) in
+    let table = c .before in
+    let s = table .before .before in
+    let k = shape (words-in (s .args .domains) (s .args .threads) (s .args .parents .now) (s .args .thresholds .now) (s .args .homes .now)) (s .pre) in
     ((k .few-domains, k .few-threads), table .no-homes .ensures)
 
 refusal-at-requires : tie.Need-refusal-at-requires
@@ -25,19 +26,21 @@ refusal-at-requires c κs = search needs
 returns : tie.Need-returns
 returns c =
     let nine = c .before .before in
-    let s = nine .before .before .before .before .before .before .before .before in
-    rw (c .refusal-at .ensures, home-refused (s .args .t1) (s .pre) _ (nine .lowest-bad-home .ensures) (c .before .if1 .taken))
+    let s = nine .before .before .before .before in
+    rw (c .refusal-at .ensures, home-refused (words-in (s .args .domains) (s .args .threads) (s .args .parents .now) (s .args .thresholds .now) (s .args .homes .now)) (s .pre) _ (nine .lowest-bad-home .ensures) (c .before .if1 .taken))
 
 occupied-requires : tie.Need-occupied-requires
 occupied-requires c κs =
-    let nine = c .before .before .before .before in
-    let s = nine .before .before .before .before .before .before .before .before in
-    let w = s .args .t1 in
+    let nine = c .before in
+    let s = nine .before .before .before .before in
+    let w = words-in (s .args .domains) (s .args .threads) (s .args .parents .now) (s .args .thresholds .now) (s .args .homes .now) in
     let k = shape w (s .pre) in
-    ((k .some-domain, k .few-domains, k .few-threads), (k .low, homes-real w (facts w (s .pre) _ (nine .lowest-bad-home .ensures) (c .before .before .before .if1 .left))))
+    ((k .some-domain, k .few-domains, k .few-threads), (k .low, homes-real w (facts w (s .pre) _ (nine .lowest-bad-home .ensures) (c .if1 .left))))
 
 lowest-empty-requires : tie.Need-lowest-empty-requires
-lowest-empty-requires c κs = let s = c .before .before .before .before .before .before .before .before .before .before .before .before .before .before in shape (s .args .t1) (s .pre) .few-domains
+lowest-empty-requires c κs =
+    let s = c .before .before .before .before .before .before .before in
+    shape (words-in (s .args .domains) (s .args .threads) (s .args .parents .now) (s .args .thresholds .now) (s .args .homes .now)) (s .pre) .few-domains
 
 refusal-at-requires-2 : tie.Need-refusal-at-requires-2
 refusal-at-requires-2 c κs = search needs
@@ -45,11 +48,11 @@ refusal-at-requires-2 c κs = search needs
 returns-2 : tie.Need-returns-2
 returns-2 c =
     let sixteen = c .before .before in
-    let nine = sixteen .before .before .before .before .before .before .before in
-    let s = nine .before .before .before .before .before .before .before .before in
-    let w = s .args .t1 in
+    let nine = sixteen .before .before .before .before in
+    let s = nine .before .before .before .before in
+    let w = words-in (s .args .domains) (s .args .threads) (s .args .parents .now) (s .args .thresholds .now) (s .args .homes .now) in
     let l₉ = nine .lowest-bad-home .ensures in
-    let h₉ = sixteen .before .before .before .before .before .before .if1 .left in
+    let h₉ = sixteen .before .before .before .if1 .left in
     let l₁₆ = occupied-lowest w (facts w (s .pre) _ l₉ h₉) _ (sixteen .before .before .occupied .ensures) _ (sixteen .lowest-empty .ensures) in
     rw (c .refusal-at2 .ensures, empty-refused w (s .pre) _ l₉ h₉ _ l₁₆ (c .before .if2 .taken))
 
@@ -60,11 +63,11 @@ returns-3 : tie.Need-returns-3
 unfolding accepted
 returns-3 c =
     let sixteen = c .before .before in
-    let nine = sixteen .before .before .before .before .before .before .before in
-    let s = nine .before .before .before .before .before .before .before .before in
-    let w = s .args .t1 in
+    let nine = sixteen .before .before .before .before in
+    let s = nine .before .before .before .before in
+    let w = words-in (s .args .domains) (s .args .threads) (s .args .parents .now) (s .args .thresholds .now) (s .args .homes .now) in
     let l₉ = nine .lowest-bad-home .ensures in
-    let h₉ = sixteen .before .before .before .before .before .before .if1 .left in
+    let h₉ = sixteen .before .before .before .if1 .left in
     let l₁₆ = occupied-lowest w (facts w (s .pre) _ l₉ h₉) _ (sixteen .before .before .occupied .ensures) _ (sixteen .lowest-empty .ensures) in
     rw (c .refusal-at3 .ensures, tree-passes w (s .pre) _ l₉ h₉ _ l₁₆ (c .before .if2 .left))
 

@@ -34,12 +34,12 @@ abbrev μ-loop2 : tie.MeasureT-loop2
 
 owners-of-requires : tie.Need-owners-of-requires Inv-loop μ-loop Inv-loop2 μ-loop2
 owners-of-requires c κs =
-    let s = c .before .before .before in
+    let s = c .before .before .before .before in
     let k = shape-of (s .args .t1) (s .pre) in
     (k .some-domain, k .few-domains, k .few-threads)
 
 resting-numbers-requires : tie.Need-resting-numbers-requires Inv-loop μ-loop Inv-loop2 μ-loop2
-resting-numbers-requires c κs = let s = c .before .before .before .before .before .before in shape-of (s .args .t1) (s .pre) .few-threads
+resting-numbers-requires c κs = let s = c .before .before .before .before .before .before .before .before in shape-of (s .args .t1) (s .pre) .few-threads
 
 good-domains-requires : tie.Need-good-domains-requires Inv-loop μ-loop Inv-loop2 μ-loop2
 good-domains-requires c κs = search needs
@@ -47,13 +47,13 @@ good-domains-requires c κs = search needs
 returns : tie.Need-returns Inv-loop μ-loop Inv-loop2 μ-loop2
 returns c =
     let g = c .before in
-    let o = g .before .before .before .before .before .before .before .before .before in
-    let s = o .before .before .before .before in
+    let o = g .before .before .before .before .before .before .before .before .before .before in
+    let s = o .before .before .before .before .before in
     domain-fails (s .args .t1) (s .pre) _ (o .owners-of .ensures) (s .args .t2) (by-answer _ false (g .good-domains .ensures) (not-true _ (c .if1 .taken)))
 
 loop-holds : tie.Need-loop-holds Inv-loop μ-loop Inv-loop2 μ-loop2
 loop-holds c =
-    let s = c .before .before .before .before .before .before .before .before .before .before .before .before .before .before in
+    let s = c .before .before .before .before .before .before .before .before .before .before .before .before .before .before .before .before in
     (search needs, shape-of (s .args .t1) (s .pre) .few-threads, λ j l. absurd (omega arith))
 
 cast-loop : tie.Need-cast-loop Inv-loop μ-loop Inv-loop2 μ-loop2
@@ -83,8 +83,8 @@ array-read-numbers c = omega arith
 good-thread-at-requires : tie.Need-good-thread-at-requires Inv-loop μ-loop Inv-loop2 μ-loop2
 good-thread-at-requires c κs =
     let l = c .before .before .before .before .before .before in
-    let o = l .before .before .before .before .before .before .before .before .before .before .before in
-    let s = o .before .before .before .before in
+    let o = l .before .before .before .before .before .before .before .before .before .before .before .before in
+    let s = o .before .before .before .before .before in
     let k = shape-of (s .args .t1) (s .pre) in
     let i = l .loop .i in
     let h = c .before .before .before .before .before .loop-test .taken in (
@@ -103,8 +103,8 @@ returns-2 c =
     let t = c .before in
     let l = t .before .before .before .before .before .before .before in
     let g = l .before .before in
-    let o = g .before .before .before .before .before .before .before .before .before in
-    let s = o .before .before .before .before in
+    let o = g .before .before .before .before .before .before .before .before .before .before in
+    let s = o .before .before .before .before .before in
     let e = by-answer _ true (g .good-domains .ensures) (not-false _ (l .before .if1 .left)) in
     let f = by-answer _ false (t .good-thread-at .ensures) (not-true _ (c .if2 .taken)) in
     used-fails (s .args .t1) (s .pre) _ (o .owners-of .ensures) (s .args .t2) e (l .loop .i) (t .before .before .before .before .before .before .loop-test .taken) f
@@ -154,8 +154,8 @@ returns-3 c =
     let l = t .before .before .before .before .before in
     let first = l .before .before in
     let g = first .before .before in
-    let o = g .before .before .before .before .before .before .before .before .before in
-    let s = o .before .before .before .before in
+    let o = g .before .before .before .before .before .before .before .before .before .before in
+    let s = o .before .before .before .before .before in
     let e = by-answer _ true (g .good-domains .ensures) (not-false _ (first .before .if1 .left)) in
     let f = by-answer _ false (t .is-unused-at .ensures) (not-true _ (c .if3 .taken)) in
     unused-fails (s .args .t1) (s .pre) _ (o .owners-of .ensures) (s .args .t2) e (l .loop2 .i) (t .before .before .before .before .loop2-test .taken) (l .loop2 .inv .0) f
@@ -184,8 +184,8 @@ returns-4 c =
     let l = c .before in
     let first = l .before .before in
     let g = first .before .before in
-    let o = g .before .before .before .before .before .before .before .before .before in
-    let s = o .before .before .before .before in
+    let o = g .before .before .before .before .before .before .before .before .before .before in
+    let s = o .before .before .before .before .before in
     let e = by-answer _ true (g .good-domains .ensures) (not-false _ (first .before .if1 .left)) in
     all-pass (s .args .t1) (s .pre) _ (o .owners-of .ensures) (s .args .t2) e (λ i h. first .loop .inv .2 i (omega arith)) (λ i h m. l .loop2 .inv .2 i h (omega arith))
 

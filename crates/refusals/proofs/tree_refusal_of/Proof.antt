@@ -1,5 +1,6 @@
 -- `refusals::tree_refusal_of` meets its contract: counts and domains, then the homes. Assumes nothing.
 use Rattle.model.specs.Refusals.{accepted}
+use Rattle.refusals.specs.Arrays.{words-in}
 use Rattle.refusals.proofs.TreeTests.{shape-refused, shape-passed, shape}
 use Rattle.refusals.proofs.Occupying.{leaves-pass}
 use borrow.Author.Needs.{needs}
@@ -10,13 +11,17 @@ shape-refusal-requires : tie.Need-shape-refusal-requires
 shape-refusal-requires c κs = search needs
 
 returns : tie.Need-returns
-returns c = shape-refused (c .before .before .before .before .before .before .args .t1) _ (c .before .before .shape-refusal .ensures) (c .if1 .taken)
+returns c =
+    let shaped = c .before .before in
+    let s = shaped .before in
+    shape-refused (words-in (s .args .domains) (s .args .threads) (s .args .parents .now) (s .args .thresholds .now) (s .args .homes .now)) _ (shaped .shape-refusal .ensures) (c .if1 .taken)
 
 homes-are-leaves-requires : tie.Need-homes-are-leaves-requires
 homes-are-leaves-requires c κs =
-    let shaped = c .before .before .before .before .before in
-    let w = shaped .before .before .before .before .args .t1 in
-    let k = shape w (shape-passed w _ (shaped .shape-refusal .ensures) (c .before .before .before .if1 .left)) in
+    let shaped = c .before .before in
+    let s = shaped .before in
+    let w = words-in (s .args .domains) (s .args .threads) (s .args .parents .now) (s .args .thresholds .now) (s .args .homes .now) in
+    let k = shape w (shape-passed w _ (shaped .shape-refusal .ensures) (c .if1 .left)) in
     (k .some-domain, k .few-domains, k .few-threads)
 
 refusal-at-requires : tie.Need-refusal-at-requires
@@ -26,15 +31,17 @@ returns-2 : tie.Need-returns-2
 unfolding accepted
 returns-2 c =
     let leaves = c .before .before in
-    let shaped = leaves .before .before .before .before .before .before in
-    let w = shaped .before .before .before .before .args .t1 in
-    let passed = shape-passed w _ (shaped .shape-refusal .ensures) (leaves .before .before .before .before .if1 .left) in
+    let shaped = leaves .before .before .before in
+    let s = shaped .before in
+    let w = words-in (s .args .domains) (s .args .threads) (s .args .parents .now) (s .args .thresholds .now) (s .args .homes .now) in
+    let passed = shape-passed w _ (shaped .shape-refusal .ensures) (leaves .before .if1 .left) in
     rw (c .refusal-at .ensures, leaves-pass w passed _ (leaves .homes-are-leaves .ensures) (c .before .if2 .taken))
 
 homes-refusal-requires : tie.Need-homes-refusal-requires
 homes-refusal-requires c κs =
-    let shaped = c .before .before .before .before .before .before .before in
-    shape-passed (shaped .before .before .before .before .args .t1) _ (shaped .shape-refusal .ensures) (c .before .before .before .before .before .if1 .left)
+    let shaped = c .before .before .before .before in
+    let s = shaped .before in
+    shape-passed (words-in (s .args .domains) (s .args .threads) (s .args .parents .now) (s .args .thresholds .now) (s .args .homes .now)) _ (shaped .shape-refusal .ensures) (c .before .before .if1 .left)
 
 returns-3 : tie.Need-returns-3
 returns-3 c = c .homes-refusal .ensures

@@ -1,11 +1,12 @@
 -- The entries done so far have given the state, the trace and how many steps are of each kind. Assumes nothing.
-use mathlib.Core.Path.{refl, sym, _∙_}
+use mathlib.Core.Path.{refl}
 use Prim.Native.Nat.{_-_}
 use native.Mathlib.Omega.{arith}
 use lib.ListN.{length}
 use Rattle.model.specs.Trees.{tree-of}
 use Rattle.model.proofs.Laws.Calls.{run-facts}
-use Rattle.lock.proofs.SoFar.{So-far, start, kind-room, turn, turn-stay, state-ends, trace-ends, kinds-end, last-ends}
+use Rattle.lock.proofs.SoFar.{So-far, start, kind-room, turn, turn-stay, state-ends, trace-ends, kinds-end}
+use Rattle.lock.proofs.LastTold.{last-told}
 use Rattle.lock.proofs.Typing.{typed}
 use Rattle.lock.proofs.Turns.{sixteen, thread-small, ready, all-stored}
 use borrow.Author.Needs.{needs}
@@ -13,10 +14,10 @@ use Rattle.lock.proofs.run.run_steps.Statement.{statement}
 use Rattle.lock.proofs.run.run_steps.Tie as tie
 
 abbrev Inv-loop : tie.InvT-loop
-Inv-loop schedule trace₀ kinds last tree n₀ tally₀ entries₀ row₀ domain₀ kind₀ k₀ trace n tally entries row domain kind k = So-far (tree-of tree) schedule trace₀ n₀ trace n tally entries row domain kind k
+Inv-loop schedule trace₀ kinds last tree n₀ tally₀ entries₀ row₀ domain₀ kind₀ thread₀ k₀ trace n tally entries row domain kind thread k = So-far (tree-of tree) schedule trace₀ n₀ trace n tally entries row domain kind thread k
 
 abbrev μ-loop : tie.MeasureT-loop
-μ-loop schedule trace₀ kinds last tree n₀ tally₀ entries₀ row₀ domain₀ kind₀ k₀ trace n tally entries row domain kind k = length schedule - k
+μ-loop schedule trace₀ kinds last tree n₀ tally₀ entries₀ row₀ domain₀ kind₀ thread₀ k₀ trace n tally entries row domain kind thread k = length schedule - k
 
 loop-holds : tie.Need-loop-holds Inv-loop μ-loop
 loop-holds c =
@@ -54,7 +55,7 @@ count-in-requires c κs =
     let decided = c .before in
     let test = decided .before .before .before .before .before .before .before .before .before .before .before in
     let l = test .before .loop in
-    kind-room _ _ _ _ _ _ _ _ _ _ _ _ _ (l .inv) (decided .decide .ensures .does (l .n .places) refl) (test .loop-test .taken) (run-facts _ _ _ _ (test .before .before .before .before .pre) .short)
+    kind-room _ _ _ _ _ _ _ _ _ _ _ _ _ _ (l .inv) (decided .decide .ensures .does (l .n .places) refl) (test .loop-test .taken) (run-facts _ _ _ _ (test .before .before .before .before .pre) .short)
 
 add-k : tie.Need-add-k Inv-loop μ-loop
 add-k c = let test = c .before .before .before .before .before .before .before .before .before .before .before .before .before .before in omega (arith, test .loop-test .taken, run-facts _ _ _ _ (test .before .before .before .before .pre) .short)
@@ -69,7 +70,7 @@ loop-again c =
     let r = run-facts _ _ _ _ (test .before .before .before .before .pre) in
     let l = test .before .loop in
     rw (c .before .count-in .ensures)
-    (turn-stay _ _ _ _ _ _ _ _ _ _ _ _ (e .result) (r .tree) (sixteen _) (r .threads) (r .fits) (test .loop-test .taken) (l .inv)
+    (turn-stay _ _ _ _ _ _ _ _ _ _ _ _ _ (e .result) (r .tree) (sixteen _) (r .threads) (r .fits) (test .loop-test .taken) (l .inv)
     (e .ensures .does (l .n .places) refl) (c .if1 .taken))
 
 store-tail-requires : tie.Need-store-tail-requires Inv-loop μ-loop
@@ -109,19 +110,35 @@ loop-again-2 c =
     let r = run-facts _ _ _ _ (test .before .before .before .before .pre) in
     let l = test .before .loop in
     rw (counted-in .ensures)
-    (turn _ _ _ _ _ _ _ _ _ _ _ _ (e .result) _ _ _ (r .tree) (sixteen _) (r .threads) (r .fits) (test .loop-test .taken) (l .inv)
+    (turn _ _ _ _ _ _ _ _ _ _ _ _ _ (e .result) _ _ _ (r .tree) (sixteen _) (r .threads) (r .fits) (test .loop-test .taken) (l .inv)
     (e .ensures .does (l .n .places) refl)
     (all-stored _ (e .result) (l .n) _ _ _ (c .before .before .before .before .before .before .before .before .before .store-tail .ensures) (c .before .before .before .before .before .before .before .store-next .ensures) (c .before .before .before .before .before .store-status .ensures))
     (traced .ensures .0) (traced .ensures .1))
 
+cast-at-2 : tie.Need-cast-at-2 Inv-loop μ-loop
+cast-at-2 c = omega (arith, c .before .loop .inv .thread-below)
+
+wide-requires : tie.Need-wide-requires Inv-loop μ-loop
+wide-requires c κs = search needs
+
+element-copy-out-domain-by-row : tie.Need-element-copy-out-domain-by-row Inv-loop μ-loop
+element-copy-out-domain-by-row c = omega (arith, c .before .before .loop .inv .thread-below)
+
+domain-by-row-requires : tie.Need-domain-by-row-requires Inv-loop μ-loop
+domain-by-row-requires c κs = search needs
+
 same-length : tie.Need-same-length Inv-loop μ-loop
-same-length c = c .before .before .loop .inv .long
+same-length c = c .before .before .before .before .before .loop .inv .long
 
 returns : tie.Need-returns Inv-loop μ-loop
 returns c =
-    let g = c .before .before .loop .inv in
-    let e = c .before .loop-test .left in
-    (state-ends _ _ _ _ _ _ _ _ _ _ _ _ g e, (trace-ends _ _ _ _ _ _ _ _ _ _ _ _ g e, (kinds-end _ _ _ _ _ _ _ _ _ _ _ _ g e, last-ends _ _ _ _ _ _ _ _ _ _ _ _ g e)))
+    let domain = c .before .domain-by-row .ensures in
+    let wide = c .before .before .before in
+    let left = wide .before in
+    let g = left .before .loop .inv in
+    let e = left .loop-test .left in
+    let r = run-facts _ _ _ _ (left .before .before .before .before .pre) in
+    (state-ends _ _ _ _ _ _ _ _ _ _ _ _ _ g e, (trace-ends _ _ _ _ _ _ _ _ _ _ _ _ _ g e, (kinds-end _ _ _ _ _ _ _ _ _ _ _ _ _ g e, last-told _ _ _ _ _ r _ _ _ _ _ _ _ _ _ g e _ _ (wide .wide .ensures) domain)))
 
 pub run-steps-spec : {M : Type 1} → statement M
 run-steps-spec =
@@ -151,5 +168,9 @@ run-steps-spec =
     add-k-2
     loop-less-2
     loop-again-2
+    cast-at-2
+    wide-requires
+    element-copy-out-domain-by-row
+    domain-by-row-requires
     same-length
     returns)

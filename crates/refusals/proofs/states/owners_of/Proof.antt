@@ -7,10 +7,10 @@ use Rattle.refusals.proofs.states.owners_of.Statement.{statement}
 use Rattle.refusals.proofs.states.owners_of.Tie as tie
 
 abbrev Inv-loop : tie.InvT-loop
-Inv-loop parents homes domains threads owners₀ d₀ owners d = (0 < d) × (d ≤ domains) × ((few : threads ≤ 256) → Domain-owners threads parents homes few d owners)
+Inv-loop owners₀ parents homes domains threads d₀ owners d = (0 < d) × (d ≤ domains) × ((few : threads ≤ 256) → Domain-owners threads parents homes few d owners)
 
 abbrev μ-loop : tie.MeasureT-loop
-μ-loop parents homes domains threads owners₀ d₀ owners d = domains - d
+μ-loop owners₀ parents homes domains threads d₀ owners d = domains - d
 
 thread-owners-requires : tie.Need-thread-owners-requires Inv-loop μ-loop
 thread-owners-requires c κs = search needs
@@ -27,8 +27,8 @@ element-copy-out-p c = omega arith
 add-r : tie.Need-add-r Inv-loop μ-loop
 add-r c = omega arith
 
-array-write-owners : tie.Need-array-write-owners Inv-loop μ-loop
-array-write-owners c = omega arith
+element-write-owners : tie.Need-element-write-owners Inv-loop μ-loop
+element-write-owners c = omega arith
 
 add-d : tie.Need-add-d Inv-loop μ-loop
 add-d c = omega arith
@@ -44,7 +44,7 @@ loop-again c =
 returns : tie.Need-returns Inv-loop μ-loop
 returns c =
     let l = c .before .loop in
-    let few = c .before .before .before .pre .2 in
+    let few = c .before .before .before .before .pre .2 in
     domains-all _ _ _ few _ _ _ (omega arith) (l .inv .2 few)
 
 pub owners-of-spec : {M : Type 1} → statement M
@@ -58,7 +58,7 @@ owners-of-spec =
     cast-at
     element-copy-out-p
     add-r
-    array-write-owners
+    element-write-owners
     add-d
     loop-less
     loop-again

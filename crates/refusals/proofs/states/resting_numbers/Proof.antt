@@ -8,10 +8,10 @@ use Rattle.refusals.proofs.states.resting_numbers.Statement.{statement}
 use Rattle.refusals.proofs.states.resting_numbers.Tie as tie
 
 abbrev Inv-loop : tie.InvT-loop
-Inv-loop homes threads resting₀ i₀ resting i = (i ≤ threads) × Resting i homes resting
+Inv-loop resting₀ homes threads i₀ resting i = (i ≤ threads) × Resting i homes resting
 
 abbrev μ-loop : tie.MeasureT-loop
-μ-loop homes threads resting₀ i₀ resting i = threads - i
+μ-loop resting₀ homes threads i₀ resting i = threads - i
 
 loop-holds : tie.Need-loop-holds Inv-loop μ-loop
 loop-holds c = (search needs, resting-first _)
@@ -28,8 +28,8 @@ joined-requires c κs = search needs
 mul-resting : tie.Need-mul-resting Inv-loop μ-loop
 mul-resting c = omega arith
 
-array-write-resting : tie.Need-array-write-resting Inv-loop μ-loop
-array-write-resting c = omega arith
+element-write-resting : tie.Need-element-write-resting Inv-loop μ-loop
+element-write-resting c = omega arith
 
 add-i : tie.Need-add-i Inv-loop μ-loop
 add-i c = omega arith
@@ -54,7 +54,7 @@ resting-numbers-spec =
     element-copy-out-h
     joined-requires
     mul-resting
-    array-write-resting
+    element-write-resting
     add-i
     loop-less
     loop-again

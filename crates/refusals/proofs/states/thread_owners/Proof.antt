@@ -8,10 +8,10 @@ use Rattle.refusals.proofs.states.thread_owners.Statement.{statement}
 use Rattle.refusals.proofs.states.thread_owners.Tie as tie
 
 abbrev Inv-loop : tie.InvT-loop
-Inv-loop homes threads owners₀ i₀ owners i = (i ≤ threads) × Thread-owners i homes owners
+Inv-loop owners₀ homes threads i₀ owners i = (i ≤ threads) × Thread-owners i homes owners
 
 abbrev μ-loop : tie.MeasureT-loop
-μ-loop homes threads owners₀ i₀ owners i = threads - i
+μ-loop owners₀ homes threads i₀ owners i = threads - i
 
 loop-holds : tie.Need-loop-holds Inv-loop μ-loop
 loop-holds c = (search needs, threads-first _)
@@ -22,8 +22,8 @@ cast-at c = omega arith
 element-copy-out-h : tie.Need-element-copy-out-h Inv-loop μ-loop
 element-copy-out-h c = omega arith
 
-array-write-owners : tie.Need-array-write-owners Inv-loop μ-loop
-array-write-owners c = omega arith
+element-write-owners : tie.Need-element-write-owners Inv-loop μ-loop
+element-write-owners c = omega arith
 
 add-i : tie.Need-add-i Inv-loop μ-loop
 add-i c = omega arith
@@ -46,7 +46,7 @@ thread-owners-spec =
     loop-holds
     cast-at
     element-copy-out-h
-    array-write-owners
+    element-write-owners
     add-i
     loop-less
     loop-again

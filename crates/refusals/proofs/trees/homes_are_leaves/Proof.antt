@@ -53,9 +53,9 @@ returns : tie.Need-returns Inv-loop μ-loop
 returns c =
     let l = c .before in
     let bad = l .before in
-    let s = bad .before .before in
+    let s = bad .before .before .before .before in
     let done : l .loop .x ≡ 256 = omega arith in
-    tables-differ _ _ _ _ _ _ _ (s .pre .1) (bad .before .marked-homes .ensures) (bad .no-homes .ensures) (rw done at (l .loop .inv .1))
+    tables-differ _ _ _ _ _ _ _ (s .pre .1) (bad .before .before .marked-homes .ensures) (bad .no-homes .ensures) (rw done at (l .loop .inv .1))
 
 pub homes-are-leaves-spec : {M : Type 1} → statement M
 homes-are-leaves-spec =

@@ -10,10 +10,10 @@ use Rattle.refusals.proofs.trees.marked_homes.Statement.{statement}
 use Rattle.refusals.proofs.trees.marked_homes.Tie as tie
 
 abbrev Inv-loop : tie.InvT-loop
-Inv-loop homes threads marked₀ i₀ marked i = (i ≤ threads) × Marked-below homes 256 marked i × ((j : ℕ) → j < i → getD homes j 0 < 256)
+Inv-loop marked₀ homes threads i₀ marked i = (i ≤ threads) × Marked-below homes 256 marked i × ((j : ℕ) → j < i → getD homes j 0 < 256)
 
 abbrev μ-loop : tie.MeasureT-loop
-μ-loop homes threads marked₀ i₀ marked i = threads - i
+μ-loop marked₀ homes threads i₀ marked i = threads - i
 
 loop-holds : tie.Need-loop-holds Inv-loop μ-loop
 loop-holds c = (search needs, marked-none _ 256, λ j l. absurd (omega arith))
@@ -27,8 +27,8 @@ element-copy-out-byte-index c = omega arith
 byte-index-requires : tie.Need-byte-index-requires Inv-loop μ-loop
 byte-index-requires c κs = search needs
 
-array-write-marked : tie.Need-array-write-marked Inv-loop μ-loop
-array-write-marked c = omega (arith, c .byte-index .ensures .1)
+element-write-marked : tie.Need-element-write-marked Inv-loop μ-loop
+element-write-marked c = omega (arith, c .byte-index .ensures .1)
 
 add-i : tie.Need-add-i Inv-loop μ-loop
 add-i c = omega arith
@@ -49,7 +49,7 @@ loop-again c =
 returns : tie.Need-returns Inv-loop μ-loop
 returns c =
     let l = c .before .loop in
-    let done : l .i ≡ c .before .before .args .threads = omega arith in
+    let done : l .i ≡ c .before .before .before .args .threads = omega arith in
     record { byte = λ j h. l .inv .2 j (omega arith); home = rw done at (l .inv .1 .marks) }
 
 pub marked-homes-spec : {M : Type 1} → statement M
@@ -62,7 +62,7 @@ marked-homes-spec =
     cast-at
     element-copy-out-byte-index
     byte-index-requires
-    array-write-marked
+    element-write-marked
     add-i
     loop-less
     loop-again

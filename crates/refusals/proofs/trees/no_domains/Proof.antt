@@ -8,10 +8,10 @@ use Rattle.refusals.proofs.trees.no_domains.Statement.{statement}
 use Rattle.refusals.proofs.trees.no_domains.Tie as tie
 
 abbrev Inv-loop : tie.InvT-loop
-Inv-loop domains outside₀ d₀ outside d = (d ≤ domains) × No-domains d outside
+Inv-loop outside₀ domains d₀ outside d = (d ≤ domains) × No-domains d outside
 
 abbrev μ-loop : tie.MeasureT-loop
-μ-loop domains outside₀ d₀ outside d = domains - d
+μ-loop outside₀ domains d₀ outside d = domains - d
 
 loop-holds : tie.Need-loop-holds Inv-loop μ-loop
 loop-holds c = (search needs, outside-first)
@@ -19,8 +19,8 @@ loop-holds c = (search needs, outside-first)
 cast-at : tie.Need-cast-at Inv-loop μ-loop
 cast-at c = omega arith
 
-array-write-outside : tie.Need-array-write-outside Inv-loop μ-loop
-array-write-outside c = omega arith
+element-write-outside : tie.Need-element-write-outside Inv-loop μ-loop
+element-write-outside c = omega arith
 
 add-d : tie.Need-add-d Inv-loop μ-loop
 add-d c = omega arith
@@ -42,7 +42,7 @@ no-domains-spec =
     μ-loop
     loop-holds
     cast-at
-    array-write-outside
+    element-write-outside
     add-d
     loop-less
     loop-again

@@ -7,10 +7,10 @@ use Rattle.refusals.proofs.trees.no_homes.Statement.{statement}
 use Rattle.refusals.proofs.trees.no_homes.Tie as tie
 
 abbrev Inv-loop : tie.InvT-loop
-Inv-loop parents domains bad₀ d₀ bad d = (0 < d) × (d ≤ domains) × Marked domains parents bad d
+Inv-loop bad₀ parents domains d₀ bad d = (0 < d) × (d ≤ domains) × Marked domains parents bad d
 
 abbrev μ-loop : tie.MeasureT-loop
-μ-loop parents domains bad₀ d₀ bad d = domains - d
+μ-loop bad₀ parents domains d₀ bad d = domains - d
 
 no-domains-requires : tie.Need-no-domains-requires Inv-loop μ-loop
 no-domains-requires c κs = search needs
@@ -27,8 +27,8 @@ element-copy-out-byte-index c = omega arith
 byte-index-requires : tie.Need-byte-index-requires Inv-loop μ-loop
 byte-index-requires c κs = search needs
 
-array-write-bad : tie.Need-array-write-bad Inv-loop μ-loop
-array-write-bad c = omega (arith, c .byte-index .ensures .1)
+element-write-bad : tie.Need-element-write-bad Inv-loop μ-loop
+element-write-bad c = omega (arith, c .byte-index .ensures .1)
 
 add-d : tie.Need-add-d Inv-loop μ-loop
 add-d c = omega arith
@@ -56,7 +56,7 @@ no-homes-spec =
     cast-at
     element-copy-out-byte-index
     byte-index-requires
-    array-write-bad
+    element-write-bad
     add-d
     loop-less
     loop-again
