@@ -8,7 +8,7 @@
  * that call at the same time must write to different ones. hmcs_run_file needs 160 KB of stack, every other function at
  * most 26 KB beside its arguments and its result, which are up to 16 KB in the caller.
  *
- * Compare two states field by field, never by memcmp: struct hmcs_place has padding, and so has struct hmcs_text_reply.
+ * Compare two states field by field, never by memcmp: struct hmcs_place and struct hmcs_state have padding, and so has struct hmcs_text_reply.
  */
 #ifndef HMCS_H
 #define HMCS_H
@@ -33,6 +33,7 @@ typedef struct hmcs_tree {
     uint8_t parents[HMCS_DOMAINS];     /* of each domain but the root, one with a lower number */
     uint16_t thresholds[HMCS_DOMAINS]; /* of each domain but the root, 1 to 65,535 */
     uint8_t homes[HMCS_THREADS];       /* of each thread, a domain without child domains; each such domain is some thread's home */
+    uint32_t ticket_root;              /* the root is a queue where this is 0, a ticket lock where it is any other number */
 } hmcs_tree;
 
 /* Rows of the step table (crates/model/specs/Steps.antt), as a thread's place names them. */
@@ -47,23 +48,29 @@ enum hmcs_row {
     HMCS_HELP = 7,
     HMCS_CAS = 8,
     HMCS_LINGER = 9,
-    HMCS_GRANT = 10
+    HMCS_GRANT = 10,
+    HMCS_DRAW = 11,  /* at a ticket root, as the next two: takes a ticket */
+    HMCS_WATCH = 12, /* waits until the grant is its ticket */
+    HMCS_RAISE = 13  /* shows the next ticket */
 };
 
 /* Where a thread stands. A part that the row lacks is 0. */
 typedef struct hmcs_place {
     uint8_t row;    /* enum hmcs_row */
-    uint8_t domain; /* 0 for Idle and Inside */
+    uint8_t domain; /* 0 for Idle and Inside, and for Draw, Watch and Raise, which are at the root */
     uint16_t peer;  /* Link: the record before; Grant: the record that is granted. The record's number itself, not + 1 */
     uint64_t word;  /* Grant: the word that is granted */
 } hmcs_place;
 
-/* A lock state. A tail or a next is 0 for none, else a record's number + 1. All zero is the fresh state. */
+/* A lock state. A tail or a next is 0 for none, else a record's number + 1. The counters ticket and grant are those of a ticket lock at the
+ * root, 0 at a queue root. All zero is a fresh state, at a ticket root that of start 0. */
 typedef struct hmcs_state {
     uint16_t tails[HMCS_DOMAINS];
     uint16_t nexts[HMCS_RECORDS];
     uint64_t statuses[HMCS_RECORDS];
     hmcs_place places[HMCS_THREADS];
+    uint16_t ticket; /* the next ticket to be drawn; the one behind 65,535 is 0 */
+    uint16_t grant;  /* the ticket that may enter */
 } hmcs_state;
 
 /* Status words. */
@@ -188,8 +195,9 @@ typedef struct hmcs_run_reply {
     hmcs_state state;
 } hmcs_run_reply;
 
-/* A fresh lock of the tree. Refused by 4 to 9 and 16. The state is fresh, accepted or refused. */
-hmcs_fresh_reply hmcs_fresh(hmcs_tree tree);
+/* A fresh lock of the tree. At a ticket root both counters are the start, whichever number that is; at a queue root the start is not used.
+ * Refused by 4 to 9 and 16. The state is fresh, accepted or refused; refused, its counters are 0. */
+hmcs_fresh_reply hmcs_fresh(hmcs_tree tree, uint16_t start);
 
 /* One step of a thread. Refused by 4 to 9, 16, 10 and 12; then kind and domain are 0 and the state is as it came. */
 hmcs_step_reply hmcs_step(hmcs_tree tree, hmcs_state state, uint16_t thread);
@@ -199,13 +207,13 @@ hmcs_step_reply hmcs_step(hmcs_tree tree, hmcs_state state, uint16_t thread);
  * have room for as many elements as the schedule has. */
 hmcs_run_reply hmcs_run(hmcs_tree tree, hmcs_state state, const uint16_t *schedule, size_t schedule_length, uint16_t *trace, size_t trace_length);
 
-/* A fresh lock, written where the host keeps its state. Refused by 4 to 9; then the state is as it was. */
-hmcs_answer hmcs_fresh_in_place(hmcs_tree tree, hmcs_state *state);
+/* A fresh lock, written where the host keeps its state, its start as above. Refused by 4 to 9 and 16; then the state is as it was. */
+hmcs_answer hmcs_fresh_in_place(hmcs_tree tree, hmcs_state *state, uint16_t start);
 
 /* One step of the state that the host keeps, in place: the same as hmcs_step. Refused, the state is as it was. */
 hmcs_step_answer hmcs_step_in_place(hmcs_tree tree, hmcs_state *state, uint16_t thread);
 
-/* The file call: reads a lock file, runs its schedule from a fresh lock, and writes the listing at the front of the output. Returns the
+/* The file call: reads a lock file, runs its schedule from a fresh lock (of start 0), and writes the listing at the front of the output. Returns the
  * number; *place is its place, *length the listing's length, 0 where it is refused. Refused by 1 to 9, 16, 12 and 14; then the output is as
  * it came. */
 uint32_t hmcs_run_file(const uint8_t *file, size_t file_length, uint8_t *output, size_t output_length, uint32_t *place, uint32_t *length);
@@ -221,7 +229,7 @@ typedef struct hmcs_text_reply {
 /* Reads a tree from its text, as `(2(#2) 16(#1))`: in parentheses either `#` and a thread count, or domains separated by one space, each a
  * threshold and again such parentheses, down to level 6. Numbers are decimal from 1 without leading zeros, thresholds at most 65,535.
  * Domains count in the order of their opening parenthesis, threads leaf by leaf. No byte stands before the tree and none behind it, no line
- * feed either. Refused by 15, 4 and 5, in this order; an accepted tree passes 4 to 9 and 16. */
+ * feed either. The root is a queue. Refused by 15, 4 and 5, in this order; an accepted tree passes 4 to 9 and 16. */
 hmcs_text_reply hmcs_read_text(const uint8_t *text, size_t text_length);
 
 /* How long it takes to pass the lock on in a tree of three levels: p1 between two threads of one home, p2 between two homes below one domain,

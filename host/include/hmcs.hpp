@@ -14,18 +14,20 @@
 
 namespace hmcs {
 
-static_assert(sizeof(hmcs_tree) == 456 && alignof(hmcs_tree) == 4, "layout of hmcs_tree");
+static_assert(sizeof(hmcs_tree) == 460 && alignof(hmcs_tree) == 4, "layout of hmcs_tree");
 static_assert(offsetof(hmcs_tree, parents) == 8 && offsetof(hmcs_tree, thresholds) == 72 && offsetof(hmcs_tree, homes) == 200, "layout of hmcs_tree");
+static_assert(offsetof(hmcs_tree, ticket_root) == 456, "layout of hmcs_tree");
 static_assert(sizeof(hmcs_place) == 16 && offsetof(hmcs_place, peer) == 2 && offsetof(hmcs_place, word) == 8, "layout of hmcs_place");
-static_assert(sizeof(hmcs_state) == 7424 && offsetof(hmcs_state, nexts) == 128, "layout of hmcs_state");
+static_assert(sizeof(hmcs_state) == 7432 && offsetof(hmcs_state, nexts) == 128, "layout of hmcs_state");
 static_assert(offsetof(hmcs_state, statuses) == 768 && offsetof(hmcs_state, places) == 3328, "layout of hmcs_state");
-static_assert(sizeof(hmcs_step_reply) == 7440 && offsetof(hmcs_step_reply, domain) == 12 && offsetof(hmcs_step_reply, state) == 16, "layout of hmcs_step_reply");
+static_assert(offsetof(hmcs_state, ticket) == 7424 && offsetof(hmcs_state, grant) == 7426, "layout of hmcs_state");
+static_assert(sizeof(hmcs_step_reply) == 7448 && offsetof(hmcs_step_reply, domain) == 12 && offsetof(hmcs_step_reply, state) == 16, "layout of hmcs_step_reply");
 static_assert(sizeof(hmcs_step_answer) == 16 && offsetof(hmcs_step_answer, domain) == 12, "layout of hmcs_step_answer");
-static_assert(sizeof(hmcs_fresh_reply) == 7432 && offsetof(hmcs_fresh_reply, state) == 8, "layout of hmcs_fresh_reply");
-static_assert(sizeof(hmcs_run_reply) == 7456 && offsetof(hmcs_run_reply, crossed) == 28 && offsetof(hmcs_run_reply, state) == 32, "layout of hmcs_run_reply");
+static_assert(sizeof(hmcs_fresh_reply) == 7440 && offsetof(hmcs_fresh_reply, state) == 8, "layout of hmcs_fresh_reply");
+static_assert(sizeof(hmcs_run_reply) == 7464 && offsetof(hmcs_run_reply, crossed) == 28 && offsetof(hmcs_run_reply, state) == 32, "layout of hmcs_run_reply");
 static_assert(sizeof(hmcs_passing_times) == 24 && offsetof(hmcs_passing_times, p3) == 16, "layout of hmcs_passing_times");
 static_assert(sizeof(hmcs_rate_reply) == 16 && offsetof(hmcs_rate_reply, rate) == 8, "layout of hmcs_rate_reply");
-static_assert(sizeof(hmcs_text_reply) == 472 && offsetof(hmcs_text_reply, place) == 8 && offsetof(hmcs_text_reply, tree) == 16, "layout of hmcs_text_reply");
+static_assert(sizeof(hmcs_text_reply) == 480 && offsetof(hmcs_text_reply, place) == 8 && offsetof(hmcs_text_reply, tree) == 16, "layout of hmcs_text_reply");
 
 // Number and place of an answer.
 struct Refusal {
@@ -36,10 +38,21 @@ struct Refusal {
     const char *text() const { return hmcs_refusal_text(number); }
 };
 
-// A tree that grows domain by domain and thread by thread. What does not fit the room is counted and not stored, so that the calls refuse it.
+// What stands at the root of a tree.
+enum class RootKind { queue, ticket };
+
+// A tree that grows domain by domain and thread by thread, with a queue at its root where nothing else is said. What does not fit the room is
+// counted and not stored, so that the calls refuse it.
 class Tree {
 public:
-    Tree() : words_{} { words_.domains = 1; }
+    Tree() : Tree(RootKind::queue) {}
+
+    explicit Tree(RootKind root) : words_{} {
+        words_.domains = 1;
+        words_.ticket_root = root == RootKind::ticket ? 1 : 0;
+    }
+
+    RootKind root() const { return words_.ticket_root != 0 ? RootKind::ticket : RootKind::queue; }
 
     // A domain below another; its number. A parent above 255 is refused as one (6), and a domain that gets no
     // thread, in it or below it, by 16.
@@ -110,8 +123,11 @@ struct StepResult {
 // A lock that the host keeps: a tree and a state, stepped where it stands.
 class Lock {
 public:
-    // A fresh lock. refusal() tells whether the tree was accepted; refused, the state is fresh as well, and every step is refused.
-    explicit Lock(const Tree &tree) : tree_(tree.words()), state_{} { refusal_ = of(hmcs_fresh_in_place(tree_, &state_)); }
+    // A fresh lock, the counters of a ticket root at the start. refusal() tells whether the tree was accepted; refused, the state is fresh as
+    // well, and every step is refused.
+    explicit Lock(const Tree &tree, std::uint16_t start = 0) : tree_(tree.words()), state_{} {
+        refusal_ = of(hmcs_fresh_in_place(tree_, &state_, start));
+    }
 
     const Refusal &refusal() const { return refusal_; }
     const hmcs_state &state() const { return state_; }
@@ -233,7 +249,7 @@ inline std::string text_message(const TextRefusal &refusal, std::string_view tex
 
 } // namespace detail
 
-// A tree from its text, as `(2(#2) 16(#1))`. A line feed behind it belongs to the file and not to the text.
+// A tree from its text, as `(2(#2) 16(#1))`; its root is a queue. A line feed behind it belongs to the file and not to the text.
 inline TextResult read_tree(std::string_view text) {
     const hmcs_text_reply reply = hmcs_read_text(reinterpret_cast<const std::uint8_t *>(text.data()), text.size());
     TextResult result;

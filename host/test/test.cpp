@@ -1,6 +1,7 @@
 // The C boundary as a host uses it: layouts by round trips, the specification's cases, and that nothing outside the buffers is touched.
 #include "check.hpp"
 #include "hmcs.hpp"
+#include "same.hpp"
 
 #include <sys/mman.h>
 #include <unistd.h>
@@ -44,21 +45,6 @@ private:
     unsigned char *bytes_;
 };
 
-bool same(const hmcs_state &a, const hmcs_state &b) {
-    if (std::memcmp(a.tails, b.tails, sizeof a.tails) != 0 || std::memcmp(a.nexts, b.nexts, sizeof a.nexts) != 0 ||
-        std::memcmp(a.statuses, b.statuses, sizeof a.statuses) != 0) {
-        return false;
-    }
-    for (int i = 0; i < HMCS_THREADS; ++i) {
-        const hmcs_place &p = a.places[i];
-        const hmcs_place &q = b.places[i];
-        if (p.row != q.row || p.domain != q.domain || p.peer != q.peer || p.word != q.word) {
-            return false;
-        }
-    }
-    return true;
-}
-
 const std::vector<std::uint16_t> schedule22 = {0, 0, 0, 0, 1, 1, 1, 1, 0, 0, 0, 1, 2, 2, 2, 2, 2, 1, 1, 1, 1, 2};
 
 hmcs::Tree example_tree() {
@@ -95,6 +81,8 @@ void layouts() {
         state->places[i].peer = static_cast<std::uint16_t>(3000 + i);
         state->places[i].word = UINT64_C(0xf0e0d0c0b0a00000) + static_cast<std::uint64_t>(i);
     }
+    state->ticket = 4000;
+    state->grant = 5000;
     const hmcs::Tree tree = example_tree();
     const hmcs_step_reply step = hmcs_step(tree.words(), *state, 0);
     CHECK(step.number == HMCS_BAD_STATE && step.place == 0 && step.kind == 0 && step.domain == 0);
@@ -117,45 +105,45 @@ void tree_layout() {
     t.threads = 256;
     for (int d = 0; d < 64; ++d) t.thresholds[d] = 1;
     for (int i = 0; i < 256; ++i) t.homes[i] = static_cast<std::uint8_t>(1 + i % 63);
-    CHECK(hmcs_fresh(t).number == 0);
+    CHECK(hmcs_fresh(t, 0).number == 0);
     hmcs_tree u = t;
     u.parents[63] = 63;
-    hmcs_fresh_reply r = hmcs_fresh(u);
+    hmcs_fresh_reply r = hmcs_fresh(u, 0);
     CHECK(r.number == HMCS_BAD_PARENT && r.place == 63);
     u = t;
     u.thresholds[63] = 0;
-    r = hmcs_fresh(u);
+    r = hmcs_fresh(u, 0);
     CHECK(r.number == HMCS_NO_THRESHOLD && r.place == 63);
     u = t;
     u.homes[255] = 0;
-    r = hmcs_fresh(u);
+    r = hmcs_fresh(u, 0);
     CHECK(r.number == HMCS_BAD_HOME && r.place == 255);
     u = t;
     for (int i = 0; i < 256; ++i) u.homes[i] = static_cast<std::uint8_t>(1 + i % 62);
-    r = hmcs_fresh(u);
+    r = hmcs_fresh(u, 0);
     CHECK(r.number == HMCS_EMPTY_DOMAIN && r.place == 63);
     u = t;
     u.domains = 65;
-    CHECK(hmcs_fresh(u).number == HMCS_BAD_DOMAINS);
+    CHECK(hmcs_fresh(u, 0).number == HMCS_BAD_DOMAINS);
     u = t;
     u.threads = 257;
-    CHECK(hmcs_fresh(u).number == HMCS_BAD_THREADS);
+    CHECK(hmcs_fresh(u, 0).number == HMCS_BAD_THREADS);
     u = t;
     u.parents[0] = 200; // the root's words are not read
     u.thresholds[0] = 0;
-    CHECK(hmcs_fresh(u).number == 0);
+    CHECK(hmcs_fresh(u, 0).number == 0);
 }
 
 // By value, in place and as a run, the 22 entries lead to one state.
 void example() {
     const hmcs::Tree tree = example_tree();
-    const hmcs_fresh_reply fresh = hmcs_fresh(tree.words());
+    const hmcs_fresh_reply fresh = hmcs_fresh(tree.words(), 9);
     CHECK(fresh.number == 0 && fresh.place == 0);
     hmcs_state by_value = fresh.state;
     Guarded kept(sizeof(hmcs_state), true);
     hmcs_state *in_place = kept.as<hmcs_state>();
     std::memset(in_place, 0x5a, sizeof *in_place);
-    const hmcs_answer made = hmcs_fresh_in_place(tree.words(), in_place);
+    const hmcs_answer made = hmcs_fresh_in_place(tree.words(), in_place, 9);
     CHECK(made.number == 0 && made.place == 0 && same(*in_place, fresh.state));
     for (std::uint16_t i : schedule22) {
         const hmcs_step_reply r = hmcs_step(tree.words(), by_value, i);
@@ -182,7 +170,7 @@ void example() {
     CHECK(refused.number == HMCS_BAD_ENTRY && refused.place == 0 && same(*in_place, by_value));
     hmcs_tree bad = tree.words();
     bad.domains = 0;
-    CHECK(hmcs_fresh_in_place(bad, in_place).number == HMCS_BAD_DOMAINS && same(*in_place, by_value) && !same(by_value, fresh.state));
+    CHECK(hmcs_fresh_in_place(bad, in_place, 9).number == HMCS_BAD_DOMAINS && same(*in_place, by_value) && !same(by_value, fresh.state));
 }
 
 // The wrapper's run and a refused one.
@@ -260,7 +248,7 @@ void null_pointers() {
     std::uint32_t place = 9, length = 9;
     CHECK(hmcs_run_file(nullptr, 0, nullptr, 0, &place, &length) == HMCS_FILE_CUT && place == 0 && length == 0);
     const hmcs::Tree tree = example_tree();
-    const hmcs_fresh_reply fresh = hmcs_fresh(tree.words());
+    const hmcs_fresh_reply fresh = hmcs_fresh(tree.words(), 9);
     const hmcs_run_reply run = hmcs_run(tree.words(), fresh.state, nullptr, 0, nullptr, 0);
     CHECK(run.number == 0 && run.steps == 0 && same(run.state, fresh.state));
     const std::uint16_t one[1] = {0};
@@ -269,15 +257,15 @@ void null_pointers() {
 
 } // namespace
 
-// What single steps say, by value and in place, against a run's counts: some thousand random steps in three trees.
-void kinds() {
+// What single steps say, by value and in place, against a run's counts: some thousand random steps in three trees, with this kind of root.
+void kinds(hmcs::RootKind root) {
     std::uint32_t seed = 7;
     const auto random = [&seed](std::uint32_t below) {
         seed = seed * 1664525u + 1013904223u;
         return (seed >> 8) % below;
     };
     for (std::uint32_t depth = 0; depth < 3; ++depth) {
-        hmcs::Tree tree;
+        hmcs::Tree tree(root);
         std::vector<std::uint32_t> homes = {0};
         for (std::uint32_t level = 0; level < depth; ++level) {
             std::vector<std::uint32_t> below;
@@ -291,7 +279,7 @@ void kinds() {
             tree.add_thread(home);
             tree.add_thread(home);
         }
-        hmcs::Lock lock(tree);
+        hmcs::Lock lock(tree, 65500);
         const hmcs_state before = lock.state();
         hmcs_state by_value = before;
         std::vector<std::uint16_t> schedule;
@@ -311,7 +299,7 @@ void kinds() {
             ++told[step.kind];
             by_value = step.state;
         }
-        hmcs::Lock other(tree);
+        hmcs::Lock other(tree, 65500);
         const hmcs::Counts counts = other.run(schedule).counts;
         CHECK(counts.steps == 3000 && counts.stays == told[HMCS_STAY] && counts.root == told[HMCS_ROOT_ENTRY]);
         CHECK(counts.passed == told[HMCS_PASSED_ENTRY] && counts.crossed == told[HMCS_CROSSED_ENTRY]);
@@ -323,7 +311,8 @@ void kinds() {
 
 int main() {
     layouts();
-    kinds();
+    kinds(hmcs::RootKind::queue);
+    kinds(hmcs::RootKind::ticket);
     tree_layout();
     example();
     wrapper();

@@ -6,8 +6,8 @@ use Rattle.host.specs.InPlace.{fresh-left, Fresh-in-place-law, In-place-
 
 pub fresh-in-place-law : Fresh-in-place-law
 unfolding Fresh-in-place-law fresh-left fresh-answer
-fresh-in-place-law w s =
-    record { accepted = λ e. rw (eq-eqb (fresh-answer w .number) 0 e); refused = λ n. rw (ne-eqb (fresh-answer w .number) 0 n) }
+fresh-in-place-law w v s =
+    record { accepted = λ e. rw (eq-eqb (fresh-answer w v .number) 0 e); refused = λ n. rw (ne-eqb (fresh-answer w v .number) 0 n) }
 
 pub in-place-law : In-place-law
 unfolding In-place-law answer answer-to

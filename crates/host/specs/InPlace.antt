@@ -8,7 +8,8 @@ use Rattle.model.specs.declared.TreeWords.{TreeWords}
 use Rattle.model.specs.declared.State.{State}
 use Rattle.model.specs.declared.FreshReply.{FreshReply}
 use Rattle.model.specs.declared.StepReply.{StepReply}
-use Rattle.model.specs.States.{fresh-words}
+use Rattle.model.specs.Trees.{tree-of}
+use Rattle.model.specs.States.{fresh-state}
 use Rattle.model.specs.Answers.{fresh-answer, step-answer}
 use Rattle.model.specs.Claim.{one-step, stepped, answer}
 use Rattle.host.specs.declared.Answer.{Answer}
@@ -17,7 +18,7 @@ use Rattle.host.specs.declared.StepAnswer.{StepAnswer}
 abbrev pub fresh-number : FreshReply → Answer
 fresh-number r = record { number = r .number; place = r .place }
 
--- what a fresh call leaves of a state that the host keeps: accepted, the fresh words; refused, the state as it came
+-- what a fresh call leaves of a state that the host keeps: accepted, the fresh state; refused, the state as it came
 unfoldable pub fresh-left : FreshReply → (before : State) → State
 fresh-left r s = cond (eqb (r .number) 0) (r .state) s
 
@@ -28,13 +29,13 @@ fresh-kept r s = record { number = r .number; place = r .place; state = fresh-le
 abbrev pub step-told : StepReply → StepAnswer
 step-told r = record { number = r .number; place = r .place; kind = r .kind; domain = r .domain }
 
--- so an accepted fresh call in place leaves the fresh words, and a refused one the state as it came
-pub record Leaves (w : TreeWords) (s : State) : Type 0 where
-  pub accepted : fresh-answer w .number ≡ 0 → fresh-left (fresh-answer w) s ≡ fresh-words
-  pub refused : fresh-answer w .number ≢ 0 → fresh-left (fresh-answer w) s ≡ s
+-- so an accepted fresh call in place leaves the fresh state, and a refused one the state as it came
+pub record Leaves (w : TreeWords) (start : ℕ) (s : State) : Type 0 where
+  pub accepted : fresh-answer w start .number ≡ 0 → fresh-left (fresh-answer w start) s ≡ fresh-state (tree-of w) start
+  pub refused : fresh-answer w start .number ≢ 0 → fresh-left (fresh-answer w start) s ≡ s
 
 unfoldable pub Fresh-in-place-law : Type 0
-Fresh-in-place-law = (w : TreeWords) (s : State) → Leaves w s
+Fresh-in-place-law = (w : TreeWords) (start : ℕ) (s : State) → Leaves w start s
 
 -- what a step in place returns, with the state that is left in place
 abbrev pub with-state : StepAnswer → State → StepReply

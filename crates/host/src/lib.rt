@@ -30,12 +30,12 @@ pub struct StepAnswer {
     pub domain: u32,
 }
 
-// A fresh lock: the fresh words, accepted or refused.
+// A fresh lock: a fresh state, accepted or refused. The counters of a ticket root begin at the start that is given.
 #[no_mangle]
-pub extern "C" fn hmcs_fresh(tree: TreeWords) -> FreshReply
-    ensures { λ r. ⌜ r ≡ fresh-answer tree ⌝ }
+pub extern "C" fn hmcs_fresh(tree: TreeWords, start: u16) -> FreshReply
+    ensures { λ r. ⌜ r ≡ fresh-answer tree start ⌝ }
 {
-    lock::fresh_lock(tree)
+    lock::fresh_lock(tree, start)
 }
 
 // One step by value: its kind, the domain it was at and the state after it; refused, kind 0, domain 0 and the state as it came.
@@ -60,11 +60,11 @@ pub extern "C" fn hmcs_run(
     lock::run_lock(tree, state, schedule, trace)
 }
 
-// A fresh lock by value, with the state that a host keeps: accepted, the fresh words; refused, that state as it came.
-fn fresh_kept(tree: TreeWords, state: State) -> FreshReply
-    ensures { λ r. ⌜ r ≡ fresh-kept (fresh-answer tree) state ⌝ }
+// A fresh lock by value, with the state that a host keeps: accepted, the fresh state; refused, that state as it came.
+fn fresh_kept(tree: TreeWords, state: State, start: u16) -> FreshReply
+    ensures { λ r. ⌜ r ≡ fresh-kept (fresh-answer tree start) state ⌝ }
 {
-    let r = hmcs_fresh(tree);
+    let r = hmcs_fresh(tree, start);
     if r.number == 0 {
         return r;
     }
@@ -77,10 +77,10 @@ fn fresh_kept(tree: TreeWords, state: State) -> FreshReply
 
 // A fresh lock, written where the host keeps its state; refused, the state as it came.
 #[no_mangle]
-pub extern "C" fn hmcs_fresh_in_place(tree: TreeWords, state: &mut State) -> Answer
-    ensures { λ r. ⌜ (r ≡ fresh-number (fresh-answer tree)) × (now (state .exit) ≡ fresh-left (fresh-answer tree) (now (state .entry))) ⌝ }
+pub extern "C" fn hmcs_fresh_in_place(tree: TreeWords, state: &mut State, start: u16) -> Answer
+    ensures { λ r. ⌜ (r ≡ fresh-number (fresh-answer tree start)) × (now (state .exit) ≡ fresh-left (fresh-answer tree start) (now (state .entry))) ⌝ }
 {
-    let kept = fresh_kept(tree, *state);
+    let kept = fresh_kept(tree, *state, start);
     *state = kept.state;
     Answer {
         number: kept.number,

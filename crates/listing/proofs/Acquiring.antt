@@ -10,21 +10,22 @@ use lib.ListN.{length, set}
 use lib.Seq.{getD-set-same, getD-set-other}
 use borrow.Author.Tests.{eqb-true, eqb-false, lt-ltb, le-ltb}
 use Rattle.model.specs.declared.Place.{Place}
-use Rattle.model.specs.declared.Place.the-variants.{Idle, Prep, Swap, Link, Wait, Inside}
+use Rattle.model.specs.declared.Place.the-variants.{Idle, Prep, Swap, Link, Wait, Inside, Draw}
 use Rattle.model.specs.declared.State.{State}
-use Rattle.model.specs.Trees.{Tree, own-record}
+use Rattle.model.specs.Trees.{Tree, is-ticket, own-record}
 use Rattle.model.specs.Places.{place-words, words-of, place-of}
 use Rattle.model.specs.States.{acquire-parent, wait-word, locked, tail, status, place}
-use Rattle.model.specs.Steps.{Row-result, prep-row, swap-row, link-row, wait-row}
+use Rattle.model.specs.Steps.{Row-result, acquire-place, prep-row, swap-row, link-row, wait-row}
 use Rattle.model.proofs.Places.{place-of-words}
 use Rattle.model.proofs.Trees.Index.{ancestor, height, record-at}
 use Rattle.model.proofs.Trees.Accepted.{Accepted}
+use Rattle.model.proofs.Trees.Tickets.{ticket-facts}
 use Rattle.model.proofs.Trees.Paths.{ancestor-not-root, ancestor-parent-of}
 use Rattle.model.proofs.Trees.Records.{own-record-at}
-use Rattle.listing.specs.Listing.{After, goes, Control, control, behind-17, acquire-real, outside, critical, line-7, line-9, line-11, line-13, line-66, line-67, line-71, line-72}
+use Rattle.listing.specs.Calls.{After, goes, Control, control, behind-17, acquire-real, outside, critical, line-7, line-9, line-11, line-13, line-66, line-67, line-71, line-72, ticket-lock, line-90}
 use Rattle.listing.specs.Agreement.{entry, memory-of}
 use Rattle.listing.proofs.Entries.{idle-elsewhere, idle-root, prep-elsewhere, prep-root, swap-none, swap-some, swap-root-none, swap-root-some, link-elsewhere, link-root, wait-stays, wait-enters, wait-climbs, wait-root-stays, wait-root-enters}
-use Rattle.listing.proofs.Stacks.{acquire-back, acquire-callers, acquire-stack, acquired, at-root, Corresponds, c-prep, c-swap, c-link, c-wait, c-inside}
+use Rattle.listing.proofs.Stacks.{acquire-back, acquire-callers, acquire-stack, acquired, at-root, Corresponds, c-prep, c-swap, c-link, c-wait, c-inside, c-draw}
 
 -- an entry of the listing and a step of the table: the same memory, and places that correspond
 pub record Together (t : Tree) (i : ℕ) (s : State) (x : Row-result) (y : After) : Type 0 where
@@ -67,9 +68,15 @@ module _ (t : Tree) (𝓐 : Accepted t) (i : ℕ) (h : i < t .threads) (s : Stat
 
   -- the call of AcquireReal at the parent
   climb-control : (k : ℕ) → k < height t i →
-      Corresponds t i (acquire-real (ancestor t i (suc k)) (256 + ancestor t i k) behind-17 (acquire-stack t i k)) (Prep (ancestor t i (suc k)))
+      Corresponds t i (acquire-real t (ancestor t i (suc k)) (256 + ancestor t i k) behind-17 (acquire-stack t i k)) (acquire-place t (ancestor t i (suc k)))
   unfolding acquire-real acquire-back acquire-callers record-at
-  climb-control k b = c-prep k b
+  climb-control k b = either _ refl
+    where
+      either :
+          (c : Bool) → is-ticket t (ancestor t i (suc k)) ≡ c →
+          Corresponds t i (control (cond c (ticket-lock line-90) (at-root (ancestor t i (suc k)) line-66 line-7)) (acquire-stack t i (suc k))) (cond c Draw (Prep (ancestor t i (suc k))))
+      either true e = c-draw k b (ticket-facts t (ancestor t i (suc k)) e .1)
+      either false e = c-prep k b
 
   -- PREP
   pub prep-together :
@@ -85,19 +92,19 @@ module _ (t : Tree) (𝓐 : Accepted t) (i : ℕ) (h : i < t .threads) (s : Stat
       (together (goes line-9 (acquire-stack t i k) _) (Swap (ancestor t i k)) (prep-elsewhere t i (ancestor t i k) (record-at t i k) (acquire-back k) (acquire-callers t i k) (memory-of s)) refl
       (moved refl) (rw e at (swap-control k l)))
 
-  -- IDLE
-  pub idle-together : (b : Bool) → eqb (t .home i) 0 ≡ b → Together t i s (prep-row t i (t .home i) s) (entry t i (standing (control outside []) s))
+  -- IDLE, where the home is a queue
+  pub idle-together : is-ticket t (t .home i) ≡ false → (b : Bool) → eqb (t .home i) 0 ≡ b → Together t i s (prep-row t i (t .home i) s) (entry t i (standing (control outside []) s))
   unfolding prep-row memory-of ancestor record-at acquire-back acquire-callers
-  idle-together true e =
+  idle-together n true e =
       let own : own-record t i (t .home i) ≡ i = own-record-at t 𝓐 i h 0 (omega arith) in
       let c : Corresponds t i (control (at-root (t .home i) line-67 line-9) (acquire-stack t i 0)) (Swap (t .home i)) = swap-control 0 (omega arith) in
       rw (own, e)
-      (together (goes line-67 (acquire-stack t i 0) _) (Swap (t .home i)) (idle-root t i (memory-of s) e) refl (moved refl) (rw e at c))
-  idle-together false e =
+      (together (goes line-67 (acquire-stack t i 0) _) (Swap (t .home i)) (idle-root t i (memory-of s) n e) refl (moved refl) (rw e at c))
+  idle-together n false e =
       let own : own-record t i (t .home i) ≡ i = own-record-at t 𝓐 i h 0 (omega arith) in
       let c : Corresponds t i (control (at-root (t .home i) line-67 line-9) (acquire-stack t i 0)) (Swap (t .home i)) = swap-control 0 (omega arith) in
       rw (own, e)
-      (together (goes line-9 (acquire-stack t i 0) _) (Swap (t .home i)) (idle-elsewhere t i (memory-of s) e) refl (moved refl) (rw e at c))
+      (together (goes line-9 (acquire-stack t i 0) _) (Swap (t .home i)) (idle-elsewhere t i (memory-of s) n e) refl (moved refl) (rw e at c))
 
   -- SWAP
   pub swap-together :
@@ -118,7 +125,7 @@ module _ (t : Tree) (𝓐 : Accepted t) (i : ℕ) (h : i < t .threads) (s : Stat
   swap-together k l false true z e =
       let b = ancestor-not-root t 𝓐 i h k l (omega (arith, eqb-false (ancestor t i k) 0 z)) in
       rw (own-record-at t 𝓐 i h k l, e, z, ancestor-parent-of t 𝓐 i h k b)
-      (together (record { thread = acquire-real (ancestor t i (suc k)) (256 + ancestor t i k) behind-17 (acquire-stack t i k); memory = _ }) (Prep (ancestor t i (suc k)))
+      (together (record { thread = acquire-real t (ancestor t i (suc k)) (256 + ancestor t i k) behind-17 (acquire-stack t i k); memory = _ }) (acquire-place t (ancestor t i (suc k)))
       (rw (ancestor-parent-of t 𝓐 i h k b) at (swap-none t i (ancestor t i k) (record-at t i k) (acquire-back k) (acquire-callers t i k) (memory-of s) e)) refl
       (moved refl) (climb-control k b))
   swap-together k l false false z e =
@@ -173,7 +180,7 @@ module _ (t : Tree) (𝓐 : Accepted t) (i : ℕ) (h : i < t .threads) (s : Stat
       let v = status s (record-at t i k) in
       let g : ltb v acquire-parent ≡ false = le-ltb v acquire-parent (omega (arith, eqb-true v acquire-parent f)) in
       rw (own-record-at t 𝓐 i h k l, e, z, f, ancestor-parent-of t 𝓐 i h k b)
-      (together (record { thread = acquire-real (ancestor t i (suc k)) (256 + ancestor t i k) behind-17 (acquire-stack t i k); memory = _ }) (Prep (ancestor t i (suc k)))
+      (together (record { thread = acquire-real t (ancestor t i (suc k)) (256 + ancestor t i k) behind-17 (acquire-stack t i k); memory = _ }) (acquire-place t (ancestor t i (suc k)))
       (rw (ancestor-parent-of t 𝓐 i h k b) at (wait-climbs t i (ancestor t i k) (record-at t i k) (acquire-back k) (acquire-callers t i k) (memory-of s) e g)) refl
       (moved refl) (climb-control k b))
   wait-together k l z q w false false e f =

@@ -8,12 +8,12 @@ use lib.Dec.{eqb}
 use lib.ListN.{length}
 use borrow.Author.Tests.{eq-eqb, ne-eqb}
 use Rattle.model.specs.declared.Place.{Place}
-use Rattle.model.specs.declared.Place.the-variants.{Idle, Prep, Swap, Link, Wait, Check, Help, Cas, Linger, Grant}
+use Rattle.model.specs.declared.Place.the-variants.{Idle, Prep, Swap, Link, Wait, Check, Help, Cas, Linger, Grant, Draw, Watch}
 use Rattle.model.specs.declared.State.{State}
-use Rattle.model.specs.Trees.{Tree, own-record}
-use Rattle.model.specs.Places.{place-words, plain-place, place-of}
-use Rattle.model.specs.States.{wait-word, status, place, fresh-words}
-use Rattle.model.specs.Steps.{release-word, check-row, row, step}
+use Rattle.model.specs.Trees.{Tree, is-ticket, own-record}
+use Rattle.model.specs.Places.{place-words, bare-place, plain-place, place-of}
+use Rattle.model.specs.States.{wait-word, status, place, fresh-words, fresh-state}
+use Rattle.model.specs.Steps.{release-word, prep-row, check-row, draw-row, row, step}
 use Rattle.model.specs.Runs.{steps, state-after, run-of, run}
 use Rattle.model.specs.Refusals.{tree-refusal}
 use Rattle.model.specs.Laws.{All-threads, Sixteen-bit, Form-law}
@@ -27,15 +27,17 @@ use Rattle.model.proofs.Laws.Form.{replicate-all, form-law}
 use Rattle.model.proofs.Claims.Calls.{run-behind, run-one}
 use Rattle.model.proofs.Claims.Equality.{same-test, equality-law}
 use Rattle.model.proofs.Claims.Reached.{threads-join}
-use Rattle.listing.specs.Listing.{behind-17, Frame, Control, control, line-7, line-9, line-11, line-13, line-25, line-37, line-53, line-55, line-57, line-58, line-59, line-66, line-67, line-71, line-72, top-domain, top-back}
-use Rattle.listing.specs.Agreement.{prep-place, place-at, place-of-control, entry, Threads, at-first, turn, turns, memory-of, Stands-at, at-idle, at-prep, at-swap, at-link, at-wait, at-inside, at-check, at-37, at-help, at-cas, at-linger, at-55, at-59, Not-above, Entry-law, Listing-agrees}
-use Rattle.listing.proofs.Stacks.{acquire-back, acquire-stack, top-domain-at, helper-stack, Corresponds, c-idle, c-prep, c-swap, c-link, c-wait, c-inside, c-check, c-pass, c-help, c-cas, c-linger, c-55, c-59}
+use Rattle.listing.specs.Calls.{behind-17, Frame, Control, control, outside, line-7, line-9, line-11, line-13, line-25, line-37, line-53, line-55, line-57, line-58, line-59, line-66, line-67, line-71, line-72, ticket-lock, line-90, line-91-again}
+use Rattle.listing.specs.Listing.{top-domain, top-back}
+use Rattle.listing.specs.Agreement.{called-place, ticket-place, place-at, place-of-control, entry, Threads, at-first, turn, turns, memory-of, Stands-at, at-idle, at-prep, at-swap, at-link, at-wait, at-inside, at-check, at-37, at-help, at-cas, at-linger, at-55, at-59, at-draw, at-watch, at-raise, Not-above, Entry-law, Listing-agrees}
+use Rattle.listing.proofs.Stacks.{acquire-back, acquire-stack, top-domain-at, helper-stack, Corresponds, c-idle, c-prep, c-swap, c-link, c-wait, c-inside, c-check, c-pass, c-help, c-cas, c-linger, c-55, c-59, c-draw, c-watch, c-raise}
 use Rattle.listing.proofs.Acquiring.{Together, standing, idle-together, prep-together, swap-together, link-together, wait-root-together, wait-together}
 use Rattle.listing.proofs.Releasing.{leave-together, check-together, pass-together, help-together, cas-together, linger-together, line-55-together, line-59-together}
+use Rattle.listing.proofs.Tickets.{draw-together, idle-draw-together, watch-together, raise-together}
 use Rattle.listing.proofs.Standing.{Acquires, acquires, Releases, releases, Helps, helps, stands, stood}
 
 -- ONE ENTRY, by the place where the thread stands
-module _ (t : Tree) (𝓐 : Accepted t) (i : ℕ) (h : i < t .threads) (s : State) (room : i < length (s .places)) (small : (r : ℕ) → status s r ≤ wait-word)
+module _ (t : Tree) (𝓐 : Accepted t) (i : ℕ) (h : i < t .threads) (s : State) (room : i < length (s .places)) (wide : length (s .statuses) ≡ 320) (small : (r : ℕ) → status s r ≤ wait-word)
     (by-equality : (l : ℕ) → place s i ≡ Check l → row t i (Check l) s ≡ equality-check-row t i l s) where
   wait-by : (k : ℕ) → k ≤ height t i → (b : Bool) → eqb (ancestor t i k) 0 ≡ b → place s i ≡ Wait (ancestor t i k) →
       Together t i s (row t i (Wait (ancestor t i k)) s) (entry t i (standing (control (cond b line-72 line-13) (acquire-stack t i k)) s))
@@ -43,9 +45,13 @@ module _ (t : Tree) (𝓐 : Accepted t) (i : ℕ) (h : i < t .threads) (s : Stat
   wait-by k l true z q = wait-root-together t 𝓐 i h s room k l z q _ refl
   wait-by k l false z q = wait-together t 𝓐 i h s room k l z q (small (record-at t i k)) _ _ refl refl
 
+  idle-by : (c : Bool) → is-ticket t (t .home i) ≡ c → Together t i s (cond c (draw-row t i s) (prep-row t i (t .home i) s)) (entry t i (standing (control outside []) s))
+  idle-by true n = idle-draw-together t 𝓐 i h s room wide n
+  idle-by false n = idle-together t 𝓐 i h s room n _ refl
+
   row-together : {c : Control} {p : Place} → place s i ≡ p → Corresponds t i c p → Together t i s (row t i p s) (entry t i (standing c s))
   unfolding row
-  row-together q c-idle = idle-together t 𝓐 i h s room _ refl
+  row-together q c-idle = idle-by _ refl
   row-together q (c-prep k l) = prep-together t 𝓐 i h s room (suc k) l _ refl
   row-together q (c-swap k l) = swap-together t 𝓐 i h s room k l _ _ refl refl
   row-together q (c-link k p l) = link-together t 𝓐 i h s room k p l _ refl
@@ -58,6 +64,9 @@ module _ (t : Tree) (𝓐 : Accepted t) (i : ℕ) (h : i < t .threads) (s : Stat
   row-together q (c-linger k b fs l x y) = linger-together t 𝓐 i h s room k l b fs x y q _ refl
   row-together q (c-55 k r w b fs l x y) = line-55-together t 𝓐 i h s room k l b fs x y r w
   row-together q (c-59 k r w b fs l x y) = line-59-together t 𝓐 i h s room k l b fs x y r w
+  row-together q (c-draw k l e) = draw-together t 𝓐 i h s room (suc k) l e wide
+  row-together q (c-watch k l e) = watch-together t 𝓐 i h s room k l e q
+  row-together q (c-raise k fs l e x) = raise-together t 𝓐 i h s room k l e fs x
 
   -- so from every control that stands at the place
   along-calls : {L : ℕ} {fs : List Frame} (x : Acquires t i L fs) (A : ℕ → List Frame → Type 0) → A (ancestor t i (x .index)) (acquire-stack t i (x .index)) → A L fs
@@ -76,6 +85,10 @@ module _ (t : Tree) (𝓐 : Accepted t) (i : ℕ) (h : i < t .threads) (s : Stat
   prep-row-together : (k : ℕ) → k ≤ height t i → Row (control (cond (eqb (ancestor t i k) 0) line-66 line-7) (acquire-stack t i k)) (Prep (ancestor t i k))
   unfolding row
   prep-row-together k l q = prep-together t 𝓐 i h s room k l _ refl
+
+  draw-row-together : (k : ℕ) → k ≤ height t i → ancestor t i k ≡ 0 → Row (control (ticket-lock line-90) (acquire-stack t i k)) Draw
+  unfolding row
+  draw-row-together k l e q = draw-together t 𝓐 i h s room k l e wide
 
   stands-together : {c : Control} {p : Place} → Stands-at t i c p → Row c p
   stands-together at-idle = λ q. row-together q c-idle
@@ -115,10 +128,19 @@ module _ (t : Tree) (𝓐 : Accepted t) (i : ℕ) (h : i < t .threads) (s : Stat
   stands-together (at-59 L r w fs a) =
       let x = helps t 𝓐 i h a in
       along-help x (λ L fs. Row (control (line-59 r w) fs) (Grant L r w)) (λ q. row-together q (c-59 (x .index) r w (x .back) (x .callers) (x .within) (x .stack) (x .helps)))
+  stands-together (at-draw fs a) =
+      let x = acquires t 𝓐 i h a in
+      along-calls x (λ L fs. Row (control (ticket-lock line-90) fs) Draw) (draw-row-together (x .index) (x .within) (x .there))
+  stands-together (at-watch fs a) =
+      let x = acquires t 𝓐 i h a in
+      along-calls x (λ L fs. Row (control (ticket-lock line-91-again) fs) Watch) (λ q. row-together q (c-watch (x .index) (x .within) (x .there)))
+  stands-together (at-raise fs a) =
+      let x = releases t 𝓐 i h a in
+      λ q. row-together q (c-raise (x .index) fs (x .within) (x .there) (x .stack))
 
 -- a control that corresponds to a place stands there by the table of points
 corresponding : {t : Tree} {i : ℕ} {c : Control} {p : Place} → Corresponds t i c p → place-of-control c ≡ p
-unfolding place-of-control place-at prep-place top-domain top-back acquire-back
+unfolding place-of-control place-at called-place ticket-place top-domain top-back acquire-back
 corresponding c-idle = refl
 corresponding {t} {i} (c-prep k l) = either (eqb (ancestor t i (suc k)) 0)
   where
@@ -148,6 +170,9 @@ corresponding (c-cas k b fs l x y) = refl
 corresponding (c-linger k b fs l x y) = refl
 corresponding (c-55 k r w b fs l x y) = refl
 corresponding (c-59 k r w b fs l x y) = refl
+corresponding (c-draw k l e) = refl
+corresponding (c-watch k l e) = refl
+corresponding (c-raise k fs l e x) = refl
 
 -- EVERY WELL-FORMED STATE
 check-by-equality : (t : Tree) (i : ℕ) (s : State) → Not-above t i s → (l : ℕ) → place s i ≡ Check l → row t i (Check l) s ≡ equality-check-row t i l s
@@ -165,7 +190,7 @@ entry-law t ok s formed i h =
       some-control = there .by;
       some-stands = there .standing;
       does = λ n c x.
-          let z = stands-together t 𝓐 i h s room small (check-by-equality t i s n) x refl in
+          let z = stands-together t 𝓐 i h s room (formed .typed .statuses-room) small (check-by-equality t i s n) x refl in
           record {
             memory = z .memory;
             stands = rw (z .there) (stands t 𝓐 i h (z .corresponds));
@@ -180,16 +205,16 @@ record Together-all (t : Tree) (x : Threads) (s : State) : Type 0 where
   stands-there : (i : ℕ) → i < t .threads → Stands-at t i (x .controls i) (place s i)
   placed : (i : ℕ) → i < t .threads → place-of-control (x .controls i) ≡ place s i
 
-module _ (t : Tree) (bits : Sixteen-bit t) (ok : tree-refusal t .number ≡ 0) where
+module _ (t : Tree) (bits : Sixteen-bit t) (ok : tree-refusal t .number ≡ 0) (start : ℕ) where
   -- one turn, from a state reached from fresh
   one-turn :
-      (pre : List ℕ) → All-threads t pre → (i : ℕ) → i < t .threads → (x : Threads) → Together-all t x (run t pre fresh-words .state) →
-      Together-all t (turn t i x) (step t i (run t pre fresh-words .state) .state)
+      (pre : List ℕ) → All-threads t pre → (i : ℕ) → i < t .threads → (x : Threads) → Together-all t x (run t pre (fresh-state t start) .state) →
+      Together-all t (turn t i x) (step t i (run t pre (fresh-state t start) .state) .state)
   unfolding turn Form-law Entry-law Equality-law Not-above
   one-turn pre all i h x y =
-      let s = run t pre fresh-words .state in
-      let formed = form-law t bits ok .of-run pre fresh-words all (form-law t bits ok .of-fresh) in
-      let z = entry-law t ok s formed i h .does (λ l q. equality-law t bits ok pre all i l h q .within) (x .controls i) (y .stands-there i h) in
+      let s = run t pre (fresh-state t start) .state in
+      let formed = form-law t bits ok .of-run pre (fresh-state t start) all (form-law t bits ok .of-fresh start) in
+      let z = entry-law t ok s formed i h .does (λ l q. equality-law t bits ok start pre all i l h q .within) (x .controls i) (y .stands-there i h) in
       rw (y .memory) (record {
         memory = z .memory;
         stands-there = λ j hj. same-or j i _ (λ e. rw (e, eq-eqb i i refl) (z .stands)) (λ e. rw (ne-eqb j i e, z .others j e) (y .stands-there j hj));
@@ -197,19 +222,19 @@ module _ (t : Tree) (bits : Sixteen-bit t) (ok : tree-refusal t .number ≡ 0) w
       })
 
   along :
-      (is pre : List ℕ) → All-threads t pre → All-threads t is → (x : Threads) → Together-all t x (run t pre fresh-words .state) →
-      Together-all t (turns t is x) (run t (pre ++ is) fresh-words .state)
+      (is pre : List ℕ) → All-threads t pre → All-threads t is → (x : Threads) → Together-all t x (run t pre (fresh-state t start) .state) →
+      Together-all t (turns t is x) (run t (pre ++ is) (fresh-state t start) .state)
   unfolding turns All-threads
   along [] pre all l x y = rw (append-nil pre) y
   along (i ∷ is) pre all l x y =
       let one = one-turn pre all i (l .0) x y in
-      let next : Together-all t (turn t i x) (run t (pre ++ (i ∷ [])) fresh-words .state) = rw (run-behind t pre (i ∷ []) [], run-one t i (run t pre fresh-words .state)) one in
+      let next : Together-all t (turn t i x) (run t (pre ++ (i ∷ [])) (fresh-state t start) .state) = rw (run-behind t (fresh-state t start) pre (i ∷ []) [], run-one t i (run t pre (fresh-state t start) .state)) one in
       rw (append-assoc pre (i ∷ []) is) at (along is (pre ++ (i ∷ [])) (threads-join t pre (i ∷ []) all (l .0, tt)) (l .1) (turn t i x) next)
 
 pub listing-agrees : Listing-agrees
-unfolding Listing-agrees at-first All-threads run run-of steps state-after memory-of fresh-words place-of plain-place place-of-control place-at
-listing-agrees t bits ok is all =
-    let idle : (i : ℕ) → place fresh-words i ≡ Idle = λ i. replicate-all (λ x. place-of x ≡ Idle) 256 i (place-words 0 0 0 0) refl in
-    let start : Together-all t at-first fresh-words = record { memory = refl; stands-there = λ i h. rw (idle i) at-idle; placed = λ i h. rw (idle i) } in
-    let y = along t bits ok is [] tt all at-first start in
+unfolding Listing-agrees at-first All-threads run run-of steps state-after memory-of fresh-words fresh-state place-of plain-place bare-place place-of-control place-at
+listing-agrees t bits ok start is all =
+    let idle : (i : ℕ) → place (fresh-state t start) i ≡ Idle = λ i. replicate-all (λ x. place-of x ≡ Idle) 256 i (place-words 0 0 0 0) refl in
+    let first : Together-all t (at-first t start) (fresh-state t start) = record { memory = refl; stands-there = λ i h. rw (idle i) at-idle; placed = λ i h. rw (idle i) } in
+    let y = along t bits ok start is [] tt all (at-first t start) first in
     record { memory = y .memory; places = y .placed }

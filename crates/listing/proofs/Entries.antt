@@ -4,10 +4,11 @@ use mathlib.Core.Bool.{Bool, true, false, cond}
 use mathlib.Core.List.{List, [], _∷_}
 use Prim.Native.Nat.{ℕ, suc, _+_, _-_}
 use lib.Dec.{eqb, ltb}
-use Rattle.model.specs.Trees.{Tree}
+use Rattle.model.specs.Trees.{Tree, is-ticket}
 use Rattle.model.specs.States.{cohort-start, acquire-parent, wait-word, unlocked, locked, none}
-use Rattle.listing.specs.Listing.{Memory, lock-at, status-at, store-lock, store-next, store-status, Return, from-acquire, behind-17, Frame, frame, outside, critical, line-7, line-9, line-10, line-11, line-13, line-14, line-16, line-17, line-66, line-67, line-68, line-69, line-71, line-72, Control, control, After, goes, acquire-real, returns, line, top-domain, top-node, top-back, next-line}
-use Rattle.listing.specs.Agreement.{prep-place, place-at, place-of-control, is-place, settle, entry}
+use Rattle.listing.specs.Calls.{Memory, lock-at, status-at, store-lock, store-next, store-status, Return, from-acquire, behind-17, Frame, frame, outside, critical, line-7, line-9, line-10, line-11, line-13, line-14, line-16, line-17, line-66, line-67, line-68, line-69, line-71, line-72, ticket-lock, line-90, Control, control, After, goes, acquire-real, returns}
+use Rattle.listing.specs.Listing.{line, top-domain, top-node, top-back, next-line}
+use Rattle.listing.specs.Agreement.{called-place, ticket-place, place-at, place-of-control, is-place, settle, entry}
 
 -- a thread stands there between entries
 abbrev pub Stands : Control → Type 0
@@ -28,21 +29,21 @@ module _ (t : Tree) (i : ℕ) where
   unfolding entry
   begins x y d = ap (settle 8 t i) d
 
-  -- IDLE: the call, and line 7 or 66, before which nobody stands
+  -- IDLE at a queue: the call, and line 7 or 66, before which nobody stands
   pub idle-elsewhere :
-      (m : Memory) → eqb (t .home i) 0 ≡ false → entry t i (goes outside [] m) ≡ goes line-9 (frame (t .home i) i from-acquire ∷ []) (store-next i none (store-status i wait-word m))
-  unfolding next-line line acquire-real top-domain top-node top-back place-of-control place-at prep-place is-place
-  idle-elsewhere m e =
+      (m : Memory) → is-ticket t (t .home i) ≡ false → eqb (t .home i) 0 ≡ false → entry t i (goes outside [] m) ≡ goes line-9 (frame (t .home i) i from-acquire ∷ []) (store-next i none (store-status i wait-word m))
+  unfolding next-line line acquire-real top-domain top-node top-back place-of-control place-at called-place is-place
+  idle-elsewhere m n e =
       let calls = frame (t .home i) i from-acquire ∷ [] in
-      begins (goes outside [] m) (goes line-7 calls m) (rw e)
+      begins (goes outside [] m) (goes line-7 calls m) (rw (n, e))
       ∙ through 7 (goes line-7 calls m) (goes line-9 calls (store-next i none (store-status i wait-word m))) refl refl ∙ there 6 _ refl
 
   pub idle-root :
-      (m : Memory) → eqb (t .home i) 0 ≡ true → entry t i (goes outside [] m) ≡ goes line-67 (frame (t .home i) i from-acquire ∷ []) (store-next i none (store-status i locked m))
-  unfolding next-line line acquire-real top-domain top-node top-back place-of-control place-at prep-place is-place
-  idle-root m e =
+      (m : Memory) → is-ticket t (t .home i) ≡ false → eqb (t .home i) 0 ≡ true → entry t i (goes outside [] m) ≡ goes line-67 (frame (t .home i) i from-acquire ∷ []) (store-next i none (store-status i locked m))
+  unfolding next-line line acquire-real top-domain top-node top-back place-of-control place-at called-place is-place
+  idle-root m n e =
       let calls = frame (t .home i) i from-acquire ∷ [] in
-      begins (goes outside [] m) (goes line-66 calls m) (rw e)
+      begins (goes outside [] m) (goes line-66 calls m) (rw (n, e))
       ∙ through 7 (goes line-66 calls m) (goes line-67 calls (store-next i none (store-status i locked m))) refl refl ∙ there 6 _ refl
 
   module _ (l r : ℕ) (b : Return) (fs : List Frame) (m : Memory) where
@@ -50,13 +51,14 @@ module _ (t : Tree) (i : ℕ) where
     all = frame l r b ∷ fs
 
     -- the end of a call: it stands, or goes on at line 31 or 43
-    call-stands : (d n : ℕ) (callers : List Frame) → Stands (acquire-real d n behind-17 callers)
-    unfolding acquire-real place-of-control place-at prep-place is-place top-domain top-back
-    call-stands d n callers = by (eqb d 0)
+    call-stands : (d n : ℕ) (callers : List Frame) → Stands (acquire-real t d n behind-17 callers)
+    unfolding acquire-real place-of-control place-at called-place ticket-place is-place top-domain top-back
+    call-stands d n callers = by (is-ticket t d) (eqb d 0)
       where
-        by : (c : Bool) → is-place (place-at (cond c line-66 line-7) d behind-17) ≡ true
-        by true = refl
-        by false = refl
+        by : (c e : Bool) → is-place (place-at (cond c (ticket-lock line-90) (cond e line-66 line-7)) d behind-17) ≡ true
+        by true e = refl
+        by false true = refl
+        by false false = refl
 
     -- PREP
     pub prep-elsewhere : entry t i (goes line-7 all m) ≡ goes line-9 all (store-next r none (store-status r wait-word m))
@@ -70,14 +72,14 @@ module _ (t : Tree) (i : ℕ) where
     -- SWAP
     pub swap-none :
         eqb (lock-at m l) 0 ≡ true →
-        entry t i (goes line-9 all m) ≡ record { thread = acquire-real (t .parent l) (256 + l) behind-17 all; memory = store-status r cohort-start (store-lock l (r + 1) m) }
+        entry t i (goes line-9 all m) ≡ record { thread = acquire-real t (t .parent l) (256 + l) behind-17 all; memory = store-status r cohort-start (store-lock l (r + 1) m) }
     unfolding next-line line top-domain top-node place-of-control place-at is-place
     swap-none e =
         let m₁ = store-lock l (r + 1) m in
         begins (goes line-9 all m) (goes (line-10 (lock-at m l)) all m₁) refl
         ∙ through 7 (goes (line-10 (lock-at m l)) all m₁) (goes line-16 all m₁) refl (rw e)
         ∙ through 6 (goes line-16 all m₁) (goes line-17 all (store-status r cohort-start m₁)) refl refl
-        ∙ through 5 (goes line-17 all (store-status r cohort-start m₁)) (record { thread = acquire-real (t .parent l) (256 + l) behind-17 all; memory = store-status r cohort-start m₁ }) refl refl
+        ∙ through 5 (goes line-17 all (store-status r cohort-start m₁)) (record { thread = acquire-real t (t .parent l) (256 + l) behind-17 all; memory = store-status r cohort-start m₁ }) refl refl
         ∙ there 4 _ (call-stands (t .parent l) (256 + l) all)
 
     pub swap-some : eqb (lock-at m l) 0 ≡ false → entry t i (goes line-9 all m) ≡ goes (line-11 (lock-at m l - 1)) all (store-lock l (r + 1) m)
@@ -132,13 +134,13 @@ module _ (t : Tree) (i : ℕ) where
 
     pub wait-climbs :
         eqb (status-at m r) wait-word ≡ false → ltb (status-at m r) acquire-parent ≡ false →
-        entry t i (goes line-13 all m) ≡ record { thread = acquire-real (t .parent l) (256 + l) behind-17 all; memory = store-status r cohort-start m }
+        entry t i (goes line-13 all m) ≡ record { thread = acquire-real t (t .parent l) (256 + l) behind-17 all; memory = store-status r cohort-start m }
     unfolding next-line line top-domain top-node place-of-control place-at is-place
     wait-climbs e f =
         begins (goes line-13 all m) (goes (line-14 (status-at m r)) all m) (rw e)
         ∙ through 7 (goes (line-14 (status-at m r)) all m) (goes line-16 all m) refl (rw f)
         ∙ through 6 (goes line-16 all m) (goes line-17 all (store-status r cohort-start m)) refl refl
-        ∙ through 5 (goes line-17 all (store-status r cohort-start m)) (record { thread = acquire-real (t .parent l) (256 + l) behind-17 all; memory = store-status r cohort-start m }) refl refl
+        ∙ through 5 (goes line-17 all (store-status r cohort-start m)) (record { thread = acquire-real t (t .parent l) (256 + l) behind-17 all; memory = store-status r cohort-start m }) refl refl
         ∙ there 4 _ (call-stands (t .parent l) (256 + l) all)
 
     pub wait-root-stays : eqb (status-at m r) locked ≡ true → entry t i (goes line-72 all m) ≡ goes line-72 all m

@@ -4,5 +4,6 @@ pub mod Entries
 pub mod Acquiring
 pub mod Returning
 pub mod Releasing
+pub mod Tickets
 pub mod Standing
 pub mod Agreement

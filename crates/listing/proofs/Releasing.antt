@@ -7,20 +7,22 @@ use native.Mathlib.Omega.{arith}
 use lib.Dec.{eqb}
 use lib.ListN.{length}
 use borrow.Author.Tests.{eqb-false}
-use Rattle.model.specs.declared.Place.the-variants.{Check, Help, Cas, Linger, Grant}
+use Rattle.model.specs.declared.Place.the-variants.{Check, Help, Cas, Linger, Grant, Raise}
 use Rattle.model.specs.declared.State.{State}
-use Rattle.model.specs.Trees.{Tree}
+use Rattle.model.specs.Trees.{Tree, is-ticket}
 use Rattle.model.specs.States.{unlocked, none, tail, next, status, place}
 use Rattle.model.specs.Steps.{release-place, release-word, leave-row, help-row, cas-row, linger-row, grant-row}
 use Rattle.model.specs.Reached.{equality-check-row}
 use Rattle.model.proofs.Trees.Index.{ancestor, height, record-at}
 use Rattle.model.proofs.Trees.Accepted.{Accepted}
+use Rattle.model.proofs.Trees.Tickets.{ticket-facts}
 use Rattle.model.proofs.Trees.Paths.{ancestor-parent-of, ancestor-not-root}
 use Rattle.model.proofs.Trees.Records.{own-record-at}
 use Rattle.model.proofs.Words.Releasing.{done-at, done-place-at}
-use Rattle.listing.specs.Listing.{store-lock, store-status, Return, from-release, behind-29, behind-41, behind-82, Frame, frame, critical, line-25, line-37, line-53, line-55, line-57, line-58, line-59, control, goes, returns, line, next-line, top-domain, top-node}
+use Rattle.listing.specs.Calls.{store-lock, store-status, Return, from-release, behind-29, behind-41, behind-82, Frame, frame, critical, line-25, line-37, line-53, line-55, line-57, line-58, line-59, ticket-lock, line-92, control, goes, returns}
+use Rattle.listing.specs.Listing.{line, next-line, top-domain, top-node}
 use Rattle.listing.specs.Agreement.{entry, memory-of}
-use Rattle.listing.proofs.Stacks.{Release-stack, at-home, by-29, by-41, shaped, Helper-back, of-82, helper-stack, helper-returns, Corresponds, c-check, c-pass, c-help, c-cas, c-linger, c-55, c-59}
+use Rattle.listing.proofs.Stacks.{Release-stack, at-home, by-29, by-41, shaped, Helper-back, of-82, helper-stack, helper-returns, Corresponds, c-check, c-pass, c-help, c-cas, c-linger, c-55, c-59, c-raise}
 use Rattle.listing.proofs.Entries.{begins}
 use Rattle.listing.proofs.Returning.{released-at, leaves, check-reached, check-alone, check-passes, help-none, help-some, cas-fails, linger-stays, linger-sees, ended}
 use Rattle.listing.proofs.Acquiring.{Together, standing, moved, stayed, together}
@@ -28,23 +30,25 @@ use Rattle.listing.proofs.Acquiring.{Together, standing, moved, stayed,
 module _ (t : Tree) (𝓐 : Accepted t) (i : ℕ) (h : i < t .threads) (s : State) (room : i < length (s .places)) where
   -- a call of ReleaseReal at an index, where it stands
   released :
-      (k : ℕ) (b : Return) (fs : List Frame) → k ≤ height t i → Release-stack t i k (frame (ancestor t i k) (record-at t i k) b ∷ fs) → (c : Bool) → eqb (ancestor t i k) 0 ≡ c →
+      (k : ℕ) (b : Return) (fs : List Frame) → k ≤ height t i → Release-stack t i k (frame (ancestor t i k) (record-at t i k) b ∷ fs) → (a c : Bool) → is-ticket t (ancestor t i k) ≡ a → eqb (ancestor t i k) 0 ≡ c →
       Corresponds t i
+      (cond a (control (ticket-lock line-92) (frame (ancestor t i k) (record-at t i k) b ∷ fs))
       (cond c (control (line-53 unlocked) (frame (ancestor t i k) (record-at t i k) behind-82 ∷ frame (ancestor t i k) (record-at t i k) b ∷ fs))
-      (control line-25 (frame (ancestor t i k) (record-at t i k) b ∷ fs)))
-      (cond c (Help (ancestor t i k)) (Check (ancestor t i k)))
-  released k b fs l x true e =
+      (control line-25 (frame (ancestor t i k) (record-at t i k) b ∷ fs))))
+      (cond a Raise (cond c (Help (ancestor t i k)) (Check (ancestor t i k))))
+  released k b fs l x true c n e = c-raise k (frame (ancestor t i k) (record-at t i k) b ∷ fs) l (ticket-facts t (ancestor t i k) n .1) x
+  released k b fs l x false true n e =
       let c : Corresponds t i (control (line-53 (cond (eqb (ancestor t i k) 0) 0 _)) _) (Help (ancestor t i k)) = c-help k behind-82 (frame (ancestor t i k) (record-at t i k) b ∷ fs) l x of-82 in
       rw e at c
-  released k b fs l x false e = c-check k (frame (ancestor t i k) (record-at t i k) b ∷ fs) (ancestor-not-root t 𝓐 i h k l (omega (arith, eqb-false (ancestor t i k) 0 e))) x
+  released k b fs l x false false n e = c-check k (frame (ancestor t i k) (record-at t i k) b ∷ fs) (ancestor-not-root t 𝓐 i h k l (omega (arith, eqb-false (ancestor t i k) 0 e))) x
 
   -- LEAVING
   pub leave-together : Together t i s (leave-row t i s) (entry t i (standing (control critical []) s))
   unfolding leave-row memory-of ancestor record-at
   leave-together =
-      let p = release-place (t .home i) in
-      together t 𝓐 i h s room (record { thread = released-at (t .home i) i from-release []; memory = memory-of s }) p (leaves t i (memory-of s)) refl
-      (moved refl) (released 0 from-release [] (omega arith) at-home _ refl)
+      let p = release-place t (t .home i) in
+      together t 𝓐 i h s room (record { thread = released-at t (t .home i) i from-release []; memory = memory-of s }) p (leaves t i (memory-of s)) refl
+      (moved refl) (released 0 from-release [] (omega arith) at-home _ _ refl refl)
 
   -- CHECK, by equality as the listing has it
   module _ (k : ℕ) (b : k < height t i) where
@@ -59,25 +63,25 @@ module _ (t : Tree) (𝓐 : Accepted t) (i : ℕ) (h : i < t .threads) (s : Stat
         Together t i s (equality-check-row t i L s) (entry t i (standing (control line-25 (frame L R back ∷ fs)) s))
     unfolding equality-check-row memory-of
     check-by back fs x true d e f =
-        let p = release-place (ancestor t i (suc k)) in
+        let p = release-place t (ancestor t i (suc k)) in
         let same = check-reached t i L R back fs (memory-of s) e in
         rw (own-record-at t 𝓐 i h k (omega arith), e, ancestor-parent-of t 𝓐 i h k b)
-        (together t 𝓐 i h s room (record { thread = released-at (ancestor t i (suc k)) (256 + L) behind-29 (frame L R back ∷ fs); memory = memory-of s }) p
+        (together t 𝓐 i h s room (record { thread = released-at t (ancestor t i (suc k)) (256 + L) behind-29 (frame L R back ∷ fs); memory = memory-of s }) p
         (rw (ancestor-parent-of t 𝓐 i h k b) at same) refl (moved refl) (next-call behind-29 (by-29 k (frame L R back ∷ fs) x)))
       where
         next-call : (a : Return) → Release-stack t i (suc k) (frame (ancestor t i (suc k)) (record-at t i (suc k)) a ∷ frame L R back ∷ fs) →
-            Corresponds t i (released-at (ancestor t i (suc k)) (256 + L) a (frame L R back ∷ fs)) (release-place (ancestor t i (suc k)))
-        next-call a y = unfold record-at in released (suc k) a (frame L R back ∷ fs) b y _ refl
+            Corresponds t i (released-at t (ancestor t i (suc k)) (256 + L) a (frame L R back ∷ fs)) (release-place t (ancestor t i (suc k)))
+        next-call a y = unfold record-at in released (suc k) a (frame L R back ∷ fs) b y _ _ refl refl
     check-by back fs x false true e f =
-        let p = release-place (ancestor t i (suc k)) in
+        let p = release-place t (ancestor t i (suc k)) in
         let same = check-alone t i L R back fs (memory-of s) e f in
         rw (own-record-at t 𝓐 i h k (omega arith), e, f, ancestor-parent-of t 𝓐 i h k b)
-        (together t 𝓐 i h s room (record { thread = released-at (ancestor t i (suc k)) (256 + L) behind-41 (frame L R back ∷ fs); memory = memory-of s }) p
+        (together t 𝓐 i h s room (record { thread = released-at t (ancestor t i (suc k)) (256 + L) behind-41 (frame L R back ∷ fs); memory = memory-of s }) p
         (rw (ancestor-parent-of t 𝓐 i h k b) at same) refl (moved refl) (next-call behind-41 (by-41 k (frame L R back ∷ fs) x)))
       where
         next-call : (a : Return) → Release-stack t i (suc k) (frame (ancestor t i (suc k)) (record-at t i (suc k)) a ∷ frame L R back ∷ fs) →
-            Corresponds t i (released-at (ancestor t i (suc k)) (256 + L) a (frame L R back ∷ fs)) (release-place (ancestor t i (suc k)))
-        next-call a y = unfold record-at in released (suc k) a (frame L R back ∷ fs) b y _ refl
+            Corresponds t i (released-at t (ancestor t i (suc k)) (256 + L) a (frame L R back ∷ fs)) (release-place t (ancestor t i (suc k)))
+        next-call a y = unfold record-at in released (suc k) a (frame L R back ∷ fs) b y _ _ refl refl
     check-by back fs x false false e f =
         let v = status s R in
         let n = next s R in

@@ -6,43 +6,52 @@ use Prim.Native.Nat.{ℕ, suc, _+_, _-_, _≤_, _<_}
 use native.Mathlib.Omega.{arith}
 use lib.Dec.{eqb}
 use borrow.Author.Tests.{ne-eqb}
-use Rattle.model.specs.Trees.{Tree}
+use Rattle.model.specs.Trees.{Tree, is-ticket}
 use Rattle.model.specs.States.{acquire-parent, unlocked}
 use Rattle.model.specs.Steps.{release-word}
 use Rattle.model.proofs.Trees.Index.{ancestor, height, record-at}
 use Rattle.model.proofs.Trees.Accepted.{Accepted}
 use Rattle.model.proofs.Trees.Paths.{ancestor-inner}
 use Rattle.model.proofs.Words.Releasing.{done-at}
-use Rattle.listing.specs.Listing.{Memory, lock-at, next-at, status-at, Return, from-release, behind-29, behind-31, behind-41, behind-43, behind-82, Frame, frame, critical, line-25, line-27, line-29, line-31, line-35, line-36, line-37, line-41, line-43, line-53, line-54, line-55, line-57, line-58, line-59, line-82, Control, control, After, goes, release-real, release-helper, goes-back, returns, line, top-domain, top-node, next-line}
-use Rattle.listing.specs.Agreement.{place-at, place-of-control, is-place, settle, entry}
+use Rattle.listing.specs.Calls.{Memory, lock-at, next-at, status-at, Return, from-release, behind-29, behind-31, behind-41, behind-43, behind-82, Frame, frame, critical, line-25, line-27, line-29, line-31, line-35, line-36, line-37, line-41, line-43, line-53, line-54, line-55, line-57, line-58, line-59, line-82, ticket-lock, line-92, Control, control, After, goes, release-real, release-helper, goes-back, returns}
+use Rattle.listing.specs.Listing.{line, top-domain, top-node, next-line}
+use Rattle.listing.specs.Agreement.{ticket-place, place-at, place-of-control, is-place, settle, entry}
 use Rattle.listing.proofs.Stacks.{Release-stack, at-home, by-29, by-41, top-domain-at, top-node-at, of-31, of-43, Corresponds, c-idle, c-help}
 use Rattle.listing.proofs.Entries.{through, there, begins}
 
--- where a call of ReleaseReal stands: at the root it has called ReleaseHelper
-abbrev pub released-at : (domain node : ℕ) → Return → List Frame → Control
-released-at d n b fs = cond (eqb d 0) (control (line-53 unlocked) (frame d n behind-82 ∷ frame d n b ∷ fs)) (control line-25 (frame d n b ∷ fs))
+-- where a call of ReleaseReal stands: at a queue root it has called ReleaseHelper
+abbrev pub released-at : Tree → (domain node : ℕ) → Return → List Frame → Control
+released-at t d n b fs =
+    cond (is-ticket t d) (control (ticket-lock line-92) (frame d n b ∷ fs))
+    (cond (eqb d 0) (control (line-53 unlocked) (frame d n behind-82 ∷ frame d n b ∷ fs)) (control line-25 (frame d n b ∷ fs)))
 
 module _ (t : Tree) (i : ℕ) where
   call-by :
-      (n d r : ℕ) (b : Return) (fs : List Frame) (m : Memory) (c : Bool) → eqb d 0 ≡ c →
-      settle (suc (suc n)) t i (record { thread = control (cond c line-82 line-25) (frame d r b ∷ fs); memory = m })
-      ≡ record { thread = cond c (control (line-53 unlocked) (frame d r behind-82 ∷ frame d r b ∷ fs)) (control line-25 (frame d r b ∷ fs)); memory = m }
-  unfolding next-line line release-helper top-domain top-node place-of-control place-at is-place
-  call-by n d r b fs m true e =
+      (n d r : ℕ) (b : Return) (fs : List Frame) (m : Memory) (a c : Bool) →
+      settle (suc (suc n)) t i (record { thread = control (cond a (ticket-lock line-92) (cond c line-82 line-25)) (frame d r b ∷ fs); memory = m })
+      ≡ record {
+        thread =
+            cond a (control (ticket-lock line-92) (frame d r b ∷ fs))
+            (cond c (control (line-53 unlocked) (frame d r behind-82 ∷ frame d r b ∷ fs)) (control line-25 (frame d r b ∷ fs)));
+        memory = m;
+      }
+  unfolding next-line line release-helper top-domain top-node place-of-control place-at ticket-place is-place
+  call-by n d r b fs m true c = there t i (suc n) (goes (ticket-lock line-92) (frame d r b ∷ fs) m) refl
+  call-by n d r b fs m false true =
       through t i (suc n) (goes line-82 (frame d r b ∷ fs) m) (goes (line-53 unlocked) (frame d r behind-82 ∷ frame d r b ∷ fs) m) refl refl ∙ there t i n _ refl
-  call-by n d r b fs m false e = there t i (suc n) (goes line-25 (frame d r b ∷ fs) m) refl
+  call-by n d r b fs m false false = there t i (suc n) (goes line-25 (frame d r b ∷ fs) m) refl
 
   release-called :
       (n d r : ℕ) (b : Return) (fs : List Frame) (m : Memory) →
-      settle (suc (suc n)) t i (record { thread = release-real d r b fs; memory = m }) ≡ record { thread = released-at d r b fs; memory = m }
+      settle (suc (suc n)) t i (record { thread = release-real t d r b fs; memory = m }) ≡ record { thread = released-at t d r b fs; memory = m }
   unfolding release-real
-  release-called n d r b fs m = call-by n d r b fs m _ refl
+  release-called n d r b fs m = call-by n d r b fs m (is-ticket t d) (eqb d 0)
 
   -- LEAVING
-  pub leaves : (m : Memory) → entry t i (goes critical [] m) ≡ record { thread = released-at (t .home i) i from-release []; memory = m }
+  pub leaves : (m : Memory) → entry t i (goes critical [] m) ≡ record { thread = released-at t (t .home i) i from-release []; memory = m }
   unfolding next-line line
   leaves m =
-      begins t i (goes critical [] m) (record { thread = release-real (t .home i) i from-release []; memory = m }) refl
+      begins t i (goes critical [] m) (record { thread = release-real t (t .home i) i from-release []; memory = m }) refl
       ∙ release-called 6 (t .home i) i from-release [] m
 
   module _ (l r : ℕ) (b : Return) (fs : List Frame) (m : Memory) where
@@ -52,18 +61,18 @@ module _ (t : Tree) (i : ℕ) where
     -- CHECK
     pub check-reached :
         eqb (status-at m r) (t .threshold l) ≡ true →
-        entry t i (goes line-25 all m) ≡ record { thread = released-at (t .parent l) (256 + l) behind-29 all; memory = m }
+        entry t i (goes line-25 all m) ≡ record { thread = released-at t (t .parent l) (256 + l) behind-29 all; memory = m }
     unfolding next-line line top-domain top-node place-of-control place-at is-place
     check-reached e =
         let v = status-at m r in
         begins t i (goes line-25 all m) (goes (line-27 v) all m) refl
         ∙ through t i 7 (goes (line-27 v) all m) (goes line-29 all m) refl (rw e)
-        ∙ through t i 6 (goes line-29 all m) (record { thread = release-real (t .parent l) (256 + l) behind-29 all; memory = m }) refl refl
+        ∙ through t i 6 (goes line-29 all m) (record { thread = release-real t (t .parent l) (256 + l) behind-29 all; memory = m }) refl refl
         ∙ release-called 4 (t .parent l) (256 + l) behind-29 all m
 
     pub check-alone :
         eqb (status-at m r) (t .threshold l) ≡ false → eqb (next-at m r) 0 ≡ true →
-        entry t i (goes line-25 all m) ≡ record { thread = released-at (t .parent l) (256 + l) behind-41 all; memory = m }
+        entry t i (goes line-25 all m) ≡ record { thread = released-at t (t .parent l) (256 + l) behind-41 all; memory = m }
     unfolding next-line line top-domain top-node place-of-control place-at is-place
     check-alone e f =
         let v = status-at m r in
@@ -72,7 +81,7 @@ module _ (t : Tree) (i : ℕ) where
         ∙ through t i 7 (goes (line-27 v) all m) (goes (line-35 v) all m) refl (rw e)
         ∙ through t i 6 (goes (line-35 v) all m) (goes (line-36 v n) all m) refl refl
         ∙ through t i 5 (goes (line-36 v n) all m) (goes line-41 all m) refl (rw f)
-        ∙ through t i 4 (goes line-41 all m) (record { thread = release-real (t .parent l) (256 + l) behind-41 all; memory = m }) refl refl
+        ∙ through t i 4 (goes line-41 all m) (record { thread = release-real t (t .parent l) (256 + l) behind-41 all; memory = m }) refl refl
         ∙ release-called 2 (t .parent l) (256 + l) behind-41 all m
 
     pub check-passes :

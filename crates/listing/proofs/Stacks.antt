@@ -5,11 +5,12 @@ use mathlib.Core.List.{List, [], _∷_}
 use Prim.Native.Nat.{ℕ, zero, suc, _+_, _≤_, _<_}
 use lib.Dec.{eqb}
 use Rattle.model.specs.declared.Place.{Place}
-use Rattle.model.specs.declared.Place.the-variants.{Idle, Prep, Swap, Link, Wait, Inside, Check, Help, Cas, Linger, Grant}
+use Rattle.model.specs.declared.Place.the-variants.{Idle, Prep, Swap, Link, Wait, Inside, Check, Help, Cas, Linger, Grant, Draw, Watch, Raise}
 use Rattle.model.specs.Trees.{Tree}
 use Rattle.model.specs.Steps.{release-word}
 use Rattle.model.proofs.Trees.Index.{ancestor, height, record-at}
-use Rattle.listing.specs.Listing.{Return, from-acquire, from-release, behind-17, behind-29, behind-31, behind-41, behind-43, behind-82, Frame, frame, Point, outside, critical, line-7, line-9, line-11, line-13, line-25, line-37, line-53, line-55, line-57, line-58, line-59, line-66, line-67, line-71, line-72, Control, control, goes-back, returns, top-domain, top-node}
+use Rattle.listing.specs.Calls.{Return, from-acquire, from-release, behind-17, behind-29, behind-31, behind-41, behind-43, behind-82, Frame, frame, Point, outside, critical, line-7, line-9, line-11, line-13, line-25, line-37, line-53, line-55, line-57, line-58, line-59, line-66, line-67, line-71, line-72, ticket-lock, line-90, line-91-again, line-92, Control, control, goes-back, returns}
+use Rattle.listing.specs.Listing.{top-domain, top-node}
 
 -- CALLS OF AcquireReal, from an index down to the home
 unfoldable pub acquire-back : (index : ℕ) → Return
@@ -91,6 +92,9 @@ pub data Corresponds (t : Tree) (i : ℕ) : Control → Place → Type 0 where
   c-59 :
       (k r w : ℕ) (b : Return) (fs : List Frame) → k ≤ height t i → Release-stack t i k fs → Helper-back b →
       Corresponds t i (control (line-59 r w) (helper-stack t i k b fs)) (Grant (ancestor t i k) r w)
+  c-draw : (k : ℕ) → suc k ≤ height t i → ancestor t i (suc k) ≡ 0 → Corresponds t i (control (ticket-lock line-90) (acquire-stack t i (suc k))) Draw
+  c-watch : (k : ℕ) → k ≤ height t i → ancestor t i k ≡ 0 → Corresponds t i (control (ticket-lock line-91-again) (acquire-stack t i k)) Watch
+  c-raise : (k : ℕ) (fs : List Frame) → k ≤ height t i → ancestor t i k ≡ 0 → Release-stack t i k fs → Corresponds t i (control (ticket-lock line-92) fs) Raise
 
 -- the innermost call of ReleaseReal
 pub record Shape (t : Tree) (i k : ℕ) (fs : List Frame) : Type 0 where

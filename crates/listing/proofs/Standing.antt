@@ -8,16 +8,18 @@ use native.Mathlib.Omega.{arith}
 use lib.Dec.{eqb}
 use borrow.Author.Tests.{eqb-false, not-true}
 use Rattle.model.specs.declared.Place.{Place}
-use Rattle.model.specs.declared.Place.the-variants.{Idle, Prep, Swap, Link, Wait, Inside, Check, Help, Cas, Linger, Grant, Invalid}
+use Rattle.model.specs.declared.Place.the-variants.{Idle, Prep, Swap, Link, Wait, Inside, Check, Help, Cas, Linger, Grant, Draw, Watch, Raise, Invalid}
 use Rattle.model.specs.Trees.{Tree, on-path}
-use Rattle.model.specs.WellFormed.{good-place}
+use Rattle.model.specs.WellFormed.{queue-on-path, good-place}
 use Rattle.model.proofs.Tests.{and-both}
 use Rattle.model.proofs.Trees.Index.{ancestor, height, record-at}
 use Rattle.model.proofs.Trees.Accepted.{Accepted}
-use Rattle.model.proofs.Trees.Paths.{ancestor-home, ancestor-inner, ancestor-not-root, ancestor-parent-of, path-index}
-use Rattle.listing.specs.Listing.{Return, from-acquire, from-release, behind-17, behind-29, behind-41, Frame, frame, Control, control, top-node}
-use Rattle.listing.specs.Agreement.{Acquiring, acquire-home, by-17, Releasing, release-home, by-29, by-41, Helping, by-31, by-43, by-82, Stands-at, at-idle, at-prep, at-swap, at-link, at-wait, at-inside, at-check, at-37, at-help, at-cas, at-linger, at-55, at-59}
-use Rattle.listing.proofs.Stacks.{acquire-back, acquire-callers, acquire-stack, Release-stack, at-home, top-node-at, Helper-back, of-31, of-43, of-82, helper-stack, Corresponds, c-idle, c-prep, c-swap, c-link, c-wait, c-inside, c-check, c-pass, c-help, c-cas, c-linger, c-55, c-59}
+use Rattle.model.proofs.Trees.Tickets.{queue-facts}
+use Rattle.model.proofs.Trees.Paths.{ancestor-home, ancestor-inner, ancestor-root, ancestor-not-root, ancestor-parent-of, path-index}
+use Rattle.listing.specs.Calls.{Return, from-acquire, from-release, behind-17, behind-29, behind-41, Frame, frame, Control, control}
+use Rattle.listing.specs.Listing.{top-node}
+use Rattle.listing.specs.Agreement.{Acquiring, acquire-home, by-17, Releasing, release-home, by-29, by-41, Helping, by-31, by-43, by-82, Stands-at, at-idle, at-prep, at-swap, at-link, at-wait, at-inside, at-check, at-37, at-help, at-cas, at-linger, at-55, at-59, at-draw, at-watch, at-raise}
+use Rattle.listing.proofs.Stacks.{acquire-back, acquire-callers, acquire-stack, Release-stack, at-home, top-node-at, Helper-back, of-31, of-43, of-82, helper-stack, Corresponds, c-idle, c-prep, c-swap, c-link, c-wait, c-inside, c-check, c-pass, c-help, c-cas, c-linger, c-55, c-59, c-draw, c-watch, c-raise}
 use Rattle.listing.proofs.Stacks as stacks
 
 -- an index on the thread's path with the calls made there
@@ -120,6 +122,12 @@ module _ (t : Tree) (𝓐 : Accepted t) (i : ℕ) (h : i < t .threads) where
   helping k fs l x of-43 = rw (top-node-at x) at (by-43 (ancestor t i k) fs (releasing l x))
   helping k fs l x of-82 = rw (top-node-at x) at (by-82 (ancestor t i k) fs (releasing l x))
 
+  acquired-there : {L M : ℕ} {fs : List Frame} → L ≡ M → Acquiring t i L fs → Acquiring t i M fs
+  acquired-there e a = rw (← e) a
+
+  released-there : {L M : ℕ} {fs : List Frame} → L ≡ M → Releasing t i L fs → Releasing t i M fs
+  released-there e a = rw (← e) a
+
   pub stands : {c : Control} {p : Place} → Corresponds t i c p → Stands-at t i c p
   stands c-idle = at-idle
   stands (c-prep k l) = at-prep _ _ (acquiring (suc k) l)
@@ -134,24 +142,21 @@ module _ (t : Tree) (𝓐 : Accepted t) (i : ℕ) (h : i < t .threads) where
   stands (c-linger k b fs l x y) = at-linger _ _ (helping k fs l x y)
   stands (c-55 k r w b fs l x y) = at-55 _ r w _ (helping k fs l x y)
   stands (c-59 k r w b fs l x y) = at-59 _ r w _ (helping k fs l x y)
+  stands (c-draw k l e) = at-draw _ (acquired-there e (acquiring (suc k) l))
+  stands (c-watch k l e) = at-watch _ (acquired-there e (acquiring k l))
+  stands (c-raise k fs l e x) = at-raise fs (released-there e (releasing l x))
 
   -- EACH DOMAIN of the path has such calls
   record Calls (A : List Frame → Type 0) : Type 0 where
     made : List Frame
     so : A made
 
-  acquired-there : {L M : ℕ} {fs : List Frame} → L ≡ M → Acquiring t i L fs → Acquiring t i M fs
-  acquired-there e a = rw (← e) a
-
-  released-there : {L M : ℕ} {fs : List Frame} → L ≡ M → Releasing t i L fs → Releasing t i M fs
-  released-there e a = rw (← e) a
-
   release-calls : (k : ℕ) → Calls (Release-stack t i k)
   release-calls zero = record { made = _; so = at-home }
   release-calls (suc k) = record { made = _; so = stacks.by-41 k (release-calls k .made) (release-calls k .so) }
 
-  acquire-at : (L : ℕ) → on-path t i L ≡ true → Calls (Acquiring t i L)
-  acquire-at L e = let o = path-index t 𝓐 i h L e in record { made = acquire-stack t i (o .index); so = acquired-there (o .there) (acquiring (o .index) (o .within)) }
+  acquire-at : (L : ℕ) → queue-on-path t i L ≡ true → Calls (Acquiring t i L)
+  acquire-at L e = let o = path-index t 𝓐 i h L (queue-facts t i L e .0) in record { made = acquire-stack t i (o .index); so = acquired-there (o .there) (acquiring (o .index) (o .within)) }
 
   release-at : (L : ℕ) → on-path t i L ≡ true → Calls (Releasing t i L)
   release-at L e =
@@ -159,8 +164,15 @@ module _ (t : Tree) (𝓐 : Accepted t) (i : ℕ) (h : i < t .threads) where
       let x = release-calls (o .index) in
       record { made = x .made; so = released-there (o .there) (releasing (o .within) (x .so)) }
 
-  help-at : (L : ℕ) → on-path t i L ≡ true → Calls (Helping t i L)
-  help-at L e = let x = release-at L e in record { made = _; so = by-31 L (x .made) (x .so) }
+  help-at : (L : ℕ) → queue-on-path t i L ≡ true → Calls (Helping t i L)
+  help-at L e = let x = release-at L (queue-facts t i L e .0) in record { made = _; so = by-31 L (x .made) (x .so) }
+
+  -- and so has the root
+  acquire-root : Acquiring t i 0 (acquire-stack t i (height t i))
+  acquire-root = acquired-there (ancestor-root t 𝓐 i h) (acquiring (height t i) (omega arith))
+
+  release-root : Releasing t i 0 (release-calls (height t i) .made)
+  release-root = released-there (ancestor-root t 𝓐 i h) (releasing (omega arith) (release-calls (height t i) .so))
 
   -- so each place of a well-formed state has a control that stands there
   pub record Stood (p : Place) : Type 0 where
@@ -172,7 +184,7 @@ module _ (t : Tree) (𝓐 : Accepted t) (i : ℕ) (h : i < t .threads) where
   stood Idle e = record { by = _; standing = at-idle }
   stood (Prep l) e = record { by = _; standing = at-prep l _ (acquire-at l e .so) }
   stood (Swap l) e = record { by = _; standing = at-swap l _ (acquire-at l e .so) }
-  stood (Link l p) e = record { by = _; standing = at-link l p _ (acquire-at l (and-both (on-path t i l) _ e .0) .so) }
+  stood (Link l p) e = record { by = _; standing = at-link l p _ (acquire-at l (and-both (queue-on-path t i l) _ e .0) .so) }
   stood (Wait l) e = record { by = _; standing = at-wait l _ (acquire-at l e .so) }
   stood Inside e = record { by = _; standing = at-inside }
   stood (Check l) e =
@@ -181,5 +193,8 @@ module _ (t : Tree) (𝓐 : Accepted t) (i : ℕ) (h : i < t .threads) where
   stood (Help l) e = record { by = _; standing = at-help l _ (help-at l e .so) }
   stood (Cas l) e = record { by = _; standing = at-cas l _ (help-at l e .so) }
   stood (Linger l) e = record { by = _; standing = at-linger l _ (help-at l e .so) }
-  stood (Grant l r w) e = record { by = _; standing = at-55 l r w _ (help-at l (and-both (on-path t i l) _ e .0) .so) }
+  stood (Grant l r w) e = record { by = _; standing = at-55 l r w _ (help-at l (and-both (queue-on-path t i l) _ e .0) .so) }
+  stood Draw e = record { by = _; standing = at-draw _ acquire-root }
+  stood Watch e = record { by = _; standing = at-watch _ acquire-root }
+  stood Raise e = record { by = _; standing = at-raise _ release-root }
   stood Invalid e = absurd (false≢true e)

@@ -1,4 +1,4 @@
--- How much of the listing one schedule entry takes, by document 01's step table, and that the listing and the table agree. Assumes nothing: these are definitions.
+-- How much of the listing one schedule entry takes, by document 01's step table and, at a ticket root, the rows of document 02, (xii); and that the listing and the table agree. Assumes nothing: these are definitions.
 use mathlib.Core.Path.{_≡_}
 use mathlib.Core.Bool.{Bool, true, false, cond}
 use mathlib.Core.List.{List, [], _∷_}
@@ -7,32 +7,40 @@ use Prim.Native.Nat.{ℕ, zero, suc, _+_, _≤_, _<_}
 use lib.Dec.{eqb}
 use lib.ListN.{replicate}
 use Rattle.model.specs.declared.Place.{Place}
-use Rattle.model.specs.declared.Place.the-variants.{Idle, Prep, Swap, Link, Wait, Inside, Check, Help, Cas, Linger, Grant, Invalid}
+use Rattle.model.specs.declared.Place.the-variants.{Idle, Prep, Swap, Link, Wait, Inside, Check, Help, Cas, Linger, Grant, Draw, Watch, Raise, Invalid}
 use Rattle.model.specs.declared.State.{State}
 use Rattle.model.specs.Trees.{Tree, own-record}
-use Rattle.model.specs.States.{status, place, fresh-words}
+use Rattle.model.specs.States.{status, place, wrap, fresh-state}
 use Rattle.model.specs.Steps.{release-word, step}
 use Rattle.model.specs.Runs.{run}
 use Rattle.model.specs.Refusals.{tree-refusal}
 use Rattle.model.specs.Laws.{All-threads, Sixteen-bit, Formed}
-use Rattle.listing.specs.Listing.{Memory, Return, from-acquire, from-release, behind-17, behind-29, behind-31, behind-41, behind-43, behind-82, Frame, frame, Point, outside, critical, line-7, line-9, line-10, line-11, line-13, line-14, line-16, line-17, line-25, line-27, line-29, line-31, line-35, line-36, line-37, line-41, line-43, line-53, line-54, line-55, line-57, line-58, line-59, line-66, line-67, line-68, line-69, line-71, line-72, line-82, Control, control, After, top-domain, top-node, top-back, next-line}
+use Rattle.listing.specs.Calls.{Memory, Return, from-acquire, from-release, behind-17, behind-29, behind-31, behind-41, behind-43, behind-82, Frame, frame, Ticket-point, line-90, line-91, line-91-again, line-92, Point, outside, critical, line-7, line-9, line-10, line-11, line-13, line-14, line-16, line-17, line-25, line-27, line-29, line-31, line-35, line-36, line-37, line-41, line-43, line-53, line-54, line-55, line-57, line-58, line-59, line-66, line-67, line-68, line-69, line-71, line-72, line-82, ticket-lock, Control, control, After}
+use Rattle.listing.specs.Listing.{top-domain, top-node, top-back, next-line}
 
 -- THE TABLE: the place of a thread that stands at a point, in a call with L that returns where it says. At a point where no thread stands between entries, Invalid
--- line 7 or 66 at home is no such point: Idle does Prep(home) in one entry
-unfoldable pub prep-place : Return → (L : ℕ) → Place
-prep-place from-acquire L = Invalid
-prep-place from-release L = Invalid
-prep-place behind-17 L = Prep L
-prep-place behind-29 L = Invalid
-prep-place behind-31 L = Invalid
-prep-place behind-41 L = Invalid
-prep-place behind-43 L = Invalid
-prep-place behind-82 L = Invalid
+-- the first line of AcquireReal is such a point where line 17 made the call; at home it is none: Idle does Prep(home), or Draw, in one entry
+unfoldable pub called-place : Return → Place → Place
+called-place from-acquire p = Invalid
+called-place from-release p = Invalid
+called-place behind-17 p = p
+called-place behind-29 p = Invalid
+called-place behind-31 p = Invalid
+called-place behind-41 p = Invalid
+called-place behind-43 p = Invalid
+called-place behind-82 p = Invalid
+
+-- in the ticket lock: the first test of line 91 belongs to the entry that takes the ticket
+unfoldable pub ticket-place : Ticket-point → Return → Place
+ticket-place line-90 b = called-place b Draw
+ticket-place line-91 b = Invalid
+ticket-place line-91-again b = Watch
+ticket-place line-92 b = Raise
 
 unfoldable pub place-at : Point → (L : ℕ) → Return → Place
 place-at outside L b = Idle
-place-at line-7 L b = prep-place b L
-place-at line-66 L b = prep-place b L
+place-at line-7 L b = called-place b (Prep L)
+place-at line-66 L b = called-place b (Prep L)
 place-at line-9 L b = Swap L
 place-at line-67 L b = Swap L
 place-at (line-11 pred) L b = Link L pred
@@ -62,6 +70,7 @@ place-at (line-54 n v) L b = Invalid
 place-at (line-68 pred) L b = Invalid
 place-at line-69 L b = Invalid
 place-at line-82 L b = Invalid
+place-at (ticket-lock p) L b = ticket-place p b
 
 unfoldable pub place-of-control : Control → Place
 place-of-control c = place-at (c .point) (top-domain (c .frames)) (top-back (c .frames))
@@ -78,6 +87,9 @@ is-place (Help l) = true
 is-place (Cas l) = true
 is-place (Linger l) = true
 is-place (Grant l r w) = true
+is-place Draw = true
+is-place Watch = true
+is-place Raise = true
 is-place Invalid = false
 
 -- ONE SCHEDULE ENTRY: one line, and on to the next point at which a thread stands; eight lines more are enough
@@ -93,11 +105,12 @@ pub record Threads : Type 0 where
   pub memory : Memory
   pub controls : (thread : ℕ) → Control
 
--- at first: no lock held, every thread outside
-unfoldable pub at-first : Threads
-at-first =
+-- at first: no lock held, every thread outside; a ticket lock's counters are equal, any 16-bit number, and where there is none 0
+unfoldable pub at-first : Tree → (start : ℕ) → Threads
+at-first t v =
+    let first = cond (t .ticket-root) (wrap v) 0 in
     record {
-      memory = record { locks = replicate 64 0; nexts = replicate 320 0; statuses = replicate 320 0 };
+      memory = record { locks = replicate 64 0; nexts = replicate 320 0; statuses = replicate 320 0; ticket = first; grant = first };
       controls = λ i. control outside [];
     }
 
@@ -112,7 +125,7 @@ turns t [] x = x
 turns t (i ∷ is) x = turns t is (turn t i x)
 
 unfoldable pub memory-of : State → Memory
-memory-of s = record { locks = s .tails; nexts = s .nexts; statuses = s .statuses }
+memory-of s = record { locks = s .tails; nexts = s .nexts; statuses = s .statuses; ticket = s .ticket; grant = s .grant }
 
 -- WHERE A THREAD STANDS, by the calls that it has made. AcquireReal of its home, and by line 17 of one parent after another up to L
 pub data Acquiring (t : Tree) (i : ℕ) : (L : ℕ) → (calls : List Frame) → Type 0 where
@@ -131,7 +144,7 @@ pub data Helping (t : Tree) (i : ℕ) : (L : ℕ) → (calls : List Frame) → T
   by-43 : (L : ℕ) (fs : List Frame) → Releasing t i L fs → Helping t i L (frame L (top-node fs) behind-43 ∷ fs)
   by-82 : (L : ℕ) (fs : List Frame) → Releasing t i L fs → Helping t i L (frame L (top-node fs) behind-82 ∷ fs)
 
--- a control that stands at a place. Prep(home) is none of those that a schedule reaches; Grant's word is free
+-- a control that stands at a place. Prep(home), and Draw at home, is none of those that a schedule reaches; Grant's word is free
 pub data Stands-at (t : Tree) (i : ℕ) : Control → Place → Type 0 where
   at-idle : Stands-at t i (control outside []) Idle
   at-prep : (L : ℕ) (fs : List Frame) → Acquiring t i L fs → Stands-at t i (control (cond (eqb L 0) line-66 line-7) fs) (Prep L)
@@ -146,6 +159,9 @@ pub data Stands-at (t : Tree) (i : ℕ) : Control → Place → Type 0 where
   at-linger : (L : ℕ) (fs : List Frame) → Helping t i L fs → Stands-at t i (control (line-58 (release-word L)) fs) (Linger L)
   at-55 : (L r w : ℕ) (fs : List Frame) → Helping t i L fs → Stands-at t i (control (line-55 r w) fs) (Grant L r w)
   at-59 : (L r w : ℕ) (fs : List Frame) → Helping t i L fs → Stands-at t i (control (line-59 r w) fs) (Grant L r w)
+  at-draw : (fs : List Frame) → Acquiring t i 0 fs → Stands-at t i (control (ticket-lock line-90) fs) Draw
+  at-watch : (fs : List Frame) → Acquiring t i 0 fs → Stands-at t i (control (ticket-lock line-91-again) fs) Watch
+  at-raise : (fs : List Frame) → Releasing t i 0 fs → Stands-at t i (control (ticket-lock line-92) fs) Raise
 
 -- EVERY WELL-FORMED STATE OF A CALLER. The entry of a thread whose control is c, beside the step of the table
 pub record Does-row (t : Tree) (i : ℕ) (s : State) (c : Control) : Type 0 where
@@ -174,8 +190,8 @@ pub record Agrees (t : Tree) (x : Threads) (s : State) : Type 0 where
   pub memory : x .memory ≡ memory-of s
   pub places : (i : ℕ) → i < t .threads → place-of-control (x .controls i) ≡ place s i
 
--- after every schedule from fresh, and so after each of its entries: no Check reached from fresh has a status above the threshold
+-- after every schedule from fresh, and so after each of its entries: no Check reached from fresh has a status above the threshold. For both kinds of root: at a queue root Listing 1 as printed, at a ticket root with the ticket lock in place of lines 63 to 89, from every start
 unfoldable pub Listing-agrees : Type 0
 Listing-agrees =
-    (t : Tree) → Sixteen-bit t → tree-refusal t .number ≡ 0 → (is : List ℕ) → All-threads t is →
-    Agrees t (turns t is at-first) (run t is fresh-words .state)
+    (t : Tree) → Sixteen-bit t → tree-refusal t .number ≡ 0 → (start : ℕ) (is : List ℕ) → All-threads t is →
+    Agrees t (turns t is (at-first t start)) (run t is (fresh-state t start) .state)

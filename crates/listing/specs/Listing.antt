@@ -3,109 +3,15 @@ use mathlib.Core.Bool.{cond}
 use mathlib.Core.List.{List, [], _∷_}
 use Prim.Native.Nat.{ℕ, _+_, _-_}
 use lib.Dec.{eqb, ltb}
-use lib.ListN.{getD, set}
 use Rattle.model.specs.Trees.{Tree}
 use Rattle.model.specs.States.{cohort-start, acquire-parent, wait-word, unlocked, locked, none}
-
--- SHARED MEMORY: L->lock by domain; I->next and I->status by record. A pointer to a QNode is 0 for NULL, else one more than the record
-pub record Memory : Type 0 where
-  pub locks : List ℕ
-  pub nexts : List ℕ
-  pub statuses : List ℕ
-
-abbrev pub lock-at : Memory → (domain : ℕ) → ℕ
-lock-at m d = getD (m .locks) d 0
-
-abbrev pub next-at : Memory → (node : ℕ) → ℕ
-next-at m r = getD (m .nexts) r 0
-
-abbrev pub status-at : Memory → (node : ℕ) → ℕ
-status-at m r = getD (m .statuses) r 0
-
-abbrev pub store-lock : (domain value : ℕ) → Memory → Memory
-store-lock d v m = record { locks = set (m .locks) d v; nexts = m .nexts; statuses = m .statuses }
-
-abbrev pub store-next : (node value : ℕ) → Memory → Memory
-store-next r v m = record { locks = m .locks; nexts = set (m .nexts) r v; statuses = m .statuses }
-
-abbrev pub store-status : (node value : ℕ) → Memory → Memory
-store-status r v m = record { locks = m .locks; nexts = m .nexts; statuses = set (m .statuses) r v }
-
--- WHERE A CALL RETURNS: to the program that called Acquire or Release, or behind the call in a line
-pub data Return : Type 0 where
-  from-acquire from-release : Return
-  behind-17 behind-29 behind-31 behind-41 behind-43 behind-82 : Return
-
--- A CALL of AcquireReal, ReleaseReal or ReleaseHelper: its L and I, and where it returns
-pub record Frame : Type 0 where
-  pub domain : ℕ
-  pub node : ℕ
-  pub back : Return
-
-abbrev pub frame : (domain node : ℕ) → Return → Frame
-frame l r b = record { domain = l; node = r; back = b }
-
--- PROGRAM POINTS: the line that is next, with the local variables in use there; outside Acquire and Release, and in the critical section
-pub data Point : Type 0 where
-  outside critical : Point
-  line-7 line-9 line-13 line-16 line-17 : Point
-  line-10 line-11 : (pred : ℕ) → Point
-  line-14 : (curStatus : ℕ) → Point
-  line-25 line-29 line-31 line-41 line-43 : Point
-  line-27 line-35 : (curCount : ℕ) → Point
-  line-36 line-37 : (curCount succ : ℕ) → Point
-  line-53 line-57 line-58 : (val : ℕ) → Point
-  line-54 line-55 line-59 : (succ val : ℕ) → Point
-  line-66 line-67 line-69 line-72 line-82 : Point
-  line-68 line-71 : (pred : ℕ) → Point
-
--- a thread's control: its point and its calls, the innermost first
-pub record Control : Type 0 where
-  pub point : Point
-  pub frames : List Frame
-
-abbrev pub control : Point → List Frame → Control
-control p fs = record { point = p; frames = fs }
-
--- what a line leaves
-pub record After : Type 0 where
-  pub thread : Control
-  pub memory : Memory
-
-abbrev pub goes : Point → List Frame → Memory → After
-goes p fs m = record { thread = control p fs; memory = m }
-
--- CALLS. HMCS<depth-1> is the second template, lines 63 to 89, where its L is the root
-unfoldable pub acquire-real : (domain node : ℕ) → Return → List Frame → Control
-acquire-real l r b fs = control (cond (eqb l 0) line-66 line-7) (frame l r b ∷ fs)
-
-unfoldable pub release-real : (domain node : ℕ) → Return → List Frame → Control
-release-real l r b fs = control (cond (eqb l 0) line-82 line-25) (frame l r b ∷ fs)
-
--- line 52
-unfoldable pub release-helper : (domain node val : ℕ) → Return → List Frame → Control
-release-helper l r v b fs = control (line-53 v) (frame l r b ∷ fs)
-
--- RETURNS: a call that ends goes back behind the line that made it; behind 17, 31, 43 and 82 its caller ends too (lines 18, 32, 44 and 83)
-unfoldable pub goes-back : Return → (caller-ends : Control) → (callers : List Frame) → Control
-goes-back from-acquire c fs = control critical []
-goes-back from-release c fs = control outside []
-goes-back behind-17 c fs = c
-goes-back behind-29 c fs = control line-31 fs
-goes-back behind-31 c fs = c
-goes-back behind-41 c fs = control line-43 fs
-goes-back behind-43 c fs = c
-goes-back behind-82 c fs = c
-
-unfoldable pub returns : (calls : List Frame) → Control
--- no call ends where there is none
-returns [] = control outside []
-returns (f ∷ fs) = goes-back (f .back) (returns fs) fs
+use Rattle.listing.specs.Calls.{Memory, lock-at, next-at, status-at, store-lock, store-next, store-status, Return, from-acquire, from-release, behind-17, behind-29, behind-31, behind-41, behind-43, behind-82, Frame, Point, outside, critical, line-7, line-9, line-10, line-11, line-13, line-14, line-16, line-17, line-25, line-27, line-29, line-31, line-35, line-36, line-37, line-41, line-43, line-53, line-54, line-55, line-57, line-58, line-59, line-66, line-67, line-68, line-69, line-71, line-72, line-82, ticket-lock, control, After, goes, acquire-real, release-real, release-helper, returns}
+use Rattle.listing.specs.TicketLock.{ticket-line}
 
 -- ONE LINE of thread i, in a call with L and I, all calls fs, memory m
 unfoldable pub line : Tree → (i : ℕ) → Point → (L I : ℕ) → (fs : List Frame) → (m : Memory) → After
--- 20 or 77: AcquireReal(L, I) of the thread's home and record, which begins with line 7 or 66
-line t i outside L I fs m = record { thread = acquire-real (t .home i) i from-acquire []; memory = m }
+-- 20 or 77: AcquireReal(L, I) of the thread's home and record, which begins with line 7, 66 or 90
+line t i outside L I fs m = record { thread = acquire-real t (t .home i) i from-acquire []; memory = m }
 -- 7: I->status = WAIT; I->next = NULL;
 line t i line-7 L I fs m = goes line-9 fs (store-next I none (store-status I wait-word m))
 -- 9: QNode * pred = (QNode *) SWAP(&(L->lock), I);
@@ -121,15 +27,15 @@ line t i (line-14 s) L I fs m = record { thread = cond (ltb s acquire-parent) (r
 -- 16: I->status = COHORT_START;
 line t i line-16 L I fs m = goes line-17 fs (store-status I cohort-start m)
 -- 17: HMCS<depth-1>::AcquireReal(L->parent, &(L->node));
-line t i line-17 L I fs m = record { thread = acquire-real (t .parent L) (256 + L) behind-17 fs; memory = m }
+line t i line-17 L I fs m = record { thread = acquire-real t (t .parent L) (256 + L) behind-17 fs; memory = m }
 -- 48 or 87: ReleaseReal(L, I) of the thread's home and record
-line t i critical L I fs m = record { thread = release-real (t .home i) i from-release []; memory = m }
+line t i critical L I fs m = record { thread = release-real t (t .home i) i from-release []; memory = m }
 -- 25: uint64_t curCount = I->status;
 line t i line-25 L I fs m = goes (line-27 (status-at m I)) fs m
 -- 27: if (curCount == L->GetThreshold()) {
 line t i (line-27 c) L I fs m = goes (cond (eqb c (t .threshold L)) line-29 (line-35 c)) fs m
 -- 29: HMCS<depth-1>::ReleaseReal(L->parent, &(L->node));
-line t i line-29 L I fs m = record { thread = release-real (t .parent L) (256 + L) behind-29 fs; memory = m }
+line t i line-29 L I fs m = record { thread = release-real t (t .parent L) (256 + L) behind-29 fs; memory = m }
 -- 31: ReleaseHelper(L, I, ACQUIRE_PARENT);
 line t i line-31 L I fs m = record { thread = release-helper L I acquire-parent behind-31 fs; memory = m }
 -- 35: QNode * succ = I->next;
@@ -139,7 +45,7 @@ line t i (line-36 c n) L I fs m = goes (cond (eqb n none) line-41 (line-37 c (n 
 -- 37: succ->status = curCount + 1; and 38: return;
 line t i (line-37 c succ) L I fs m = record { thread = returns fs; memory = store-status succ (c + 1) m }
 -- 41: HMCS<depth-1>::ReleaseReal(L->parent, &(L->node));
-line t i line-41 L I fs m = record { thread = release-real (t .parent L) (256 + L) behind-41 fs; memory = m }
+line t i line-41 L I fs m = record { thread = release-real t (t .parent L) (256 + L) behind-41 fs; memory = m }
 -- 43: ReleaseHelper(L,I, ACQUIRE_PARENT);
 line t i line-43 L I fs m = record { thread = release-helper L I acquire-parent behind-43 fs; memory = m }
 -- 53: QNode * succ = I->next;
@@ -169,6 +75,8 @@ line t i (line-71 pred) L I fs m = goes line-72 fs (store-next pred (I + 1) m)
 line t i line-72 L I fs m = record { thread = cond (eqb (status-at m I) locked) (control line-72 fs) (returns fs); memory = m }
 -- 82: ReleaseHelper(L, I, UNLOCKED);
 line t i line-82 L I fs m = record { thread = release-helper L I unlocked behind-82 fs; memory = m }
+-- 90 to 92: the ticket lock, in place of lines 63 to 89
+line t i (ticket-lock p) L I fs m = ticket-line p I fs m
 
 unfoldable pub top-domain : List Frame → ℕ
 top-domain [] = 0

@@ -11,13 +11,13 @@ use Rattle.model.specs.declared.TreeWords.{TreeWords}
 use Rattle.model.specs.declared.State.{State}
 use Rattle.model.specs.declared.PlaceWords.{PlaceWords}
 use Rattle.model.specs.declared.Place.{Place}
-use Rattle.model.specs.declared.Place.the-variants.{Idle, Prep, Swap, Link, Wait, Inside, Check, Help, Cas, Linger, Grant, Invalid}
+use Rattle.model.specs.declared.Place.the-variants.{Idle, Prep, Swap, Link, Wait, Inside, Check, Help, Cas, Linger, Grant, Draw, Watch, Raise, Invalid}
 use Rattle.model.specs.Scans.{all-below}
 use Rattle.model.specs.Trees.{tree-of, read-word}
 use Rattle.model.specs.Places.{place-words, words-of, place-of, place-domain}
 use Rattle.model.specs.States.{place}
 use Rattle.model.specs.Steps.{step}
-use Rattle.model.specs.WellFormed.{good-tail, good-next, good-status, good-thread, well-formed}
+use Rattle.model.specs.WellFormed.{good-tail, good-next, good-status, good-place, good-watch, good-thread, good-counters, well-formed}
 use Rattle.model.proofs.Laws.Form.{valid}
 use Rattle.model.proofs.Tests.{and-both, all-each}
 use Rattle.model.proofs.Laws.Calls.{Good-run}
@@ -39,6 +39,9 @@ place-by-row h (Help l) n = refl
 place-by-row h (Cas l) n = refl
 place-by-row h (Linger l) n = refl
 place-by-row h (Grant l r w) n = refl
+place-by-row h Draw n = refl
+place-by-row h Watch n = refl
+place-by-row h Raise n = refl
 place-by-row h Invalid n = absurd (n refl)
 
 by-row : (h : ℕ) (q : PlaceWords) → place-of q ≢ Invalid → row-domain h (q .row) (q .domain) ≡ place-domain h (place-of q)
@@ -51,10 +54,11 @@ module _ (w : TreeWords) (s : State) (i : ℕ) (form : well-formed (tree-of w) s
   unfolding well-formed good-thread
   place-valid =
       let t = tree-of w in
-      let halves = and-both (all-below 64 (good-tail t s) && all-below 320 (good-next t s)) (all-below 320 (good-status t s) && all-below 256 (good-thread t s)) form in
-      let threads = and-both (all-below 320 (good-status t s)) (all-below 256 (good-thread t s)) (halves .1) .1 in
+      let halves = and-both (all-below 64 (good-tail t s) && all-below 320 (good-next t s)) (all-below 320 (good-status t s) && (all-below 256 (good-thread t s) && good-counters t s)) form in
+      let second = and-both (all-below 320 (good-status t s)) (all-below 256 (good-thread t s) && good-counters t s) (halves .1) .1 in
+      let threads = and-both (all-below 256 (good-thread t s)) (good-counters t s) second .0 in
       let good = rw (lt-ltb i (t .threads) h) at (all-each 256 (good-thread t s) threads i small) in
-      valid t i (place s i) good
+      valid t i (place s i) (and-both (good-place t i (place s i)) (good-watch t s i) good .0)
 
   home-read : getD (w .homes) i 0 ≡ tree-of w .home i
   unfolding tree-of read-word

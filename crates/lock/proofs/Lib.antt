@@ -8,3 +8,4 @@ pub mod Typing
 pub mod Turns
 pub mod LastTold
 pub mod Answering
+pub mod Starting

@@ -8,7 +8,7 @@ use borrow.Author.Tests.{ne-eqb}
 use Rattle.model.specs.declared.PlaceWords.{PlaceWords}
 use Rattle.model.specs.declared.Place.{Place}
 use Rattle.model.specs.declared.Place.the-variants.{Link, Grant, Invalid}
-use Rattle.model.specs.Places.{plain-place, place-of}
+use Rattle.model.specs.Places.{bare-place, plain-place, place-of}
 
 -- a choice that is not Invalid is the other
 not-first : (b : Bool) (x : Place) → cond (not b) Invalid x ≢ Invalid → cond (not b) Invalid x ≡ x
@@ -35,7 +35,7 @@ module _ (q : PlaceWords) (given : place-of q ≢ Invalid) where
   pub at-domain : (k : ℕ) (x : Place) → eqb k 10 ≡ false → eqb k 3 ≡ false → plain-place k (q .domain) ≡ x → q .row ≡ k → x ≡ place-of q
   at-domain k x a b e f = sym (plain (rw f a) (rw f b) ∙ rw f e)
 
-  -- rows 0 and 5
+  -- rows 0, 5 and 11 to 13
   pub at-home :
       (k : ℕ) (x : Place) → eqb k 10 ≡ false → eqb k 3 ≡ false → plain-place k (q .domain) ≡ cond (eqb (q .domain) 0) x Invalid → q .row ≡ k → x ≡ place-of q
   at-home k x a b e f =
@@ -56,9 +56,28 @@ module _ (q : PlaceWords) (given : place-of q ≢ Invalid) where
 -- no other row
 pub no-row :
     (q : PlaceWords) → (q .row ≡ 0 → ⊥) → (q .row ≡ 1 → ⊥) → (q .row ≡ 2 → ⊥) → (q .row ≡ 3 → ⊥) → (q .row ≡ 4 → ⊥) → (q .row ≡ 5 → ⊥) →
-    (q .row ≡ 6 → ⊥) → (q .row ≡ 7 → ⊥) → (q .row ≡ 8 → ⊥) → (q .row ≡ 9 → ⊥) → (q .row ≡ 10 → ⊥) → place-of q ≢ Invalid → ⊥
-unfolding plain-place
-no-row q n₀ n₁ n₂ n₃ n₄ n₅ n₆ n₇ n₈ n₉ n₁₀ given =
+    (q .row ≡ 6 → ⊥) → (q .row ≡ 7 → ⊥) → (q .row ≡ 8 → ⊥) → (q .row ≡ 9 → ⊥) → (q .row ≡ 10 → ⊥) → (q .row ≡ 11 → ⊥) → (q .row ≡ 12 → ⊥) →
+    (q .row ≡ 13 → ⊥) → place-of q ≢ Invalid → ⊥
+unfolding plain-place bare-place
+no-row q n₀ n₁ n₂ n₃ n₄ n₅ n₆ n₇ n₈ n₉ n₁₀ n₁₁ n₁₂ n₁₃ given =
     given
     (plain q given (ne-eqb _ _ n₁₀) (ne-eqb _ _ n₃)
-    ∙ rw (ne-eqb (q .row) 0 n₀, ne-eqb (q .row) 1 n₁, ne-eqb (q .row) 2 n₂, ne-eqb (q .row) 4 n₄, ne-eqb (q .row) 5 n₅, ne-eqb (q .row) 6 n₆, ne-eqb (q .row) 7 n₇, ne-eqb (q .row) 8 n₈, ne-eqb (q .row) 9 n₉))
+    ∙ rw (
+      ne-eqb (q .row) 1 n₁,
+      ne-eqb (q .row) 2 n₂,
+      ne-eqb (q .row) 4 n₄,
+      ne-eqb (q .row) 6 n₆,
+      ne-eqb (q .row) 7 n₇,
+      ne-eqb (q .row) 8 n₈,
+      ne-eqb (q .row) 9 n₉,
+      ne-eqb (q .row) 0 n₀,
+      ne-eqb (q .row) 5 n₅,
+      ne-eqb (q .row) 11 n₁₁,
+      ne-eqb (q .row) 12 n₁₂,
+      ne-eqb (q .row) 13 n₁₃,
+    )
+    (either (eqb (q .domain) 0)))
+  where
+    either : (b : Bool) → cond b Invalid Invalid ≡ Invalid
+    either true = refl
+    either false = refl

@@ -13,7 +13,7 @@ use Rattle.model.specs.Laws.{Sixteen-bit, Formed}
 use Rattle.model.proofs.Laws.Facts.{well-formed-facts}
 use Rattle.model.proofs.Laws.Calls.{Good-run}
 use Rattle.lock.specs.declared.rows.Effect.{Effect}
-use Rattle.lock.specs.Effects.{stored, apply, state-in}
+use Rattle.lock.specs.Effects.{stored, counter-stored, apply, state-in}
 use Rattle.lock.specs.Running.{Ready}
 use Rattle.lock.proofs.SoFar.{thread-at, below}
 
@@ -32,7 +32,7 @@ ready t s₀ s is room k R f h =
 
 -- three stores and a place are an effect
 pub all-stored :
-    (i : ℕ) (e : Effect) (s : State) (ts ns vs : List ℕ) → ts ≡ stored 64 (s .tails) (e .domain) (e .tail) →
+    (i : ℕ) (e : Effect) (s : State) (ts ns vs : List ℕ) (v g : ℕ) → ts ≡ stored 64 (s .tails) (e .domain) (e .tail) →
     ns ≡ stored 320 (s .nexts) (e .linked) (e .next) → vs ≡ stored 320 (s .statuses) (e .marked) (e .status) →
-    state-in ts ns vs (set (s .places) i (e .place)) ≡ apply i e s
-all-stored i e s ts ns vs a b c = rw (a, b, c)
+    v ≡ counter-stored (s .ticket) (e .ticket) → g ≡ counter-stored (s .grant) (e .grant) → state-in ts ns vs v g (set (s .places) i (e .place)) ≡ apply i e s
+all-stored i e s ts ns vs v g a b c d f = rw (a, b, c, d, f)

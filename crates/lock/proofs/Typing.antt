@@ -1,4 +1,4 @@
--- What the type of a state fixes: the room of its arrays, and that statuses and words are below 2^64. Assumes nothing.
+-- What the type of a state fixes: the room of its arrays, that statuses and words are below 2^64, and the counters below 2^16. Assumes nothing.
 use mathlib.Core.Path.{sym, _∙_}
 use mathlib.Core.List.{List, [], _∷_, map}
 use Prim.Native.Nat.{ℕ, zero, suc, _<_}
@@ -32,16 +32,19 @@ words-fit (x ∷ xs) (u ∷ us) z (suc k) = words-fit xs us (z .1) k
 
 -- what a call holds of a state that it got
 pub typed :
-    (s : State) (a b c d : List Val) →
+    (s : State) (a b c d : List Val) (u v : List Val) →
     shadow (array-field u16-field 64 .row .own (map (λ v. v) (s .tails)) a) → shadow (array-field u16-field 320 .row .own (map (λ v. v) (s .nexts)) b) →
     shadow (array-field u64-field 320 .row .own (map (λ v. v) (s .statuses)) c) →
-    shadow (array-field (field the-type) 256 .row .own (map (field the-type .into) (s .places)) d) → Typed s
-typed s a b c d e f g h =
+    shadow (array-field (field the-type) 256 .row .own (map (field the-type .into) (s .places)) d) →
+    shadow (u16-field .row .own (s .ticket) u) → shadow (u16-field .row .own (s .grant) v) → Typed s
+typed s a b c d u v e f g h k l =
     record {
       tails-room = sym (length-map (s .tails) (λ v. v)) ∙ e .1 .0 .1;
       nexts-room = sym (length-map (s .nexts) (λ v. v)) ∙ f .1 .0 .1;
       statuses-room = sym (length-map (s .statuses) (λ v. v)) ∙ g .1 .0 .1;
       places-room = sym (length-map (s .places) (field the-type .into)) ∙ h .1 .0 .1;
       statuses-fit = numbers-fit (s .statuses) (g .0) (g .1 .1);
+      ticket-fits = k .1;
+      grant-fits = l .1;
       words-fit = words-fit (s .places) (h .0) (h .1 .1);
     }

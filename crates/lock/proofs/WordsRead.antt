@@ -10,15 +10,15 @@ use Rattle.model.specs.declared.PlaceWords.{PlaceWords}
 use Rattle.model.specs.Trees.{Tree, tree-of, child-from, child, own-record}
 use Rattle.model.specs.Refusals.{tree-refusal}
 use Rattle.model.proofs.Trees.Accepted.{accepted}
-use Rattle.refusals.specs.Arrays.{tree-in, parents-in, Lower}
+use Rattle.refusals.specs.Arrays.{parents-in, Lower}
 use Rattle.refusals.proofs.Reading.{read-in, parent-in, home-in}
 use Rattle.lock.specs.declared.rows.Words.{Words}
-use Rattle.lock.specs.Effects.{Read}
+use Rattle.lock.specs.Effects.{tree-at, Read}
 use Rattle.lock.proofs.Children.{child-same}
 
-module _ (n m : ℕ) (ps ts hs : List ℕ) (e : tree-refusal (tree-in n m ps ts hs) .number ≡ 0) where
+module _ (k n m : ℕ) (ps ts hs : List ℕ) (e : tree-refusal (tree-at k n m ps ts hs) .number ≡ 0) where
   abbrev t : Tree
-  t = tree-in n m ps ts hs
+  t = tree-at k n m ps ts hs
 
   -- what an accepted tree gives the code
   pub record Rooms : Type 0 where
@@ -38,7 +38,7 @@ module _ (n m : ℕ) (ps ts hs : List ℕ) (e : tree-refusal (tree-in n m ps ts 
         home-real = λ i h. rw (home-in n m ps ts hs i h) at (𝓐 .home-real i h);
       }
 
-  module _ (i l : ℕ) (h : i < m) (r : l < n) (q : PlaceWords) (tails nexts statuses : List ℕ) where
+  module _ (i l : ℕ) (h : i < m) (r : l < n) (q : PlaceWords) (tails nexts statuses : List ℕ) (ticket grant : ℕ) where
     abbrev words : (child own : ℕ) → Words
     words c o =
         record {
@@ -52,11 +52,14 @@ module _ (n m : ℕ) (ps ts hs : List ℕ) (e : tree-refusal (tree-in n m ps ts 
           next = getD nexts o 0;
           status = getD statuses o 0;
           place = q;
+          «ticket_root» = k;
+          ticket = ticket;
+          grant = grant;
         }
 
     -- what is read of the domain does not depend on the thread's record there
     reads :
-        (c o : ℕ) → o ≡ own-record t i l → (l ≢ getD hs i 0 → c ≡ child t i l) → o < 320 → Read t i l q tails nexts statuses (words c o)
+        (c o : ℕ) → o ≡ own-record t i l → (l ≢ getD hs i 0 → c ≡ child t i l) → o < 320 → Read t i l q tails nexts statuses ticket grant (words c o)
     unfolding tree-of
     reads c o own kid w =
         let few = rooms .few-domains in
@@ -74,17 +77,20 @@ module _ (n m : ℕ) (ps ts hs : List ℕ) (e : tree-refusal (tree-in n m ps ts 
                 next-is = refl;
                 status-is = refl;
                 place-is = sym f;
+                root-is = refl;
+                ticket-is = refl;
+                grant-is = refl;
               };
         }
 
-    pub read-home : l ≡ getD hs i 0 → Read t i l q tails nexts statuses (words 0 i)
-    unfolding own-record
+    pub read-home : l ≡ getD hs i 0 → Read t i l q tails nexts statuses ticket grant (words 0 i)
+    unfolding own-record tree-of
     read-home s =
         reads 0 i (rw (home-in n m ps ts hs i h, eq-eqb l (getD hs i 0) s)) (λ d. absurd (d s)) (omega (arith, rooms .few-threads))
 
     pub read-above :
         (c : ℕ) → (l ≡ getD hs i 0 → ⊥) → c ≡ child-from 6 (parents-in n ps) l (getD hs i 0) → c < 64 →
-        Read t i l q tails nexts statuses (words c (256 + c))
+        Read t i l q tails nexts statuses ticket grant (words c (256 + c))
     unfolding own-record child tree-of
     read-above c d f w =
         let kid : c ≡ child t i l = f ∙ child-same 6 (parents-in n ps) t l (getD hs i 0) (λ x. refl) ∙ ap (child-from 6 t l) (sym (home-in n m ps ts hs i h)) in

@@ -8,6 +8,7 @@ use lib.ListN.{getD, set, length, drop}
 use Rattle.model.specs.declared.PlaceWords.{PlaceWords}
 use Rattle.model.specs.declared.State.{State}
 use Rattle.model.specs.Places.{place-words, place-of}
+use Rattle.model.specs.States.{fresh-words, with-ticket, with-grant}
 use Rattle.model.specs.Trees.{Tree}
 use Rattle.model.specs.Refusals.{tree-refusal}
 use Rattle.model.specs.declared.Counts.{Counts}
@@ -24,8 +25,8 @@ pub record Ready (t : Tree) (i : ℕ) (q : PlaceWords) : Type 0 where
   pub place : good-place t i (place-of q) ≡ true
 
 -- the effect of the row of a place, whatever the places of the other threads are
-pub record Decided (t : Tree) (i : ℕ) (q : PlaceWords) (tails nexts statuses : List ℕ) (e : Effect) : Type 0 where
-  pub does : (ps : List PlaceWords) → getD ps i (place-words 0 0 0 0) ≡ q → Does (row t i (place-of q) (state-in tails nexts statuses ps)) i e (state-in tails nexts statuses ps)
+pub record Decided (t : Tree) (i : ℕ) (q : PlaceWords) (tails nexts statuses : List ℕ) (ticket grant : ℕ) (e : Effect) : Type 0 where
+  pub does : (ps : List PlaceWords) → getD ps i (place-words 0 0 0 0) ≡ q → Does (row t i (place-of q) (state-in tails nexts statuses ticket grant ps)) i e (state-in tails nexts statuses ticket grant ps)
 
 -- of the one step of a schedule of one entry: the number of its kind, and its domain
 pub record Last-told (t : Tree) (schedule : List ℕ) (s : State) (last : List ℕ) : Type 0 where
@@ -65,3 +66,11 @@ traced-at b n k i = cond (is-entry-number k) (set b n i) b
 -- the buffer with a run's trace at its front
 abbrev pub trace-front : List ℕ → Run → List ℕ
 trace-front b x = x .trace ++ drop (length (x .trace)) b
+
+-- a fresh state by the number at which its counters start
+abbrev pub fresh-from : (first : ℕ) → State
+fresh-from v = with-grant v (with-ticket v fresh-words)
+
+-- that number, by a refusal's number, the number that names the kind of root, and the start that is given
+abbrev pub first-number : (number kind start : ℕ) → ℕ
+first-number n k v = cond (eqb n 0) (cond (eqb k 0) 0 v) 0

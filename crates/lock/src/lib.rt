@@ -1,6 +1,6 @@
 // The three calls on a lock, by value: each answers as the model says, for every input.
 ghost use mathlib.Core.Path.{_≡_};
-ghost use Rattle.model.specs.States.{fresh-words};
+ghost use Rattle.lock.specs.Running.{fresh-from, first-number};
 ghost use Rattle.model.specs.Refusals.{refusal};
 ghost use Rattle.model.specs.Answers.{fresh-answer, step-answer, run-refused, run-answer, trace-answer};
 
@@ -16,8 +16,9 @@ use model::State;
 use model::StepReply;
 use model::TreeWords;
 
-fn fresh_state() -> State
-    ensures { λ r. ⌜ r ≡ fresh-words ⌝ }
+// The state of a fresh lock, by the number at which its counters start.
+fn fresh_state(first: u16) -> State
+    ensures { λ r. ⌜ r ≡ fresh-from first ⌝ }
 {
     let place = PlaceWords {
         row: 0,
@@ -34,12 +35,27 @@ fn fresh_state() -> State
         nexts,
         statuses,
         places,
+        ticket: first,
+        grant: first,
     }
 }
 
-// A fresh lock: the fresh words, accepted or refused.
-pub fn fresh_lock(tree: TreeWords) -> FreshReply
-    ensures { λ r. ⌜ r ≡ fresh-answer tree ⌝ }
+// The number at which the counters start: the one given at a ticket root that is not refused.
+fn first_of(number: u32, ticket_root: u32, start: u16) -> u16
+    ensures { λ r. ⌜ r ≡ first-number number «ticket_root» start ⌝ }
+{
+    if number != 0 {
+        return 0;
+    }
+    if ticket_root == 0 {
+        return 0;
+    }
+    start
+}
+
+// A fresh lock: a fresh state, accepted or refused.
+pub fn fresh_lock(tree: TreeWords, start: u16) -> FreshReply
+    ensures { λ r. ⌜ r ≡ fresh-answer tree start ⌝ }
 {
     let r = refusals::tree_refusal_of(
         &tree.parents,
@@ -48,7 +64,8 @@ pub fn fresh_lock(tree: TreeWords) -> FreshReply
         tree.domains,
         tree.threads,
     );
-    let state = fresh_state();
+    let first = first_of(r.number, tree.ticket_root, start);
+    let state = fresh_state(first);
     FreshReply {
         number: r.number,
         place: r.place,

@@ -3,8 +3,7 @@ ghost use mathlib.Core.Path.{_≡_};
 ghost use mathlib.Core.Logic.{_≢_};
 ghost use Rattle.model.specs.declared.Place.the-variants.{Invalid};
 ghost use Rattle.model.specs.Places.{place-words, words-of, place-of, place-domain};
-ghost use Rattle.model.specs.Steps.{release-place};
-ghost use Rattle.lock.specs.Effects.{done-at, row-domain};
+ghost use Rattle.lock.specs.Effects.{acquire-at, release-at, done-at, row-domain};
 use model::Place;
 use model::PlaceWords;
 
@@ -27,6 +26,9 @@ pub(crate) fn place_by_row(words: PlaceWords) -> Place
         8 => Place::Cas(l),
         9 => Place::Linger(l),
         10 => Place::Grant(l, words.peer, words.word),
+        11 => Place::Draw,
+        12 => Place::Watch,
+        13 => Place::Raise,
         _ => Place::Invalid,
     }
 }
@@ -58,19 +60,37 @@ pub(crate) fn words_at(place: Place) -> PlaceWords
         Place::Cas(l) => words_from(8, l, 0, 0),
         Place::Linger(l) => words_from(9, l, 0, 0),
         Place::Grant(l, s, w) => words_from(10, l, s, w),
-        Place::Invalid => words_from(11, 0, 0, 0),
+        Place::Draw => words_from(11, 0, 0, 0),
+        Place::Watch => words_from(12, 0, 0, 0),
+        Place::Raise => words_from(13, 0, 0, 0),
+        Place::Invalid => words_from(14, 0, 0, 0),
     }
 }
 
-// Where a domain is released.
-pub(crate) fn release_place_at(d: u8) -> Place
-    ensures { λ r. ⌜ r ≡ release-place d ⌝ }
+// Where a domain is acquired.
+pub(crate) fn acquire_place_at(ticket_root: u32, d: u8) -> Place
+    ensures { λ r. ⌜ r ≡ acquire-at «ticket_root» d ⌝ }
 {
-    if d == 0 {
-        Place::Help(d)
-    } else {
-        Place::Check(d)
+    if d != 0 {
+        return Place::Prep(d);
     }
+    if ticket_root == 0 {
+        return Place::Prep(d);
+    }
+    Place::Draw
+}
+
+// Where a domain is released.
+pub(crate) fn release_place_at(ticket_root: u32, d: u8) -> Place
+    ensures { λ r. ⌜ r ≡ release-at «ticket_root» d ⌝ }
+{
+    if d != 0 {
+        return Place::Check(d);
+    }
+    if ticket_root == 0 {
+        return Place::Help(d);
+    }
+    Place::Raise
 }
 
 // Where a thread goes from a domain that is done.
@@ -100,6 +120,9 @@ pub(crate) fn domain_at(home: u8, p: Place) -> u8
         Place::Cas(l) => l,
         Place::Linger(l) => l,
         Place::Grant(l, _, _) => l,
+        Place::Draw => 0,
+        Place::Watch => 0,
+        Place::Raise => 0,
         Place::Invalid => home,
     }
 }

@@ -1,20 +1,20 @@
 // What a row of the step table does, decided from the words that it reads.
 ghost use mathlib.Core.Path.{_≡_};
-ghost use Prim.Native.Nat.{_<_, _≤_};
-ghost use Rattle.model.specs.States.{root-word};
+ghost use Prim.Native.Nat.{_+_, _<_, _≤_};
+ghost use Rattle.model.specs.States.{root-word, wrap};
 ghost use Rattle.model.specs.Places.{words-of};
 ghost use Rattle.model.specs.Search.{search-from};
 ghost use Rattle.model.specs.Refusals.{tree-refusal};
-ghost use Rattle.model.specs.Steps.{prep-row, swap-row, link-row, wait-row, leave-row, check-row, help-row, cas-row, linger-row, grant-row};
-ghost use Rattle.refusals.specs.Arrays.{tree-in, parents-in, Lower};
-ghost use Rattle.lock.specs.Effects.{moved, Effect-of, Inner-effect-of, Within, Read};
+ghost use Rattle.model.specs.Steps.{prep-row, swap-row, link-row, wait-row, leave-row, check-row, help-row, cas-row, linger-row, grant-row, draw-row, watch-row, raise-row};
+ghost use Rattle.refusals.specs.Arrays.{parents-in, Lower};
+ghost use Rattle.lock.specs.Effects.{moved, Effect-of, Inner-effect-of, Within, start-row, tree-at, Read};
 ghost use Rattle.lock.specs.Running.{Ready, Decided};
 use crate::places;
 use model::Found;
 use model::Place;
 use model::PlaceWords;
 
-// What a row reads: of its thread, of its domain, of the thread's record there and of the domain's child on the thread's path.
+// What a row reads: of its thread, of its domain, of the thread's record there and of the domain's child on the thread's path, and of a ticket lock at the root.
 pub(crate) struct Words {
     pub home: u8,
     pub domain: u8,
@@ -26,9 +26,12 @@ pub(crate) struct Words {
     pub next: u16,
     pub status: u64,
     pub place: PlaceWords,
+    pub ticket_root: u32,
+    pub ticket: u16,
+    pub grant: u16,
 }
 
-// What a row does: its kind, the thread's place, and the tail of a domain, the next of a record and the status of a record. An index beyond the array is no store.
+// What a row does: its kind, the thread's place, the tail of a domain, the next of a record, the status of a record and the two counters. An index beyond the array, or a number beyond a counter, is no store.
 pub(crate) struct Effect {
     pub kind: u8,
     pub domain: u8,
@@ -37,6 +40,8 @@ pub(crate) struct Effect {
     pub next: u16,
     pub marked: u16,
     pub status: u64,
+    pub ticket: u32,
+    pub grant: u32,
     pub place: PlaceWords,
 }
 
@@ -79,6 +84,8 @@ fn effect_at(kind: u8, place: PlaceWords) -> Effect
         next: 0,
         marked: 320,
         status: 0,
+        ticket: 65536,
+        grant: 65536,
         place,
     }
 }
@@ -128,10 +135,14 @@ fn swap(w: Words) -> Effect
         e.domain = l;
         e.tail = own + 1;
         e.marked = own;
+        e.status = model::UNLOCKED;
         return e;
     }
     let p = w.parent;
-    let mut e = moves(model::OTHER_MOVE, Place::Prep(p));
+    let mut e = moves(
+        model::OTHER_MOVE,
+        places::acquire_place_at(w.ticket_root, p),
+    );
     e.domain = l;
     e.tail = own + 1;
     e.marked = own;
@@ -170,7 +181,10 @@ fn wait(w: Words) -> Effect
     }
     if v == model::ACQUIRE_PARENT {
         let p = w.parent;
-        let mut e = moves(model::OTHER_MOVE, Place::Prep(p));
+        let mut e = moves(
+            model::OTHER_MOVE,
+            places::acquire_place_at(w.ticket_root, p),
+        );
         e.marked = w.own;
         e.status = model::COHORT_START;
         return e;
@@ -185,7 +199,10 @@ fn leave(w: Words) -> Effect
     ensures { λ r. ⌜ Effect-of w (λ t i s. leave-row t i s) r ⌝ }
 {
     let home = w.home;
-    moves(model::LEAVING, places::release_place_at(home))
+    moves(
+        model::LEAVING,
+        places::release_place_at(w.ticket_root, home),
+    )
 }
 
 fn check(w: Words) -> Effect
@@ -197,10 +214,16 @@ fn check(w: Words) -> Effect
     let parent = w.parent;
     let h = w.threshold as u64;
     if h <= v {
-        return moves(model::OTHER_MOVE, places::release_place_at(parent));
+        return moves(
+            model::OTHER_MOVE,
+            places::release_place_at(w.ticket_root, parent),
+        );
     }
     if n == 0 {
-        return moves(model::OTHER_MOVE, places::release_place_at(parent));
+        return moves(
+            model::OTHER_MOVE,
+            places::release_place_at(w.ticket_root, parent),
+        );
     }
     moves(model::OTHER_MOVE, Place::Grant(l, n - 1, v + 1))
 }
@@ -256,6 +279,72 @@ fn grant(w: Words, to: u16, word: u64) -> Effect
     e
 }
 
+// One more, from 65,535 to 0.
+fn next_number(v: u16) -> u32
+    ensures { λ r. ⌜ r ≡ wrap (v + 1) ⌝ }
+{
+    std::num::wrapping_add_u16(v, 1) as u32
+}
+
+// The thread draws the root's ticket: Inside where it is the one shown, else it watches.
+fn draw(w: Words) -> Effect
+    requires { ⌜ Within w ⌝ }
+    requires { ⌜ w .domain ≡ 0 ⌝ }
+    ensures { λ r. ⌜ Effect-of w (λ t i s. draw-row t i s) r ⌝ }
+{
+    let v = w.ticket;
+    let next = next_number(v);
+    if v == w.grant {
+        let mut e = moves(model::ROOT_ENTRY, Place::Inside);
+        e.marked = w.own;
+        e.status = v as u64;
+        e.ticket = next;
+        return e;
+    }
+    let mut e = moves(model::OTHER_MOVE, Place::Watch);
+    e.marked = w.own;
+    e.status = v as u64;
+    e.ticket = next;
+    e
+}
+
+fn watch(w: Words) -> Effect
+    requires { ⌜ w .domain ≡ 0 ⌝ }
+    ensures { λ r. ⌜ Effect-of w (λ t i s. watch-row t i s) r ⌝ }
+{
+    let v = w.status;
+    let place = w.place;
+    if v == w.grant as u64 {
+        return moves(model::ROOT_ENTRY, Place::Inside);
+    }
+    effect_at(model::STAY, place)
+}
+
+fn raise(w: Words) -> Effect
+    requires { ⌜ w .domain ≡ 0 ⌝ }
+    ensures { λ r. ⌜ Effect-of w (λ t i s. raise-row t i s) r ⌝ }
+{
+    let l = w.domain;
+    let next = next_number(w.grant);
+    let mut e = moves(model::OTHER_MOVE, places::done_place_at(w.home, l, w.child));
+    e.grant = next;
+    e
+}
+
+// A thread at home draws where its home is a ticket root, else it prepares.
+fn start(w: Words) -> Effect
+    requires { ⌜ Within w ⌝ }
+    ensures { λ r. ⌜ Effect-of w (λ t i s. start-row t i (w .domain) s) r ⌝ }
+{
+    if w.domain != 0 {
+        return prep(w);
+    }
+    if w.ticket_root == 0 {
+        return prep(w);
+    }
+    draw(w)
+}
+
 // The words of a thread's row at a domain.
 fn words_at<'t, 's>(
     parents: &'t [u8; 64],
@@ -269,10 +358,13 @@ fn words_at<'t, 's>(
     i: u16,
     l: u8,
     place: PlaceWords,
+    ticket_root: u32,
+    ticket: u16,
+    granted: u16,
 ) -> Words
-    requires { ⌜ tree-refusal (tree-in domains threads (now parents) (now thresholds) (now homes)) .number ≡ 0 ⌝ }
+    requires { ⌜ tree-refusal (tree-at «ticket_root» domains threads (now parents) (now thresholds) (now homes)) .number ≡ 0 ⌝ }
     requires { ⌜ (i < threads) × (l < domains) ⌝ }
-    ensures { λ r. ⌜ Read (tree-in domains threads (now (parents .entry)) (now (thresholds .entry)) (now (homes .entry))) i l place (now (tails .entry)) (now (nexts .entry)) (now (statuses .entry)) r ⌝ }
+    ensures { λ r. ⌜ Read (tree-at «ticket_root» domains threads (now (parents .entry)) (now (thresholds .entry)) (now (homes .entry))) i l place (now (tails .entry)) (now (nexts .entry)) (now (statuses .entry)) ticket granted r ⌝ }
 {
     let k = i as usize;
     let home = homes[k];
@@ -294,6 +386,9 @@ fn words_at<'t, 's>(
             next,
             status,
             place,
+            ticket_root,
+            ticket,
+            grant: granted,
         };
     }
     let found = search_at(parents, domains, home, l);
@@ -313,6 +408,9 @@ fn words_at<'t, 's>(
         next,
         status,
         place,
+        ticket_root,
+        ticket,
+        grant: granted,
     }
 }
 
@@ -328,9 +426,12 @@ pub(crate) fn decide<'t, 's>(
     statuses: &'s [u64; 320],
     i: u16,
     place: PlaceWords,
+    ticket_root: u32,
+    ticket: u16,
+    granted: u16,
 ) -> Effect
-    requires { ⌜ Ready (tree-in domains threads (now parents) (now thresholds) (now homes)) i place ⌝ }
-    ensures { λ r. ⌜ Decided (tree-in domains threads (now (parents .entry)) (now (thresholds .entry)) (now (homes .entry))) i place (now (tails .entry)) (now (nexts .entry)) (now (statuses .entry)) r ⌝ }
+    requires { ⌜ Ready (tree-at «ticket_root» domains threads (now parents) (now thresholds) (now homes)) i place ⌝ }
+    ensures { λ r. ⌜ Decided (tree-at «ticket_root» domains threads (now (parents .entry)) (now (thresholds .entry)) (now (homes .entry))) i place (now (tails .entry)) (now (nexts .entry)) (now (statuses .entry)) ticket granted r ⌝ }
 {
     let k = i as usize;
     let home = homes[k];
@@ -348,9 +449,12 @@ pub(crate) fn decide<'t, 's>(
         i,
         l,
         place,
+        ticket_root,
+        ticket,
+        granted,
     );
     match p {
-        Place::Idle => prep(w),
+        Place::Idle => start(w),
         Place::Prep(_) => prep(w),
         Place::Swap(_) => swap(w),
         Place::Link(_, b) => link(w, b),
@@ -361,6 +465,9 @@ pub(crate) fn decide<'t, 's>(
         Place::Cas(_) => cas(w),
         Place::Linger(_) => linger(w),
         Place::Grant(_, r, v) => grant(w, r, v),
+        Place::Draw => draw(w),
+        Place::Watch => watch(w),
+        Place::Raise => raise(w),
         Place::Invalid => effect_at(model::STAY, place),
     }
 }

@@ -6,7 +6,7 @@ ghost use lib.ListN.{length, getD};
 ghost use Rattle.model.specs.Trees.{tree-of};
 ghost use Rattle.model.specs.Refusals.{run-refusal};
 ghost use Rattle.model.specs.Runs.{steps, run};
-ghost use Rattle.lock.specs.Effects.{stored};
+ghost use Rattle.lock.specs.Effects.{stored, counter-stored};
 ghost use Rattle.lock.specs.Running.{Last-told, kinds-of, counted, counts-by, is-entry-number, traced-at, trace-front};
 use crate::places;
 use crate::rows;
@@ -42,6 +42,16 @@ fn store_status(statuses: &mut [u64; 320], r: u16, v: u64)
         return;
     }
     statuses[at] = v;
+}
+
+// A counter of a ticket lock; a number beyond 16 bits is no store.
+fn store_counter(counter: &mut u16, v: u32)
+    ensures { λ q. ⌜ now (counter .exit) ≡ counter-stored (now (counter .entry)) v ⌝ }
+{
+    if 65536 <= v {
+        return;
+    }
+    *counter = v as u16;
 }
 
 // One step of a kind more, where the steps of each kind are counted.
@@ -142,6 +152,9 @@ pub(crate) fn run_steps(
             &n.statuses,
             i,
             before,
+            tree.ticket_root,
+            n.ticket,
+            n.grant,
         );
         row = before.row;
         domain = before.domain;
@@ -156,6 +169,8 @@ pub(crate) fn run_steps(
         store_tail(&mut n.tails, e.domain, e.tail);
         store_next(&mut n.nexts, e.linked, e.next);
         store_status(&mut n.statuses, e.marked, e.status);
+        store_counter(&mut n.ticket, e.ticket);
+        store_counter(&mut n.grant, e.grant);
         let place = e.place;
         n.places[at] = place;
         entries = trace_at(trace, entries, kind, i);

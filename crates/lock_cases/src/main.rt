@@ -40,6 +40,7 @@ fn two_threads(threshold: u16) -> TreeWords {
         parents: [0u8; 64],
         thresholds,
         homes,
+        ticket_root: 0,
     }
 }
 
@@ -59,11 +60,12 @@ fn four_threads(threshold: u16) -> TreeWords {
         parents: [0u8; 64],
         thresholds,
         homes,
+        ticket_root: 0,
     }
 }
 
 fn fresh(tree: TreeWords) -> State {
-    let r = lock::fresh_lock(tree);
+    let r = lock::fresh_lock(tree, 0);
     r.state
 }
 
@@ -128,7 +130,7 @@ fn three_stays() {
 
 // A threshold of 65,535 is accepted.
 fn largest_threshold() {
-    let r = lock::fresh_lock(two_threads(65535));
+    let r = lock::fresh_lock(two_threads(65535), 0);
     put(b"threshold 65535");
     number(r.number);
     number(r.place);
@@ -151,6 +153,22 @@ fn turns(threshold: u16) {
     let mut trace = [77u16; 4000];
     let r = lock::run_lock(tree, fresh(tree), &schedule, &mut trace);
     show(r, trace[0], trace[1]);
+}
+
+// The same at a ticket root, whose counters start at their largest number.
+fn ticket_turns() {
+    let mut tree = four_threads(2);
+    tree.ticket_root = 1;
+    let start = lock::fresh_lock(tree, 65535);
+    let schedule = order();
+    let mut trace = [77u16; 4000];
+    let r = lock::run_lock(tree, start.state, &schedule, &mut trace);
+    show(r, trace[0], trace[1]);
+    let s = r.state;
+    put(b"its counters");
+    short(s.ticket);
+    short(s.grant);
+    put(b"\n");
 }
 
 fn step_line(tree: TreeWords, state: State, thread: u16) {
@@ -235,6 +253,8 @@ fn main() {
     turns(2);
     put(b"thresholds of 1");
     turns(1);
+    put(b"thresholds of 2 at a ticket root");
+    ticket_turns();
     handed_in();
     empty_leaf();
 }

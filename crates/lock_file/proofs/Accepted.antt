@@ -12,7 +12,7 @@ use Rattle.model.specs.declared.TreeWords.{TreeWords}
 use Rattle.lock_file.specs.declared.Reached.{Reached}
 use Rattle.lock_file.specs.declared.Reached.the-variants.{At, Ended, BadMap}
 use Rattle.lock_file.specs.declared.ThreadsRead.{ThreadsRead}
-use Rattle.lock_file.specs.Reading.{byte, two-bytes, field-end, domains-at, domains-from, domains-read, threads-from, threads-behind, threads-read, schedule-start, entries-at, described, reading-of}
+use Rattle.lock_file.specs.Reading.{domain-count, byte, two-bytes, field-end, domains-at, domains-from, domains-read, threads-from, threads-behind, threads-read, schedule-start, entries-at, described, reading-of}
 use Rattle.lock_file.proofs.Positions.{field-within}
 
 -- an accepted reading
@@ -70,17 +70,17 @@ threads-started bs (BadMap p) next e = absurd (let z : _≡_ {A = ℕ} 0 1 = cc 
 -- the domains ended at a position: D stands there
 pub domains-started :
     (bs : List ℕ) (next : ℕ) → domains-read bs .reached ≡ At next →
-    (length bs ≢ 0) × (domains-read bs ≡ domains-from bs (byte bs 0 - 1) 1 1 (replicate 64 0) (replicate 64 0))
+    (length bs ≢ 0) × (domains-read bs ≡ domains-from bs (domain-count bs - 1) 1 1 (replicate 64 0) (replicate 64 0))
 unfolding domains-read
 domains-started bs next e =
     by (eqb (length bs) 0) refl e
   where
     by :
         (b : Bool) → eqb (length bs) 0 ≡ b →
-        cond b (domains-at Ended (replicate 64 0) (replicate 64 0)) (domains-from bs (byte bs 0 - 1) 1 1 (replicate 64 0) (replicate 64 0)) .reached
+        cond b (domains-at Ended (replicate 64 0) (replicate 64 0)) (domains-from bs (domain-count bs - 1) 1 1 (replicate 64 0) (replicate 64 0)) .reached
         ≡ At next →
         (length bs ≢ 0)
-        × (cond b (domains-at Ended (replicate 64 0) (replicate 64 0)) (domains-from bs (byte bs 0 - 1) 1 1 (replicate 64 0) (replicate 64 0))
-        ≡ domains-from bs (byte bs 0 - 1) 1 1 (replicate 64 0) (replicate 64 0))
+        × (cond b (domains-at Ended (replicate 64 0) (replicate 64 0)) (domains-from bs (domain-count bs - 1) 1 1 (replicate 64 0) (replicate 64 0))
+        ≡ domains-from bs (domain-count bs - 1) 1 1 (replicate 64 0) (replicate 64 0))
     by true p q = absurd (let z : _≡_ {A = ℕ} 0 1 = cc in omega arith)
     by false p q = (eqb-false (length bs) 0 p, refl)

@@ -10,6 +10,7 @@ use Rattle.model.specs.declared.TreeWords.{TreeWords}
 use Rattle.model.specs.declared.RunReply.{RunReply}
 use Rattle.model.specs.Trees.{tree-of}
 use Rattle.model.specs.States.{fresh-words}
+use Rattle.lock_file.proofs.FileRun.{zero-start}
 use Rattle.model.specs.Refusals.{run-refusal}
 use Rattle.model.specs.Answers.{run-reply, run-answer, run-buffer, trace-answer}
 use Rattle.model.specs.Laws.{Count-law}
@@ -42,4 +43,4 @@ listed-law w is h =
 
 pub file-claim-law : File-claim-law
 unfolding File-claim-law Lone-run-law answers answer answer-to state-in file-run
-file-claim-law w is h = record { answered = refl; listed = listed-law w is; claimed = lone-run-law w is (replicate (length is) 0) h }
+file-claim-law w is h = record { answered = refl; listed = listed-law w is; claimed = rw (zero-start w) at (lone-run-law w 0 is (replicate (length is) 0) h) }

@@ -2,7 +2,7 @@
 use mathlib.Core.Path.{_≡_, refl, sym, _∙_, ap}
 use mathlib.Core.List.{List, _∷_, _++_}
 use mathlib.Core.Logic.{_≢_, _⊎_, inl, inr}
-use Prim.Native.Nat.{ℕ, _+_, _-_, _%_, _≤_, _<_}
+use Prim.Native.Nat.{ℕ, _+_, _-_, _%_, _≤_, _<_, _*_, _/_}
 use native.Mathlib.Omega.{arith}
 use native.Mathlib.Decide.{ℕ-discrete}
 use lib.ListN.{length, drop, replicate}
@@ -11,7 +11,7 @@ use Rattle.model.specs.declared.TreeWords.{TreeWords}
 use Rattle.lock_file.specs.declared.Reached.the-variants.{At}
 use Rattle.lock_file.specs.declared.DomainsRead.{DomainsRead}
 use Rattle.lock_file.specs.declared.ThreadsRead.{ThreadsRead}
-use Rattle.lock_file.specs.Reading.{byte, two-bytes, field-end, domains-from, domains-read, threads-from, threads-behind, threads-read, thread-count, schedule-start, tree-read, entries-at, described, reading-of, file-read}
+use Rattle.lock_file.specs.Reading.{domain-count, root-number, byte, two-bytes, field-end, domains-from, domains-read, threads-from, threads-behind, threads-read, thread-count, schedule-start, tree-read, entries-at, described, reading-of, file-read}
 use Rattle.lock_file.specs.Format.{Full-room, Describes}
 use Rattle.lock_file.specs.FileLaws.{Format-law}
 use Rattle.lock_file.proofs.Bytes.{next-byte, starts, field-reached}
@@ -22,7 +22,7 @@ use Rattle.lock_file.proofs.ScheduleEntries.{schedule-bytes, schedule-s
 use Rattle.lock_file.proofs.Accepted.{reading-accepted, schedule-started, threads-started, domains-started}
 
 abbrev domains-of : (bytes : List ℕ) → DomainsRead
-domains-of bs = domains-from bs (byte bs 0 - 1) 1 1 (replicate 64 0) (replicate 64 0)
+domains-of bs = domains-from bs (domain-count bs - 1) 1 1 (replicate 64 0) (replicate 64 0)
 
 abbrev threads-of : (bytes : List ℕ) → (at : ℕ) → ThreadsRead
 threads-of bs q = threads-from bs (two-bytes bs q) 0 0 (q + 2) (replicate 256 0)
@@ -30,11 +30,12 @@ threads-of bs q = threads-from bs (two-bytes bs q) 0 0 (q + 2) (replicate 256 0)
 abbrev tree-words : (bytes : List ℕ) → (at : ℕ) → TreeWords
 tree-words bs q =
     record {
-      domains = byte bs 0;
+      domains = domain-count bs;
       threads = two-bytes bs q;
       parents = domains-of bs .parents;
       thresholds = domains-of bs .thresholds;
       homes = threads-of bs q .homes;
+      «ticket_root» = root-number bs;
     }
 
 -- a domain without an entry: the root, or one that the tree lacks
@@ -44,14 +45,14 @@ no-entry D d (inr h) = elim (ℕ-discrete d 0) [ yes z ↦ inl (omega arith) | n
 
 read-room : (bs : List ℕ) (q : ℕ) → Full-room (tree-words bs q)
 read-room bs q =
-    let room = domains-room bs (byte bs 0 - 1) 1 1 (replicate 64 0) (replicate 64 0) in
-    let kept = domains-kept bs (byte bs 0 - 1) 1 1 (replicate 64 0) (replicate 64 0) in
+    let room = domains-room bs (domain-count bs - 1) 1 1 (replicate 64 0) (replicate 64 0) in
+    let kept = domains-kept bs (domain-count bs - 1) 1 1 (replicate 64 0) (replicate 64 0) in
     record {
       parents-room = room .0;
       thresholds-room = room .1;
       homes-room = threads-room bs (two-bytes bs q) 0 0 (q + 2) (replicate 256 0);
-      no-parent = λ d o. kept d (no-entry (byte bs 0) d o) .0 ∙ zeros 64 d;
-      no-threshold = λ d o. kept d (no-entry (byte bs 0) d o) .1 ∙ zeros 64 d;
+      no-parent = λ d o. kept d (no-entry (domain-count bs) d o) .0 ∙ zeros 64 d;
+      no-threshold = λ d o. kept d (no-entry (domain-count bs) d o) .1 ∙ zeros 64 d;
       no-home = λ i h. threads-kept bs (two-bytes bs q) 0 0 (q + 2) (replicate 256 0) i (inr (omega arith)) ∙ zeros 256 i;
     }
 
@@ -60,7 +61,7 @@ read-describes :
     (bs : List ℕ) (q s : ℕ) → length bs ≢ 0 → domains-of bs .reached ≡ At q → q + 2 ≤ length bs → threads-of bs q .reached ≡ At s →
     (length bs - s) % 2 ≡ 0 → Describes bs (tree-words bs q) (entries-at bs s)
 read-describes bs q s h d w t e =
-    let domains = domains-bytes bs (byte bs 0 - 1) 1 1 q (replicate 64 0) (replicate 64 0) refl refl d in
+    let domains = domains-bytes bs (domain-count bs - 1) 1 1 q (replicate 64 0) (replicate 64 0) refl refl d in
     let threads = threads-bytes bs (two-bytes bs q) 0 0 (q + 2) s (replicate 256 0) refl t in
     let within = threads-within bs (two-bytes bs q) 0 0 (q + 2) s (replicate 256 0) w t in
     let z : q + 1 + 1 ≡ q + 2 = omega arith in
@@ -72,11 +73,13 @@ read-describes bs q s h d w t e =
       schedule-bytes = drop s bs;
       joined =
           next-byte bs 0 (omega arith)
-          ∙ ap (λ l. byte bs 0 ∷ l)
+          ∙ ap (λ b. b ∷ drop 1 bs) (let z : byte bs 0 ≡ domain-count bs + 128 * root-number bs = omega arith in z)
+          ∙ ap (λ l. (domain-count bs + 128 * root-number bs) ∷ l)
           (domains .split
           ∙ ap (λ l. domains .bytes ++ l)
           (next-byte bs q (omega arith)
           ∙ ap (λ l. byte bs q ∷ l) (next-byte bs (q + 1) (omega arith) ∙ ap (λ l. byte bs (q + 1) ∷ l) (rw z (threads .split)))));
+      domains-counted = omega arith;
       threads-counted = refl;
       domains-given = domains .entries;
       threads-given = threads .entries;
@@ -113,8 +116,8 @@ accepted-describes bs w is e =
 
 -- the words that are read are those described
 domains-same :
-    (bs : List ℕ) (w : TreeWords) (xs rest : List ℕ) → byte bs 0 ≡ w .domains → Full-room w →
-    Domains-read bs 1 (byte bs 0 - 1) 1 (domains-of bs) (w .parents) (w .thresholds) xs rest →
+    (bs : List ℕ) (w : TreeWords) (xs rest : List ℕ) → domain-count bs ≡ w .domains → Full-room w →
+    Domains-read bs 1 (domain-count bs - 1) 1 (domains-of bs) (w .parents) (w .thresholds) xs rest →
     (domains-of bs .parents ≡ w .parents) × (domains-of bs .thresholds ≡ w .thresholds)
 domains-same bs w xs rest e room r =
     let own = read-room bs 0 in (
@@ -128,7 +131,7 @@ domains-same bs w xs rest e room r =
     without j (inl h) = inl (omega arith)
     without j (inr h) = inr h
 
-    unread : (j : ℕ) → (j < 1) ⊎ (w .domains ≤ j) → (j ≡ 0) ⊎ (byte bs 0 ≤ j)
+    unread : (j : ℕ) → (j < 1) ⊎ (w .domains ≤ j) → (j ≡ 0) ⊎ (domain-count bs ≤ j)
     unread j (inl h) = inl (omega arith)
     unread j (inr h) = inr (omega arith)
 
@@ -153,7 +156,8 @@ record Read-through (bs : List ℕ) (w : TreeWords) (is : List ℕ) : Type 0 whe
   at : ℕ
   start : ℕ
   some : length bs ≢ 0
-  domains-counted : byte bs 0 ≡ w .domains
+  domains-counted : domain-count bs ≡ w .domains
+  root-counted : root-number bs ≡ w .«ticket_root»
   domains-reached : domains-of bs .reached ≡ At at
   counted : field-end bs at 2 ≡ At (at + 2)
   threads-counted : two-bytes bs at ≡ w .threads
@@ -166,9 +170,12 @@ record Read-through (bs : List ℕ) (w : TreeWords) (is : List ℕ) : Type 0 whe
 
 read-through : (bs : List ℕ) (w : TreeWords) (is : List ℕ) → Describes bs w is → Read-through bs w is
 read-through bs w is x =
-    let a = starts bs 0 (w .domains) _ (x .joined) in
+    let a = starts bs 0 (w .domains + 128 * w .«ticket_root») _ (x .joined) in
+    let few = x .domains-counted in
+    let count : domain-count bs ≡ w .domains = omega (arith, a .first) in
+    let root : root-number bs ≡ w .«ticket_root» = omega (arith, a .first) in
     let domains =
-    rw (← a .first) at
+    rw (← count) at
     (domains-stored bs (w .domains - 1) 1 1 (replicate 64 0) (replicate 64 0) (w .parents) (w .thresholds) (x .domain-bytes) _ refl refl
     (x .room .parents-room) (x .room .thresholds-room) (x .domains-given) (a .behind))
     in
@@ -183,12 +190,13 @@ read-through bs w is x =
     (rw z at (c .behind)))
     in
     let schedule = schedule-stored bs (q + 2 + length (x .thread-bytes)) is (x .schedule-bytes) (x .schedule-given) (threads .behind) in
-    let same = domains-same bs w (x .domain-bytes) _ (a .first) (x .room) domains in
+    let same = domains-same bs w (x .domain-bytes) _ count (x .room) domains in
     record {
       at = q;
       start = q + 2 + length (x .thread-bytes);
       some = λ none. omega arith;
-      domains-counted = a .first;
+      domains-counted = count;
+      root-counted = root;
       domains-reached = domains .reached;
       counted = field-reached bs q 2 (omega arith);
       threads-counted = counted;
@@ -216,6 +224,7 @@ describes-accepted bs w is x =
       r .thresholds-same,
       r .homes-same,
       r .domains-counted,
+      r .root-counted,
       r .threads-counted,
     )
 

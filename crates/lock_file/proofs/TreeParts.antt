@@ -1,14 +1,14 @@
 -- Reading a tree as two parts: D with the domains' entries, T with the threads'. Assumes nothing.
 use mathlib.Core.Path.{_≡_, refl}
 use mathlib.Core.List.{List}
-use Prim.Native.Nat.{ℕ, zero, suc, _+_, _-_, _≤_, _<_}
+use Prim.Native.Nat.{ℕ, zero, suc, _+_, _-_, _≤_, _<_, _%_}
 use native.Mathlib.Omega.{arith}
 use native.Mathlib.Decide.{ℕ-discrete}
 use lib.ListN.{length, replicate}
 use borrow.Author.Tests.{lt-ltb, le-ltb, eq-eqb, ne-eqb}
 use Rattle.lock_file.specs.declared.Reached.{Reached}
 use Rattle.lock_file.specs.declared.Reached.the-variants.{At, Ended, BadMap}
-use Rattle.lock_file.specs.Reading.{byte, two-bytes, bit-0, field-end, domain-size, domain-end, parent-at, threshold-at, stored, domains-from, domains-read, thread-end, home-at, threads-from, threads-behind, threads-read, schedule-start, tree-read}
+use Rattle.lock_file.specs.Reading.{domain-count, byte, two-bytes, bit-0, field-end, domain-size, domain-end, parent-at, threshold-at, stored, domains-from, domains-read, thread-end, home-at, threads-from, threads-behind, threads-read, schedule-start, tree-read}
 use Rattle.lock_file.proofs.Positions.{reached-cases, domain-then, domain-ended, domain-bad, thread-then, thread-ended, thread-bad}
 use Rattle.lock_file.proofs.Parts.{Part, Part-reader, Same-before, onward, entries-reader, counted-reader, counted-part, both-part}
 
@@ -28,17 +28,17 @@ one-positive = omega arith
 pub two-positive : 0 < 2
 two-positive = omega arith
 
-abbrev pub domain-count : (bytes : List ℕ) → (at : ℕ) → ℕ
-domain-count bs at = byte bs at - 1
+abbrev pub entry-count : (bytes : List ℕ) → (at : ℕ) → ℕ
+entry-count bs at = byte bs at % 128 - 1
 
-pub domains-counted : (bs cs : List ℕ) (at : ℕ) → Same-before (at + 1) bs cs → domain-count bs at ≡ domain-count cs at
+pub domains-counted : (bs cs : List ℕ) (at : ℕ) → Same-before (at + 1) bs cs → entry-count bs at ≡ entry-count cs at
 domains-counted bs cs at same = rw (same at (omega arith))
 
 pub threads-counted : (bs cs : List ℕ) (at : ℕ) → Same-before (at + 2) bs cs → two-bytes bs at ≡ two-bytes cs at
 threads-counted bs cs at same = rw (same at (omega arith), same (at + 1) (omega arith))
 
 abbrev pub domains-reader : Part-reader
-domains-reader = counted-reader 3 domain-size domain-positive 1 one-positive domain-count domains-counted
+domains-reader = counted-reader 3 domain-size domain-positive 1 one-positive entry-count domains-counted
 
 abbrev pub threads-reader : Part-reader
 threads-reader = counted-reader 1 thread-size thread-positive 2 two-positive two-bytes threads-counted
@@ -49,7 +49,7 @@ tree-reader bs at = onward (domains-reader bs at) (threads-reader bs)
 pub tree-part : Part tree-reader
 tree-part =
     both-part domains-reader (λ bs at. 0) (λ v. threads-reader)
-    (counted-part 3 domain-size domain-positive 1 one-positive domain-count domains-counted)
+    (counted-part 3 domain-size domain-positive 1 one-positive entry-count domains-counted)
     (λ v. counted-part 1 thread-size thread-positive 2 two-positive two-bytes threads-counted) (λ bs cs at next e same. refl)
 
 -- reading a tree is reading these parts
@@ -89,7 +89,7 @@ domains-read-reach bs =
       | no some ↦
           let long : 1 ≤ length bs - 0 = omega arith in
           rw (ne-eqb (length bs) 0 some, le-ltb (length bs - 0) 1 long)
-          (domains-reach bs (byte bs 0 - 1) 1 1 (replicate 64 0) (replicate 64 0))
+          (domains-reach bs (domain-count bs - 1) 1 1 (replicate 64 0) (replicate 64 0))
     ]
 
 threads-read-reach : (bs : List ℕ) (r : Reached) → threads-read bs r .reached ≡ onward r (threads-reader bs)

@@ -10,7 +10,7 @@ use borrow.Author.Tests.{ltb-false, leb-false, eqb-false}
 use Rattle.model.proofs.Tests.{by-test}
 use Rattle.lock_file.specs.declared.Reached.{Reached}
 use Rattle.lock_file.specs.declared.Reached.the-variants.{At, Ended, BadMap}
-use Rattle.lock_file.specs.Reading.{byte, two-bytes, field-end, entry-end, domain-size, domain-end, parent-at, threshold-at, stored, domains-at, domains-from, domains-read, thread-end, home-at, threads-from, threads-behind, threads-read, schedule-start, tree-read}
+use Rattle.lock_file.specs.Reading.{domain-count, byte, two-bytes, field-end, entry-end, domain-size, domain-end, parent-at, threshold-at, stored, domains-at, domains-from, domains-read, thread-end, home-at, threads-from, threads-behind, threads-read, schedule-start, tree-read}
 use Rattle.lock_file.proofs.Positions.{reached-cases, domain-then, domain-ended, domain-bad, thread-then, thread-ended, thread-bad}
 
 -- the position that reading came to, or the place of a bit map
@@ -71,10 +71,10 @@ domains-read-position : (bs : List ℕ) → position (domains-read bs .reached) 
 unfolding domains-read position
 domains-read-position bs =
     by-test (λ r. position (r .reached) ≤ length bs) (eqb (length bs) 0) (domains-at Ended (replicate 64 0) (replicate 64 0))
-    (domains-from bs (byte bs 0 - 1) 1 1 (replicate 64 0) (replicate 64 0)) (λ e. omega arith)
+    (domains-from bs (domain-count bs - 1) 1 1 (replicate 64 0) (replicate 64 0)) (λ e. omega arith)
     (λ e.
     let some : 1 ≤ length bs = positive (length bs) (eqb-false (length bs) 0 e) in
-    domains-position bs (byte bs 0 - 1) 1 1 (replicate 64 0) (replicate 64 0) some)
+    domains-position bs (domain-count bs - 1) 1 1 (replicate 64 0) (replicate 64 0) some)
   where
     positive : (n : ℕ) → (n ≡ 0 → ⊥) → 1 ≤ n
     positive zero h = absurd (h refl)

@@ -26,10 +26,10 @@ abbrev pub refuses : (number place : ℕ) → Reading → Bool
 refuses n p (refused r) = eqb (r .number) n && eqb (r .place) p
 refuses n p (described w is) = false
 
-abbrev pub gives : (domains threads : ℕ) → (parents thresholds homes schedule : List ℕ) → Reading → Bool
-gives d t ps hs ms js (refused r) = false
-gives d t ps hs ms js (described w is) =
-    eqb (w .domains) d && eqb (w .threads) t && same (w .parents) ps && same (w .thresholds) hs && same (w .homes) ms && same is js
+abbrev pub gives : (domains root threads : ℕ) → (parents thresholds homes schedule : List ℕ) → Reading → Bool
+gives d k t ps hs ms js (refused r) = false
+gives d k t ps hs ms js (described w is) =
+    eqb (w .domains) d && eqb (w .«ticket_root») k && eqb (w .threads) t && same (w .parents) ps && same (w .thresholds) hs && same (w .homes) ms && same is js
 
 -- schedule entries below 256, two bytes each
 abbrev pub pairs : List ℕ → List ℕ
@@ -57,7 +57,7 @@ plain d l h t = (suc d ∷ replicate d 0) ++ (l ∷ h ∷ replicate t 0)
 unfoldable pub cases : List Bool
 cases =
     -- the printed example: read, listed, and the buffer behind the listing as it came
-    gives 3 3 (replicate 64 0) (0 ∷ 2 ∷ 16 ∷ replicate 61 0) (1 ∷ 1 ∷ 2 ∷ replicate 253 0) (example-schedule ++ (2 ∷ [])) (file-read (example 2))
+    gives 3 0 3 (replicate 64 0) (0 ∷ 2 ∷ 16 ∷ replicate 61 0) (1 ∷ 1 ∷ 2 ∷ replicate 253 0) (example-schedule ++ (2 ∷ [])) (file-read (example 2))
     ∷ replies 0 0 22 (file-answer (example 2) (replicate 22 7))
     ∷ same (output-answer (example 2) (replicate 25 7)) (example-listing ++ (7 ∷ 7 ∷ 7 ∷ []))
     -- one byte too few for the listing
@@ -81,12 +81,20 @@ cases =
     ∷ replies 4 0 0 (file-answer (plain 64 1 0 1) [])
     ∷ replies 5 0 0 (file-answer (plain 0 1 1 257) [])
     ∷ refuses 3 259 (file-read (plain 0 1 1 256 ++ (2 ∷ [])))
-    ∷ gives 255 0 (replicate 64 0) (0 ∷ replicate 63 16) (replicate 256 0) (258 ∷ []) (file-read (plain 254 0 0 0 ++ (2 ∷ 1 ∷ [])))
+    ∷ gives 127 0 0 (replicate 64 0) (0 ∷ replicate 63 16) (replicate 256 0) (258 ∷ []) (file-read (plain 126 0 0 0 ++ (2 ∷ 1 ∷ [])))
+    -- 128 more in the first byte: a ticket root, and D is the rest
+    ∷ gives 127 1 0 (replicate 64 0) (0 ∷ replicate 63 16) (replicate 256 0) (258 ∷ []) (file-read ((255 ∷ replicate 126 0) ++ (0 ∷ 0 ∷ 2 ∷ 1 ∷ [])))
+    ∷ gives 2 1 1 (replicate 64 0) (0 ∷ 16 ∷ replicate 62 0) (1 ∷ replicate 255 0) [] (file-read (130 ∷ 0 ∷ 1 ∷ 0 ∷ 1 ∷ 1 ∷ []))
+    ∷ replies 4 0 0 (file-answer (128 ∷ 0 ∷ 0 ∷ []) [])
+    ∷ replies 4 0 0 (file-answer ((193 ∷ replicate 64 0) ++ (1 ∷ 0 ∷ 0 ∷ [])) [])
+    -- two threads at a ticket root, whose counters start at 0: "ok 8 2 3 2 0 0", then 0 and 1
+    ∷ same (output-answer (129 ∷ 2 ∷ 0 ∷ 0 ∷ 0 ∷ pairs (0 ∷ 1 ∷ 1 ∷ 1 ∷ 1 ∷ 0 ∷ 0 ∷ 1 ∷ [])) (replicate 19 0))
+    (111 ∷ 107 ∷ 32 ∷ 56 ∷ 32 ∷ 50 ∷ 32 ∷ 51 ∷ 32 ∷ 50 ∷ 32 ∷ 48 ∷ 32 ∷ 48 ∷ 10 ∷ 48 ∷ 10 ∷ 49 ∷ 10 ∷ [])
     -- D of 0 or 1 has no domain entry; without threads the rest is schedule
     ∷ replies 4 0 0 (file-answer (0 ∷ 0 ∷ 0 ∷ []) [])
     ∷ replies 5 0 0 (file-answer (1 ∷ 0 ∷ 0 ∷ 0 ∷ 0 ∷ []) [])
     -- the home of the thread before, even one that is no domain; 9 at the first
-    ∷ gives 1 3 (replicate 64 0) (replicate 64 0) (0 ∷ 9 ∷ 9 ∷ replicate 253 0) [] (file-read (1 ∷ 3 ∷ 0 ∷ 0 ∷ 1 ∷ 9 ∷ 0 ∷ []))
+    ∷ gives 1 0 3 (replicate 64 0) (replicate 64 0) (0 ∷ 9 ∷ 9 ∷ replicate 253 0) [] (file-read (1 ∷ 3 ∷ 0 ∷ 0 ∷ 1 ∷ 9 ∷ 0 ∷ []))
     ∷ replies 9 1 0 (file-answer (1 ∷ 3 ∷ 0 ∷ 0 ∷ 1 ∷ 9 ∷ 0 ∷ []) [])
     -- a leaf without threads, also where a schedule entry is no thread
     ∷ replies 16 2 0 (file-answer (3 ∷ 0 ∷ 0 ∷ 1 ∷ 0 ∷ 1 ∷ 1 ∷ 9 ∷ 0 ∷ []) [])

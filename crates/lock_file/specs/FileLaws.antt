@@ -88,7 +88,7 @@ pub record One-call (w : TreeWords) (schedule : List ℕ) : Type 0 where
   pub listed :
       file-run w schedule .number ≡ 0 →
       take (file-run w schedule .counts .entries) (trace-answer w fresh-words schedule (replicate (length schedule) 0)) ≡ file-trace w schedule
-  pub claimed : Claim (tree-of w) (file-call w schedule ∷ []) (joined (file-call w schedule ∷ []) fresh-words)
+  pub claimed : Claim (tree-of w) fresh-words (file-call w schedule ∷ []) (joined (file-call w schedule ∷ []) fresh-words)
 
 unfoldable pub File-claim-law : Type 0
-File-claim-law = (w : TreeWords) (schedule : List ℕ) → fresh-answer w .number ≡ 0 → One-call w schedule
+File-claim-law = (w : TreeWords) (schedule : List ℕ) → fresh-answer w 0 .number ≡ 0 → One-call w schedule

@@ -2,7 +2,7 @@
 use mathlib.Core.Path.{_≡_}
 use mathlib.Core.List.{List, [], _∷_, _++_}
 use mathlib.Core.Logic.{_⊎_}
-use Prim.Native.Nat.{ℕ, suc, _+_, _-_, _≤_, _<_}
+use Prim.Native.Nat.{ℕ, suc, _+_, _*_, _-_, _≤_, _<_}
 use lib.ListN.{length, getD}
 use Rattle.model.specs.declared.TreeWords.{TreeWords}
 use Rattle.lock_file.specs.Reading.{low-first}
@@ -52,14 +52,15 @@ pub record Full-room (w : TreeWords) : Type 0 where
   pub no-threshold : (d : ℕ) → (d ≡ 0) ⊎ (w .domains ≤ d) → getD (w .thresholds) d 0 ≡ 0
   pub no-home : (i : ℕ) → w .threads ≤ i → getD (w .homes) i 0 ≡ 0
 
--- D in a byte, the domains 1 to D − 1, T in two bytes, the threads 0 to T − 1, the schedule
+-- D in a byte, with 128 more for a ticket root, the domains 1 to D − 1, T in two bytes, the threads 0 to T − 1, the schedule
 pub record Describes (bytes : List ℕ) (w : TreeWords) (schedule : List ℕ) : Type 0 where
   pub domain-bytes : List ℕ
   pub low : ℕ
   pub high : ℕ
   pub thread-bytes : List ℕ
   pub schedule-bytes : List ℕ
-  pub joined : bytes ≡ w .domains ∷ (domain-bytes ++ (low ∷ high ∷ (thread-bytes ++ schedule-bytes)))
+  pub joined : bytes ≡ (w .domains + 128 * w .«ticket_root») ∷ (domain-bytes ++ (low ∷ high ∷ (thread-bytes ++ schedule-bytes)))
+  pub domains-counted : w .domains < 128
   pub threads-counted : w .threads ≡ low-first low high
   pub domains-given : Domain-entries (w .parents) (w .thresholds) 1 (w .domains - 1) domain-bytes
   pub threads-given : Thread-entries (w .homes) 0 (w .threads) 0 thread-bytes

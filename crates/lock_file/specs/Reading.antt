@@ -1,4 +1,4 @@
--- Document 01, "The lock file": reading it from left to right, with refusals 2 and 3. Assumes nothing: these are definitions.
+-- Document 01, "The lock file", with the kind of root of document 02, (xii): reading it from left to right, with refusals 2 and 3. Assumes nothing: these are definitions.
 use mathlib.Core.Bool.{cond}
 use mathlib.Core.List.{List, [], _∷_}
 use Prim.Native.Nat.{ℕ, zero, suc, _+_, _*_, _-_, _/_, _%_}
@@ -28,6 +28,13 @@ low-first l h = l + 256 * h
 
 abbrev pub two-bytes : (bytes : List ℕ) → (at : ℕ) → ℕ
 two-bytes bs at = low-first (byte bs at) (byte bs (at + 1))
+
+-- the first byte: D, and 128 more for a ticket root
+abbrev pub domain-count : (bytes : List ℕ) → ℕ
+domain-count bs = byte bs 0 % 128
+
+abbrev pub root-number : (bytes : List ℕ) → ℕ
+root-number bs = byte bs 0 / 128
 
 -- the bits of a bit map, each 0 or 1
 abbrev pub bit-0 : (map : ℕ) → ℕ
@@ -80,7 +87,7 @@ domains-from bs (suc k) d at ps hs =
 unfoldable pub domains-read : (bytes : List ℕ) → DomainsRead
 domains-read bs =
     cond (eqb (length bs) 0) (domains-at Ended (replicate 64 0) (replicate 64 0))
-    (domains-from bs (byte bs 0 - 1) 1 1 (replicate 64 0) (replicate 64 0))
+    (domains-from bs (domain-count bs - 1) 1 1 (replicate 64 0) (replicate 64 0))
 
 -- a thread's entry: a bit map, and if its bit 0 is set the home, one byte
 unfoldable pub thread-end : (bytes : List ℕ) → (at : ℕ) → Reached
@@ -135,11 +142,12 @@ tree-read bs =
       reached = schedule-start bs (threads .reached);
       tree =
           record {
-            domains = byte bs 0;
+            domains = domain-count bs;
             threads = thread-count bs (domains .reached);
             parents = domains .parents;
             thresholds = domains .thresholds;
             homes = threads .homes;
+            «ticket_root» = root-number bs;
           };
     }
 

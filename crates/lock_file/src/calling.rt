@@ -52,7 +52,7 @@ fn run_in(
 {
     let n = (file.len() - at) / 2;
     reading::read_schedule(file, at, n, schedule);
-    let fresh = lock::fresh_lock(tree);
+    let fresh = lock::fresh_lock(tree, 0);
     let state = fresh.state;
     let reply = lock::run_lock(tree, state, &schedule[..n], trace);
     answer_run(reply, trace, output)

@@ -1,6 +1,6 @@
 // Reading a lock file from left to right.
 ghost use mathlib.Core.Path.{_≡_};
-ghost use Prim.Native.Nat.{_+_, _*_, _-_, _<_, _≤_};
+ghost use Prim.Native.Nat.{_+_, _*_, _-_, _/_, _%_, _<_, _≤_};
 ghost use lib.Seq.{sets};
 ghost use lib.ListN.{length, replicate};
 ghost use Rattle.lock_file.specs.Reading.{byte, two-bytes, field-end, entry-end, domain-size, domain-end, parent-at, threshold-at, stored, domains-from, domains-read, thread-end, home-at, threads-from, threads-behind, threads-read, thread-count, schedule-start, tree-read, entries-from};
@@ -179,7 +179,8 @@ fn read_domains(file: &[u8]) -> DomainsRead
             thresholds: [0u16; 64],
         };
     }
-    read_domains_from(file, wide(byte_at(file, 0)))
+    let first = byte_at(file, 0);
+    read_domains_from(file, wide(first % 128))
 }
 
 fn thread_end_at(file: &[u8], at: usize) -> Reached
@@ -274,10 +275,18 @@ fn read_threads(file: &[u8], reached: Reached) -> ThreadsRead
     }
 }
 
+// D, in a first byte.
 fn domain_count_of(x: u8) -> u32
-    ensures { λ r. ⌜ r ≡ x ⌝ }
+    ensures { λ r. ⌜ r ≡ x % 128 ⌝ }
 {
-    x as u32
+    (x % 128) as u32
+}
+
+// The number that names the kind of root, in a first byte.
+fn root_number_of(x: u8) -> u32
+    ensures { λ r. ⌜ r ≡ x / 128 ⌝ }
+{
+    (x / 128) as u32
 }
 
 fn word_count(x: u16) -> u32
@@ -330,7 +339,9 @@ pub(crate) fn read_tree(file: &[u8]) -> TreeRead
     let ts = read_threads(file, behind_domains);
     let behind_threads = ts.reached;
     let homes = ts.homes;
-    let domains = domain_count_of(byte_at(file, 0));
+    let first = byte_at(file, 0);
+    let domains = domain_count_of(first);
+    let ticket_root = root_number_of(first);
     let threads = thread_count_of(file, behind_domains);
     let reached = schedule_start_of(file, behind_threads);
     let tree = TreeWords {
@@ -339,6 +350,7 @@ pub(crate) fn read_tree(file: &[u8]) -> TreeRead
         parents,
         thresholds,
         homes,
+        ticket_root,
     };
     TreeRead { reached, tree }
 }

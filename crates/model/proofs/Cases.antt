@@ -1,23 +1,23 @@
 -- The cases of the table hold, and the allowance is reached. Assumes nothing.
 use mathlib.Core.Path.{_≡_, refl}
 use mathlib.Core.Bool.{true}
-use Rattle.model.specs.Scans.{any-below, all-below, largest-below}
-use Rattle.model.specs.Trees.{read-word, tree-of, is-child, is-leaf, depth-from, depth, level, meets, on-path, child-from, child, own-record, is-record, is-member, owner-domain, under, domain-allowance, allowance}
-use Rattle.model.specs.Places.{plain-place, place-of, is-idle, is-inside}
-use Rattle.model.specs.States.{fresh-words}
-use Rattle.model.specs.Steps.{is-kind, is-entry, prep-row, swap-row, link-row, wait-row, leave-row, check-row, help-row, cas-row, linger-row, grant-row, row, step}
+use Rattle.model.specs.Scans.{any-below, all-below, largest-below, filter-below}
+use Rattle.model.specs.Trees.{read-word, tree-of, is-ticket, is-child, is-leaf, depth-from, depth, level, meets, on-path, child-from, child, own-record, is-record, is-member, owner-domain, under, domain-allowance, allowance}
+use Rattle.model.specs.Places.{bare-place, plain-place, place-of, is-idle, is-inside, is-watch}
+use Rattle.model.specs.States.{fresh-words, fresh-state}
+use Rattle.model.specs.Steps.{is-kind, is-entry, prep-row, swap-row, link-row, wait-row, leave-row, check-row, help-row, cas-row, linger-row, grant-row, draw-row, watch-row, is-watched, shown-members, raise-row, row, step}
 use Rattle.model.specs.Runs.{steps, state-after, how-many, entering, counts-of, run-of, run, begun-in, ended-in, begun, ended, entries-under, occurrences}
-use Rattle.model.specs.WellFormed.{good-tail, good-next, good-status, good-place, good-thread, well-formed}
+use Rattle.model.specs.WellFormed.{good-tail, good-next, good-status, queue-on-path, good-place, good-watch, good-thread, good-counters, well-formed}
 use Rattle.model.specs.Refusals.{refusal, accepted, lowest-bad, first-refusal, bad-domains, bad-threads, bad-parent, too-deep, no-threshold, bad-home, empty-domain, tree-tests, bad-state, bad-length, bad-entry, bad-room, step-tests, run-tests, tree-refusal, step-refusal, run-refusal}
 use Rattle.model.specs.Answers.{fresh-answer, first-kind, first-domain, step-reply, step-answer, run-reply, run-buffer, run-answer, trace-answer}
-use Rattle.model.specs.Cases.{padded, tree, count-up, ok, refused, passes, two-homes, first-entries, root-alone, two-in-root, one-home, three-levels, four-levels, cases, same-numbers, place-numbers, same-state, gives, same-counts, kept, run-holds, holds, all-hold, three-homes, until-standing, while-standing, allowance-reached}
+use Rattle.model.specs.Cases.{padded, tree, count-up, ok, refused, passes, two-homes, first-entries, root-alone, two-in-root, one-home, three-levels, four-levels, cases, counters, same-numbers, place-numbers, same-state, gives, same-counts, kept, run-holds, holds, all-hold, three-homes, until-standing, while-standing, allowance-reached}
 
 -- each line is computed
 pub cases-hold : all-hold cases ≡ true
-unfolding any-below all-below read-word tree-of is-child is-leaf depth-from depth level meets on-path child-from child own-record is-record is-member owner-domain under plain-place place-of is-idle is-inside fresh-words is-kind is-entry prep-row swap-row link-row wait-row leave-row check-row help-row cas-row linger-row grant-row row step steps state-after how-many entering counts-of run-of run good-tail good-next good-status good-place good-thread well-formed refusal accepted lowest-bad first-refusal bad-domains bad-threads bad-parent too-deep no-threshold bad-home empty-domain tree-tests bad-state bad-length bad-entry bad-room step-tests run-tests tree-refusal step-refusal run-refusal fresh-answer first-kind first-domain step-reply step-answer run-reply run-buffer run-answer trace-answer padded tree count-up ok refused passes two-homes first-entries root-alone two-in-root one-home three-levels four-levels cases same-numbers place-numbers same-state gives same-counts kept run-holds holds all-hold
+unfolding any-below filter-below all-below read-word tree-of is-ticket is-child is-leaf depth-from depth level meets on-path child-from child own-record is-record is-member owner-domain under bare-place plain-place place-of is-watch is-idle is-inside fresh-words fresh-state is-kind is-entry prep-row swap-row link-row wait-row leave-row check-row help-row cas-row linger-row grant-row draw-row watch-row is-watched shown-members raise-row row step steps state-after how-many entering counts-of run-of run good-tail good-next good-status queue-on-path good-place good-watch good-thread good-counters well-formed refusal accepted lowest-bad first-refusal bad-domains bad-threads bad-parent too-deep no-threshold bad-home empty-domain tree-tests bad-state bad-length bad-entry bad-room step-tests run-tests tree-refusal step-refusal run-refusal fresh-answer first-kind first-domain step-reply step-answer run-reply run-buffer run-answer trace-answer padded tree count-up ok refused passes counters two-homes first-entries root-alone two-in-root one-home three-levels four-levels cases same-numbers place-numbers same-state gives same-counts kept run-holds holds all-hold
 cases-hold = refl
 
 -- the threads under domain 1 enter as often as its allowance says, while domain 2 stands ungranted
 pub reached : allowance-reached ≡ true
-unfolding any-below largest-below read-word tree-of is-child is-leaf meets on-path child-from child own-record under domain-allowance allowance plain-place place-of fresh-words is-entry prep-row swap-row link-row wait-row leave-row check-row help-row cas-row linger-row grant-row row step steps state-after begun-in ended-in begun ended entries-under occurrences padded tree same-numbers three-homes until-standing while-standing allowance-reached
+unfolding any-below filter-below largest-below read-word tree-of is-ticket is-child is-leaf meets on-path child-from child own-record under domain-allowance allowance bare-place plain-place place-of is-watch fresh-words fresh-state is-entry prep-row swap-row link-row wait-row leave-row check-row help-row cas-row linger-row grant-row draw-row watch-row is-watched shown-members raise-row row step steps state-after begun-in ended-in begun ended entries-under occurrences padded tree same-numbers three-homes until-standing while-standing allowance-reached
 reached = refl

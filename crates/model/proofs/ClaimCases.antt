@@ -7,13 +7,13 @@ use native.Mathlib.Omega.{arith}
 use lib.Dec.{eqb}
 use lib.ListN.{length, getD}
 use Rattle.model.specs.declared.State.{State}
-use Rattle.model.specs.Scans.{any-below, all-below, largest-below}
-use Rattle.model.specs.Trees.{Tree, read-word, tree-of, is-child, is-leaf, depth-from, depth, level, meets, on-path, child-from, child, own-record, is-record, is-member, owner-domain, under, domain-allowance, allowance}
-use Rattle.model.specs.Places.{plain-place, place-of, is-idle}
-use Rattle.model.specs.States.{fresh-words}
-use Rattle.model.specs.Steps.{is-kind, is-entry, prep-row, swap-row, link-row, wait-row, leave-row, check-row, help-row, cas-row, linger-row, grant-row, row, step}
+use Rattle.model.specs.Scans.{any-below, all-below, largest-below, filter-below}
+use Rattle.model.specs.Trees.{Tree, read-word, tree-of, is-ticket, is-child, is-leaf, depth-from, depth, level, meets, on-path, child-from, child, own-record, is-record, is-member, owner-domain, under, domain-allowance, allowance}
+use Rattle.model.specs.Places.{bare-place, plain-place, place-of, is-idle, is-watch}
+use Rattle.model.specs.States.{fresh-words, fresh-state}
+use Rattle.model.specs.Steps.{is-kind, is-entry, prep-row, swap-row, link-row, wait-row, leave-row, check-row, help-row, cas-row, linger-row, grant-row, draw-row, watch-row, is-watched, shown-members, raise-row, row, step}
 use Rattle.model.specs.Runs.{Run, steps, state-after, how-many, entering, counts-of, run-of, run, begun-in, ended-in, begun, ended, entries-under, occurrences}
-use Rattle.model.specs.WellFormed.{good-tail, good-next, good-status, good-place, good-thread, well-formed}
+use Rattle.model.specs.WellFormed.{good-tail, good-next, good-status, queue-on-path, good-place, good-watch, good-thread, good-counters, well-formed}
 use Rattle.model.specs.Refusals.{Refusal, refusal, accepted, lowest-bad, first-refusal, bad-domains, bad-threads, bad-parent, too-deep, no-threshold, bad-home, empty-domain, tree-tests, bad-state, bad-length, bad-entry, bad-room, step-tests, run-tests, tree-refusal, step-refusal, run-refusal}
 use Rattle.model.specs.Answers.{fresh-answer, step-reply, step-answer, run-reply, run-buffer, run-answer, trace-answer}
 use Rattle.model.specs.Laws.{Unread-law}
@@ -25,7 +25,7 @@ use Rattle.model.proofs.Laws.Unread.{unread-law}
 use Rattle.model.proofs.Claims.Demand.{demand-three}
 
 pub allowances-reached : Allowances-reached
-unfolding any-below largest-below read-word tree-of is-child is-leaf meets on-path child-from child own-record is-member under domain-allowance allowance plain-place place-of fresh-words is-entry prep-row swap-row link-row wait-row leave-row check-row help-row cas-row linger-row grant-row row step steps state-after run-of run begun-in ended-in begun ended entries-under occurrences padded tree same-numbers reaches one-leaf thread-allowance-reached two-leaves-below until-leaf-stands while-leaf-stands inner-allowance-reached Allowances-reached
+unfolding any-below filter-below largest-below read-word tree-of is-ticket is-child is-leaf meets on-path child-from child own-record is-member under domain-allowance allowance bare-place plain-place place-of is-watch fresh-words fresh-state is-entry prep-row swap-row link-row wait-row leave-row check-row help-row cas-row linger-row grant-row draw-row watch-row is-watched shown-members raise-row row step steps state-after run-of run begun-in ended-in begun ended entries-under occurrences padded tree same-numbers reaches one-leaf thread-allowance-reached two-leaves-below until-leaf-stands while-leaf-stands inner-allowance-reached Allowances-reached
 allowances-reached = (refl, refl)
 
 -- what holds of 0, 1 and 2 holds below 3
@@ -44,6 +44,7 @@ same-tree =
       parents = λ d p s. below-three (λ d. 0 < d → getD (two-homes-again .parents) d 0 ≡ getD (two-homes .parents) d 0) (λ p. absurd (omega arith)) (λ p. refl) (λ p. refl) d s p;
       thresholds = λ d p s. below-three (λ d. 0 < d → getD (two-homes-again .thresholds) d 0 ≡ getD (two-homes .thresholds) d 0) (λ p. absurd (omega arith)) (λ p. refl) (λ p. refl) d s p;
       homes = λ i s. below-three (λ i. getD (two-homes-again .homes) i 0 ≡ getD (two-homes .homes) i 0) refl refl refl i s;
+      root = (λ e. refl, λ e. refl);
     })
 
 -- FROM THE REFUSALS THAT A LIST IS ANSWERED WITH, its names and its schedule
@@ -80,7 +81,7 @@ abbrev mixed-refusals : List Refusal
 mixed-refusals = accepted ∷ refusal 4 0 ∷ accepted ∷ refusal 12 1 ∷ accepted ∷ accepted ∷ []
 
 refused : refusals-in (answers mixed-calls fresh-words) ≡ mixed-refusals
-unfolding any-below all-below read-word tree-of is-child is-leaf depth-from depth level meets on-path child-from child own-record is-record is-member owner-domain under plain-place place-of is-idle fresh-words is-kind is-entry prep-row swap-row link-row wait-row leave-row check-row help-row cas-row linger-row grant-row row step steps state-after how-many entering counts-of run-of run good-tail good-next good-status good-place good-thread well-formed refusal accepted lowest-bad first-refusal bad-domains bad-threads bad-parent too-deep no-threshold bad-home empty-domain tree-tests bad-state bad-length bad-entry bad-room step-tests run-tests tree-refusal step-refusal run-refusal fresh-answer step-reply step-answer run-reply run-buffer run-answer trace-answer padded tree count-up two-homes state-in answer-to answer answers too-many-domains two-homes-again mixed-calls refusal-in refusals-in
+unfolding any-below filter-below all-below read-word tree-of is-ticket is-child is-leaf depth-from depth level meets on-path child-from child own-record is-record is-member owner-domain under bare-place plain-place place-of is-watch is-idle fresh-words fresh-state is-kind is-entry prep-row swap-row link-row wait-row leave-row check-row help-row cas-row linger-row grant-row draw-row watch-row is-watched shown-members raise-row row step steps state-after how-many entering counts-of run-of run good-tail good-next good-status queue-on-path good-place good-watch good-thread good-counters well-formed refusal accepted lowest-bad first-refusal bad-domains bad-threads bad-parent too-deep no-threshold bad-home empty-domain tree-tests bad-state bad-length bad-entry bad-room step-tests run-tests tree-refusal step-refusal run-refusal fresh-answer step-reply step-answer run-reply run-buffer run-answer trace-answer padded tree count-up two-homes state-in answer-to answer answers too-many-domains two-homes-again mixed-calls refusal-in refusals-in
 refused = refl
 
 named : Names-by (tree-of two-homes) mixed-calls mixed-refusals
@@ -94,17 +95,22 @@ schedule : joined mixed-calls fresh-words ≡ mixed-schedule
 unfolding joined-by mixed-calls asked-entries mixed-schedule refusal accepted
 schedule = joined-same mixed-calls fresh-words ∙ ap (joined-by mixed-calls) refused
 
-fresh-accepted : fresh-answer two-homes .number ≡ 0
-unfolding any-below read-word tree-of is-child is-leaf depth-from depth level meets on-path under refusal accepted lowest-bad first-refusal bad-domains bad-threads bad-parent too-deep no-threshold bad-home empty-domain tree-tests tree-refusal fresh-answer padded tree two-homes
+fresh-accepted : fresh-answer two-homes 0 .number ≡ 0
+unfolding any-below filter-below read-word tree-of is-ticket is-child is-leaf depth-from depth level meets on-path under refusal accepted lowest-bad first-refusal bad-domains bad-threads bad-parent too-deep no-threshold bad-home empty-domain tree-tests tree-refusal fresh-answer padded tree two-homes
 fresh-accepted = refl
 
+-- at a queue root a fresh state is 0 throughout
+fresh-zero : fresh-answer two-homes 0 .state ≡ fresh-words
+unfolding fresh-answer fresh-state fresh-words tree-of two-homes tree
+fresh-zero = refl
+
 pub refused-calls-allowed : Refused-calls-allowed
-unfolding Demand-three fresh-answer
+unfolding Demand-three
 refused-calls-allowed =
     record {
       fresh = fresh-accepted;
       names = names;
       refused = refused;
       schedule = schedule;
-      claim = rw schedule at (demand-three two-homes mixed-calls fresh-accepted names);
+      claim = rw (fresh-zero, schedule) at (demand-three two-homes 0 mixed-calls fresh-accepted (rw fresh-zero names));
     }

@@ -10,3 +10,4 @@ pub mod Kinds
 pub mod Words
 pub mod Unread
 pub mod Search
+pub mod Root

@@ -5,6 +5,7 @@ pub mod Places
 pub mod Trees
 pub mod Laws
 pub mod Cases
+pub mod TicketCases
 pub mod Queues
 pub mod Words
 pub mod Claims

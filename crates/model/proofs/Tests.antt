@@ -1,11 +1,12 @@
 -- From tests to facts: connectives and scans. Assumes nothing.
-use mathlib.Core.Path.{_≡_, refl}
+use mathlib.Core.Path.{_≡_, refl, sym}
+use mathlib.Core.List.{List, [], _∷_, _++_}
 use mathlib.Core.Bool.{Bool, true, false, _&&_, _||_, cond, false≢true, true≢false}
-use mathlib.Core.Logic.{_⊎_, inl, inr}
+use mathlib.Core.Logic.{_≢_, _⊎_, inl, inr}
 use Prim.Native.Nat.{ℕ, zero, suc, _≤_, _<_}
 use native.Mathlib.Omega.{arith}
 use native.Mathlib.Decide.{ℕ-discrete}
-use Rattle.model.specs.Scans.{any-below, all-below, largest-below}
+use Rattle.model.specs.Scans.{any-below, all-below, largest-below, filter-below}
 
 pub and-both : (a b : Bool) → a && b ≡ true → (a ≡ true) × (b ≡ true)
 and-both true b e = (refl, e)
@@ -86,3 +87,19 @@ all-true (suc n) f h = rw (all-true n f (λ j l. h j (omega arith)), h n (omega 
 pub by-test : {A : Type 0} (P : A → Type 0) (b : Bool) (x y : A) → (b ≡ true → P x) → (b ≡ false → P y) → P (cond b x y)
 by-test P true x y f g = f refl
 by-test P false x y f g = g refl
+
+-- the numbers that pass: none of them, or one
+pub filter-none : (n : ℕ) (f : ℕ → Bool) → ((j : ℕ) → j < n → f j ≡ false) → filter-below n f ≡ []
+unfolding filter-below
+filter-none zero f h = refl
+filter-none (suc n) f h = rw (filter-none n f (λ j b. h j (omega arith)), h n (omega arith))
+
+pub filter-one :
+    (n : ℕ) (f : ℕ → Bool) (k : ℕ) → k < n → f k ≡ true → ((j : ℕ) → j < n → j ≢ k → f j ≡ false) → filter-below n f ≡ k ∷ []
+unfolding filter-below
+filter-one zero f k b e h = absurd (omega arith)
+filter-one (suc n) f k b e h =
+    elim (ℕ-discrete k n) [
+      | yes z ↦ let e′ : f n ≡ true = rw z at e in rw (filter-none n f (λ j c. h j (omega arith) (λ y. omega arith)), e′, z)
+      | no z ↦ rw (filter-one n f k (omega arith) e (λ j c. h j (omega arith)), h n (omega arith) (λ y. z (sym y)))
+    ]

@@ -2,11 +2,14 @@
 pub mod Links
 pub mod View
 pub mod Represents
+pub mod Tickets
 pub mod Frame
 pub mod Joining
 pub mod Releasing
 pub mod Granting
 pub mod Outcome
 pub mod Acquiring
+pub mod Drawing
+pub mod Raising
 pub mod Leaving
 pub mod Steps

@@ -1,9 +1,9 @@
--- Document 01's "a thread acts for its record at a domain". Assumes nothing: these are definitions.
+-- Document 01's "a thread acts for its record at a domain"; watching and raising at a ticket root are acting there. Assumes nothing: these are definitions.
 use mathlib.Core.Bool.{Bool, true, false, _&&_, _||_, not, cond}
 use Prim.Native.Nat.{ℕ}
 use lib.Dec.{eqb, ltb, leb}
 use Rattle.model.specs.declared.Place.{Place}
-use Rattle.model.specs.declared.Place.the-variants.{Idle, Prep, Swap, Link, Wait, Inside, Check, Help, Cas, Linger, Grant, Invalid}
+use Rattle.model.specs.declared.Place.the-variants.{Idle, Prep, Swap, Link, Wait, Inside, Check, Help, Cas, Linger, Grant, Draw, Watch, Raise, Invalid}
 use Rattle.model.specs.declared.State.{State}
 use Rattle.model.specs.Trees.{Tree, on-path, own-record}
 use Rattle.model.specs.States.{acquire-parent, locked, status, place}
@@ -25,6 +25,9 @@ acts-at t s i (Help l) d = leb l d
 acts-at t s i (Cas l) d = leb l d
 acts-at t s i (Linger l) d = leb l d
 acts-at t s i (Grant l r w) d = leb l d || ltb w acquire-parent
+acts-at t s i Draw d = ltb 0 d
+acts-at t s i Watch d = true
+acts-at t s i Raise d = true
 acts-at t s i Invalid d = false
 
 -- thread i acts for its record at domain d, which is on its path

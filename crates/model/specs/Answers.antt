@@ -11,16 +11,17 @@ use Rattle.model.specs.declared.FreshReply.{FreshReply}
 use Rattle.model.specs.declared.StepReply.{StepReply}
 use Rattle.model.specs.declared.RunReply.{RunReply}
 use Rattle.model.specs.Trees.{tree-of}
-use Rattle.model.specs.States.{fresh-words}
+use Rattle.model.specs.States.{fresh-state}
 use Rattle.model.specs.Steps.{kind-number, Step}
 use Rattle.model.specs.Runs.{steps, state-after, Run, run}
 use Rattle.model.specs.Refusals.{Refusal, tree-refusal, step-refusal, run-refusal}
 
--- a fresh call returns the fresh words, accepted or refused
-unfoldable pub fresh-answer : TreeWords → FreshReply
-fresh-answer w =
+-- a fresh call returns a fresh state, accepted or refused; the start that it is given is 0 where it is refused
+unfoldable pub fresh-answer : TreeWords → (start : ℕ) → FreshReply
+fresh-answer w v =
     let r = tree-refusal (tree-of w) in
-    record { number = r .number; place = r .place; state = fresh-words }
+    let first = cond (eqb (r .number) 0) v 0 in
+    record { number = r .number; place = r .place; state = fresh-state (tree-of w) first }
 
 -- the number of the first step's kind, and its domain
 unfoldable pub first-kind : List Step → ℕ

@@ -10,7 +10,7 @@ use Rattle.model.specs.declared.Place.the-variants.{Idle, Prep, Swap, Wa
 use Rattle.model.specs.declared.State.{State}
 use Rattle.model.specs.declared.Counts.{Counts}
 use Rattle.model.specs.Trees.{tree-of, allowance}
-use Rattle.model.specs.States.{wait-word, locked, fresh-words, with-tail, with-next, with-status, with-place}
+use Rattle.model.specs.States.{wait-word, locked, fresh-words, with-tail, with-next, with-status, with-place, with-ticket, with-grant}
 use Rattle.model.specs.Runs.{steps, state-after, begun, ended, entries-under, occurrences}
 use Rattle.model.specs.Answers.{no-counts, fresh-answer, step-answer, run-answer, trace-answer}
 
@@ -19,7 +19,19 @@ unfoldable pub padded : (room : ℕ) → List ℕ → List ℕ
 padded n xs = xs ++ replicate (n - length xs) 0
 
 unfoldable pub tree : (domains threads : ℕ) → (parents thresholds homes : List ℕ) → TreeWords
-tree d t ps hs is = record { domains = d; threads = t; parents = padded 64 ps; thresholds = padded 64 hs; homes = padded 256 is }
+tree d t ps hs is = record { domains = d; threads = t; parents = padded 64 ps; thresholds = padded 64 hs; homes = padded 256 is; «ticket_root» = 0 }
+
+-- the same with a ticket lock at its root
+unfoldable pub at-ticket-root : TreeWords → TreeWords
+at-ticket-root w =
+    record {
+      domains = w .domains;
+      threads = w .threads;
+      parents = w .parents;
+      thresholds = w .thresholds;
+      homes = w .homes;
+      «ticket_root» = 1;
+    }
 
 -- as many numbers from one on, each one more
 unfoldable pub count-up : (from many : ℕ) → List ℕ
@@ -45,7 +57,10 @@ passes = ok 0 0 0 0 0 0 []
 
 -- THE TABLE'S LINES. What a fresh call of a tree, a step in a state, and a run in a state with a trace buffer as long as the schedule are expected to answer
 pub data Case : Type 0 where
+  -- a fresh call that is given a start, where none is taken: the state is 0 throughout
   fresh-call : TreeWords → Expected → Case
+  -- an accepted fresh call with a start, and what both counters are then
+  fresh-starts : TreeWords → (start counters : ℕ) → Case
   -- a refused step, which tells kind 0 and domain 0
   step-call : TreeWords → State → (thread : ℕ) → Expected → Case
   -- an accepted step, with the number of its kind, the domain it was at and the whole state after it
@@ -164,10 +179,15 @@ unfoldable pub place-numbers : List PlaceWords → List ℕ
 place-numbers [] = []
 place-numbers (p ∷ ps) = p .row ∷ p .domain ∷ p .peer ∷ p .word ∷ place-numbers ps
 
+-- both counters of a ticket lock
+unfoldable pub counters : (ticket grant : ℕ) → State → State
+counters a b s = with-grant b (with-ticket a s)
+
 unfoldable pub same-state : State → State → Bool
 same-state a b =
     (same-numbers (a .tails) (b .tails) && same-numbers (a .nexts) (b .nexts))
-    && (same-numbers (a .statuses) (b .statuses) && same-numbers (place-numbers (a .places)) (place-numbers (b .places)))
+    && ((same-numbers (a .statuses) (b .statuses) && same-numbers (place-numbers (a .places)) (place-numbers (b .places)))
+    && (eqb (a .ticket) (b .ticket) && eqb (a .grant) (b .grant)))
 
 unfoldable pub gives : (number place : ℕ) → Expected → Bool
 gives n p x = eqb n (x .number) && eqb p (x .place)
@@ -190,7 +210,10 @@ run-holds w s is b x =
     && (kept (x .number) s (r .state) && same-numbers (trace-answer w s is b) (x .trace ++ drop (length (x .trace)) b))
 
 unfoldable pub holds : Case → Bool
-holds (fresh-call w x) = let r = fresh-answer w in gives (r .number) (r .place) x && same-state (r .state) fresh-words
+holds (fresh-call w x) = let r = fresh-answer w 7 in gives (r .number) (r .place) x && same-state (r .state) fresh-words
+holds (fresh-starts w v c) =
+    let r = fresh-answer w v in
+    (eqb (r .number) 0 && eqb (r .place) 0) && same-state (r .state) (counters c c fresh-words)
 holds (step-call w s i x) =
     let r = step-answer w s i in
     (gives (r .number) (r .place) x && kept (x .number) s (r .state)) && (eqb (r .kind) 0 && eqb (r .domain) 0)

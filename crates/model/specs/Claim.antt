@@ -12,7 +12,7 @@ use Rattle.model.specs.declared.StepReply.{StepReply}
 use Rattle.model.specs.declared.RunReply.{RunReply}
 use Rattle.model.specs.Trees.{Tree, tree-of, is-member, allowance}
 use Rattle.model.specs.declared.Place.the-variants.{Inside}
-use Rattle.model.specs.States.{place, fresh-words}
+use Rattle.model.specs.States.{place}
 use Rattle.model.specs.Steps.{begins, Step}
 use Rattle.model.specs.Runs.{steps, run-of, run, begun, ended, entries-under, occurrences}
 use Rattle.model.specs.Refusals.{Refusal, step-refusal, run-refusal}
@@ -75,57 +75,58 @@ unfoldable pub Names : Tree → List Call → State → Type 0
 Names t [] s = Unit {0}
 Names t (c ∷ cs) s = (call-refusal c s .number ≡ 0 → tree-of (c .tree) ≡ t) × Names t cs (state-in (answer c s))
 
--- WHAT IS EXPECTED, worked out from the step table over a schedule from fresh alone: no state is handed in
+-- WHAT IS EXPECTED, worked out from the step table over a schedule from the fresh state alone: no other state is handed in
 -- the step table's state behind the first k entries
-unfoldable pub state-at : Tree → (schedule : List ℕ) → (k : ℕ) → State
-state-at t S k = run t (take k S) fresh-words .state
+unfoldable pub state-at : Tree → (fresh : State) → (schedule : List ℕ) → (k : ℕ) → State
+state-at t f S k = run t (take k S) f .state
 
 -- the steps of the stretch of n entries behind the first k
-unfoldable pub stretch : Tree → (schedule : List ℕ) → (k n : ℕ) → List Step
-stretch t S k n = take n (drop k (steps t S fresh-words))
+unfoldable pub stretch : Tree → (fresh : State) → (schedule : List ℕ) → (k n : ℕ) → List Step
+stretch t f S k n = take n (drop k (steps t S f))
 
 -- a call at that point: refused or not by the table's state there; accepted, what the table gives over its stretch
-unfoldable pub expected-ask : Tree → (schedule : List ℕ) → (k : ℕ) → (named : Tree) → Ask → Answer
-expected-ask t S k u (one-step i) = stepped (step-reply (step-refusal u (state-at t S k) i) (state-at t S k) (stretch t S k 1))
-expected-ask t S k u (a-run is b) =
-    let r = run-refusal u (state-at t S k) is (length b) in
-    let x = run-of (state-at t S k) (stretch t S k (length is)) in
-    ran (run-reply r (state-at t S k) x) (run-buffer r b x)
+unfoldable pub expected-ask : Tree → (fresh : State) → (schedule : List ℕ) → (k : ℕ) → (named : Tree) → Ask → Answer
+expected-ask t f S k u (one-step i) = stepped (step-reply (step-refusal u (state-at t f S k) i) (state-at t f S k) (stretch t f S k 1))
+expected-ask t f S k u (a-run is b) =
+    let r = run-refusal u (state-at t f S k) is (length b) in
+    let x = run-of (state-at t f S k) (stretch t f S k (length is)) in
+    ran (run-reply r (state-at t f S k) x) (run-buffer r b x)
 
-unfoldable pub expected : Tree → (schedule : List ℕ) → (k : ℕ) → Call → Answer
-expected t S k c = expected-ask t S k (tree-of (c .tree)) (c .ask)
+unfoldable pub expected : Tree → (fresh : State) → (schedule : List ℕ) → (k : ℕ) → Call → Answer
+expected t f S k c = expected-ask t f S k (tree-of (c .tree)) (c .ask)
 
-unfoldable pub expected-answers : Tree → (schedule : List ℕ) → (k : ℕ) → List Call → List Answer
-expected-answers t S k [] = []
-expected-answers t S k (c ∷ cs) = expected t S k c ∷ expected-answers t S (k + length (added c (state-at t S k))) cs
+unfoldable pub expected-answers : Tree → (fresh : State) → (schedule : List ℕ) → (k : ℕ) → List Call → List Answer
+expected-answers t f S k [] = []
+expected-answers t f S k (c ∷ cs) = expected t f S k c ∷ expected-answers t f S (k + length (added c (state-at t f S k))) cs
 
 -- each accepted call's own entries are its stretch of the schedule
-unfoldable pub Stretches : Tree → (schedule : List ℕ) → (k : ℕ) → List Call → Type 0
-Stretches t S k [] = k ≡ length S
-Stretches t S k (c ∷ cs) =
-    let own = added c (state-at t S k) in
-    (take (length own) (drop k S) ≡ own) × Stretches t S (k + length own) cs
+unfoldable pub Stretches : Tree → (fresh : State) → (schedule : List ℕ) → (k : ℕ) → List Call → Type 0
+Stretches t f S k [] = k ≡ length S
+Stretches t f S k (c ∷ cs) =
+    let own = added c (state-at t f S k) in
+    (take (length own) (drop k S) ≡ own) × Stretches t f S (k + length own) cs
 
 pub record Prefix (xs ys : List ℕ) : Type 0 where
   pub remainder : List ℕ
   pub joins : xs ++ remainder ≡ ys
 
--- THE CLAIM, of a list of calls on a fresh lock of tree t, where S is the list's schedule
-pub record Claim (t : Tree) (cs : List Call) (S : List ℕ) : Type 0 where
+-- THE CLAIM, of a list of calls on a fresh lock of tree t, where f is its state and S the list's schedule
+pub record Claim (t : Tree) (f : State) (cs : List Call) (S : List ℕ) : Type 0 where
   -- each call gives what the refusals and the step table give at that point of the whole schedule
-  pub each : answers cs fresh-words ≡ expected-answers t S 0 cs
-  pub stretches : Stretches t S 0 cs
+  pub each : answers cs f ≡ expected-answers t f S 0 cs
+  pub stretches : Stretches t f S 0 cs
   -- after every schedule entry at most one thread is at Inside, over all room: two at Inside are the same thread
-  pub alone : (k i j : ℕ) → place (state-at t S k) i ≡ Inside → place (state-at t S k) j ≡ Inside → i ≡ j
+  pub alone : (k i j : ℕ) → place (state-at t f S k) i ≡ Inside → place (state-at t f S k) j ≡ Inside → i ≡ j
   -- in each domain, after every entry: the members at the ends of standing ungranted are a prefix of those at its beginnings
-  pub in-order : (k d : ℕ) → Prefix (ended d (take k (steps t S fresh-words))) (begun d (take k (steps t S fresh-words)))
+  pub in-order : (k d : ℕ) → Prefix (ended d (take k (steps t S f))) (begun d (take k (steps t S f)))
   -- for two different members of a domain, while m stands ungranted, also where the list ends first: the entries of threads under q are at most its allowance
   pub bounded :
-      (before meanwhile later : List Step) (x : Step) (m q : ℕ) → steps t S fresh-words ≡ before ++ (x ∷ (meanwhile ++ later)) →
+      (before meanwhile later : List Step) (x : Step) (m q : ℕ) → steps t S f ≡ before ++ (x ∷ (meanwhile ++ later)) →
       x .standing ≡ begins m → occurrences m (ended (x .domain) meanwhile) ≡ 0 → is-member t (x .domain) q ≡ true → q ≢ m →
       entries-under t q meanwhile ≤ allowance t q
 
+-- for both kinds of root, and whatever start the fresh call is given
 unfoldable pub Demand-three : Type 0
 Demand-three =
-    (w : TreeWords) (cs : List Call) → fresh-answer w .number ≡ 0 → Names (tree-of w) cs (fresh-answer w .state) →
-    Claim (tree-of w) cs (joined cs (fresh-answer w .state))
+    (w : TreeWords) (start : ℕ) (cs : List Call) → fresh-answer w start .number ≡ 0 → Names (tree-of w) cs (fresh-answer w start .state) →
+    Claim (tree-of w) (fresh-answer w start .state) cs (joined cs (fresh-answer w start .state))

@@ -89,10 +89,10 @@ refusals-in (a ∷ rest) = refusal-in a ∷ refusals-in rest
 
 -- the fresh call is accepted, the list names its tree, some of the calls are refused, the list's schedule is that of the others, and the claim holds of it
 pub record Refused-calls-allowed : Type 0 where
-  pub fresh : fresh-answer two-homes .number ≡ 0
+  pub fresh : fresh-answer two-homes 0 .number ≡ 0
   pub names : Names (tree-of two-homes) mixed-calls fresh-words
   pub refused :
       refusals-in (answers mixed-calls fresh-words)
       ≡ accepted ∷ refusal 4 0 ∷ accepted ∷ refusal 12 1 ∷ accepted ∷ accepted ∷ []
   pub schedule : joined mixed-calls fresh-words ≡ mixed-schedule
-  pub claim : Claim (tree-of two-homes) mixed-calls mixed-schedule
+  pub claim : Claim (tree-of two-homes) fresh-words mixed-calls mixed-schedule

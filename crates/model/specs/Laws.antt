@@ -10,10 +10,10 @@ use Rattle.model.specs.declared.TreeWords.{TreeWords}
 use Rattle.model.specs.declared.State.{State}
 use Rattle.model.specs.declared.Counts.{Counts}
 use Rattle.model.specs.declared.Place.{Place}
-use Rattle.model.specs.declared.Place.the-variants.{Idle, Prep, Swap, Link, Wait, Inside, Check, Help, Cas, Linger, Grant, Invalid}
-use Rattle.model.specs.Trees.{Tree, tree-of, on-path, is-member, under}
+use Rattle.model.specs.declared.Place.the-variants.{Idle, Prep, Swap, Link, Wait, Inside, Check, Help, Cas, Linger, Grant, Draw, Watch, Raise, Invalid}
+use Rattle.model.specs.Trees.{Tree, tree-of, is-ticket, on-path, is-member, under}
 use Rattle.model.specs.Places.{place-words}
-use Rattle.model.specs.States.{acquire-parent, wait-word, status, place, fresh-words}
+use Rattle.model.specs.States.{acquire-parent, wait-word, status, place, fresh-state}
 use Rattle.model.specs.Steps.{stay, root-entry, passed-entry, crossed-entry, leaving, is-entry, kind-number, Step, step}
 use Rattle.model.specs.Runs.{steps, Run, run-of, run, occurrences}
 use Rattle.model.specs.WellFormed.{well-formed}
@@ -34,13 +34,15 @@ All-threads t (i ∷ is) = (i < t .threads) × All-threads t is
 abbrev pub Sixteen-bit : Tree → Type 0
 Sixteen-bit t = (d : ℕ) → t .threshold d ≤ 65535
 
--- what the type of a state fixes: the room of its arrays, and that statuses and words are below 2^64
+-- what the type of a state fixes: the room of its arrays, that statuses and words are below 2^64, and the counters below 2^16
 pub record Typed (s : State) : Type 0 where
   pub tails-room : length (s .tails) ≡ 64
   pub nexts-room : length (s .nexts) ≡ 320
   pub statuses-room : length (s .statuses) ≡ 320
   pub places-room : length (s .places) ≡ 256
   pub statuses-fit : (r : ℕ) → status s r < 18446744073709551616
+  pub ticket-fits : s .ticket < 65536
+  pub grant-fits : s .grant < 65536
   pub words-fit : (i : ℕ) → getD (s .places) i (place-words 0 0 0 0) .word < 18446744073709551616
 
 -- a state that a call may hand over: well formed, unused room included
@@ -48,9 +50,9 @@ pub record Formed (t : Tree) (s : State) : Type 0 where
   pub typed : Typed s
   pub form : well-formed t s ≡ true
 
--- 1. FORM. Fresh words are well formed, and steps and runs keep a state well formed
+-- 1. FORM. Fresh states are well formed, and steps and runs keep a state well formed
 pub record Keeps-form (t : Tree) : Type 0 where
-  pub of-fresh : Formed t fresh-words
+  pub of-fresh : (start : ℕ) → Formed t (fresh-state t start)
   pub of-step : (i : ℕ) (s : State) → i < t .threads → Formed t s → Formed t (step t i s .state)
   pub of-run : (is : List ℕ) (s : State) → All-threads t is → Formed t s → Formed t (run t is s .state)
 
@@ -90,13 +92,21 @@ pub record Adds-up (schedule : List ℕ) (x : Run) : Type 0 where
 unfoldable pub Count-law : Type 0
 Count-law = (t : Tree) (is : List ℕ) (s : State) → Adds-up is (run t is s)
 
--- 3. KINDS. A stay changes nothing, and only a stay; an entry arrives Inside; a root entry came from Swap or Wait at the root, a passed entry from Wait at the home, other than the root, a crossed entry from Wait between home and root; leaving are exactly the steps from Inside
+-- 3. KINDS. An entry from the root: from Swap or Wait at a queue root; at a ticket root from Draw or Watch, or from Idle where it is home
+pub data Enters-root (t : Tree) (i : ℕ) (p : Place) : Type 0 where
+  by-swap : p ≡ Swap 0 → Enters-root t i p
+  by-wait : p ≡ Wait 0 → Enters-root t i p
+  by-draw : p ≡ Draw → Enters-root t i p
+  by-watch : p ≡ Watch → Enters-root t i p
+  by-own-draw : p ≡ Idle → is-ticket t (t .home i) ≡ true → Enters-root t i p
+
+-- a stay changes nothing, and only a stay; an entry arrives Inside; a root entry came from the root, a passed entry from Wait at the home, other than the root, a crossed entry from Wait between home and root; leaving are exactly the steps from Inside
 pub record Tells-kind (t : Tree) (i : ℕ) (s : State) : Type 0 where
   pub stays-exactly : (step t i s .kind ≡ stay) ⟺ (step t i s .state ≡ s)
   pub enters-exactly : (is-entry (step t i s .kind) ≡ true) ⟺ ((place (step t i s .state) i ≡ Inside) × (place s i ≢ Inside))
   pub root-exactly :
       (step t i s .kind ≡ root-entry)
-      ⟺ ((place (step t i s .state) i ≡ Inside) × ((place s i ≡ Swap 0) ⊎ (place s i ≡ Wait 0)))
+      ⟺ ((place (step t i s .state) i ≡ Inside) × Enters-root t i (place s i))
   pub passed-exactly :
       (step t i s .kind ≡ passed-entry)
       ⟺ ((place (step t i s .state) i ≡ Inside) × ((t .home i ≢ 0) × (place s i ≡ Wait (t .home i))))
@@ -150,6 +160,9 @@ waits-below (Help l) = false
 waits-below (Cas l) = false
 waits-below (Linger l) = false
 waits-below (Grant l r w) = false
+waits-below Draw = false
+waits-below Watch = false
+waits-below Raise = false
 waits-below Invalid = false
 
 unfoldable pub entries-from-below : List Step → ℕ
@@ -216,13 +229,29 @@ pub record Refuses-empty (t : Tree) : Type 0 where
 unfoldable pub Empty-law : Type 0
 Empty-law = (t : Tree) → Refuses-empty t
 
--- UNREAD WORDS tell no trees apart: the root's parent and threshold, and room that the tree lacks
+-- THE KIND OF ROOT is read by no test of a tree: both kinds refuse the same trees
+abbrev pub with-root : Bool → Tree → Tree
+with-root b t =
+    record {
+      domains = t .domains;
+      threads = t .threads;
+      parent = t .parent;
+      threshold = t .threshold;
+      home = t .home;
+      ticket-root = b;
+    }
+
+unfoldable pub Root-law : Type 0
+Root-law = (t : Tree) (b : Bool) → tree-refusal (with-root b t) ≡ tree-refusal t
+
+-- UNREAD WORDS tell no trees apart: the root's parent and threshold, room that the tree lacks, and which number but 0 names a ticket root
 pub record Read-alike (w v : TreeWords) : Type 0 where
   pub domains : v .domains ≡ w .domains
   pub threads : v .threads ≡ w .threads
   pub parents : (d : ℕ) → 0 < d → d < w .domains → getD (v .parents) d 0 ≡ getD (w .parents) d 0
   pub thresholds : (d : ℕ) → 0 < d → d < w .domains → getD (v .thresholds) d 0 ≡ getD (w .thresholds) d 0
   pub homes : (i : ℕ) → i < w .threads → getD (v .homes) i 0 ≡ getD (w .homes) i 0
+  pub root : (v .«ticket_root» ≡ 0) ⟺ (w .«ticket_root» ≡ 0)
 
 unfoldable pub Unread-law : Type 0
 Unread-law = (w v : TreeWords) → Read-alike w v → tree-of v ≡ tree-of w
@@ -230,6 +259,6 @@ Unread-law = (w v : TreeWords) → Read-alike w v → tree-of v ≡ tree-of w
 -- 5. WORDS. In every state reached from fresh: the status of a member of a domain other than the root is ACQUIRE_PARENT, WAIT or at most the threshold
 unfoldable pub Word-law : Type 0
 Word-law =
-    (t : Tree) → Sixteen-bit t → tree-refusal t .number ≡ 0 → (is : List ℕ) → All-threads t is → (d r : ℕ) → d ≢ 0 → is-member t d r ≡ true →
-    (status (run t is fresh-words .state) r ≡ acquire-parent) ⊎ (status (run t is fresh-words .state) r ≡ wait-word)
-    ⊎ (status (run t is fresh-words .state) r ≤ t .threshold d)
+    (t : Tree) → Sixteen-bit t → tree-refusal t .number ≡ 0 → (start : ℕ) (is : List ℕ) → All-threads t is → (d r : ℕ) → d ≢ 0 → is-member t d r ≡ true →
+    (status (run t is (fresh-state t start) .state) r ≡ acquire-parent) ⊎ (status (run t is (fresh-state t start) .state) r ≡ wait-word)
+    ⊎ (status (run t is (fresh-state t start) .state) r ≤ t .threshold d)

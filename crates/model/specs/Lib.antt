@@ -16,3 +16,4 @@ pub mod Meanings
 pub mod Cases
 pub mod ClaimCases
 pub mod Search
+pub mod TicketCases

@@ -55,12 +55,12 @@ unfoldable pub Prefix-law : Type 0
 Prefix-law = (xs ys : List ℕ) → Prefix xs ys ⟺ (take (length xs) ys ≡ xs)
 
 -- STRETCHES. The schedule is the accepted calls' own entries, one call's behind the other's
-unfoldable pub own-entries : Tree → (schedule : List ℕ) → (k : ℕ) → List Call → List ℕ
-own-entries t S k [] = []
-own-entries t S k (c ∷ cs) = let own = added c (state-at t S k) in own ++ own-entries t S (k + length own) cs
+unfoldable pub own-entries : Tree → (fresh : State) → (schedule : List ℕ) → (k : ℕ) → List Call → List ℕ
+own-entries t f S k [] = []
+own-entries t f S k (c ∷ cs) = let own = added c (state-at t f S k) in own ++ own-entries t f S (k + length own) cs
 
 unfoldable pub Stretches-law : Type 0
-Stretches-law = (t : Tree) (S : List ℕ) (cs : List Call) → Stretches t S 0 cs → S ≡ own-entries t S 0 cs
+Stretches-law = (t : Tree) (f : State) (S : List ℕ) (cs : List Call) → Stretches t f S 0 cs → S ≡ own-entries t f S 0 cs
 
 -- REFUSED RUNS count nothing
 unfoldable pub Refused-run-law : Type 0

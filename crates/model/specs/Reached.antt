@@ -9,8 +9,8 @@ use lib.ListN.{length, drop}
 use Rattle.model.specs.declared.TreeWords.{TreeWords}
 use Rattle.model.specs.declared.State.{State}
 use Rattle.model.specs.declared.Place.the-variants.{Wait, Check, Grant}
-use Rattle.model.specs.Trees.{Tree, tree-of, own-record, is-member}
-use Rattle.model.specs.States.{none, tail, next, status, place, fresh-words, with-place}
+use Rattle.model.specs.Trees.{Tree, tree-of, is-ticket, own-record, is-member}
+use Rattle.model.specs.States.{none, tail, next, status, place, wrap, fresh-state, with-place}
 use Rattle.model.specs.Steps.{is-entry, Row-result, step-from, moves, release-place, check-row, step}
 use Rattle.model.specs.Runs.{steps, run, begun, ended, occurrences}
 use Rattle.model.specs.Acts.{acts}
@@ -32,8 +32,8 @@ Asks-well t (a-run is b) = All-threads t is × (length is ≤ 65536) × (length 
 
 unfoldable pub Never-refused : Type 0
 Never-refused =
-    (w : TreeWords) (cs : List Call) → fresh-answer w .number ≡ 0 → Names (tree-of w) cs (fresh-answer w .state) →
-    (c : Call) → tree-of (c .tree) ≡ tree-of w → Asks-well (tree-of w) (c .ask) → call-refusal c (last-state cs (fresh-answer w .state)) ≡ accepted
+    (w : TreeWords) (start : ℕ) (cs : List Call) → fresh-answer w start .number ≡ 0 → Names (tree-of w) cs (fresh-answer w start .state) →
+    (c : Call) → tree-of (c .tree) ≡ tree-of w → Asks-well (tree-of w) (c .ask) → call-refusal c (last-state cs (fresh-answer w start .state)) ≡ accepted
 
 -- THE LISTING'S TEST. Check as the listing has it, by equality with the threshold
 unfoldable pub equality-check-row : Tree → (thread domain : ℕ) → State → Row-result
@@ -43,7 +43,7 @@ equality-check-row t i l s =
     let n = next s I in
     cond (not (eqb v (t .threshold l)) && not (eqb n none))
     (moves (with-place i (Grant l (n - 1) (v + 1)) s))
-    (moves (with-place i (release-place (t .parent l)) s))
+    (moves (with-place i (release-place t (t .parent l)) s))
 
 -- at every Check the status is a count from 1 to the threshold, so both tests give the same step
 pub record Counts-at-check (t : Tree) (s : State) (i l : ℕ) : Type 0 where
@@ -54,20 +54,20 @@ pub record Counts-at-check (t : Tree) (s : State) (i l : ℕ) : Type 0 where
 
 unfoldable pub Equality-law : Type 0
 Equality-law =
-    (t : Tree) → Sixteen-bit t → tree-refusal t .number ≡ 0 → (is : List ℕ) → All-threads t is → (i l : ℕ) → i < t .threads →
-    place (run t is fresh-words .state) i ≡ Check l → Counts-at-check t (run t is fresh-words .state) i l
+    (t : Tree) → Sixteen-bit t → tree-refusal t .number ≡ 0 → (start : ℕ) (is : List ℕ) → All-threads t is → (i l : ℕ) → i < t .threads →
+    place (run t is (fresh-state t start) .state) i ≡ Check l → Counts-at-check t (run t is (fresh-state t start) .state) i l
 
 -- PASSING ON. From fresh, an entry from Wait below the root is at a domain whose threshold is at least 2
 unfoldable pub Passing-law : Type 0
 Passing-law =
-    (t : Tree) → Sixteen-bit t → tree-refusal t .number ≡ 0 → (is : List ℕ) → All-threads t is → (i l : ℕ) → i < t .threads →
-    place (run t is fresh-words .state) i ≡ Wait l → l ≢ 0 → is-entry (step t i (run t is fresh-words .state) .kind) ≡ true → 2 ≤ t .threshold l
+    (t : Tree) → Sixteen-bit t → tree-refusal t .number ≡ 0 → (start : ℕ) (is : List ℕ) → All-threads t is → (i l : ℕ) → i < t .threads →
+    place (run t is (fresh-state t start) .state) i ≡ Wait l → l ≢ 0 → is-entry (step t i (run t is (fresh-state t start) .state) .kind) ≡ true → 2 ≤ t .threshold l
 
 -- so with every threshold 1 no run from fresh makes a passed or a crossed entry
 unfoldable pub Threshold-one-law : Type 0
 Threshold-one-law =
-    (t : Tree) → tree-refusal t .number ≡ 0 → ((d : ℕ) → t .threshold d ≤ 1) → (is : List ℕ) → All-threads t is →
-    (run t is fresh-words .counts .passed ≡ 0) × (run t is fresh-words .counts .crossed ≡ 0)
+    (t : Tree) → tree-refusal t .number ≡ 0 → ((d : ℕ) → t .threshold d ≤ 1) → (start : ℕ) (is : List ℕ) → All-threads t is →
+    (run t is (fresh-state t start) .counts .passed ≡ 0) × (run t is (fresh-state t start) .counts .crossed ≡ 0)
 
 -- QUEUES. One more than the last of a list, or none
 unfoldable pub last-or-none : List ℕ → ℕ
@@ -86,11 +86,17 @@ pub record Acted-once (t : Tree) (s : State) (d m : ℕ) : Type 0 where
   pub acting : Acts-for t s d m thread
   pub only : (j : ℕ) → Acts-for t s d m j → j ≡ thread
 
--- each domain has a queue of members, none twice: the tail names its last; behind its first are those who stand ungranted, in order; and exactly one thread acts for each of its members, and none for a member that is not in it
-pub record Has-queues (t : Tree) (S : List ℕ) (s : State) : Type 0 where
+-- members hold consecutive tickets from a number on, and the ticket counter is the one behind the last
+unfoldable pub Consecutive : State → (from : ℕ) → List ℕ → Type 0
+Consecutive s v [] = s .ticket ≡ v
+Consecutive s v (m ∷ ms) = (status s m ≡ v) × Consecutive s (wrap (v + 1)) ms
+
+-- each domain has a queue of members, none twice: the tail names its last, and at a ticket root there is none, but the members hold consecutive tickets from the grant on; behind its first are those who stand ungranted, in order; and exactly one thread acts for each of its members, and none for a member that is not in it
+pub record Has-queues (t : Tree) (f : State) (S : List ℕ) (s : State) : Type 0 where
   pub queue : (domain : ℕ) → List ℕ
-  pub tails : (d : ℕ) → tail s d ≡ last-or-none (queue d)
-  pub standing : (d : ℕ) → begun d (steps t S fresh-words) ≡ ended d (steps t S fresh-words) ++ drop 1 (queue d)
+  pub tails : (d : ℕ) → tail s d ≡ cond (is-ticket t d) none (last-or-none (queue d))
+  pub tickets : t .ticket-root ≡ true → Consecutive s (s .grant) (queue 0)
+  pub standing : (d : ℕ) → begun d (steps t S f) ≡ ended d (steps t S f) ++ drop 1 (queue d)
   pub members : (d m : ℕ) → 1 ≤ occurrences m (queue d) → is-member t d m ≡ true
   pub once : (d m : ℕ) → occurrences m (queue d) ≤ 1
   pub acted : (d m : ℕ) → 1 ≤ occurrences m (queue d) → Acted-once t s d m
@@ -98,7 +104,7 @@ pub record Has-queues (t : Tree) (S : List ℕ) (s : State) : Type 0 where
 
 unfoldable pub Queue-law : Type 0
 Queue-law =
-    (t : Tree) → Sixteen-bit t → tree-refusal t .number ≡ 0 → (is : List ℕ) → All-threads t is → Has-queues t is (run t is fresh-words .state)
+    (t : Tree) → Sixteen-bit t → tree-refusal t .number ≡ 0 → (start : ℕ) (is : List ℕ) → All-threads t is → Has-queues t (fresh-state t start) is (run t is (fresh-state t start) .state)
 
 -- A RUN ON A LOCK OF ITS OWN, as the file call makes it, is such a list
 abbrev pub lone-run : TreeWords → (schedule buffer : List ℕ) → Call
@@ -106,4 +112,5 @@ lone-run w is b = record { tree = w; ask = a-run is b }
 
 unfoldable pub Lone-run-law : Type 0
 Lone-run-law =
-    (w : TreeWords) (is b : List ℕ) → fresh-answer w .number ≡ 0 → Claim (tree-of w) (lone-run w is b ∷ []) (joined (lone-run w is b ∷ []) fresh-words)
+    (w : TreeWords) (start : ℕ) (is b : List ℕ) → fresh-answer w start .number ≡ 0 →
+    Claim (tree-of w) (fresh-answer w start .state) (lone-run w is b ∷ []) (joined (lone-run w is b ∷ []) (fresh-answer w start .state))

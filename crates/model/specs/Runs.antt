@@ -54,16 +54,16 @@ run-of s xs = record { counts = counts-of xs; trace = entering xs; state = state
 unfoldable pub run : Tree → (schedule : List ℕ) → State → Run
 run t is s = run-of s (steps t is s)
 
--- the member that a step has begin, or end, standing ungranted in a domain
+-- the members that a step has begin, or end, standing ungranted in a domain
 unfoldable pub begun-in : Standing → List ℕ
 begun-in unchanged = []
 begun-in (begins m) = m ∷ []
-begun-in (ends m) = []
+begun-in (ends ms) = []
 
 unfoldable pub ended-in : Standing → List ℕ
 ended-in unchanged = []
 ended-in (begins m) = []
-ended-in (ends m) = m ∷ []
+ended-in (ends ms) = ms
 
 -- the members at the beginnings of standing ungranted in a domain, a member once for each time
 unfoldable pub begun : (domain : ℕ) → List Step → List ℕ

@@ -1,5 +1,6 @@
 -- Tests over all numbers below a bound. Assumes nothing: these are definitions.
-use mathlib.Core.Bool.{Bool, true, false, _&&_, _||_}
+use mathlib.Core.Bool.{Bool, true, false, _&&_, _||_, cond}
+use mathlib.Core.List.{List, [], _∷_, _++_}
 use Prim.Native.Nat.{ℕ, zero, suc, max}
 
 -- some number below n passes
@@ -16,3 +17,8 @@ all-below (suc n) f = all-below n f && f n
 unfoldable pub largest-below : ℕ → (ℕ → ℕ) → ℕ
 largest-below zero f = 0
 largest-below (suc n) f = max (largest-below n f) (f n)
+
+-- the numbers below n that pass, in order
+unfoldable pub filter-below : ℕ → (ℕ → Bool) → List ℕ
+filter-below zero f = []
+filter-below (suc n) f = filter-below n f ++ cond (f n) (n ∷ []) []

@@ -1,10 +1,11 @@
--- A lock's state: tails, nexts, statuses, places, and the status words. Assumes nothing: these are definitions.
+-- A lock's state: tails, nexts, statuses, places, the two counters of a ticket lock, and the status words. Assumes nothing: these are definitions.
 use mathlib.Core.Bool.{cond}
-use Prim.Native.Nat.{ℕ, zero, suc, _+_}
+use Prim.Native.Nat.{ℕ, zero, suc, _+_, _%_}
 use lib.Dec.{eqb}
 use lib.ListN.{getD, set, replicate}
 use Rattle.model.specs.declared.Place.{Place}
 use Rattle.model.specs.declared.State.{State}
+use Rattle.model.specs.Trees.{Tree}
 use Rattle.model.specs.Places.{place-words, words-of, place-of, is-inside}
 
 -- status words. COHORT_START
@@ -46,22 +47,43 @@ status s r = getD (s .statuses) r 0
 abbrev pub place : State → (thread : ℕ) → Place
 place s i = place-of (getD (s .places) i (place-words 0 0 0 0))
 
--- fresh: all tails and nexts none, all statuses 0, all threads Idle, in all room
+-- 0 throughout: all tails and nexts none, all statuses 0, all threads Idle, in all room, and both counters 0
 unfoldable pub fresh-words : State
 fresh-words =
-    record { tails = replicate 64 0; nexts = replicate 320 0; statuses = replicate 320 0; places = replicate 256 (place-words 0 0 0 0) }
+    record {
+      tails = replicate 64 0;
+      nexts = replicate 320 0;
+      statuses = replicate 320 0;
+      places = replicate 256 (place-words 0 0 0 0);
+      ticket = 0;
+      grant = 0;
+    }
+
+-- the counters of a ticket lock are 16-bit numbers: one more than a counter, from 65,535 to 0
+abbrev pub wrap : ℕ → ℕ
+wrap v = v % 65536
 
 abbrev pub with-tail : (domain value : ℕ) → State → State
-with-tail d v s = record { tails = set (s .tails) d v; nexts = s .nexts; statuses = s .statuses; places = s .places }
+with-tail d v s = record { tails = set (s .tails) d v; nexts = s .nexts; statuses = s .statuses; places = s .places; ticket = s .ticket; grant = s .grant }
 
 abbrev pub with-next : (number value : ℕ) → State → State
-with-next r v s = record { tails = s .tails; nexts = set (s .nexts) r v; statuses = s .statuses; places = s .places }
+with-next r v s = record { tails = s .tails; nexts = set (s .nexts) r v; statuses = s .statuses; places = s .places; ticket = s .ticket; grant = s .grant }
 
 abbrev pub with-status : (number value : ℕ) → State → State
-with-status r v s = record { tails = s .tails; nexts = s .nexts; statuses = set (s .statuses) r v; places = s .places }
+with-status r v s = record { tails = s .tails; nexts = s .nexts; statuses = set (s .statuses) r v; places = s .places; ticket = s .ticket; grant = s .grant }
 
 abbrev pub with-place : (thread : ℕ) → Place → State → State
-with-place i p s = record { tails = s .tails; nexts = s .nexts; statuses = s .statuses; places = set (s .places) i (words-of p) }
+with-place i p s = record { tails = s .tails; nexts = s .nexts; statuses = s .statuses; places = set (s .places) i (words-of p); ticket = s .ticket; grant = s .grant }
+
+abbrev pub with-ticket : (value : ℕ) → State → State
+with-ticket v s = record { tails = s .tails; nexts = s .nexts; statuses = s .statuses; places = s .places; ticket = v; grant = s .grant }
+
+abbrev pub with-grant : (value : ℕ) → State → State
+with-grant v s = record { tails = s .tails; nexts = s .nexts; statuses = s .statuses; places = s .places; ticket = s .ticket; grant = v }
+
+-- fresh: at a ticket root both counters are equal, any number that the fresh call is given; at a queue root they are 0
+unfoldable pub fresh-state : Tree → (start : ℕ) → State
+fresh-state t v = let first = cond (t .ticket-root) (wrap v) 0 in with-grant first (with-ticket first fresh-words)
 
 -- how many of the first n threads are Inside
 unfoldable pub inside-below : (n : ℕ) → State → ℕ

@@ -1,13 +1,15 @@
--- Document 01, "Step table": one schedule entry is one row. Assumes nothing: these are definitions.
+-- Document 01, "Step table": one schedule entry is one row; and document 02, (xii): the rows of a ticket lock at the root. Assumes nothing: these are definitions.
 use mathlib.Core.Bool.{Bool, true, false, _&&_, not, cond}
+use mathlib.Core.List.{List, [], _∷_}
 use Prim.Native.Nat.{ℕ, _+_, _-_}
 use lib.Dec.{eqb, ltb}
 use Rattle.model.specs.declared.Place.{Place}
-use Rattle.model.specs.declared.Place.the-variants.{Idle, Prep, Swap, Link, Wait, Inside, Check, Help, Cas, Linger, Grant, Invalid}
+use Rattle.model.specs.declared.Place.the-variants.{Idle, Prep, Swap, Link, Wait, Inside, Check, Help, Cas, Linger, Grant, Draw, Watch, Raise, Invalid}
 use Rattle.model.specs.declared.State.{State}
-use Rattle.model.specs.Trees.{Tree, child, own-record}
-use Rattle.model.specs.Places.{place-domain}
-use Rattle.model.specs.States.{cohort-start, acquire-parent, wait-word, unlocked, locked, root-word, none, tail, next, status, place, with-tail, with-next, with-status, with-place}
+use Rattle.model.specs.Scans.{any-below, filter-below}
+use Rattle.model.specs.Trees.{Tree, is-ticket, child, own-record}
+use Rattle.model.specs.Places.{is-watch, place-domain}
+use Rattle.model.specs.States.{cohort-start, acquire-parent, wait-word, unlocked, locked, root-word, none, tail, next, status, place, wrap, with-tail, with-next, with-status, with-place, with-ticket, with-grant}
 
 -- what a step is: a stay, any other move, a root entry, a passed entry, a crossed entry, or leaving
 pub data Kind : Type 0 where
@@ -35,10 +37,11 @@ is-entry passed-entry = true
 is-entry crossed-entry = true
 is-entry leaving = false
 
--- standing ungranted: a step may begin it for a member, or end it
+-- standing ungranted: a step may begin it for a member, or end it for members
 pub data Standing : Type 0 where
   unchanged : Standing
-  begins ends : (member : ℕ) → Standing
+  begins : (member : ℕ) → Standing
+  ends : (members : List ℕ) → Standing
 
 -- what a row comes to: the kind of the step, what it does to standing ungranted in its domain, and the state after it
 pub record Row-result : Type 0 where
@@ -69,13 +72,17 @@ moves s = record { kind = other; standing = unchanged; state = s }
 abbrev pub enters : Kind → (thread : ℕ) → State → Row-result
 enters k i s = record { kind = k; standing = unchanged; state = with-place i Inside s }
 
--- the place after a domain other than the root is acquired
-abbrev pub acquired-place : Tree → (domain : ℕ) → Place
-acquired-place t l = Prep (t .parent l)
+-- the place from which a domain is acquired: Draw at a ticket root, else Prep
+abbrev pub acquire-place : Tree → (domain : ℕ) → Place
+acquire-place t d = cond (is-ticket t d) Draw (Prep d)
 
--- the place from which a domain is released: Help at the root, else Check
-abbrev pub release-place : (domain : ℕ) → Place
-release-place d = cond (eqb d 0) (Help d) (Check d)
+-- the place after a domain other than the root is acquired: its parent is next
+abbrev pub acquired-place : Tree → (domain : ℕ) → Place
+acquired-place t l = acquire-place t (t .parent l)
+
+-- the place from which a domain is released: Raise at a ticket root, Help at a queue root, else Check
+abbrev pub release-place : Tree → (domain : ℕ) → Place
+release-place t d = cond (is-ticket t d) Raise (cond (eqb d 0) (Help d) (Check d))
 
 -- the place after a domain is done: Idle at home, else Help of the domain's child on the thread's path
 abbrev pub done-place : Tree → (thread domain : ℕ) → Place
@@ -118,9 +125,9 @@ wait-row t i l s =
     (moves (with-place i (acquired-place t l) (with-status I cohort-start s)))
     (enters (passing-kind t i l) i s)))
 
--- Inside: the thread leaves; to Help(home) if home is the root, else Check(home)
+-- Inside: the thread leaves; to Raise or Help(home) if home is the root, else Check(home)
 unfoldable pub leave-row : Tree → (thread : ℕ) → State → Row-result
-leave-row t i s = record { kind = leaving; standing = unchanged; state = with-place i (release-place (t .home i)) s }
+leave-row t i s = record { kind = leaving; standing = unchanged; state = with-place i (release-place t (t .home i)) s }
 
 -- Check(L): if status of I is below the threshold and next of I is s, to Grant(L, s, status + 1). Otherwise the parent is released first
 unfoldable pub check-row : Tree → (thread domain : ℕ) → State → Row-result
@@ -130,7 +137,7 @@ check-row t i l s =
     let n = next s I in
     cond (ltb v (t .threshold l) && not (eqb n none))
     (moves (with-place i (Grant l (n - 1) (v + 1)) s))
-    (moves (with-place i (release-place (t .parent l)) s))
+    (moves (with-place i (release-place t (t .parent l)) s))
 
 -- the word that Help and Linger grant: UNLOCKED at the root, else ACQUIRE_PARENT
 abbrev pub release-word : (domain : ℕ) → ℕ
@@ -158,11 +165,42 @@ linger-row t i l s =
 -- Grant(L, s, w): status of s becomes w; L is done
 unfoldable pub grant-row : Tree → (thread domain to word : ℕ) → State → Row-result
 grant-row t i l r w s =
-    record { kind = other; standing = ends r; state = with-place i (done-place t i l) (with-status r w s) }
+    record { kind = other; standing = ends (r ∷ []); state = with-place i (done-place t i l) (with-status r w s) }
+
+-- Draw: status of I becomes the ticket, and the counter goes up by one. Inside if the ticket equals the grant, else to Watch
+unfoldable pub draw-row : Tree → (thread : ℕ) → State → Row-result
+draw-row t i s =
+    let I = own-record t i 0 in
+    let drawn = with-ticket (wrap (s .ticket + 1)) (with-status I (s .ticket) s) in
+    cond (eqb (s .ticket) (s .grant))
+    (enters root-entry i drawn)
+    (record { kind = other; standing = begins I; state = with-place i Watch drawn })
+
+-- Watch: stays until the status of I and the grant are equal, then Inside
+unfoldable pub watch-row : Tree → (thread : ℕ) → State → Row-result
+watch-row t i s = cond (eqb (status s (own-record t i 0)) (s .grant)) (enters root-entry i s) (stays s)
+
+-- a thread watches with this record
+unfoldable pub is-watched : Tree → State → (number : ℕ) → Bool
+is-watched t s r = any-below (t .threads) (λ j. is-watch (place s j) && eqb (own-record t j 0) r)
+
+-- the members whose ticket a grant shows to a thread that watches
+unfoldable pub shown-members : Tree → State → (grant : ℕ) → List ℕ
+shown-members t s v = filter-below 320 (λ r. eqb (status s r) v && is-watched t s r)
+
+-- Raise: the grant goes up by one; the root is done
+unfoldable pub raise-row : Tree → (thread : ℕ) → State → Row-result
+raise-row t i s =
+    let raised = wrap (s .grant + 1) in
+    record { kind = other; standing = ends (shown-members t s raised); state = with-place i (done-place t i 0) (with-grant raised s) }
+
+-- Idle: where the home is a ticket root the thread draws, else it does Prep at home
+abbrev pub idle-row : Tree → (thread : ℕ) → State → Row-result
+idle-row t i s = cond (is-ticket t (t .home i)) (draw-row t i s) (prep-row t i (t .home i) s)
 
 -- the row of a place; Invalid, which no well-formed state has, stays
 unfoldable pub row : Tree → (thread : ℕ) → Place → State → Row-result
-row t i Idle s = prep-row t i (t .home i) s
+row t i Idle s = idle-row t i s
 row t i (Prep l) s = prep-row t i l s
 row t i (Swap l) s = swap-row t i l s
 row t i (Link l p) s = link-row t i l p s
@@ -173,6 +211,9 @@ row t i (Help l) s = help-row t i l s
 row t i (Cas l) s = cas-row t i l s
 row t i (Linger l) s = linger-row t i l s
 row t i (Grant l r w) s = grant-row t i l r w s
+row t i Draw s = draw-row t i s
+row t i Watch s = watch-row t i s
+row t i Raise s = raise-row t i s
 row t i Invalid s = stays s
 
 -- one step of a thread

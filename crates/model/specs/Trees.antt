@@ -7,19 +7,20 @@ use lib.ListN.{getD}
 use Rattle.model.specs.declared.TreeWords.{TreeWords}
 use Rattle.model.specs.Scans.{any-below, largest-below}
 
--- a tree: its domains and threads are numbered from 0; each domain but the root has a parent and a threshold, each thread a home
+-- a tree: its domains and threads are numbered from 0; each domain but the root has a parent and a threshold, each thread a home. The kind of root belongs to it: a queue, or a ticket lock
 pub record Tree : Type 0 where
   pub domains : ℕ
   pub threads : ℕ
   pub parent : ℕ → ℕ
   pub threshold : ℕ → ℕ
   pub home : ℕ → ℕ
+  pub ticket-root : Bool
 
 -- the word at k where k is read, that is from a first index to before an end; 0 elsewhere
 unfoldable pub read-word : (first end : ℕ) → List ℕ → ℕ → ℕ
 read-word first end words k = cond (leb first k && ltb k end) (getD words k 0) 0
 
--- the tree that a call names. A parent or threshold given for the root is not read, nor is room that the tree lacks; a threshold is a 16-bit number
+-- the tree that a call names. A parent or threshold given for the root is not read, nor is room that the tree lacks; a threshold is a 16-bit number; every number but 0 names a ticket root
 unfoldable pub tree-of : TreeWords → Tree
 tree-of w =
     record {
@@ -28,7 +29,12 @@ tree-of w =
       parent = read-word 1 (w .domains) (w .parents);
       threshold = λ d. read-word 1 (w .domains) (w .thresholds) d % 65536;
       home = read-word 0 (w .threads) (w .homes);
+      ticket-root = not (eqb (w .«ticket_root») 0);
     }
+
+-- the domain is a ticket lock: the root, where the tree says so
+unfoldable pub is-ticket : Tree → (domain : ℕ) → Bool
+is-ticket t d = t .ticket-root && eqb d 0
 
 -- c, a domain of the tree, is a child domain of d
 unfoldable pub is-child : Tree → (domain child : ℕ) → Bool

@@ -24,7 +24,7 @@ pub const CROSSED_ENTRY: u8 = 4;
 
 pub const LEAVING: u8 = 5;
 
-// A tree with its threads. The root's parent and threshold, and room that the tree lacks, are not read.
+// A tree with its threads. The root's parent and threshold, and room that the tree lacks, are not read. At the root is a queue where ticket_root is 0, a ticket lock where it is any other number.
 #[repr(C)]
 pub struct TreeWords {
     pub domains: u32,
@@ -32,9 +32,10 @@ pub struct TreeWords {
     pub parents: [u8; 64],
     pub thresholds: [u16; 64],
     pub homes: [u8; 256],
+    pub ticket_root: u32,
 }
 
-// A thread's place: a row of the step table (0 Idle to 10 Grant), its domain, the other record that it names, its word. A part that the row lacks is 0.
+// A thread's place: a row of the step table (0 Idle to 13 Raise), its domain, the other record that it names, its word. A part that the row lacks is 0.
 #[repr(C)]
 pub struct PlaceWords {
     pub row: u8,
@@ -43,13 +44,15 @@ pub struct PlaceWords {
     pub word: u64,
 }
 
-// A lock state. A tail or a next is 0 for none, else the record's number + 1. Fresh is 0 throughout.
+// A lock state. A tail or a next is 0 for none, else the record's number + 1. The counters ticket and grant are those of a ticket lock at the root. Fresh is 0 throughout, but for these two, which a fresh call may start at another number.
 #[repr(C)]
 pub struct State {
     pub tails: [u16; 64],
     pub nexts: [u16; 320],
     pub statuses: [u64; 320],
     pub places: [PlaceWords; 256],
+    pub ticket: u16,
+    pub grant: u16,
 }
 
 // A thread's place as the step table names it; Invalid where four numbers are no place.
@@ -65,6 +68,9 @@ pub enum Place {
     Cas(u8),
     Linger(u8),
     Grant(u8, u16, u64),
+    Draw,
+    Watch,
+    Raise,
     Invalid,
 }
 

@@ -55,7 +55,7 @@ module _ (n : ℕ) (ps ts : List ℕ) where
   passed-all ls d P e =
       let L₆ = none-bad n _ (λ j l. P .parents j (omega arith)) in
       let low = lower-by n ps n L₆ (omega arith) in
-      domains-pass (record { domains = n; threads = 0; parents = ps; thresholds = ts; homes = [] })
+      domains-pass (record { domains = n; threads = 0; parents = ps; thresholds = ts; homes = []; «ticket_root» = 0 })
       n L₆ (omega arith)
       n (none-bad n _ (λ j l. level-passes n ps ls d (P .levels) low j (omega arith))) (omega arith)
       n (none-bad n _ (λ j l. P .thresholds j (omega arith))) (omega arith)

@@ -1,6 +1,6 @@
 -- The tests by the table of owners together: a state passes them exactly if it is well formed. Assumes nothing.
 use mathlib.Core.Path.{_≡_, refl, sym, ap, _∙_}
-use mathlib.Core.Bool.{Bool, true, false, _&&_, not, cond}
+use mathlib.Core.Bool.{Bool, true, false, _&&_, _||_, not, cond}
 use mathlib.Core.List.{List, []}
 use Prim.Native.Nat.{ℕ, zero, suc, _+_, _≤_, _<_}
 use native.Mathlib.Omega.{arith}
@@ -15,13 +15,14 @@ use Rattle.model.specs.declared.PlaceWords.{PlaceWords}
 use Rattle.model.specs.Scans.{all-below}
 use Rattle.model.specs.Places.{place-words}
 use Rattle.model.specs.States.{tail, next, status}
-use Rattle.model.specs.Trees.{Tree, tree-of, is-record, owner-domain}
-use Rattle.model.specs.WellFormed.{good-tail, good-next, good-status, good-thread, well-formed}
+use Rattle.model.specs.Trees.{Tree, tree-of, is-ticket, is-record, owner-domain}
+use Rattle.model.specs.WellFormed.{good-tail, good-next, good-status, good-watch, good-thread, good-counters, well-formed}
 use Rattle.model.proofs.Trees.Accepted.{Accepted}
+use Rattle.model.proofs.Trees.Tickets.{ticket-lower}
 use Rattle.refusals.specs.Arrays.{tree-in, parents-in}
-use Rattle.refusals.specs.Tables.{Owners, next-in, record-in, domain-words-in, place-in, idle-in, thread-in}
+use Rattle.refusals.specs.Tables.{Owners, next-in, record-in, domain-words-in, ticket-place-in, place-in, root-in, idle-in, thread-in}
 use Rattle.refusals.proofs.Reading.{read-in}
-use Rattle.refusals.proofs.Meeting.{meets-same}
+use Rattle.refusals.proofs.Meeting.{meets-same, child-same}
 use Rattle.refusals.proofs.Members.{tail-is, record-is}
 use Rattle.refusals.proofs.PlaceTests.{place-is, idle-is}
 
@@ -55,10 +56,21 @@ all-split n (suc k) f = rw (add-suc n k, all-split n k f) (sym (grouped (all-bel
     grouped true b c = refl
     grouped false b c = refl
 
+-- where all but the first pass, the first decides
+root-alone : (n : ℕ) (f : ℕ → Bool) → ((j : ℕ) → f (suc j) ≡ true) → all-below (suc n) f ≡ f 0
+unfolding all-below
+root-alone zero f h = refl
+root-alone (suc n) f h = rw (root-alone n f h, h n) (and-true (f 0))
+  where
+    and-true : (a : Bool) → a && true ≡ a
+    and-true true = refl
+    and-true false = refl
+
 -- a place's test reads the parents alone
-place-same : (t u : Tree) (os : List ℕ) (h : ℕ) (q : PlaceWords) → ((e : ℕ) → t .parent e ≡ u .parent e) → place-in t os h q ≡ place-in u os h q
-unfolding place-in
-place-same t u os h q f = rw (meets-same 6 t u h (q .domain) f)
+place-same :
+    (k : ℕ) (t u : Tree) (os vs : List ℕ) (i h : ℕ) (q : PlaceWords) → ((e : ℕ) → t .parent e ≡ u .parent e) → place-in k t os vs i h q ≡ place-in k u os vs i h q
+unfolding place-in ticket-place-in
+place-same k t u os vs i h q f = rw (meets-same 6 t u h (q .domain) f, child-same 6 t u 0 h f)
 
 -- the home of a thread stands in the table
 pub owner-is : (n m : ℕ) (ps hs os : List ℕ) → Owners (tree-in n m ps [] hs) os → m ≤ 256 → (i : ℕ) → i < m → getD os i 0 ≡ getD hs i 0
@@ -72,7 +84,7 @@ module _ (w : TreeWords) (𝓐 : Accepted (tree-of w)) (os : List ℕ) (𝓞 : O
   unfolding is-record owner-domain tree-of
   owners = record { owner = λ r l. 𝓞 .owner r l }
 
-  owner-home : (i : ℕ) → i < w .threads → getD os i 0 ≡ tree-of w .home i
+  pub owner-home : (i : ℕ) → i < w .threads → getD os i 0 ≡ tree-of w .home i
   unfolding is-record owner-domain tree-of
   owner-home i l =
       let few = 𝓐 .few-threads in
@@ -90,17 +102,17 @@ module _ (w : TreeWords) (𝓐 : Accepted (tree-of w)) (os : List ℕ) (𝓞 : O
     abbrev place-at : ℕ → Bool
     place-at i =
         let q = getD (s .places) i (place-words 0 0 0 0) in
-        cond (ltb i (w .threads)) (place-in (parents-in (w .domains) (w .parents)) os (getD os i 0) q) (idle-in q)
+        cond (ltb i (w .threads)) (place-in (w .«ticket_root») (parents-in (w .domains) (w .parents)) os (s .statuses) i (getD os i 0) q) (idle-in q)
 
     place-good : (i : ℕ) → place-at i ≡ good-thread (tree-of w) s i
-    unfolding good-thread tree-of
+    unfolding good-thread good-watch tree-of
     place-good i =
         let q = getD (s .places) i (place-words 0 0 0 0) in
         elim (decLt i (w .threads)) [
           | yes l ↦
               rw (lt-ltb i (w .threads) l, owner-home i l)
-              (place-same (parents-in (w .domains) (w .parents)) (tree-of w) os (tree-of w .home i) q (λ e. refl)
-              ∙ place-is (tree-of w) 𝓐 os owners i l (q .row) (q .domain) (q .peer) (q .word))
+              (place-same (w .«ticket_root») (parents-in (w .domains) (w .parents)) (tree-of w) os (s .statuses) i (tree-of w .home i) q (λ e. refl)
+              ∙ place-is (tree-of w) 𝓐 os (s .statuses) owners (w .«ticket_root») refl i l (q .row) (q .domain) (q .peer) (q .word))
           | no l ↦ rw (le-ltb i (w .threads) (omega arith)) (idle-is (q .row) (q .domain) (q .peer) (q .word))
         ]
 
@@ -108,7 +120,7 @@ module _ (w : TreeWords) (𝓐 : Accepted (tree-of w)) (os : List ℕ) (𝓞 : O
     domain-at d = domain-words-in os d (tail s d) (next s (256 + d)) (status s (256 + d))
 
     abbrev thread-at : ℕ → Bool
-    thread-at i = thread-in (parents-in (w .domains) (w .parents)) os (w .threads) i (getD (s .places) i (place-words 0 0 0 0)) (next s i) (status s i)
+    thread-at i = thread-in (w .«ticket_root») (parents-in (w .domains) (w .parents)) os (s .statuses) (w .threads) i (getD (s .places) i (place-words 0 0 0 0)) (next s i) (status s i)
 
     abbrev record-at : ℕ → Bool
     record-at r = record-in os r (next s r) (status s r)
@@ -132,29 +144,82 @@ module _ (w : TreeWords) (𝓐 : Accepted (tree-of w)) (os : List ℕ) (𝓞 : O
         swapped false true = refl
         swapped false false = refl
 
-    tails-is : all-below 64 (λ d. next-in os d (tail s d)) ≡ all-below 64 (good-tail (tree-of w) s)
-    tails-is = all-same 64 (λ d. next-in os d (tail s d)) (good-tail (tree-of w) s) (λ d l. tail-is (tree-of w) 𝓐 os owners s d l)
+    -- no tail at a ticket root
+    abbrev root-tail : Bool
+    root-tail = not (tree-of w .ticket-root) || eqb (tail s 0) 0
+
+    root-tail-is : not (is-ticket (tree-of w) 0) || eqb (tail s 0) 0 ≡ root-tail
+    unfolding is-ticket
+    root-tail-is = by (tree-of w .ticket-root)
+      where
+        by : (b : Bool) → not (b && true) || eqb (tail s 0) 0 ≡ not b || eqb (tail s 0) 0
+        by true = refl
+        by false = refl
+
+    tails-are : all-below 64 (good-tail (tree-of w) s) ≡ all-below 64 (λ d. next-in os d (tail s d)) && root-tail
+    tails-are =
+        all-same 64 (good-tail (tree-of w) s) (λ d. next-in os d (tail s d) && (not (is-ticket (tree-of w) d) || eqb (tail s d) 0))
+        (λ d l. tail-is (tree-of w) 𝓐 os owners s d l)
+        ∙ all-both 64 (λ d. next-in os d (tail s d)) (λ d. not (is-ticket (tree-of w) d) || eqb (tail s d) 0)
+        ∙ ap (λ b. all-below 64 (λ d. next-in os d (tail s d)) && b) (root-alone 63 (λ d. not (is-ticket (tree-of w) d) || eqb (tail s d) 0) other ∙ root-tail-is)
+      where
+        other : (d : ℕ) → not (is-ticket (tree-of w) (suc d)) || eqb (tail s (suc d)) 0 ≡ true
+        other d = let z = ticket-lower (tree-of w) (suc d) (λ e. omega arith) in rw z
+
+    -- what the root has
+    abbrev root-at : Bool
+    root-at = root-in (w .«ticket_root») (tail s 0) (s .ticket) (s .grant)
+
+    root-is : root-tail && good-counters (tree-of w) s ≡ root-at
+    unfolding good-counters tree-of
+    root-is = by (eqb (w .«ticket_root») 0) (eqb (tail s 0) 0) (eqb (s .ticket) 0 && eqb (s .grant) 0)
+      where
+        by : (k a b : Bool) → (not (not k) || a) && (not k || b) ≡ cond k b a
+        by true a b = refl
+        by false true b = refl
+        by false false b = refl
 
     records-are : all-below 320 record-at ≡ all-below 320 (good-next (tree-of w) s) && all-below 320 (good-status (tree-of w) s)
     records-are =
         all-same 320 record-at (λ r. good-next (tree-of w) s r && good-status (tree-of w) s r) (λ r l. record-is (tree-of w) 𝓐 os owners s r l)
         ∙ all-both 320 (good-next (tree-of w) s) (good-status (tree-of w) s)
 
-    -- domain by domain and thread by thread
-    pub formed-is : well-formed (tree-of w) s ≡ all-below 64 domain-at && all-below 256 thread-at
+    -- the root, domain by domain and thread by thread
+    pub formed-is : well-formed (tree-of w) s ≡ root-at && (all-below 64 domain-at && all-below 256 thread-at)
     unfolding well-formed
     formed-is =
         rw (
+          tails-are,
+          ← root-is,
           all-both 64 (λ d. next-in os d (tail s d)) (λ d. record-at (256 + d)),
           all-same 256 thread-at (λ i. record-at i && place-at i) thread-both,
           all-both 256 record-at place-at,
-          tails-is,
           all-same 256 place-at (good-thread (tree-of w) s) (λ i l. place-good i),
         )
-        (regroup (all-below 64 (good-tail (tree-of w) s)) (all-below 320 (good-next (tree-of w) s)) (all-below 320 (good-status (tree-of w) s))
+        (apart (all-below 64 (λ d. next-in os d (tail s d))) root-tail (all-below 320 (good-next (tree-of w) s)) (all-below 320 (good-status (tree-of w) s))
+        (all-below 256 (good-thread (tree-of w) s)) (good-counters (tree-of w) s)
+        ∙ ap (λ b. (root-tail && good-counters (tree-of w) s) && b)
+        (regroup (all-below 64 (λ d. next-in os d (tail s d))) (all-below 320 (good-next (tree-of w) s)) (all-below 320 (good-status (tree-of w) s))
         (all-below 256 (good-thread (tree-of w) s)) (all-below 256 record-at) (all-below 64 (λ d. record-at (256 + d)))
-        (sym records-are ∙ all-split 256 64 record-at))
+        (sym records-are ∙ all-split 256 64 record-at)))
       where
+        none : (a : Bool) → false ≡ a && false
+        none true = refl
+        none false = refl
+
+        turned : (a b : Bool) → a && b ≡ b && a
+        turned true true = refl
+        turned true false = refl
+        turned false true = refl
+        turned false false = refl
+
+        apart : (a x b c d y : Bool) → ((a && x) && b) && (c && (d && y)) ≡ (x && y) && ((a && b) && (c && d))
+        apart false x b c d y = none (x && y)
+        apart true false b c d y = refl
+        apart true true false c d y = none y
+        apart true true true false d y = none y
+        apart true true true true d y = turned d y
+
         before : (a b c d : Bool) → (a && b) && (c && d) ≡ a && ((b && c) && d)
         before true true c d = refl
         before true false c d = refl

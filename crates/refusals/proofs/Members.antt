@@ -9,7 +9,7 @@ use lib.Dec.{eqb, ltb}
 use borrow.Author.Tests.{ne-eqb, lt-ltb, le-ltb, ltb-true, eqb-false, not-true}
 use Rattle.model.specs.declared.State.{State}
 use Rattle.model.specs.States.{tail, next, status}
-use Rattle.model.specs.Trees.{Tree, is-child, is-record, is-member, owner-domain}
+use Rattle.model.specs.Trees.{Tree, is-ticket, is-child, is-record, is-member, owner-domain}
 use Rattle.model.specs.WellFormed.{good-tail, good-next, good-status}
 use Rattle.model.proofs.Tests.{and-both}
 use Rattle.model.proofs.Trees.Accepted.{Accepted}
@@ -69,9 +69,18 @@ module _ (t : Tree) (𝓐 : Accepted t) where
     next-is : (d n : ℕ) → d < 64 → next-in os d n ≡ eqb n 0 || is-member t d (n - 1)
     next-is d n w = rw (member-is d (n - 1) w)
 
-    pub tail-is : (s : State) (d : ℕ) → d < 64 → next-in os d (tail s d) ≡ good-tail t s d
+    -- at a ticket root there is no tail
+    pub tail-is : (s : State) (d : ℕ) → d < 64 → good-tail t s d ≡ next-in os d (tail s d) && (not (is-ticket t d) || eqb (tail s d) 0)
     unfolding good-tail
-    tail-is s d w = next-is d (tail s d) w
+    tail-is s d w = rw (next-is d (tail s d) w) (by (eqb (tail s d) 0) (is-ticket t d) (is-member t d (tail s d - 1)))
+      where
+        by : (a b c : Bool) → a || (not b && c) ≡ (a || c) && (not b || a)
+        by true true c = refl
+        by true false c = refl
+        by false true true = refl
+        by false true false = refl
+        by false false true = refl
+        by false false false = refl
 
     pub record-is : (s : State) (r : ℕ) → r < 320 → record-in os r (next s r) (status s r) ≡ good-next t s r && good-status t s r
     unfolding good-next good-status

@@ -1,5 +1,5 @@
 -- A tree by its arrays: where a word is read, it is the array's. Assumes nothing.
-use mathlib.Core.Path.{_≡_, refl}
+use mathlib.Core.Path.{_≡_, refl, ap}
 use mathlib.Core.Bool.{Bool, true, false, not}
 use mathlib.Core.List.{List}
 use Prim.Native.Nat.{ℕ, _≤_, _<_}
@@ -7,8 +7,12 @@ use native.Mathlib.Omega.{arith}
 use native.Mathlib.Nat.{mod-eq-of-lt}
 use lib.ListN.{getD}
 use borrow.Author.Tests.{le-leb, lt-ltb}
+use Rattle.model.specs.declared.TreeWords.{TreeWords}
 use Rattle.model.specs.Trees.{read-word, tree-of}
-use Rattle.refusals.specs.Arrays.{tree-in}
+use Rattle.model.specs.Refusals.{tree-refusal}
+use Rattle.model.specs.Laws.{Root-law}
+use Rattle.model.proofs.Laws.Root.{root-law}
+use Rattle.refusals.specs.Arrays.{tree-in, told}
 
 pub read-in : (a b : ℕ) (ws : List ℕ) (k : ℕ) → a ≤ k → k < b → read-word a b ws k ≡ getD ws k 0
 unfolding read-word
@@ -30,3 +34,8 @@ module _ (n m : ℕ) (ps ts hs : List ℕ) where
 pub not-not : (b : Bool) → not (not b) ≡ b
 not-not true = refl
 not-not false = refl
+
+-- the kind of root is not read
+pub told-same : (w : TreeWords) → told (tree-refusal (tree-in (w .domains) (w .threads) (w .parents) (w .thresholds) (w .homes))) ≡ told (tree-refusal (tree-of w))
+unfolding tree-of Root-law
+told-same w = ap told (root-law (tree-of w) false)

@@ -13,7 +13,7 @@ use borrow.Author.Tests.{eq-eqb, ne-eqb, eqb-true}
 use Rattle.model.specs.declared.PlaceWords.{PlaceWords}
 use Rattle.model.specs.Trees.{Tree}
 use Rattle.model.proofs.Tests.{and-both, or-cases, or-right}
-use Rattle.refusals.specs.Tables.{place-in, idle-in, Joined, rests-in, Resting}
+use Rattle.refusals.specs.Tables.{barred-in, place-in, idle-in, Joined, rests-in, Resting, Rest-number, of-wait, of-idle}
 use Rattle.refusals.proofs.Meeting.{meets-here}
 
 pub no-word : (q : PlaceWords) → (q .word ≡ 0 → ⊥) → false ≡ idle-in q
@@ -42,12 +42,12 @@ idle-by q n w J =
     ]
 
 -- the table, thread by thread
-pub resting-first : (hs : List ℕ) → Resting 0 hs (replicate 256 0)
-resting-first hs = record { room = refl; rests = λ i l. absurd (omega arith) }
+pub resting-first : (r : ℕ) (hs : List ℕ) → Resting r 0 hs (replicate 256 0)
+resting-first r hs = record { room = refl; rests = λ i l. absurd (omega arith) }
 
 pub resting-next :
-    (i : ℕ) (hs ns : List ℕ) (n : ℕ) → i < 256 → Joined 4 (getD hs i 0) 0 n → Resting i hs ns → Resting (i + 1) hs (set ns i n)
-resting-next i hs ns n w J T =
+    (r i : ℕ) (hs ns : List ℕ) (n : ℕ) → i < 256 → Joined r (getD hs i 0) 0 n → Resting r i hs ns → Resting r (i + 1) hs (set ns i n)
+resting-next r i hs ns n w J T =
     record {
       room = length-set ns i n ∙ T .room;
       rests = λ j l.
@@ -57,24 +57,25 @@ resting-next i hs ns n w J T =
           ];
     }
 
-pub resting-all : (i m : ℕ) (hs ns : List ℕ) → i ≡ m → Resting i hs ns → Resting m hs ns
-resting-all i m hs ns e T = record { room = T .room; rests = λ j l. T .rests j (omega arith) }
+pub resting-all : (r i m : ℕ) (hs ns : List ℕ) → i ≡ m → Resting r i hs ns → Resting r m hs ns
+resting-all r i m hs ns e T = record { room = T .room; rests = λ j l. T .rests j (omega arith) }
 
-pub idle-rests : (h : ℕ) (q : PlaceWords) → idle-in q ≡ true → rests-in h q ≡ true
-idle-rests h q e = rw e
+pub idle-rests : (r h : ℕ) (q : PlaceWords) → idle-in q ≡ true → rests-in r h q ≡ true
+idle-rests r h q e = rw e
 
-pub wait-rests : (h : ℕ) (q : PlaceWords) (n : ℕ) → h < 256 → q .word ≡ 0 → Joined (q .row) (q .domain) (q .peer) n → n ≡ 4 + 256 * h → rests-in h q ≡ true
-wait-rests h q n l w J e =
+pub row-rests :
+    (r h : ℕ) (q : PlaceWords) (n : ℕ) → r < 256 → h < 256 → q .word ≡ 0 → Joined (q .row) (q .domain) (q .peer) n → n ≡ r + 256 * h → rests-in r h q ≡ true
+row-rests r h q n k l w J e =
     or-right (idle-in q) _
     (rw (
-      eq-eqb (q .row) 4 (omega (arith, J .is-sum, J .row-small, J .domain-small)),
+      eq-eqb (q .row) r (omega (arith, J .is-sum, J .row-small, J .domain-small)),
       eq-eqb (q .domain) h (omega (arith, J .is-sum, J .row-small, J .domain-small)),
       eq-eqb (q .peer) 0 (omega (arith, J .is-sum, J .row-small, J .domain-small)),
       eq-eqb (q .word) 0 w,
     ))
 
-module _ (t : Tree) (os : List ℕ) (h : ℕ) (q : PlaceWords) where
-  idle-good : idle-in q ≡ true → place-in t os h q ≡ true
+module _ (k : ℕ) (t : Tree) (os vs : List ℕ) (i h : ℕ) (q : PlaceWords) where
+  idle-good : idle-in q ≡ true → place-in k t os vs i h q ≡ true
   unfolding place-in
   idle-good e =
       let a = and-both _ _ e in
@@ -82,14 +83,17 @@ module _ (t : Tree) (os : List ℕ) (h : ℕ) (q : PlaceWords) where
       let c = and-both _ _ (b .1) in
       rw (eqb-true (q .row) 0 (a .0), eqb-true (q .domain) 0 (b .0), eqb-true (q .peer) 0 (c .0), eqb-true (q .word) 0 (c .1))
 
-  wait-good : eqb (q .row) 4 && (eqb (q .domain) h && (eqb (q .peer) 0 && eqb (q .word) 0)) ≡ true → place-in t os h q ≡ true
+  wait-good :
+      barred-in k 4 h ≡ false → eqb (q .row) 4 && (eqb (q .domain) h && (eqb (q .peer) 0 && eqb (q .word) 0)) ≡ true → place-in k t os vs i h q ≡ true
   unfolding place-in
-  wait-good e =
+  wait-good b e =
       let a = and-both _ _ e in
-      let b = and-both _ _ (a .1) in
-      let c = and-both _ _ (b .1) in
-      rw (eqb-true (q .row) 4 (a .0), eqb-true (q .domain) h (b .0), eqb-true (q .peer) 0 (c .0), eqb-true (q .word) 0 (c .1), meets-here 6 t h h refl)
+      let d = and-both _ _ (a .1) in
+      let c = and-both _ _ (d .1) in
+      rw (eqb-true (q .row) 4 (a .0), eqb-true (q .domain) h (d .0), eqb-true (q .peer) 0 (c .0), eqb-true (q .word) 0 (c .1), b, meets-here 6 t h h refl)
 
   -- a place that rests passes every test
-  pub rests-good : rests-in h q ≡ true → place-in t os h q ≡ true
-  rests-good e = ⊎-elim idle-good wait-good (or-cases (idle-in q) _ e)
+  pub rests-good :
+      (n : ℕ) → Rest-number k h n → h < 256 → ((r l : ℕ) → r < 256 → l < 256 → n ≡ r + 256 * l → rests-in r l q ≡ true) → place-in k t os vs i h q ≡ true
+  rests-good _ (of-wait b) l f = ⊎-elim idle-good (wait-good b) (or-cases (idle-in q) _ (f 4 h (omega arith) l refl))
+  rests-good _ of-idle l f = ⊎-elim idle-good idle-good (or-cases (idle-in q) _ (f 0 0 (omega arith) (omega arith) (omega arith)))

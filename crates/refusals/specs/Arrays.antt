@@ -14,8 +14,9 @@ use Rattle.model.specs.Refusals as model
 use Rattle.model.specs.Refusals.{accepted, Test, first-refusal, count-tests, domain-tests, state-tests, schedule-tests, room-tests, tree-tests}
 use Rattle.refusals.specs.declared.Refusal.{Refusal}
 
+-- no test of a tree reads its kind of root
 abbrev pub words-in : (domains threads : ℕ) → (parents thresholds homes : List ℕ) → TreeWords
-words-in n m ps ts hs = record { domains = n; threads = m; parents = ps; thresholds = ts; homes = hs }
+words-in n m ps ts hs = record { domains = n; threads = m; parents = ps; thresholds = ts; homes = hs; «ticket_root» = 0 }
 
 abbrev pub tree-in : (domains threads : ℕ) → (parents thresholds homes : List ℕ) → Tree
 tree-in n m ps ts hs = tree-of (words-in n m ps ts hs)

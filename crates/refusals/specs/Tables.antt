@@ -1,12 +1,12 @@
--- The tests of a state by a table of the records' owners. proofs/ shows that they are document 01's. Assumes nothing: these are definitions.
+-- The tests of a state by a table of the records' owners. proofs/ shows that they are those of the model. Assumes nothing: these are definitions.
 use mathlib.Core.Path.{_≡_}
-use mathlib.Core.Bool.{Bool, true, _&&_, _||_, not, cond}
+use mathlib.Core.Bool.{Bool, true, false, _&&_, _||_, not, cond}
 use mathlib.Core.List.{List}
 use Prim.Native.Nat.{ℕ, _+_, _*_, _-_, _<_}
-use lib.Dec.{eqb, ltb}
+use lib.Dec.{eqb, ltb, leb}
 use lib.ListN.{getD, length}
 use Rattle.model.specs.declared.PlaceWords.{PlaceWords}
-use Rattle.model.specs.Trees.{Tree, meets, is-record, owner-domain}
+use Rattle.model.specs.Trees.{Tree, meets, child-from, is-record, owner-domain}
 
 -- a thread's record: its home, or 255 where there is no such thread
 abbrev pub thread-owner : (threads : ℕ) → (homes : List ℕ) → (number : ℕ) → ℕ
@@ -38,14 +38,37 @@ domain-words-in os d b n v = next-in os d b && record-in os (256 + d) n v
 abbrev pub peer-in : (owners : List ℕ) → (row domain peer : ℕ) → Bool
 peer-in os r l p = cond (eqb r 3 || eqb r 10) (member-in os l p) (eqb p 0)
 
--- a domain on the path from a home, never the root in Check, and a record or none as the row asks
-abbrev pub domain-in : Tree → (owners : List ℕ) → (home row domain peer : ℕ) → Bool
-domain-in t os h r l p = not (eqb r 6 && eqb l 0) && (meets 6 t h l && peer-in os r l p)
+-- a number that names a ticket root
+abbrev pub ticket-in : (kind : ℕ) → Bool
+ticket-in k = not (eqb k 0)
 
-unfoldable pub place-in : Tree → (owners : List ℕ) → (home : ℕ) → PlaceWords → Bool
-place-in t os h q =
-    not (ltb 10 (q .row)) && (not (not (eqb (q .word) 0) && not (eqb (q .row) 10))
-    && cond (eqb (q .row) 0 || eqb (q .row) 5) (eqb (q .domain) 0 && eqb (q .peer) 0) (domain-in t os h (q .row) (q .domain) (q .peer)))
+-- the root in Check, and the root in every place of a queue where it is a ticket lock
+abbrev pub barred-in : (kind row domain : ℕ) → Bool
+barred-in k r l = eqb l 0 && (eqb r 6 || ticket-in k)
+
+-- a domain on the path from a home, not barred, and a record or none as the row asks
+abbrev pub domain-in : (kind : ℕ) → Tree → (owners : List ℕ) → (home row domain peer : ℕ) → Bool
+domain-in k t os h r l p = not (barred-in k r l) && (meets 6 t h l && peer-in os r l p)
+
+-- the record with which a thread works at the root, by its home
+abbrev pub root-record-in : Tree → (thread home : ℕ) → ℕ
+root-record-in t i h = cond (eqb 0 h) i (256 + child-from 6 t 0 h)
+
+-- Draw, Watch and Raise: at a ticket root alone; a watched status is at most 65,535
+unfoldable pub ticket-place-in : (kind : ℕ) → Tree → (statuses : List ℕ) → (thread home : ℕ) → PlaceWords → Bool
+ticket-place-in k t vs i h q =
+    ticket-in k && (not (ltb 13 (q .row)) && (eqb (q .word) 0 && (eqb (q .domain) 0 && (eqb (q .peer) 0
+    && (not (eqb (q .row) 12) || leb (getD vs (root-record-in t i h) 0) 65535)))))
+
+unfoldable pub place-in : (kind : ℕ) → Tree → (owners statuses : List ℕ) → (thread home : ℕ) → PlaceWords → Bool
+place-in k t os vs i h q =
+    cond (ltb 10 (q .row)) (ticket-place-in k t vs i h q)
+    (not (not (eqb (q .word) 0) && not (eqb (q .row) 10))
+    && cond (eqb (q .row) 0 || eqb (q .row) 5) (eqb (q .domain) 0 && eqb (q .peer) 0) (domain-in k t os h (q .row) (q .domain) (q .peer)))
+
+-- what the state has of its root: no tail at a ticket root, no counters at a queue root
+abbrev pub root-in : (kind tail ticket grant : ℕ) → Bool
+root-in k b v g = cond (eqb k 0) (eqb v 0 && eqb g 0) (eqb b 0)
 
 abbrev pub idle-in : PlaceWords → Bool
 idle-in q = eqb (q .row) 0 && (eqb (q .domain) 0 && (eqb (q .peer) 0 && eqb (q .word) 0))
@@ -56,27 +79,36 @@ pub record Joined (row domain peer joined : ℕ) : Type 0 where
   pub domain-small : domain < 256
   pub is-sum : joined ≡ row + 256 * domain + 65536 * peer
 
--- Idle, or Wait at home
-abbrev pub rests-in : (home : ℕ) → PlaceWords → Bool
-rests-in h q = idle-in q || (eqb (q .row) 4 && (eqb (q .domain) h && (eqb (q .peer) 0 && eqb (q .word) 0)))
+-- Idle, or a row without record and word at a domain
+abbrev pub rests-in : (row domain : ℕ) → PlaceWords → Bool
+rests-in r h q = idle-in q || (eqb (q .row) r && (eqb (q .domain) h && (eqb (q .peer) 0 && eqb (q .word) 0)))
 
--- of each thread, row, domain and record of Wait at its home, as one number
-pub record Resting (threads : ℕ) (homes numbers : List ℕ) : Type 0 where
+-- the row of threads that rest: Wait, but Idle where their home is a ticket root, which is then the only domain
+abbrev pub resting-row : (kind domains : ℕ) → ℕ
+resting-row k n = cond (ticket-in k && eqb n 1) 0 4
+
+-- of each thread, a row, its home and no record, as one number
+pub record Resting (row threads : ℕ) (homes numbers : List ℕ) : Type 0 where
   pub room : length numbers ≡ 256
-  pub rests : (i : ℕ) → i < threads → getD numbers i 0 ≡ 4 + 256 * getD homes i 0
+  pub rests : (i : ℕ) → i < threads → getD numbers i 0 ≡ row + 256 * getD homes i 0
 
--- an answer that is true only where a place rests, for the home whose Wait has the number
+-- an answer that is true only where a place rests, for the row and the domain that have the number
 pub record Rests (resting : ℕ) (q : PlaceWords) (answer : Bool) : Type 0 where
-  pub rests : answer ≡ true → (h : ℕ) → h < 256 → resting ≡ 4 + 256 * h → rests-in h q ≡ true
+  pub rests : answer ≡ true → (r h : ℕ) → r < 256 → h < 256 → resting ≡ r + 256 * h → rests-in r h q ≡ true
+
+-- the number of a thread that rests: of Wait at its home, which is then no ticket root; or of Idle
+pub data Rest-number (kind home : ℕ) : (number : ℕ) → Type 0 where
+  of-wait : barred-in kind 4 home ≡ false → Rest-number kind home (4 + 256 * home)
+  of-idle : Rest-number kind home 0
 
 -- what the state has of a thread: the next of its record, and its place
-abbrev pub used-in : Tree → (owners : List ℕ) → (thread : ℕ) → PlaceWords → (next : ℕ) → Bool
-used-in t os i q n = next-in os (getD os i 0) n && place-in t os (getD os i 0) q
+abbrev pub used-in : (kind : ℕ) → Tree → (owners statuses : List ℕ) → (thread : ℕ) → PlaceWords → (next : ℕ) → Bool
+used-in k t os vs i q n = next-in os (getD os i 0) n && place-in k t os vs i (getD os i 0) q
 
 -- beyond the threads, that the room is fresh
 abbrev pub unused-in : PlaceWords → (next status : ℕ) → Bool
 unused-in q n v = idle-in q && (eqb n 0 && eqb v 0)
 
-unfoldable pub thread-in : Tree → (owners : List ℕ) → (threads thread : ℕ) → PlaceWords → (next status : ℕ) → Bool
-thread-in t os m i q n v =
-    cond (ltb i m) (used-in t os i q n) (unused-in q n v)
+unfoldable pub thread-in : (kind : ℕ) → Tree → (owners statuses : List ℕ) → (threads thread : ℕ) → PlaceWords → (next status : ℕ) → Bool
+thread-in k t os vs m i q n v =
+    cond (ltb i m) (used-in k t os vs i q n) (unused-in q n v)

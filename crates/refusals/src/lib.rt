@@ -137,10 +137,16 @@ fn is_well_formed(tree: TreeWords, state: State) -> bool
 {
     let domains = tree.domains;
     let threads = tree.threads;
+    let ticket_root = tree.ticket_root;
+    let tail = state.tails[0];
+    if !states::good_root_at(ticket_root, tail, state.ticket, state.grant) {
+        return false;
+    }
     let mut owners = [0u8; 320];
     states::owners_of(&mut owners, &tree.parents, &tree.homes, domains, threads);
     let mut resting = [0u32; 256];
-    states::resting_numbers(&mut resting, &tree.homes, threads);
+    let row = states::resting_row_of(ticket_root, domains);
+    states::resting_numbers(&mut resting, &tree.homes, threads, row);
     if !states::good_domains(&owners, &state.tails, &state.nexts, &state.statuses) {
         return false;
     }
@@ -150,7 +156,17 @@ fn is_well_formed(tree: TreeWords, state: State) -> bool
         let q = state.places[at];
         let next = state.nexts[at];
         let numbers = resting[at];
-        if !states::good_thread_at(&tree.parents, &owners, domains, i, q, next, numbers) {
+        if !states::good_thread_at(
+            &tree.parents,
+            &owners,
+            &state.statuses,
+            domains,
+            ticket_root,
+            i,
+            q,
+            next,
+            numbers,
+        ) {
             return false;
         }
         i += 1;

@@ -6,9 +6,9 @@ ghost use Prim.Native.Nat.{_+_, _*_, _<_, _≤_};
 ghost use lib.Dec.{eqb};
 ghost use lib.ListN.{getD};
 ghost use Rattle.model.specs.Scans.{all-below};
-ghost use Rattle.model.specs.Trees.{meets};
+ghost use Rattle.model.specs.Trees.{meets, child-from};
 ghost use Rattle.refusals.specs.Arrays.{tree-in, parents-in, Lower};
-ghost use Rattle.refusals.specs.Tables.{Owners, Thread-owners, member-in, next-in, record-in, domain-words-in, peer-in, domain-in, place-in, idle-in, Joined, Resting, Rests, used-in, unused-in};
+ghost use Rattle.refusals.specs.Tables.{Owners, Thread-owners, member-in, next-in, record-in, domain-words-in, peer-in, barred-in, domain-in, root-record-in, ticket-place-in, place-in, root-in, idle-in, Joined, resting-row, Resting, Rests, Rest-number, used-in, unused-in};
 use model::PlaceWords;
 
 // The homes of the threads, at their records; 255 in all other room.
@@ -164,14 +164,103 @@ fn names_no_domain(row: u8) -> bool
     row == 5
 }
 
-// Check at the root.
-fn is_root_check(row: u8, l: u8) -> bool
-    ensures { λ q. ⌜ q ≡ eqb row 6 && eqb l 0 ⌝ }
+// The root in Check, or in any place of a queue where it is a ticket lock.
+fn is_barred_at(ticket_root: u32, row: u8, l: u8) -> bool
+    ensures { λ q. ⌜ q ≡ barred-in «ticket_root» row l ⌝ }
 {
-    if row != 6 {
+    if l != 0 {
         return false;
     }
-    l == 0
+    if row == 6 {
+        return true;
+    }
+    ticket_root != 0
+}
+
+// The domain below the root on the way up from a home other than the root.
+fn root_child_at(parents: &[u8; 64], domains: u32, home: u8) -> u8
+    requires { ⌜ domains ≤ 64 ⌝ }
+    requires { ⌜ Lower domains (now parents) ⌝ }
+    requires { ⌜ home < domains ⌝ }
+    ensures { λ r. ⌜ (r ≡ child-from 6 (parents-in domains (now (parents .entry))) 0 home) × (r < 64) ⌝ }
+{
+    let mut c = home;
+    let mut left: u32 = 6;
+    while 0 < left {
+        if c == 0 {
+            return c;
+        }
+        let at = c as usize;
+        let p = parents[at];
+        if p == 0 {
+            return c;
+        }
+        c = p;
+        left -= 1;
+    }
+    c
+}
+
+// The record with which a thread works at the root.
+fn root_record_at(parents: &[u8; 64], domains: u32, i: u16, home: u8) -> u16
+    requires { ⌜ (domains ≤ 64) × (i < 256) ⌝ }
+    requires { ⌜ Lower domains (now parents) ⌝ }
+    requires { ⌜ home < domains ⌝ }
+    ensures { λ r. ⌜ (r ≡ root-record-in (parents-in domains (now (parents .entry))) i home) × (r < 320) ⌝ }
+{
+    if home == 0 {
+        return i;
+    }
+    let c = root_child_at(parents, domains, home);
+    256 + c as u16
+}
+
+// Draw, Watch and Raise: at a ticket root alone, a watched status at most 65,535.
+fn good_ticket_place_at<'a>(
+    parents: &'a [u8; 64],
+    statuses: &'a [u64; 320],
+    domains: u32,
+    ticket_root: u32,
+    i: u16,
+    home: u8,
+    q: PlaceWords,
+) -> bool
+    requires { ⌜ (domains ≤ 64) × (i < 256) ⌝ }
+    requires { ⌜ Lower domains (now parents) ⌝ }
+    requires { ⌜ home < domains ⌝ }
+    ensures { λ r. ⌜ r ≡ ticket-place-in «ticket_root» (parents-in domains (now (parents .entry))) (now (statuses .entry)) i home q ⌝ }
+{
+    if ticket_root == 0 {
+        return false;
+    }
+    if 13 < q.row {
+        return false;
+    }
+    if q.word != 0 {
+        return false;
+    }
+    if q.domain != 0 {
+        return false;
+    }
+    if q.peer != 0 {
+        return false;
+    }
+    if q.row != 12 {
+        return true;
+    }
+    let r = root_record_at(parents, domains, i, home);
+    let at = r as usize;
+    statuses[at] <= 65535
+}
+
+// A tail at a ticket root, or counters at a queue root.
+pub(crate) fn good_root_at(ticket_root: u32, tail: u16, ticket: u16, grant: u16) -> bool
+    ensures { λ q. ⌜ q ≡ root-in «ticket_root» tail ticket grant ⌝ }
+{
+    if ticket_root == 0 {
+        return ticket == 0 && grant == 0;
+    }
+    tail == 0
 }
 
 // A word where the row is not Grant.
@@ -197,6 +286,7 @@ fn good_domain_at<'a>(
     parents: &'a [u8; 64],
     owners: &'a [u8; 320],
     domains: u32,
+    ticket_root: u32,
     home: u8,
     row: u8,
     l: u8,
@@ -205,9 +295,9 @@ fn good_domain_at<'a>(
     requires { ⌜ domains ≤ 64 ⌝ }
     requires { ⌜ Lower domains (now parents) ⌝ }
     requires { ⌜ home < domains ⌝ }
-    ensures { λ r. ⌜ r ≡ domain-in (parents-in domains (now (parents .entry))) (now (owners .entry)) home row l peer ⌝ }
+    ensures { λ r. ⌜ r ≡ domain-in «ticket_root» (parents-in domains (now (parents .entry))) (now (owners .entry)) home row l peer ⌝ }
 {
-    if is_root_check(row, l) {
+    if is_barred_at(ticket_root, row, l) {
         return false;
     }
     if !meets_at(parents, domains, home, l) {
@@ -219,20 +309,23 @@ fn good_domain_at<'a>(
 fn good_place_at<'a>(
     parents: &'a [u8; 64],
     owners: &'a [u8; 320],
+    statuses: &'a [u64; 320],
     domains: u32,
+    ticket_root: u32,
+    i: u16,
     home: u8,
     q: PlaceWords,
 ) -> bool
-    requires { ⌜ domains ≤ 64 ⌝ }
+    requires { ⌜ (domains ≤ 64) × (i < 256) ⌝ }
     requires { ⌜ Lower domains (now parents) ⌝ }
     requires { ⌜ home < domains ⌝ }
-    ensures { λ r. ⌜ r ≡ place-in (parents-in domains (now (parents .entry))) (now (owners .entry)) home q ⌝ }
+    ensures { λ r. ⌜ r ≡ place-in «ticket_root» (parents-in domains (now (parents .entry))) (now (owners .entry)) (now (statuses .entry)) i home q ⌝ }
 {
     let row = q.row;
     let l = q.domain;
     let peer = q.peer;
     if 10 < row {
-        return false;
+        return good_ticket_place_at(parents, statuses, domains, ticket_root, i, home, q);
     }
     if has_spare_word(row, q.word) {
         return false;
@@ -243,7 +336,7 @@ fn good_place_at<'a>(
         }
         return peer == 0;
     }
-    good_domain_at(parents, owners, domains, home, row, l, peer)
+    good_domain_at(parents, owners, domains, ticket_root, home, row, l, peer)
 }
 
 // The numbers of a place before its word, as one number, so that one comparison tests all three.
@@ -262,17 +355,30 @@ fn is_idle_at(q: PlaceWords) -> bool
     joined(q.row, q.domain, q.peer) == 0
 }
 
-// Of each thread, row, domain and record of Wait at its home, as one number.
-pub(crate) fn resting_numbers(resting: &mut [u32; 256], homes: &[u8; 256], threads: u32)
+// The row of the threads that rest.
+pub(crate) fn resting_row_of(ticket_root: u32, domains: u32) -> u8
+    ensures { λ r. ⌜ r ≡ resting-row «ticket_root» domains ⌝ }
+{
+    if ticket_root == 0 {
+        return 4;
+    }
+    if domains == 1 {
+        return 0;
+    }
+    4
+}
+
+// Of each thread, the row in which it rests, its home and no record, as one number.
+pub(crate) fn resting_numbers(resting: &mut [u32; 256], homes: &[u8; 256], threads: u32, row: u8)
     requires { ⌜ threads ≤ 256 ⌝ }
-    ensures { λ r. ⌜ Resting threads (now (homes .entry)) (now (resting .exit)) ⌝ }
+    ensures { λ r. ⌜ Resting row threads (now (homes .entry)) (now (resting .exit)) ⌝ }
 {
     *resting = [0u32; 256];
     let mut i: u32 = 0;
     while i < threads {
         let at = i as usize;
         let h = homes[at];
-        resting[at] = joined(4, h, 0);
+        resting[at] = joined(row, h, 0);
         i += 1;
     }
 }
@@ -305,7 +411,9 @@ pub(crate) fn is_unused_at(q: PlaceWords, next: u16, status: u64) -> bool
 pub(crate) fn good_thread_at<'a>(
     parents: &'a [u8; 64],
     owners: &'a [u8; 320],
+    statuses: &'a [u64; 320],
     domains: u32,
+    ticket_root: u32,
     i: u16,
     q: PlaceWords,
     next: u16,
@@ -314,8 +422,8 @@ pub(crate) fn good_thread_at<'a>(
     requires { ⌜ (domains ≤ 64) × (i < 256) ⌝ }
     requires { ⌜ Lower domains (now parents) ⌝ }
     requires { ⌜ getD (now owners) i 0 < domains ⌝ }
-    requires { ⌜ resting ≡ 4 + 256 * getD (now owners) i 0 ⌝ }
-    ensures { λ r. ⌜ r ≡ used-in (parents-in domains (now (parents .entry))) (now (owners .entry)) i q next ⌝ }
+    requires { ⌜ Rest-number «ticket_root» (getD (now owners) i 0) resting ⌝ }
+    ensures { λ r. ⌜ r ≡ used-in «ticket_root» (parents-in domains (now (parents .entry))) (now (owners .entry)) (now (statuses .entry)) i q next ⌝ }
 {
     let at = i as usize;
     let home = owners[at];
@@ -325,5 +433,5 @@ pub(crate) fn good_thread_at<'a>(
     if rests_at(resting, q) {
         return true;
     }
-    good_place_at(parents, owners, domains, home, q)
+    good_place_at(parents, owners, statuses, domains, ticket_root, i, home, q)
 }

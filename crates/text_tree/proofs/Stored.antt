@@ -23,6 +23,7 @@ pub record Holds (w : TreeWords) (l : Laid) : Type 0 where
   pub parents-held : length (l .parents) ≤ 64 → w .parents ≡ in-room 64 (l .parents)
   pub thresholds-held : length (l .parents) ≤ 64 → w .thresholds ≡ in-room 64 (l .thresholds)
   pub homes-held : length (l .parents) ≤ 64 → length (l .homes) ≤ 256 → w .homes ≡ in-room 256 (l .homes)
+  pub queue-root : w .«ticket_root» ≡ 0
 
 pub root-holds : Holds root-words root-laid
 unfolding root-words root-laid
@@ -34,6 +35,7 @@ root-holds =
       parents-held = λ h. refl;
       thresholds-held = λ h. refl;
       homes-held = λ h g. refl;
+      queue-root = refl;
     }
 
 -- ONE DOMAIN
@@ -64,6 +66,7 @@ module _ (w : TreeWords) (l : Laid) (p q h : ℕ) (a : Holds w l) where
             λ k. rw (a .thresholds-held (omega arith))
             (store-next 64 (l .thresholds) (w .domains) h (many ∙ sym (a .as-many)) (omega (arith, a .as-many)));
         homes-held = λ k g. a .homes-held (omega arith) g;
+        queue-root = refl;
       })
 
   domain-over : 64 ≤ length (l .parents) → Holds (domain-added w p h) (domain-laid l q h)
@@ -81,6 +84,7 @@ module _ (w : TreeWords) (l : Laid) (p q h : ℕ) (a : Holds w l) where
         parents-held = λ k. absurd (omega arith);
         thresholds-held = λ k. absurd (omega arith);
         homes-held = λ k g. absurd (omega arith);
+        queue-root = refl;
       })
 
   pub domain-holds : (length (l .parents) < 64 → p ≡ q) → Holds (domain-added w p h) (domain-laid l q h)
@@ -171,6 +175,7 @@ module _ (w : TreeWords) (l : Laid) (d e n : ℕ) (a : Holds w l) where
         parents-held = a .parents-held;
         thresholds-held = a .thresholds-held;
         homes-held = λ k g. filled-held k (omega (arith, homes-longer-by)) (same k);
+        queue-root = refl;
       }
 
 -- TREES
@@ -246,10 +251,12 @@ whole-words t d i =
     let parents-same = a .parents-held d in
     let thresholds-same = a .thresholds-held d in
     let homes-same = a .homes-held d i in
+    let root-same = a .queue-root in
     λ j. record {
       domains = domains-same j;
       threads = threads-same j;
       parents = parents-same j;
       thresholds = thresholds-same j;
       homes = homes-same j;
+      «ticket_root» = root-same j;
     }

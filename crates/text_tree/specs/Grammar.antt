@@ -107,4 +107,5 @@ words-of t =
       parents = in-room 64 (laid-out t .parents);
       thresholds = in-room 64 (laid-out t .thresholds);
       homes = in-room 256 (laid-out t .homes);
+      «ticket_root» = 0;
     }

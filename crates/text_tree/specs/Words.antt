@@ -12,11 +12,11 @@ least limit n = cond (ltb n limit) n limit
 
 -- refused, the reader gives no domains and no threads
 unfoldable pub no-words : TreeWords
-no-words = record { domains = 0; threads = 0; parents = replicate 64 0; thresholds = replicate 64 0; homes = replicate 256 0 }
+no-words = record { domains = 0; threads = 0; parents = replicate 64 0; thresholds = replicate 64 0; homes = replicate 256 0; «ticket_root» = 0 }
 
 -- behind the first parenthesis: the root alone
 unfoldable pub root-words : TreeWords
-root-words = record { domains = 1; threads = 0; parents = replicate 64 0; thresholds = replicate 64 0; homes = replicate 256 0 }
+root-words = record { domains = 1; threads = 0; parents = replicate 64 0; thresholds = replicate 64 0; homes = replicate 256 0; «ticket_root» = 0 }
 
 -- the number of the domain whose parenthesis opens next
 unfoldable pub new-number : (domains : ℕ) → ℕ
@@ -26,13 +26,14 @@ new-number n = cond (ltb n 64) n 64
 unfoldable pub domain-added : TreeWords → (parent threshold : ℕ) → TreeWords
 domain-added w p h =
     cond (leb 64 (w .domains))
-    (record { domains = 65; threads = w .threads; parents = w .parents; thresholds = w .thresholds; homes = w .homes })
+    (record { domains = 65; threads = w .threads; parents = w .parents; thresholds = w .thresholds; homes = w .homes; «ticket_root» = 0 })
     (record {
       domains = w .domains + 1;
       threads = w .threads;
       parents = set (w .parents) (w .domains) p;
       thresholds = set (w .thresholds) (w .domains) h;
       homes = w .homes;
+      «ticket_root» = 0;
     })
 
 -- the threads' number with some more
@@ -52,4 +53,5 @@ threads-added w d n =
       parents = w .parents;
       thresholds = w .thresholds;
       homes = filled-from (w .homes) (least 257 (w .threads)) (least 256 (threads-after (w .threads) n)) d;
+      «ticket_root» = 0;
     }

@@ -25,6 +25,7 @@ pub(crate) fn no_tree() -> TreeWords
         parents: [0u8; 64],
         thresholds: [0u16; 64],
         homes: [0u8; 256],
+        ticket_root: 0,
     }
 }
 
@@ -38,6 +39,7 @@ pub(crate) fn root_tree() -> TreeWords
         parents: [0u8; 64],
         thresholds: [0u16; 64],
         homes: [0u8; 256],
+        ticket_root: 0,
     }
 }
 
@@ -64,6 +66,7 @@ pub(crate) fn add_domain(tree: TreeWords, parent: u8, threshold: u16) -> TreeWor
             parents,
             thresholds,
             homes,
+            ticket_root: 0,
         };
     }
     parents[wide(domains)] = parent;
@@ -74,6 +77,7 @@ pub(crate) fn add_domain(tree: TreeWords, parent: u8, threshold: u16) -> TreeWor
         parents,
         thresholds,
         homes,
+        ticket_root: 0,
     }
 }
 
@@ -109,5 +113,6 @@ pub(crate) fn add_threads(tree: TreeWords, home: u8, count: u32) -> TreeWords
         parents,
         thresholds,
         homes,
+        ticket_root: 0,
     }
 }

@@ -7,8 +7,8 @@ use crate::words::*;
 /// The calls of one program, the step table's or the library's.
 #[derive(Clone, Copy)]
 pub struct Calls {
-    pub fresh: fn(&TreeWords) -> Reply,
-    pub fresh_in_place: fn(&TreeWords, &mut StateWords) -> (u32, u32),
+    pub fresh: fn(&TreeWords, u16) -> Reply,
+    pub fresh_in_place: fn(&TreeWords, &mut StateWords, u16) -> (u32, u32),
     pub step: fn(&TreeWords, &StateWords, u16) -> StepReply,
     pub step_in_place: fn(&TreeWords, &mut StateWords, u16) -> StepAnswer,
     pub run: fn(&TreeWords, &StateWords, &[u16], &mut [u16]) -> RunReply,
@@ -32,15 +32,15 @@ fn read_state(tree: &Tree, words: &StateWords) -> Outcome<State> {
     }
 }
 
-fn fresh(tree: &TreeWords) -> Reply {
-    let (outcome, state) = fresh_lock(&tree.tree());
+fn fresh(tree: &TreeWords, start: u16) -> Reply {
+    let (outcome, state) = fresh_lock(&tree.tree(), start);
     let (number, place) = number_and_place(&outcome);
     Reply { number, place, state: StateWords::of(&state) }
 }
 
 /// The fresh words are written where the tree is accepted; a refused call leaves the words as they came.
-fn fresh_in_place(tree: &TreeWords, words: &mut StateWords) -> (u32, u32) {
-    let reply = fresh(tree);
+fn fresh_in_place(tree: &TreeWords, words: &mut StateWords, start: u16) -> (u32, u32) {
+    let reply = fresh(tree, start);
     if reply.number == 0 {
         *words = reply.state;
     }

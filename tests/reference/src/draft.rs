@@ -5,6 +5,9 @@ use crate::random::Random;
 use crate::refusals::{leaves, occupied};
 use crate::table::*;
 
+/// The most domains that a file can name: its first byte says the kind of root too.
+pub const MOST_DOMAINS: usize = TICKET_ROOT_BIT as usize - 1;
+
 /// The first domain is the root, whose parent and threshold no file holds.
 #[derive(Clone, Debug)]
 pub struct Draft {
@@ -14,6 +17,7 @@ pub struct Draft {
     pub thresholds: Vec<u16>,
     pub homes: Vec<u8>,
     pub schedule: Vec<u16>,
+    pub ticket_root: bool,
 }
 
 /// How large a random tree may be.
@@ -32,12 +36,13 @@ impl Draft {
         tree.parents[..self.parents.len()].copy_from_slice(&self.parents);
         tree.thresholds[..self.thresholds.len()].copy_from_slice(&self.thresholds);
         tree.homes[..self.homes.len()].copy_from_slice(&self.homes);
+        tree.ticket_root = self.ticket_root;
         tree
     }
 
     /// The file; a field that says what its absence means is set at times and left out at times.
     pub fn write(&self, random: &mut Random) -> Vec<u8> {
-        let mut file = vec![self.domains];
+        let mut file = vec![self.domains | (self.ticket_root as u8 * TICKET_ROOT_BIT)];
         for domain in 1..self.parents.len() {
             write_domain(&mut file, self.parents[domain], self.thresholds[domain], random);
         }
@@ -72,13 +77,14 @@ fn write_home(file: &mut Vec<u8>, before: u8, home: u8, random: &mut Random) {
     }
 }
 
-/// A random tree that is accepted, with an empty schedule.
+/// A random tree that is accepted, its root of either kind, with an empty schedule.
 pub fn random_draft(random: &mut Random, size: Size) -> Draft {
     let domains = random.between(1, size.domains);
     let parents = random_parents(random, domains);
     let thresholds = random_thresholds(random, domains);
     let threads = random.between(1, size.threads);
-    let mut draft = Draft { domains: domains as u8, threads: threads as u16, parents, thresholds, homes: Vec::new(), schedule: Vec::new() };
+    let (homes, schedule, ticket_root) = (Vec::new(), Vec::new(), random.one_in(2));
+    let mut draft = Draft { domains: domains as u8, threads: threads as u16, parents, thresholds, homes, schedule, ticket_root };
     draft.homes = random_homes(random, &draft.tree(), threads);
     leave_out_empty_domains(&mut draft);
     draft

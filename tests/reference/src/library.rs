@@ -49,19 +49,19 @@ mod call_entries {
     }
 
     extern "C" {
-        fn hmcs_fresh(tree: TreeWords) -> Reply;
-        fn hmcs_fresh_in_place(tree: TreeWords, state: *mut StateWords) -> Answer;
+        fn hmcs_fresh(tree: TreeWords, start: u16) -> Reply;
+        fn hmcs_fresh_in_place(tree: TreeWords, state: *mut StateWords, start: u16) -> Answer;
         fn hmcs_step(tree: TreeWords, state: StateWords, thread: u16) -> StepReply;
         fn hmcs_step_in_place(tree: TreeWords, state: *mut StateWords, thread: u16) -> StepAnswer;
         fn hmcs_run(tree: TreeWords, state: StateWords, schedule: *const u16, schedule_len: usize, trace: *mut u16, trace_len: usize) -> RunReply;
     }
 
-    pub fn fresh(tree: &TreeWords) -> Reply {
-        unsafe { hmcs_fresh(*tree) }
+    pub fn fresh(tree: &TreeWords, start: u16) -> Reply {
+        unsafe { hmcs_fresh(*tree, start) }
     }
 
-    pub fn fresh_in_place(tree: &TreeWords, state: &mut StateWords) -> (u32, u32) {
-        let answer = unsafe { hmcs_fresh_in_place(*tree, state) };
+    pub fn fresh_in_place(tree: &TreeWords, state: &mut StateWords, start: u16) -> (u32, u32) {
+        let answer = unsafe { hmcs_fresh_in_place(*tree, state, start) };
         (answer.number, answer.place)
     }
 

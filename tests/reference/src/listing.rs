@@ -1,7 +1,9 @@
 //! Listing 1 of the paper on HMCS locks, run by threads that take turns; `// 7` behind code is the listing's line 7.
 //! `before(7)` begins a schedule entry: the accesses up to the next `before` are one row of the step table.
+//! With a ticket root the second template, lines 63 to 89, is `ticket_lock` in its place; lines 1 to 62 and the recursion are the same code.
 //! The brace that ends line 11 has no partner and is left out: lines 16 and 17 also follow a swap that found no predecessor.
 
+use crate::ticket_lock::TicketLock;
 use crate::turnstile::{Stopped, Turn};
 use std::sync::atomic::{AtomicBool, AtomicU64, AtomicUsize, Ordering::SeqCst};
 
@@ -33,9 +35,11 @@ pub struct HNode {
     threshold: u64,
 }
 
+/// At a ticket root a ticket lock stands beside the root's HNode, whose queue nobody uses.
 pub struct Lock {
     pub qnodes: Vec<QNode>,
     pub hnodes: Vec<HNode>,
+    pub ticket_root: Option<TicketLock>,
     pub inside: Vec<AtomicBool>,
 }
 
@@ -80,7 +84,7 @@ impl QNode {
         self.next.load()
     }
 
-    fn set_status(&self, status: u64) {
+    pub fn set_status(&self, status: u64) {
         self.status.store(status, SeqCst)
     }
 }
@@ -138,18 +142,20 @@ impl<'a> Worker<'a> {
         self.release_real(l, i) // 48, 87
     }
 
-    /// The template's choice by depth: the root has its own code.
+    /// The template's choice by depth: the root has its own code, by its kind.
     fn acquire_real(&self, l: usize, i: usize) -> Result<(), Stopped> {
-        match self.hnode(l).parent {
-            Some(parent) => self.acquire_real_below(l, parent, i),
-            None => self.acquire_real_root(l, i),
+        match (self.hnode(l).parent, &self.lock.ticket_root) {
+            (Some(parent), _) => self.acquire_real_below(l, parent, i),
+            (None, None) => self.acquire_real_root(l, i),
+            (None, Some(ticket_lock)) => ticket_lock.acquire(self.qnode(i), &self.turn),
         }
     }
 
     fn release_real(&self, l: usize, i: usize) -> Result<(), Stopped> {
-        match self.hnode(l).parent {
-            Some(parent) => self.release_real_below(l, parent, i),
-            None => self.release_real_root(l, i),
+        match (self.hnode(l).parent, &self.lock.ticket_root) {
+            (Some(parent), _) => self.release_real_below(l, parent, i),
+            (None, None) => self.release_real_root(l, i),
+            (None, Some(ticket_lock)) => ticket_lock.release(&self.turn),
         }
     }
 

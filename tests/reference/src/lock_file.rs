@@ -1,9 +1,10 @@
-//! The lock file of document 01, its reader with refusals 1 to 3, and the file call with its listing.
+//! The lock file of document 01, its first byte as document 02 says it of a ticket root, its reader with refusals 1 to 3, and the file call with its listing.
 
 use crate::refusals::*;
 use crate::table::*;
 
 pub const LONGEST_FILE: usize = 65_536;
+pub const TICKET_ROOT_BIT: u8 = 128;
 pub const PARENT_BIT: u8 = 1;
 pub const THRESHOLD_BIT: u8 = 2;
 pub const HOME_BIT: u8 = 1;
@@ -50,9 +51,12 @@ impl Reader<'_> {
         }
     }
 
+    /// The first byte is the number of domains, and 128 more for a ticket root.
     /// Domains behind the room are read and not kept: the tree is refused for their number.
     fn domains(&mut self, tree: &mut Tree) -> Outcome<()> {
-        tree.domains = self.byte()? as usize;
+        let first = self.byte()?;
+        tree.ticket_root = first >= TICKET_ROOT_BIT;
+        tree.domains = (first % TICKET_ROOT_BIT) as usize;
         for domain in 1..tree.domains {
             let map = self.bit_map(PARENT_BIT | THRESHOLD_BIT)?;
             let parent = if map & PARENT_BIT != 0 { self.byte()? } else { PARENT_ABSENT };
@@ -129,7 +133,7 @@ pub fn list_file(file: &[u8]) -> Outcome<Vec<u8>> {
     accept_tree(&tree)?;
     accept_entries(&tree, entries(schedule))?;
     let mut trace = Vec::with_capacity(schedule.len() / 2);
-    let counts = run(&tree, &mut State::fresh(), entries(schedule), &mut trace);
+    let counts = run(&tree, &mut State::fresh_at(&tree, 0), entries(schedule), &mut trace);
     Ok(listing(counts, &trace))
 }
 

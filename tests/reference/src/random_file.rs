@@ -1,7 +1,7 @@
 //! Random lock files: valid, breaking a limit, and damaged as bytes.
 
-use crate::draft::{random_draft, Draft, Size};
-use crate::lock_file::LONGEST_FILE;
+use crate::draft::{random_draft, Draft, Size, MOST_DOMAINS};
+use crate::lock_file::{LONGEST_FILE, TICKET_ROOT_BIT};
 use crate::random::Random;
 use crate::schedules::{schedule, STYLES};
 
@@ -19,7 +19,11 @@ pub fn random_file(random: &mut Random) -> Vec<u8> {
 fn noise(random: &mut Random) -> Vec<u8> {
     let length = random.between(0, 40);
     let bound = random.pick(&[2, 4, 256]);
-    (0..length).map(|_| random.below(bound) as u8).collect()
+    let mut file: Vec<u8> = (0..length).map(|_| random.below(bound) as u8).collect();
+    if random.one_in(3) {
+        file.iter_mut().take(1).for_each(|first| *first |= TICKET_ROOT_BIT);
+    }
+    file
 }
 
 /// A draft that is accepted, with a schedule.
@@ -81,7 +85,7 @@ fn set_domains(random: &mut Random, draft: &mut Draft, domains: usize) {
 }
 
 fn break_number_of_domains(random: &mut Random, draft: &mut Draft) {
-    let domains = random.pick(&[0, 63, 64, 65, 66, 127, 128, 254, 255]);
+    let domains = random.pick(&[0, 63, 64, 65, 66, 67, 126, MOST_DOMAINS]);
     set_domains(random, draft, domains);
 }
 
@@ -102,7 +106,7 @@ fn break_parent(random: &mut Random, draft: &mut Draft) {
 /// A chain that reaches level 7 or just does not, under the domains from some number on.
 fn break_depth(random: &mut Random, draft: &mut Draft) {
     let start = draft.parents.len().max(1);
-    let end = (start + random.between(4, 8)).min(255);
+    let end = (start + random.between(4, 8)).min(MOST_DOMAINS);
     set_domains(random, draft, end);
     for domain in start..draft.parents.len() {
         draft.parents[domain] = (domain - 1) as u8;
@@ -139,7 +143,7 @@ fn empty_a_home(random: &mut Random, draft: &mut Draft) {
 
 /// One more domain, under one that has child domains.
 fn add_empty_domain(random: &mut Random, draft: &mut Draft) {
-    if draft.parents.len() > 1 && draft.parents.len() < 255 {
+    if draft.parents.len() > 1 && draft.parents.len() < MOST_DOMAINS {
         let sibling = random.between(1, draft.parents.len() - 1);
         draft.parents.push(draft.parents[sibling]);
         draft.thresholds.push(random.between(1, 20) as u16);

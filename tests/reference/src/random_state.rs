@@ -1,4 +1,4 @@
-//! Random trees and states as a caller hands them in: reached, well formed in any way, and spoilt.
+//! Random trees and states as a caller hands them in: reached, well formed in any way, and spoilt; and starts of a ticket lock.
 
 use crate::draft::Draft;
 use crate::random::Random;
@@ -6,7 +6,17 @@ use crate::schedules::{schedule, STYLES};
 use crate::table::*;
 use crate::words::*;
 
-/// The words of a draft's tree; words that are not read are random.
+/// A start of a ticket lock, mostly so near 65,535 that its counters come round.
+pub fn random_start(random: &mut Random) -> u16 {
+    match random.below(5) {
+        0 => 0,
+        1 => random.below(65_536) as u16,
+        2 => 65_535,
+        _ => random.between(65_520, 65_535) as u16,
+    }
+}
+
+/// The words of a draft's tree; words that are not read are random, and a ticket root is any number but 0.
 pub fn tree_words(random: &mut Random, draft: &Draft) -> TreeWords {
     let mut words = TreeWords {
         domains: draft.parents.len() as u32,
@@ -14,6 +24,7 @@ pub fn tree_words(random: &mut Random, draft: &Draft) -> TreeWords {
         parents: std::array::from_fn(|_| random.below(256) as u8),
         thresholds: std::array::from_fn(|_| random.below(65_536) as u16),
         homes: std::array::from_fn(|_| random.below(256) as u8),
+        ticket_root: if draft.ticket_root { random.pick(&[1, 1, 2, 128, 256, 65_536, 1 << 31, u32::MAX]) } else { 0 },
     };
     for domain in 1..draft.parents.len().min(DOMAIN_ROOM) {
         words.parents[domain] = draft.parents[domain];
@@ -28,7 +39,7 @@ pub fn tree_words(random: &mut Random, draft: &Draft) -> TreeWords {
 /// A state for a tree that is accepted.
 pub fn random_state(random: &mut Random, tree: &Tree) -> StateWords {
     let state = match random.below(3) {
-        0 => State::fresh(),
+        0 => State::fresh_at(tree, random_start(random)),
         1 => reached(random, tree),
         _ => any_well_formed(random, tree),
     };
@@ -37,7 +48,7 @@ pub fn random_state(random: &mut Random, tree: &Tree) -> StateWords {
 
 fn reached(random: &mut Random, tree: &Tree) -> State {
     let (style, length) = (random.pick(&STYLES), random.between(0, 300));
-    let mut state = State::fresh();
+    let mut state = State::fresh_at(tree, random_start(random));
     run(tree, &mut state, schedule(random, tree, style, length).into_iter(), &mut Vec::new());
     state
 }
@@ -55,7 +66,28 @@ fn any_well_formed(random: &mut Random, tree: &Tree) -> State {
     for thread in 0..tree.threads {
         state.places[thread] = random_place(random, tree, thread);
     }
+    if tree.ticket_root {
+        make_ticket_root(random, tree, &mut state);
+    }
     state
+}
+
+/// Counters equal, near each other or far apart; tickets of the root's members near them, often one for several, and never too large where watched.
+fn make_ticket_root(random: &mut Random, tree: &Tree, state: &mut State) {
+    state.tails[ROOT] = None;
+    state.grant = random_start(random);
+    state.ticket = if random.one_in(2) { state.grant.wrapping_add(random.below(6) as u16) } else { random.below(65_536) as u16 };
+    let next = state.grant.wrapping_add(1);
+    let near = if random.one_in(3) { [next; 5] } else { [state.grant, next, next.wrapping_add(1), state.ticket.wrapping_sub(1), state.ticket] };
+    for record in members(tree, ROOT) {
+        if !random.one_in(4) {
+            state.statuses[record as usize] = random.pick(&near) as u64;
+        }
+    }
+    for thread in (0..tree.threads).filter(|&thread| state.places[thread] == Place::Watch) {
+        let status = &mut state.statuses[tree.record(thread, ROOT)];
+        *status = if *status > u16::MAX as u64 { random.pick(&near) as u64 } else { *status };
+    }
 }
 
 /// The records of a domain's members.
@@ -85,6 +117,9 @@ fn random_place(random: &mut Random, tree: &Tree, thread: usize) -> Place {
         domain = tree.parent(domain);
     }
     let (at, member) = (domain as u8, random.pick(&members(tree, domain)));
+    if tree.is_ticket(domain) {
+        return random.pick(&[Place::Idle, Place::Inside, Place::Draw, Place::Watch, Place::Watch, Place::Watch, Place::Raise, Place::Raise]);
+    }
     match random.below(11) {
         0 => Place::Idle,
         1 => Place::Prep(at),
@@ -107,14 +142,33 @@ pub fn spoil(random: &mut Random, tree: &Tree, words: &mut StateWords) {
     let record = random.pick(&[thread, domain_record(domain), domain_record(ROOT)]);
     let near = [1, 257, 258, 320, 321, 65_535, random.below(330) as u16];
     let other = random.pick(&near);
-    match random.below(7) {
+    match random.below(12) {
         0 => words.tails[domain] = other,
         1 => words.nexts[record] = other,
         2 => words.statuses[record] = random_word(random, tree),
-        3 => words.places[thread].row = random.below(13) as u8,
+        3 => words.places[thread].row = random.below(16) as u8,
         4 => words.places[thread].domain = random.below(66) as u8,
         5 => words.places[thread].peer = other,
-        _ => words.places[thread].word = random_word(random, tree),
+        6 => words.places[thread].word = random_word(random, tree),
+        _ => spoil_root(random, tree, words),
+    }
+}
+
+/// Changes one word in a way that may be well formed at the other kind of root.
+fn spoil_root(random: &mut Random, tree: &Tree, words: &mut StateWords) {
+    let thread = random.below(tree.threads);
+    let member = random.pick(&members(tree, ROOT));
+    let (row, watching) = (random.pick(&[1, 2, 4, 7, 8, 9]), PlaceWords::of(Place::Watch));
+    match random.below(6) {
+        0 => words.places[thread] = PlaceWords { row: random.between(11, 13) as u8, ..PlaceWords::default() },
+        1 => words.places[thread] = PlaceWords { row, ..PlaceWords::default() },
+        2 => words.places[thread] = PlaceWords::of(random.pick(&[Place::Link(0, member), Place::Grant(0, member, 0)])),
+        3 => words.tails[ROOT] = member + 1,
+        4 => {
+            words.places[thread] = watching;
+            words.statuses[tree.record(thread, ROOT)] = random.pick(&[65_535, 65_536, 1 << 16 | words.grant as u64, ACQUIRE_PARENT, WAIT]);
+        }
+        _ => (words.ticket, words.grant) = random.pick(&[(0, 1), (1, 0), (65_535, 65_535), (65_535, 0), (0, 65_535)]),
     }
 }
 

@@ -1,4 +1,4 @@
-//! Refusals 4 to 13 of document 01 and 16 of document 02, and the fresh call, the single step and the run that meet them.
+//! Refusals 4 to 13 of document 01 and 16 of document 02, 10 with what document 02 adds of a ticket root, and the fresh call, the single step and the run that meet them.
 
 use crate::table::*;
 
@@ -130,13 +130,56 @@ fn place_well_formed(tree: &Tree, state: &State, thread: usize) -> bool {
         Place::Link(domain, record) | Place::Grant(domain, record, _) => {
             on_path(tree, thread, domain as usize) && belongs(tree, record, domain as usize)
         }
+        Place::Draw | Place::Watch | Place::Raise => true,
     }
 }
 
-pub fn well_formed(tree: &Tree, state: &State) -> bool {
+/// A place that is at a domain's queue.
+fn is_queue_place(place: Place) -> bool {
+    !matches!(place, Place::Idle | Place::Inside | Place::Draw | Place::Watch | Place::Raise)
+}
+
+fn ticket_place_at_a_queue_root(tree: &Tree, state: &State) -> bool {
+    !tree.ticket_root && state.places.iter().any(|place| matches!(place, Place::Draw | Place::Watch | Place::Raise))
+}
+
+fn queue_place_at_a_ticket_root(tree: &Tree, state: &State) -> bool {
+    tree.ticket_root && (0..tree.threads).any(|thread| is_queue_place(state.places[thread]) && domain_of(tree, state, thread) == ROOT)
+}
+
+fn tail_at_a_ticket_root(tree: &Tree, state: &State) -> bool {
+    tree.ticket_root && state.tails[ROOT].is_some()
+}
+
+fn watched_status_above_a_counter(tree: &Tree, state: &State) -> bool {
+    let watches = |&thread: &usize| state.places[thread] == Place::Watch;
+    tree.ticket_root && (0..tree.threads).filter(watches).any(|thread| state.statuses[tree.record(thread, ROOT)] > u16::MAX as u64)
+}
+
+fn counters_at_a_queue_root(tree: &Tree, state: &State) -> bool {
+    !tree.ticket_root && (state.ticket, state.grant) != (0, 0)
+}
+
+/// What 10 refuses by the kind of root, each with its name.
+pub type RootReason = (&'static str, fn(&Tree, &State) -> bool);
+
+pub const ROOT_REASONS: [RootReason; 5] = [
+    ("draw, watch or raise at a queue root", ticket_place_at_a_queue_root),
+    ("queue place at a ticket root", queue_place_at_a_ticket_root),
+    ("tail at a ticket root", tail_at_a_ticket_root),
+    ("watched status above 65,535", watched_status_above_a_counter),
+    ("counters at a queue root", counters_at_a_queue_root),
+];
+
+/// Well formed but for what the kind of root refuses.
+pub fn well_formed_for_some_root(tree: &Tree, state: &State) -> bool {
     (0..DOMAIN_ROOM).all(|domain| tail_well_formed(tree, state, domain))
         && (0..RECORD_ROOM).all(|record| record_well_formed(tree, state, record))
         && (0..THREAD_ROOM).all(|thread| place_well_formed(tree, state, thread))
+}
+
+pub fn well_formed(tree: &Tree, state: &State) -> bool {
+    well_formed_for_some_root(tree, state) && !ROOT_REASONS.iter().any(|(_, refuses)| refuses(tree, state))
 }
 
 /// 10.
@@ -168,9 +211,11 @@ fn accept_run(tree: &Tree, state: &State, schedule: &[u16], trace: &[u16]) -> Ou
     refuse_if(13, trace.len() < schedule.len())
 }
 
-/// The fresh words, accepted or refused.
-pub fn fresh_lock(tree: &Tree) -> (Outcome<()>, State) {
-    (accept_tree(tree), State::fresh())
+/// A fresh state, accepted or refused; where the call is refused its start counts as 0.
+pub fn fresh_lock(tree: &Tree, start: u16) -> (Outcome<()>, State) {
+    let outcome = accept_tree(tree);
+    let start = if outcome.is_ok() { start } else { 0 };
+    (outcome, State::fresh_at(tree, start))
 }
 
 /// One step; a refused one leaves the state as it came.

@@ -31,11 +31,12 @@ fn take_away(file: &mut Vec<u8>, differs: &impl Fn(&[u8]) -> bool) -> bool {
     changed
 }
 
+/// A byte less 128 is tried too: the first so names a queue root and as many domains.
 fn lower(file: &mut [u8], differs: &impl Fn(&[u8]) -> bool) -> bool {
     let mut changed = false;
     for position in 0..file.len() {
         let byte = file[position];
-        let lowered = [0, byte / 2, byte.saturating_sub(1)].into_iter().find(|&lower| {
+        let lowered = [0, byte % 128, byte / 2, byte.saturating_sub(1)].into_iter().find(|&lower| {
             file[position] = lower;
             lower < byte && differs(file)
         });

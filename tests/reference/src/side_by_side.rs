@@ -2,39 +2,63 @@
 
 use crate::listing::{HNode, Lock, QNode, Worker, CRITICAL_SECTION};
 use crate::table::*;
+use crate::ticket_lock::{TicketLock, DRAW, RAISE, WATCH};
 use crate::turnstile::{Scheduler, Turnstile};
-use std::collections::BTreeMap;
+use std::collections::{BTreeMap, BTreeSet};
 use std::sync::atomic::{AtomicBool, Ordering::SeqCst};
 use std::thread;
 
 const STACK: usize = 64 * 1024;
 
-/// From each line that begins a step, the lines at which the same thread's next step may begin.
-pub const WAYS: [(u32, &[u32]); 16] = [
-    (CRITICAL_SECTION, &[25, 53]),
+type Ways = &'static [(u32, &'static [u32])];
+
+/// From each line that begins a step, the lines at which the same thread's next step may begin, whatever the kind of root.
+const SHARED_WAYS: Ways = &[
+    (CRITICAL_SECTION, &[25]),
     (7, &[9]),
-    (9, &[7, 11, 66]),
+    (9, &[7, 11]),
     (11, &[13]),
-    (13, &[CRITICAL_SECTION, 7, 13, 66]),
-    (25, &[25, 37, 53]),
+    (13, &[CRITICAL_SECTION, 7, 13]),
+    (25, &[25, 37]),
     (37, &[7, 53]),
     (53, &[55, 57]),
-    (55, &[7, 53, 66]),
-    (57, &[7, 53, 58, 66]),
+    (55, &[7, 53]),
+    (57, &[7, 53, 58]),
     (58, &[58, 59]),
-    (59, &[7, 53, 66]),
+    (59, &[7, 53]),
+];
+
+const QUEUE_ROOT_WAYS: Ways = &[
+    (CRITICAL_SECTION, &[53]),
+    (9, &[66]),
+    (13, &[66]),
+    (25, &[53]),
+    (55, &[66]),
+    (57, &[66]),
+    (59, &[66]),
     (66, &[67]),
     (67, &[CRITICAL_SECTION, 71]),
     (71, &[72]),
     (72, &[CRITICAL_SECTION, 72]),
 ];
 
-/// How often each way was taken, and how often a threshold kept a successor from being passed to.
+const TICKET_ROOT_WAYS: Ways = &[
+    (CRITICAL_SECTION, &[RAISE]),
+    (9, &[DRAW]),
+    (13, &[DRAW]),
+    (25, &[RAISE]),
+    (DRAW, &[CRITICAL_SECTION, WATCH]),
+    (WATCH, &[CRITICAL_SECTION, WATCH]),
+    (RAISE, &[DRAW, 53]),
+];
+
+/// How often each way was taken at one kind of root, and how often a threshold kept a successor from being passed to or a counter came round.
 #[derive(Default)]
 pub struct Coverage {
     pub entries: u64,
     pub ways: BTreeMap<(u32, u32), u64>,
     pub thresholds_reached: u64,
+    pub grants_to_zero: u64,
 }
 
 impl Coverage {
@@ -43,10 +67,13 @@ impl Coverage {
         *self.ways.entry((from, to)).or_insert(0) += 1;
     }
 
-    /// Every way was taken, and a threshold was reached.
-    pub fn complete(&self) -> bool {
-        let taken = |from: u32, to: &u32| self.ways.contains_key(&(from, *to));
-        WAYS.iter().all(|&(from, lines)| lines.iter().all(|to| taken(from, to))) && self.thresholds_reached > 0
+    /// The ways of this kind of root were taken, all of them and no others; a threshold was reached, and a grant went from 65,535 to 0.
+    pub fn complete(&self, ticket_root: bool) -> bool {
+        let own = if ticket_root { TICKET_ROOT_WAYS } else { QUEUE_ROOT_WAYS };
+        let ways = SHARED_WAYS.iter().chain(own).flat_map(|&(from, lines)| lines.iter().map(move |&to| (from, to)));
+        ways.collect::<BTreeSet<_>>() == self.ways.keys().copied().collect()
+            && self.thresholds_reached > 0
+            && (self.grants_to_zero > 0) == ticket_root
     }
 }
 
@@ -57,9 +84,9 @@ pub struct Difference {
     pub text: String,
 }
 
-/// Runs the listing by threads and the table beside it; the tree is one that is accepted.
-pub fn compare(tree: &Tree, schedule: &[u16], coverage: &mut Coverage) -> Result<State, Difference> {
-    let lock = new_lock(tree);
+/// Runs the listing by threads and the table beside it; the tree is one that is accepted, and the start that of a ticket root.
+pub fn compare(tree: &Tree, start: u16, schedule: &[u16], coverage: &mut Coverage) -> Result<State, Difference> {
+    let lock = new_lock(tree, start);
     let turnstile = Turnstile::new();
     thread::scope(|scope| {
         let mut scheduler = turnstile.scheduler();
@@ -69,26 +96,35 @@ pub fn compare(tree: &Tree, schedule: &[u16], coverage: &mut Coverage) -> Result
             let started = thread::Builder::new().stack_size(STACK).spawn_scoped(scope, work).expect("a thread starts");
             scheduler.add(started.thread().clone());
         }
-        take_steps(tree, schedule, &lock, &scheduler, coverage)
+        take_steps(tree, State::fresh_at(tree, start), schedule, &lock, &scheduler, coverage)
     })
 }
 
-fn new_lock(tree: &Tree) -> Lock {
+fn new_lock(tree: &Tree, start: u16) -> Lock {
     let parent = |domain| if domain == ROOT { None } else { Some(tree.parent(domain)) };
     Lock {
         qnodes: (0..RECORD_ROOM).map(|_| QNode::new()).collect(),
         hnodes: (0..tree.domains).map(|domain| HNode::new(parent(domain), domain_record(domain), tree.thresholds[domain] as u64)).collect(),
+        ticket_root: tree.ticket_root.then(|| TicketLock::new(start)),
         inside: (0..tree.threads).map(|_| AtomicBool::new(false)).collect(),
     }
 }
 
-fn take_steps(tree: &Tree, schedule: &[u16], lock: &Lock, scheduler: &Scheduler, coverage: &mut Coverage) -> Result<State, Difference> {
-    let mut state = State::fresh();
+fn take_steps(
+    tree: &Tree,
+    mut state: State,
+    schedule: &[u16],
+    lock: &Lock,
+    scheduler: &Scheduler,
+    coverage: &mut Coverage,
+) -> Result<State, Difference> {
     let mut lines: Vec<u32> = (0..tree.threads).map(|thread| lines_of(tree, thread, Place::Idle)[0]).collect();
     for (position, &thread) in schedule.iter().enumerate() {
         let thread = thread as usize;
         coverage.thresholds_reached += threshold_reached(tree, &state, thread) as u64;
+        let grant = state.grant;
         step(tree, &mut state, thread);
+        coverage.grants_to_zero += (state.grant < grant) as u64;
         let line = scheduler.pass(thread);
         if let Some(text) = difference(tree, &state, lock, thread, line) {
             return Err(Difference { position, text });
@@ -113,6 +149,7 @@ fn threshold_reached(tree: &Tree, state: &State, thread: usize) -> bool {
 fn lines_of(tree: &Tree, thread: usize, place: Place) -> &'static [u32] {
     let at = |domain: usize, root: &'static [u32], below: &'static [u32]| if domain == ROOT { root } else { below };
     match place {
+        Place::Idle if tree.is_ticket(tree.home(thread)) => &[DRAW],
         Place::Idle => at(tree.home(thread), &[66], &[7]),
         Place::Prep(domain) => at(domain as usize, &[66], &[7]),
         Place::Swap(domain) => at(domain as usize, &[67], &[9]),
@@ -124,6 +161,9 @@ fn lines_of(tree: &Tree, thread: usize, place: Place) -> &'static [u32] {
         Place::Cas(_) => &[57],
         Place::Linger(_) => &[58],
         Place::Grant(_, _, _) => &[37, 55, 59],
+        Place::Draw => &[DRAW],
+        Place::Watch => &[WATCH],
+        Place::Raise => &[RAISE],
     }
 }
 
@@ -135,8 +175,13 @@ fn difference(tree: &Tree, state: &State, lock: &Lock, thread: usize, line: u32)
     let next = (0..RECORD_ROOM).find(|&record| lock.qnodes[record].next() != number(state.nexts[record]));
     let status = (0..RECORD_ROOM).find(|&record| lock.qnodes[record].status() != state.statuses[record]);
     let inside = (0..tree.threads).find(|&thread| lock.inside[thread].load(SeqCst) != (state.places[thread] == Place::Inside));
+    let counters = lock.ticket_root.as_ref().map_or((0, 0), TicketLock::counters);
+    let ticket = Some(counters.0 as usize).filter(|_| counters.0 != state.ticket);
+    let grant = Some(counters.1 as usize).filter(|_| counters.1 != state.grant);
     let line = Some(line as usize).filter(|_| !lines_of(tree, thread, place).contains(&line));
-    [("tail of domain", tail), ("next of record", next), ("status of record", status), ("inside of thread", inside), ("line", line)]
+    let words = [("tail of domain", tail), ("next of record", next), ("status of record", status), ("ticket", ticket), ("grant", grant)];
+    words
         .iter()
+        .chain(&[("inside of thread", inside), ("line", line)])
         .find_map(|&(what, number)| number.map(|number| format!("{what} {number}, thread {thread} at {place:?}")))
 }

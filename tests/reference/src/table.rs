@@ -1,4 +1,4 @@
-//! Document 01's tree, words and step table; one function for each row.
+//! Document 01's tree, words and step table, and document 02's ticket lock at the root; one function for each row.
 
 pub const DOMAIN_ROOM: usize = 64;
 pub const THREAD_ROOM: usize = 256;
@@ -12,7 +12,7 @@ pub const WAIT: u64 = u64::MAX;
 pub const UNLOCKED: u64 = 0;
 pub const LOCKED: u64 = 1;
 
-/// The counts stand beside the rooms, so that a tree with too many domains or threads can be named.
+/// The counts stand beside the rooms, so that a tree with too many domains or threads can be named. The root is a queue or a ticket lock.
 #[derive(Clone, Debug)]
 pub struct Tree {
     pub domains: usize,
@@ -20,8 +20,10 @@ pub struct Tree {
     pub parents: [u8; DOMAIN_ROOM],
     pub thresholds: [u16; DOMAIN_ROOM],
     pub homes: [u8; THREAD_ROOM],
+    pub ticket_root: bool,
 }
 
+/// Draw, Watch and Raise are the places of a ticket lock, at the root.
 #[derive(Clone, Copy, Debug, PartialEq, Eq)]
 pub enum Place {
     Idle,
@@ -35,14 +37,20 @@ pub enum Place {
     Cas(u8),
     Linger(u8),
     Grant(u8, u16, u64),
+    Draw,
+    Watch,
+    Raise,
 }
 
+/// The counters ticket and grant are those of a ticket lock at the root, 0 at a queue root.
 #[derive(Clone, Debug, PartialEq, Eq)]
 pub struct State {
     pub tails: [Option<u16>; DOMAIN_ROOM],
     pub nexts: [Option<u16>; RECORD_ROOM],
     pub statuses: [u64; RECORD_ROOM],
     pub places: [Place; THREAD_ROOM],
+    pub ticket: u16,
+    pub grant: u16,
 }
 
 #[derive(Clone, Copy, Debug, PartialEq, Eq)]
@@ -67,7 +75,7 @@ pub struct Counts {
 
 impl Tree {
     pub fn new() -> Tree {
-        Tree { domains: 0, threads: 0, parents: [0; DOMAIN_ROOM], thresholds: [0; DOMAIN_ROOM], homes: [0; THREAD_ROOM] }
+        Tree { domains: 0, threads: 0, parents: [0; DOMAIN_ROOM], thresholds: [0; DOMAIN_ROOM], homes: [0; THREAD_ROOM], ticket_root: false }
     }
 
     pub fn parent(&self, domain: usize) -> usize {
@@ -76,6 +84,11 @@ impl Tree {
 
     pub fn home(&self, thread: usize) -> usize {
         self.homes[thread] as usize
+    }
+
+    /// The domain is a ticket lock and no queue.
+    pub fn is_ticket(&self, domain: usize) -> bool {
+        self.ticket_root && domain == ROOT
     }
 
     /// The child of a domain on the thread's path; the domain lies above the thread's home.
@@ -108,8 +121,22 @@ pub fn domain_record(domain: usize) -> usize {
 }
 
 impl State {
+    /// Fresh, with both counters 0.
     pub fn fresh() -> State {
-        State { tails: [None; DOMAIN_ROOM], nexts: [None; RECORD_ROOM], statuses: [0; RECORD_ROOM], places: [Place::Idle; THREAD_ROOM] }
+        State {
+            tails: [None; DOMAIN_ROOM],
+            nexts: [None; RECORD_ROOM],
+            statuses: [0; RECORD_ROOM],
+            places: [Place::Idle; THREAD_ROOM],
+            ticket: 0,
+            grant: 0,
+        }
+    }
+
+    /// Fresh, with the counters of a ticket lock at this start; at a queue root there is none, and the counters are 0.
+    pub fn fresh_at(tree: &Tree, start: u16) -> State {
+        let start = if tree.ticket_root { start } else { 0 };
+        State { ticket: start, grant: start, ..State::fresh() }
     }
 }
 
@@ -120,6 +147,7 @@ pub fn domain_of(tree: &Tree, state: &State, thread: usize) -> usize {
         Place::Prep(domain) | Place::Swap(domain) | Place::Link(domain, _) | Place::Wait(domain) => domain as usize,
         Place::Check(domain) | Place::Help(domain) | Place::Cas(domain) | Place::Linger(domain) => domain as usize,
         Place::Grant(domain, _, _) => domain as usize,
+        Place::Draw | Place::Watch | Place::Raise => ROOT,
     }
 }
 
@@ -127,6 +155,7 @@ pub fn domain_of(tree: &Tree, state: &State, thread: usize) -> usize {
 #[inline]
 pub fn step(tree: &Tree, state: &mut State, thread: usize) -> Kind {
     match state.places[thread] {
+        Place::Idle if tree.is_ticket(tree.home(thread)) => draw(tree, state, thread),
         Place::Idle => prep(tree, state, thread, tree.home(thread)),
         Place::Prep(domain) => prep(tree, state, thread, domain as usize),
         Place::Swap(domain) => swap(tree, state, thread, domain as usize),
@@ -138,6 +167,9 @@ pub fn step(tree: &Tree, state: &mut State, thread: usize) -> Kind {
         Place::Cas(domain) => cas(tree, state, thread, domain as usize),
         Place::Linger(domain) => linger(tree, state, thread, domain as usize),
         Place::Grant(domain, to, word) => grant(tree, state, thread, domain as usize, to as usize, word),
+        Place::Draw => draw(tree, state, thread),
+        Place::Watch => watch(tree, state, thread),
+        Place::Raise => raise(tree, state, thread),
     }
 }
 
@@ -147,7 +179,7 @@ fn go(state: &mut State, thread: usize, place: Place) -> Kind {
 }
 
 fn leave(tree: &Tree, state: &mut State, thread: usize) -> Kind {
-    go(state, thread, released_next(tree.home(thread)));
+    go(state, thread, released_next(tree, tree.home(thread)));
     Kind::Leaving
 }
 
@@ -156,9 +188,20 @@ fn enter(state: &mut State, thread: usize, entry: Kind) -> Kind {
     entry
 }
 
+/// The first place of acquiring a domain.
+fn acquired_next(tree: &Tree, domain: usize) -> Place {
+    if tree.is_ticket(domain) {
+        Place::Draw
+    } else {
+        Place::Prep(domain as u8)
+    }
+}
+
 /// The first place of releasing a domain.
-fn released_next(domain: usize) -> Place {
-    if domain == ROOT {
+fn released_next(tree: &Tree, domain: usize) -> Place {
+    if tree.is_ticket(domain) {
+        Place::Raise
+    } else if domain == ROOT {
         Place::Help(ROOT as u8)
     } else {
         Place::Check(domain as u8)
@@ -185,7 +228,7 @@ fn word_after_help(domain: usize) -> u64 {
 
 fn start_cohort(tree: &Tree, state: &mut State, thread: usize, domain: usize, record: usize) -> Kind {
     state.statuses[record] = COHORT_START;
-    go(state, thread, Place::Prep(tree.parent(domain) as u8))
+    go(state, thread, acquired_next(tree, tree.parent(domain)))
 }
 
 fn prep(tree: &Tree, state: &mut State, thread: usize, domain: usize) -> Kind {
@@ -235,7 +278,7 @@ fn check(tree: &Tree, state: &mut State, thread: usize, domain: usize) -> Kind {
     let status = state.statuses[record];
     match state.nexts[record] {
         Some(next) if status < tree.thresholds[domain] as u64 => go(state, thread, Place::Grant(domain as u8, next, status + 1)),
-        _ => go(state, thread, released_next(tree.parent(domain))),
+        _ => go(state, thread, released_next(tree, tree.parent(domain))),
     }
 }
 
@@ -265,6 +308,30 @@ fn linger(tree: &Tree, state: &mut State, thread: usize, domain: usize) -> Kind 
 fn grant(tree: &Tree, state: &mut State, thread: usize, domain: usize, to: usize, word: u64) -> Kind {
     state.statuses[to] = word;
     go(state, thread, done(tree, thread, domain))
+}
+
+fn draw(tree: &Tree, state: &mut State, thread: usize) -> Kind {
+    let ticket = state.ticket;
+    state.statuses[tree.record(thread, ROOT)] = ticket as u64;
+    state.ticket = ticket.wrapping_add(1);
+    if ticket == state.grant {
+        enter(state, thread, Kind::RootEntry)
+    } else {
+        go(state, thread, Place::Watch)
+    }
+}
+
+fn watch(tree: &Tree, state: &mut State, thread: usize) -> Kind {
+    if state.statuses[tree.record(thread, ROOT)] == state.grant as u64 {
+        enter(state, thread, Kind::RootEntry)
+    } else {
+        Kind::Stay
+    }
+}
+
+fn raise(tree: &Tree, state: &mut State, thread: usize) -> Kind {
+    state.grant = state.grant.wrapping_add(1);
+    go(state, thread, done(tree, thread, ROOT))
 }
 
 impl Counts {

@@ -107,7 +107,9 @@ impl Reader<'_> {
     }
 }
 
-const NO_TREE: TreeWords = TreeWords { domains: 0, threads: 0, parents: [0; DOMAIN_ROOM], thresholds: [0; DOMAIN_ROOM], homes: [0; THREAD_ROOM] };
+/// A text always gives a queue root.
+const NO_TREE: TreeWords =
+    TreeWords { domains: 0, threads: 0, parents: [0; DOMAIN_ROOM], thresholds: [0; DOMAIN_ROOM], homes: [0; THREAD_ROOM], ticket_root: 0 };
 
 fn refused(number: u32, place: usize) -> TextAnswer {
     TextAnswer { number, place, tree: NO_TREE }

@@ -10,9 +10,11 @@ pub struct TreeWords {
     pub parents: [u8; DOMAIN_ROOM],
     pub thresholds: [u16; DOMAIN_ROOM],
     pub homes: [u8; THREAD_ROOM],
+    /// 0 for a queue at the root, any other number for a ticket lock.
+    pub ticket_root: u32,
 }
 
-/// A row of the step table, 0 Idle to 10 Grant; a part that the row lacks is 0.
+/// A row of the step table, 0 Idle to 13 Raise; a part that the row lacks is 0.
 #[repr(C)]
 #[derive(Clone, Copy, Debug, Default, PartialEq, Eq)]
 pub struct PlaceWords {
@@ -30,6 +32,8 @@ pub struct StateWords {
     pub nexts: [u16; RECORD_ROOM],
     pub statuses: [u64; RECORD_ROOM],
     pub places: [PlaceWords; THREAD_ROOM],
+    pub ticket: u16,
+    pub grant: u16,
 }
 
 #[repr(C)]
@@ -73,7 +77,14 @@ pub struct RunReply {
 
 impl TreeWords {
     pub fn tree(&self) -> Tree {
-        Tree { domains: self.domains as usize, threads: self.threads as usize, parents: self.parents, thresholds: self.thresholds, homes: self.homes }
+        Tree {
+            domains: self.domains as usize,
+            threads: self.threads as usize,
+            parents: self.parents,
+            thresholds: self.thresholds,
+            homes: self.homes,
+            ticket_root: self.ticket_root != 0,
+        }
     }
 }
 
@@ -93,6 +104,9 @@ impl PlaceWords {
             (8, _, 0, 0) => Some(Place::Cas(domain)),
             (9, _, 0, 0) => Some(Place::Linger(domain)),
             (10, _, _, _) => Some(Place::Grant(domain, peer, word)),
+            (11, 0, 0, 0) => Some(Place::Draw),
+            (12, 0, 0, 0) => Some(Place::Watch),
+            (13, 0, 0, 0) => Some(Place::Raise),
             _ => None,
         }
     }
@@ -110,6 +124,9 @@ impl PlaceWords {
             Place::Cas(domain) => (8, domain, 0, 0),
             Place::Linger(domain) => (9, domain, 0, 0),
             Place::Grant(domain, peer, word) => (10, domain, peer, word),
+            Place::Draw => (11, 0, 0, 0),
+            Place::Watch => (12, 0, 0, 0),
+            Place::Raise => (13, 0, 0, 0),
         };
         PlaceWords { row, domain, peer, word }
     }
@@ -124,6 +141,7 @@ fn record_word(record: Option<u16>) -> u16 {
 }
 
 impl StateWords {
+    /// 0 throughout.
     pub fn fresh() -> StateWords {
         StateWords::of(&State::fresh())
     }
@@ -134,7 +152,8 @@ impl StateWords {
         for (place, words) in places.iter_mut().zip(self.places) {
             *place = words.place()?;
         }
-        Some(State { tails: self.tails.map(record), nexts: self.nexts.map(record), statuses: self.statuses, places })
+        let (tails, nexts) = (self.tails.map(record), self.nexts.map(record));
+        Some(State { tails, nexts, statuses: self.statuses, places, ticket: self.ticket, grant: self.grant })
     }
 
     pub fn of(state: &State) -> StateWords {
@@ -143,6 +162,8 @@ impl StateWords {
             nexts: state.nexts.map(record_word),
             statuses: state.statuses,
             places: state.places.map(PlaceWords::of),
+            ticket: state.ticket,
+            grant: state.grant,
         }
     }
 }

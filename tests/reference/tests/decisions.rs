@@ -3,6 +3,8 @@
 use reference::lock_file::{print, run_file, FileAnswer};
 use reference::refusals::*;
 use reference::table::*;
+use reference::text_tree::read_text;
+use reference::words::PlaceWords;
 
 fn prints(file: &[u8], text: &str) {
     assert_eq!(String::from_utf8(print(file)).unwrap(), text);
@@ -150,15 +152,110 @@ fn states_that_are_not_well_formed() {
     assert_eq!(step_refusal(|_, state| state.places[255] = Place::Prep(0)), ten);
 }
 
+/// With a ticket root; the change is made to the same tree.
+fn ticket_refusal(change: impl Fn(&mut Tree, &mut State)) -> Option<(u32, u32)> {
+    step_refusal(|tree, state| {
+        tree.ticket_root = true;
+        change(tree, state)
+    })
+}
+
+#[test]
+fn well_formed_states_of_a_ticket_root() {
+    for place in [Place::Draw, Place::Watch, Place::Raise, Place::Prep(1), Place::Help(1), Place::Grant(1, 0, 9), Place::Check(1)] {
+        assert_eq!(ticket_refusal(|_, state| state.places[0] = place), None);
+    }
+    assert_eq!(ticket_refusal(|_, state| (state.ticket, state.grant) = (7, 40_000)), None);
+    assert_eq!(ticket_refusal(|_, state| (state.places[0], state.statuses[257]) = (Place::Watch, 65_535)), None);
+    // A status that nobody watches is free, also above 65,535, and so is that of the thread's own record below the root.
+    assert_eq!(ticket_refusal(|_, state| state.statuses[257] = WAIT), None);
+    assert_eq!(ticket_refusal(|_, state| (state.places[0], state.statuses[258]) = (Place::Watch, WAIT)), None);
+    assert_eq!(ticket_refusal(|_, state| (state.places[0], state.statuses[0]) = (Place::Watch, WAIT)), None);
+    // Several watch with one ticket, and nobody is there to raise.
+    assert_eq!(ticket_refusal(|_, state| state.places[..3].fill(Place::Watch)), None);
+    assert_eq!(ticket_refusal(|_, state| (state.nexts[257], state.tails[1]) = (Some(258), Some(0))), None);
+}
+
+#[test]
+fn states_that_the_kind_of_root_refuses() {
+    let ten = Some((10, 0));
+    for place in [Place::Draw, Place::Watch, Place::Raise] {
+        assert_eq!(step_refusal(|_, state| state.places[0] = place), ten);
+        assert_eq!(ticket_refusal(|_, state| state.places[3] = place), ten);
+    }
+    let queue_places = [Place::Prep(0), Place::Swap(0), Place::Link(0, 258), Place::Wait(0), Place::Help(0), Place::Cas(0), Place::Linger(0)];
+    for place in queue_places.into_iter().chain([Place::Grant(0, 258, 0), Place::Check(0)]) {
+        assert_eq!(ticket_refusal(|_, state| state.places[0] = place), ten);
+        assert_eq!(step_refusal(|_, state| state.places[0] = place), ten.filter(|_| place == Place::Check(0)));
+    }
+    assert_eq!(ticket_refusal(|_, state| state.tails[0] = Some(258)), ten);
+    assert_eq!(ticket_refusal(|_, state| (state.places[0], state.statuses[257]) = (Place::Watch, 65_536)), ten);
+    assert_eq!(ticket_refusal(|_, state| (state.places[2], state.statuses[258]) = (Place::Watch, WAIT)), ten);
+    assert_eq!(step_refusal(|_, state| state.ticket = 1), ten);
+    assert_eq!(step_refusal(|_, state| state.grant = 1), ten);
+    assert_eq!(step_refusal(|_, state| (state.ticket, state.grant) = (65_535, 65_535)), ten);
+}
+
+/// Draw, Watch and Raise are at the root, and their numbers say no domain, record or word.
+#[test]
+fn numbers_of_the_ticket_places() {
+    for (row, place) in [(11, Place::Draw), (12, Place::Watch), (13, Place::Raise)] {
+        let words = PlaceWords { row, domain: 0, peer: 0, word: 0 };
+        assert_eq!((words.place(), PlaceWords::of(place)), (Some(place), words));
+        assert_eq!(PlaceWords { domain: 1, ..words }.place(), None);
+        assert_eq!(PlaceWords { peer: 1, ..words }.place(), None);
+        assert_eq!(PlaceWords { word: 1, ..words }.place(), None);
+    }
+    assert_eq!(PlaceWords { row: 14, ..PlaceWords::default() }.place(), None);
+}
+
+/// Both counters are the start at a ticket root; it is 0 at a queue root and where the call is refused.
 #[test]
 fn fresh_words_also_when_refused() {
     let mut tree = tree();
-    assert_eq!(fresh_lock(&tree), (Ok(()), State::fresh()));
+    let counters = |tree: &Tree, start: u16| {
+        let (outcome, state) = fresh_lock(tree, start);
+        assert_eq!(State { ticket: 0, grant: 0, ..state.clone() }, State::fresh());
+        (outcome.err().map(|refusal| (refusal.number, refusal.place)), state.ticket, state.grant)
+    };
+    assert_eq!(counters(&tree, 7), (None, 0, 0));
+    tree.ticket_root = true;
+    assert_eq!(counters(&tree, 0), (None, 0, 0));
+    assert_eq!(counters(&tree, 65_535), (None, 65_535, 65_535));
     tree.domains = 65;
-    assert_eq!(fresh_lock(&tree), (Err(Refusal { number: 4, place: 0 }), State::fresh()));
+    assert_eq!(counters(&tree, 7), (Some((4, 0)), 0, 0));
     tree.domains = 3;
     tree.threads = 257;
-    assert_eq!(fresh_lock(&tree), (Err(Refusal { number: 5, place: 0 }), State::fresh()));
+    assert_eq!(counters(&tree, 7), (Some((5, 0)), 0, 0));
+}
+
+/// Any number but 0 names a ticket root, and a text never does.
+#[test]
+fn numbers_of_the_kind_of_root() {
+    let mut words = read_text(b"(#1)").tree;
+    assert_eq!(words.ticket_root, 0);
+    for (number, ticket_root) in [(0, false), (1, true), (2, true), (256, true), (65_536, true), (u32::MAX, true)] {
+        words.ticket_root = number;
+        assert_eq!(words.tree().ticket_root, ticket_root);
+    }
+}
+
+/// What no run from fresh reaches goes by the table: a counter behind the grant, and a raise by a thread that did not enter.
+#[test]
+fn ticket_rows_in_states_not_reached() {
+    let mut tree = tree();
+    tree.ticket_root = true;
+    let mut state = State::fresh();
+    (state.ticket, state.grant, state.places[0]) = (3, 9, Place::Draw);
+    assert_eq!((step(&tree, &mut state, 0), state.places[0]), (Kind::Move, Place::Watch));
+    assert_eq!((state.ticket, state.grant, state.statuses[257]), (4, 9, 3));
+    assert_eq!(step(&tree, &mut state, 0), Kind::Stay);
+    state.places[2] = Place::Raise;
+    assert_eq!((step(&tree, &mut state, 2), state.places[2], state.grant), (Kind::Move, Place::Help(2), 10));
+    state.statuses[257] = 10;
+    assert_eq!((step(&tree, &mut state, 0), state.places[0]), (Kind::RootEntry, Place::Inside));
+    assert_eq!((step(&tree, &mut state, 0), state.places[0]), (Kind::Leaving, Place::Check(1)));
+    assert_eq!((step(&tree, &mut state, 0), state.places[0]), (Kind::Move, Place::Raise));
 }
 
 /// States that no run from fresh reaches go by the table.

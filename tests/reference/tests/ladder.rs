@@ -1,4 +1,4 @@
-//! The cases of document 01's ladder on the step table, those as files through the file call.
+//! The cases of document 01's ladder on the step table, those as files through the file call; and of document 02's ticket root.
 
 use reference::draft::{random_draft, Draft, Size};
 use reference::lock_file::{print, read};
@@ -30,7 +30,15 @@ fn prints(file: &[u8], text: &str) {
 
 /// A draft with these parents, thresholds 16 and homes, and an empty schedule.
 fn draft(parents: Vec<u8>, homes: Vec<u8>) -> Draft {
-    Draft { domains: parents.len() as u8, threads: homes.len() as u16, thresholds: vec![16; parents.len()], parents, homes, schedule: vec![] }
+    Draft {
+        domains: parents.len() as u8,
+        threads: homes.len() as u16,
+        thresholds: vec![16; parents.len()],
+        parents,
+        homes,
+        schedule: vec![],
+        ticket_root: false,
+    }
 }
 
 fn draft_prints(draft: &Draft, text: &str) {
@@ -174,13 +182,80 @@ fn three_more_turns_in_wait() {
 
 #[test]
 fn the_listing_agrees_on_the_cases() {
-    let cases: [(&[u8], Vec<u16>); 4] = [
+    let cases: [(&[u8], Vec<u16>); 6] = [
         (&printed_head(), PRINTED.to_vec()),
         (&TWO_LEVELS, two_levels_schedule()),
         (&THREE_LEVELS, three_levels_schedule()),
         (&[1, 2, 0, 0, 0], vec![0, 0, 1, 1, 1, 1, 1, 1]),
+        (&ROOT_ALONE, root_alone_schedule()),
+        (&TWO_LEVELS_TICKET, two_levels_ticket_schedule()),
     ];
     for (head, schedule) in cases {
-        compare(&tree_of(head).0, &schedule, &mut Coverage::default()).unwrap();
+        for start in [0, 65_535] {
+            compare(&tree_of(head).0, start, &schedule, &mut Coverage::default()).unwrap();
+        }
     }
+}
+
+#[test]
+fn home_at_a_ticket_root() {
+    prints(&file(&[129, 1, 0, 0], &[0]), "ok 1 1 0 1 0 0\n0\n");
+    prints(&file(&[129, 1, 0, 0], &[0, 0, 0, 0]), "ok 4 2 0 2 0 0\n0\n0\n");
+}
+
+const ROOT_ALONE: [u8; 5] = [129, 2, 0, 0, 0];
+
+/// 0 draws and enters, 1 draws and stays three times, 0 leaves and raises, 1 enters.
+fn root_alone_schedule() -> Vec<u16> {
+    repeated(&[(0, 1), (1, 4), (0, 2), (1, 1)])
+}
+
+#[test]
+fn two_members_of_a_ticket_root() {
+    prints(&file(&ROOT_ALONE, &root_alone_schedule()), "ok 8 2 3 2 0 0\n0\n1\n");
+    prints(&file(&ROOT_ALONE, &root_alone_schedule()[..7]), "ok 7 1 3 1 0 0\n0\n");
+}
+
+const TWO_LEVELS_TICKET: [u8; 9] = [130, 2, 2, 0, 2, 0, 1, 1, 0];
+
+/// 0 enters by a draw for its domain and passes to 1 at home; 1 raises, and then releases its home.
+fn two_levels_ticket_schedule() -> Vec<u16> {
+    repeated(&[(0, 3), (1, 4), (0, 3), (1, 6)])
+}
+
+#[test]
+fn two_levels_with_a_ticket_root() {
+    prints(&file(&TWO_LEVELS_TICKET, &two_levels_ticket_schedule()), "ok 16 2 1 1 1 0\n0\n1\n");
+}
+
+#[test]
+fn three_draws_from_65535() {
+    let (tree, _) = tree_of(&[129, 3, 0, 0, 0, 0]);
+    let mut state = State::fresh_at(&tree, 65_535);
+    assert_eq!((state.ticket, state.grant), (65_535, 65_535));
+    let kinds: Vec<Kind> = (0..3).map(|thread| step(&tree, &mut state, thread)).collect();
+    assert_eq!(kinds, [Kind::RootEntry, Kind::Move, Kind::Move]);
+    assert_eq!((state.ticket, state.grant, &state.statuses[..3]), (2, 65_535, &[65_535, 0, 1][..]));
+    assert_eq!(state.places[..3], [Place::Inside, Place::Watch, Place::Watch]);
+    let mut trace = Vec::new();
+    let counts = run(&tree, &mut state, repeated(&[(0, 2), (2, 1), (1, 3), (2, 1)]).into_iter(), &mut trace);
+    assert_eq!((counts.root, counts.stays, trace), (2, 1, vec![1, 2]));
+    assert_eq!((state.ticket, state.grant), (2, 1));
+}
+
+#[test]
+fn first_bytes_of_ticket_roots() {
+    prints(&[128], "refused 2 1\n");
+    prints(&[128, 1, 0, 0], "refused 4 0\n");
+    let with_domains = |first: u8, domains: u8| {
+        let homes: Vec<u8> = (1..domains).collect();
+        let mut tree = draft(vec![0; domains as usize], homes);
+        tree.ticket_root = true;
+        let file = tree.write(&mut Random::new(1));
+        assert_eq!(file[0], first);
+        file
+    };
+    prints(&with_domains(192, 64), EMPTY);
+    prints(&with_domains(193, 65), "refused 4 0\n");
+    prints(&with_domains(255, 127), "refused 4 0\n");
 }

@@ -44,8 +44,22 @@ fn an_entry_is_a_step_that_arrives_inside() {
         let mut after = state.clone();
         let kind = step(tree, &mut after, thread);
         assert_eq!(kind.is_entry(), after.places[thread] == Place::Inside && state.places[thread] != Place::Inside);
-        let at_the_root = matches!(state.places[thread], Place::Swap(0) | Place::Wait(0));
+        let draws = state.places[thread] == Place::Idle || state.places[thread] == Place::Draw;
+        let at_the_root = matches!(state.places[thread], Place::Swap(0) | Place::Wait(0) | Place::Watch) || draws;
         assert_eq!(kind == Kind::RootEntry, kind.is_entry() && at_the_root);
+    });
+}
+
+#[test]
+fn only_a_draw_changes_the_ticket_and_only_a_raise_the_grant() {
+    each(|tree, state, thread| {
+        let mut after = state.clone();
+        step(tree, &mut after, thread);
+        let place = state.places[thread];
+        let draws = place == Place::Draw || place == Place::Idle && tree.ticket_root && tree.home(thread) == ROOT;
+        assert_eq!(after.ticket, if draws { state.ticket.wrapping_add(1) } else { state.ticket });
+        assert_eq!(after.grant, if place == Place::Raise { state.grant.wrapping_add(1) } else { state.grant });
+        assert!(!tree.ticket_root || after.tails[ROOT].is_none());
     });
 }
 

@@ -10,8 +10,8 @@ fn read(text: &str) -> TextAnswer {
 fn refused(text: &str, number: u32, place: usize) {
     let answer = read(text);
     assert_eq!((answer.number, answer.place), (number, place), "{text}");
-    let TreeWords { domains, threads, parents, thresholds, homes } = answer.tree;
-    assert_eq!((domains, threads, parents, thresholds, homes), (0, 0, [0; 64], [0; 64], [0; 256]), "{text}");
+    let TreeWords { domains, threads, parents, thresholds, homes, ticket_root } = answer.tree;
+    assert_eq!((domains, threads, parents, thresholds, homes, ticket_root), (0, 0, [0; 64], [0; 64], [0; 256], 0), "{text}");
 }
 
 /// The words of the tree's domains and threads, without the room behind them.
@@ -19,7 +19,7 @@ fn accepted(text: &str, parents: &[u8], thresholds: &[u16], homes: &[u8]) {
     let answer = read(text);
     assert_eq!((answer.number, answer.place), (0, 0), "{text}");
     let tree = answer.tree;
-    assert_eq!((tree.domains as usize, tree.threads as usize), (parents.len(), homes.len()), "{text}");
+    assert_eq!((tree.domains as usize, tree.threads as usize, tree.ticket_root), (parents.len(), homes.len(), 0), "{text}");
     let (front, behind) = tree.parents.split_at(parents.len());
     assert!(front == parents && behind.iter().all(|&word| word == 0), "{text}");
     let (front, behind) = tree.thresholds.split_at(thresholds.len());

@@ -1,5 +1,9 @@
--- `lock::fresh_lock` meets its contract. Assumes nothing.
+-- `lock::fresh_lock` meets its contract: a fresh state, whatever the tree's refusal. Assumes nothing.
+use mathlib.Core.Path.{_∙_}
+use native.Mathlib.Omega.{arith}
 use Rattle.model.specs.Answers.{fresh-answer}
+use Rattle.refusals.proofs.Reading.{told-same}
+use Rattle.lock.proofs.Starting.{fresh-is}
 use borrow.Author.Needs.{needs}
 use Rattle.lock.proofs.fresh_lock.Statement.{statement}
 use Rattle.lock.proofs.fresh_lock.Tie as tie
@@ -7,12 +11,17 @@ use Rattle.lock.proofs.fresh_lock.Tie as tie
 tree-refusal-of-requires : tie.Need-tree-refusal-of-requires
 tree-refusal-of-requires c κs = search needs
 
+first-of-requires : tie.Need-first-of-requires
+first-of-requires c κs = search needs
+
 fresh-state-requires : tie.Need-fresh-state-requires
 fresh-state-requires c κs = search needs
 
 returns : tie.Need-returns
 unfolding fresh-answer
-returns c = rw (c .before .tree-refusal-of .ensures, c .fresh-state .ensures)
+returns c =
+    let s = c .before .before .before .before .before .before .before in
+    rw (c .fresh-state .ensures, c .before .first-of .ensures, fresh-is (s .args .t1) (c .before .before .tree-refusal-of .result .number) (s .args .start) (omega arith), c .before .before .tree-refusal-of .ensures ∙ told-same (s .args .t1))
 
 pub fresh-lock-spec : {M : Type 1} → statement M
-fresh-lock-spec = tie.close (tie.spec tree-refusal-of-requires fresh-state-requires returns)
+fresh-lock-spec = tie.close (tie.spec tree-refusal-of-requires first-of-requires fresh-state-requires returns)

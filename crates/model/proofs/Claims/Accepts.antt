@@ -19,13 +19,13 @@ use Rattle.model.proofs.Claims.Demand.{sixteen-bit, demand-three}
 
 -- the state that the last call returned is the table's behind the list's schedule
 last-reached :
-    (t : Tree) (cs : List Call) (pre : List ℕ) (s : State) → s ≡ run t pre fresh-words .state → Names t cs s →
-    last-state cs s ≡ run t (pre ++ joined cs s) fresh-words .state
+    (t : Tree) (f : State) (cs : List Call) (pre : List ℕ) (s : State) → s ≡ run t pre f .state → Names t cs s →
+    last-state cs s ≡ run t (pre ++ joined cs s) f .state
 unfolding last-state joined Names
-last-reached t [] pre s here n = rw (append-nil pre) here
-last-reached t (c ∷ cs) pre s here n =
-    let next = last-reached t cs (pre ++ added c s) (state-in (answer c s)) (returned t c pre [] s here (n .0)) (n .1) in
-    next ∙ ap (λ is. run t is fresh-words .state) (append-assoc pre (added c s) (joined cs (state-in (answer c s))))
+last-reached t f [] pre s here n = rw (append-nil pre) here
+last-reached t f (c ∷ cs) pre s here n =
+    let next = last-reached t f cs (pre ++ added c s) (state-in (answer c s)) (returned t f c pre [] s here (n .0)) (n .1) in
+    next ∙ ap (λ is. run t is f .state) (append-assoc pre (added c s) (joined cs (state-in (answer c s))))
 
 asks-accepted : (t : Tree) → tree-refusal t .number ≡ 0 → (a : Ask) (s : State) → Formed t s → Asks-well t a → ask-refusal t a s ≡ accepted
 unfolding ask-refusal Asks-well
@@ -35,13 +35,14 @@ asks-accepted t ok (a-run is b) s f h =
 
 pub never-refused : Never-refused
 unfolding Never-refused fresh-answer call-refusal Form-law run run-of steps state-after
-never-refused w cs ok n c same asks =
+never-refused w start cs ok n c same asks =
     let t = tree-of w in
-    let all = joined-threads t cs [] fresh-words refl n in
+    let f = fresh-answer w start .state in
+    let all = joined-threads t f cs [] f refl n in
     let law = form-law t (sixteen-bit w) ok in
-    let there = last-reached t cs [] fresh-words refl n in
-    rw (same, there) (asks-accepted t ok (c .ask) (run t (joined cs fresh-words) fresh-words .state) (law .of-run (joined cs fresh-words) fresh-words all (law .of-fresh)) asks)
+    let there = last-reached t f cs [] f refl n in
+    rw (same, there) (asks-accepted t ok (c .ask) (run t (joined cs f) f .state) (law .of-run (joined cs f) f all (law .of-fresh _)) asks)
 
 pub lone-run-law : Lone-run-law
 unfolding Lone-run-law Demand-three fresh-answer Names
-lone-run-law w is b ok = demand-three w (lone-run w is b ∷ []) ok (λ e. refl, tt)
+lone-run-law w start is b ok = demand-three w start (lone-run w is b ∷ []) ok (λ e. refl, tt)

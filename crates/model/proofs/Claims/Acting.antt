@@ -14,13 +14,13 @@ use Rattle.model.specs.Laws.{Sixteen-bit}
 use Rattle.model.proofs.Tests.{or-right}
 use Rattle.model.proofs.Trees.Index.{ancestor, height, record-at}
 use Rattle.model.proofs.Trees.Accepted.{Accepted}
-use Rattle.model.proofs.Trees.Paths.{ancestor-inner, ancestor-strict, ancestor-zero, ancestor-not-root}
+use Rattle.model.proofs.Trees.Paths.{ancestor-inner, ancestor-root, ancestor-strict, ancestor-zero, ancestor-not-root}
 use Rattle.model.proofs.Trees.Records.{own-record-at}
 use Rattle.model.proofs.Queues.Lists.{same-or, less-or}
 use Rattle.model.proofs.Queues.Moves.{Stage, low, acts, State}
 use Rattle.model.proofs.Queues.Invariant.{Inv}
 use Rattle.model.proofs.Words.View.{words-in}
-use Rattle.model.proofs.Words.Represents.{waiting-word, Fits, at-idle, at-prep, at-swap, at-link, at-wait, at-woken, at-ready, at-inside, at-check, at-pass, at-help, at-cas, at-linger, at-grant}
+use Rattle.model.proofs.Words.Represents.{waiting-word, Fits, at-idle, at-prep, at-swap, at-link, at-wait, at-woken, at-ready, at-inside, at-check, at-pass, at-help, at-cas, at-linger, at-grant, at-draw, at-watch, at-shown, at-raise}
 use Rattle.model.proofs.Words.Releasing.{letting-go-acts}
 
 module _ (t : Tree) (𝓐 : Accepted t) (i : ℕ) (h : i < t .threads) (n : ℕ) (ln : n ≤ height t i) where
@@ -89,7 +89,7 @@ module _ (t : Tree) (𝓐 : Accepted t) (i : ℕ) (h : i < t .threads) (n : ℕ)
     acts-stage e at-idle = sym (le-ltb n 0 (omega arith))
     acts-stage e (at-prep k l c) = higher-test k l
     acts-stage e (at-swap k l c a v) = higher-test k l
-    acts-stage e (at-link k p l c a z v) = there-test k l
+    acts-stage e (at-link k p l c d a z v) = there-test k l
     acts-stage e (at-wait k l c v) =
         rw (own-record-at t 𝓐 i h k l) (or-false _ _ (stays-out k _ v) ∙ there-test k l)
     acts-stage e (at-woken k b c v y) =
@@ -99,6 +99,12 @@ module _ (t : Tree) (𝓐 : Accepted t) (i : ℕ) (h : i < t .threads) (n : ℕ)
         let all : low (height t i) (g .stage i) ≡ suc (height t i) = ap (low (height t i)) e in
         rw (own-record-at t 𝓐 i h k l)
         (or-right (leb (ancestor t i k) (ancestor t i n)) _ (goes-in k _ l v (λ b. let y = c k b b in omega (arith, count-small k b (omega arith)))) ∙ everywhere)
+    acts-stage e (at-draw k l r c) =
+        let root : ancestor t i k ≡ 0 = ap (ancestor t i) l ∙ ancestor-root t 𝓐 i h in
+        rw root at (higher-test k (omega arith))
+    acts-stage e (at-watch k l r c) = rw l everywhere
+    acts-stage e (at-shown r c) = everywhere
+    acts-stage e (at-raise r c) = everywhere
     acts-stage e (at-inside c) = everywhere
     acts-stage e (at-check k b c) = everywhere
     acts-stage e (at-pass k r v b c a q y) =

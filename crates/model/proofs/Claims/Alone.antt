@@ -14,7 +14,7 @@ use Rattle.model.proofs.Queues.Paths.{laws}
 use Rattle.model.proofs.Queues.Moves.{Stage, inside, State}
 use Rattle.model.proofs.Queues.Order.{one-inside}
 use Rattle.model.proofs.Words.View.{Words, words-in}
-use Rattle.model.proofs.Words.Represents.{Fits, at-idle, at-prep, at-swap, at-link, at-wait, at-woken, at-ready, at-inside, at-check, at-pass, at-help, at-cas, at-linger, at-grant}
+use Rattle.model.proofs.Words.Represents.{Fits, at-idle, at-prep, at-swap, at-link, at-wait, at-woken, at-ready, at-inside, at-check, at-pass, at-help, at-cas, at-linger, at-grant, at-draw, at-watch, at-shown, at-raise}
 use Rattle.model.proofs.Claims.Reached.{Queued}
 
 -- a thread at Inside is at that stage
@@ -22,7 +22,7 @@ inside-stage : {t : Tree} {w : Words} {g : State} {i : ℕ} {p : Place} {x : Sta
 inside-stage e at-idle = absurd (let z : _≡_ {A = ℕ} 0 1 = cc in omega arith)
 inside-stage e (at-prep k l c) = absurd (let z : _≡_ {A = ℕ} 0 1 = cc in omega arith)
 inside-stage e (at-swap k l c n v) = absurd (let z : _≡_ {A = ℕ} 0 1 = cc in omega arith)
-inside-stage e (at-link k p l c a n v) = absurd (let z : _≡_ {A = ℕ} 0 1 = cc in omega arith)
+inside-stage e (at-link k p l c d a n v) = absurd (let z : _≡_ {A = ℕ} 0 1 = cc in omega arith)
 inside-stage e (at-wait k l c v) = absurd (let z : _≡_ {A = ℕ} 0 1 = cc in omega arith)
 inside-stage e (at-woken k b c v y) = absurd (let z : _≡_ {A = ℕ} 0 1 = cc in omega arith)
 inside-stage e (at-ready k l c v p) = absurd (let z : _≡_ {A = ℕ} 0 1 = cc in omega arith)
@@ -33,6 +33,10 @@ inside-stage e (at-help k l c) = absurd (let z : _≡_ {A = ℕ} 0 1 = cc in ome
 inside-stage e (at-cas k l c) = absurd (let z : _≡_ {A = ℕ} 0 1 = cc in omega arith)
 inside-stage e (at-linger k l c) = absurd (let z : _≡_ {A = ℕ} 0 1 = cc in omega arith)
 inside-stage e (at-grant k r l c n) = absurd (let z : _≡_ {A = ℕ} 0 1 = cc in omega arith)
+inside-stage e (at-draw k l r c) = absurd (let z : _≡_ {A = ℕ} 0 1 = cc in omega arith)
+inside-stage e (at-watch k l r c) = absurd (let z : _≡_ {A = ℕ} 0 1 = cc in omega arith)
+inside-stage e (at-shown r c) = absurd (let z : _≡_ {A = ℕ} 0 1 = cc in omega arith)
+inside-stage e (at-raise r c) = absurd (let z : _≡_ {A = ℕ} 0 1 = cc in omega arith)
 
 pub alone : (t : Tree) → Accepted t → (s : WordState) → Facts t s → Queued t s → (i j : ℕ) → place s i ≡ Inside → place s j ≡ Inside → i ≡ j
 unfolding words-in

@@ -6,7 +6,7 @@ use Prim.Native.Nat.{ℕ, zero, suc, _+_, _≤_, _<_}
 use native.Mathlib.Omega.{arith}
 use native.Mathlib.Decide.{ℕ-discrete}
 use Rattle.model.specs.declared.Place.{Place}
-use Rattle.model.specs.declared.Place.the-variants.{Idle, Prep, Swap, Link, Wait, Inside, Check, Help, Cas, Linger, Grant, Invalid}
+use Rattle.model.specs.declared.Place.the-variants.{Idle, Prep, Swap, Link, Wait, Inside, Check, Help, Cas, Linger, Grant, Draw, Watch, Raise, Invalid}
 use Rattle.model.specs.declared.State.{State}
 use Rattle.model.specs.Places.{is-inside}
 use Rattle.model.specs.States.{place, inside-below, inside-count}
@@ -26,6 +26,9 @@ is-inside-only (Help l) e = absurd (false≢true e)
 is-inside-only (Cas l) e = absurd (false≢true e)
 is-inside-only (Linger l) e = absurd (false≢true e)
 is-inside-only (Grant l r w) e = absurd (false≢true e)
+is-inside-only Draw e = absurd (false≢true e)
+is-inside-only Watch e = absurd (false≢true e)
+is-inside-only Raise e = absurd (false≢true e)
 is-inside-only Invalid e = absurd (false≢true e)
 
 nobody-inside : (n : ℕ) (s : State) → ((j : ℕ) → j < n → place s j ≢ Inside) → inside-below n s ≡ 0

@@ -5,8 +5,9 @@ use Prim.Native.Nat.{ℕ}
 use native.Mathlib.Omega.{arith}
 use lib.ListN.{take}
 use Rattle.model.specs.declared.TreeWords.{TreeWords}
+use Rattle.model.specs.declared.State.{State}
 use Rattle.model.specs.Trees.{Tree, tree-of}
-use Rattle.model.specs.States.{fresh-words}
+use Rattle.model.specs.States.{fresh-state}
 use Rattle.model.specs.Runs.{steps, state-after, run-of, run}
 use Rattle.model.specs.Refusals.{tree-refusal}
 use Rattle.model.specs.Answers.{fresh-answer}
@@ -27,37 +28,40 @@ pub sixteen-bit : (w : TreeWords) → Sixteen-bit (tree-of w)
 unfolding tree-of
 sixteen-bit w d = omega arith
 
-module _ (t : Tree) (bits : Sixteen-bit t) (ok : tree-refusal t .number ≡ 0) (cs : List Call) (n : Names t cs fresh-words) where
+module _ (t : Tree) (bits : Sixteen-bit t) (ok : tree-refusal t .number ≡ 0) (v : ℕ) (cs : List Call) (n : Names t cs (fresh-state t v)) where
+  abbrev f : State
+  f = fresh-state t v
+
   -- the list's schedule
   abbrev S : List ℕ
-  S = joined cs fresh-words
+  S = joined cs f
 
-  start : fresh-words ≡ run t [] fresh-words .state
+  start : f ≡ run t [] f .state
   unfolding run run-of steps state-after
   start = refl
 
   threads : All-threads t S
-  threads = joined-threads t cs [] fresh-words start n
+  threads = joined-threads t f cs [] f start n
 
-  claim : Claim t cs S
+  claim : Claim t f cs S
   unfolding state-at Form-law run run-of
   claim =
       let 𝓐 = accepted t ok in
-      let whole = from-fresh t 𝓐 bits S threads in
+      let whole = from-fresh t 𝓐 bits v S threads in
       let front : (k : ℕ) → All-threads t (take k S) = λ k. threads-take t k S threads in
       record {
-        each = each-from t cs [] fresh-words start n;
-        stretches = stretches-from t cs [] fresh-words start n;
+        each = each-from t f cs [] f start n;
+        stretches = stretches-from t f cs [] f start n;
         alone = λ k.
-            let x = from-fresh t 𝓐 bits (take k S) (front k) in
-            let formed = form-law t bits ok .of-run (take k S) fresh-words (front k) (form-law t bits ok .of-fresh) in
-            alone t 𝓐 (run t (take k S) fresh-words .state) (well-formed-facts t _ formed) (x .there);
+            let x = from-fresh t 𝓐 bits v (take k S) (front k) in
+            let formed = form-law t bits ok .of-run (take k S) f (front k) (form-law t bits ok .of-fresh v) in
+            alone t 𝓐 (run t (take k S) f .state) (well-formed-facts t _ formed) (x .there);
         in-order = λ k d.
-            let x = from-fresh t 𝓐 bits (take k S) (front k) in
-            rw (steps-take t k S fresh-words) at (ordered t d (steps t (take k S) fresh-words) (x .there .queues) (x .follows));
-        bounded = bounded t 𝓐 (steps t S fresh-words) (whole .there .queues) (whole .real) (whole .follows);
+            let x = from-fresh t 𝓐 bits v (take k S) (front k) in
+            rw (steps-take t k S f) at (ordered t d (steps t (take k S) f) (x .there .queues) (x .follows));
+        bounded = bounded t 𝓐 (steps t S f) (whole .there .queues) (whole .real) (whole .follows);
       }
 
 pub demand-three : Demand-three
 unfolding Demand-three fresh-answer
-demand-three w cs ok n = claim (tree-of w) (sixteen-bit w) ok cs n
+demand-three w start cs ok n = claim (tree-of w) (sixteen-bit w) ok _ cs n

@@ -9,7 +9,7 @@ use Rattle.model.specs.declared.Place.{Place}
 use Rattle.model.specs.declared.Place.the-variants.{Check}
 use Rattle.model.specs.declared.State.{State as WordState}
 use Rattle.model.specs.Trees.{Tree, own-record}
-use Rattle.model.specs.States.{status, place, fresh-words}
+use Rattle.model.specs.States.{status, place, fresh-state}
 use Rattle.model.specs.Steps.{check-row, row, step}
 use Rattle.model.specs.Runs.{run-of, run}
 use Rattle.model.specs.Reached.{equality-check-row, Counts-at-check, Equality-law}
@@ -20,7 +20,7 @@ use Rattle.model.proofs.Trees.Records.{own-record-at}
 use Rattle.model.proofs.Queues.Lists.{same-or}
 use Rattle.model.proofs.Queues.Moves.{Stage, holding, low, State}
 use Rattle.model.proofs.Words.View.{Words, words-in}
-use Rattle.model.proofs.Words.Represents.{Fits, at-idle, at-prep, at-swap, at-link, at-wait, at-woken, at-ready, at-inside, at-check, at-pass, at-help, at-cas, at-linger, at-grant}
+use Rattle.model.proofs.Words.Represents.{Fits, at-idle, at-prep, at-swap, at-link, at-wait, at-woken, at-ready, at-inside, at-check, at-pass, at-help, at-cas, at-linger, at-grant, at-draw, at-watch, at-shown, at-raise}
 use Rattle.model.proofs.Claims.Reached.{Queued, from-fresh}
 
 -- what the place Check says
@@ -36,7 +36,7 @@ checking l e (at-check k b c) = record { index = k; below = b; there = cc; stage
 checking l e at-idle = absurd (let z : _≡_ {A = ℕ} 0 1 = cc in omega arith)
 checking l e (at-prep k b c) = absurd (let z : _≡_ {A = ℕ} 0 1 = cc in omega arith)
 checking l e (at-swap k b c n v) = absurd (let z : _≡_ {A = ℕ} 0 1 = cc in omega arith)
-checking l e (at-link k p b c a n v) = absurd (let z : _≡_ {A = ℕ} 0 1 = cc in omega arith)
+checking l e (at-link k p b c d a n v) = absurd (let z : _≡_ {A = ℕ} 0 1 = cc in omega arith)
 checking l e (at-wait k b c v) = absurd (let z : _≡_ {A = ℕ} 0 1 = cc in omega arith)
 checking l e (at-woken k b c v y) = absurd (let z : _≡_ {A = ℕ} 0 1 = cc in omega arith)
 checking l e (at-ready k b c v p) = absurd (let z : _≡_ {A = ℕ} 0 1 = cc in omega arith)
@@ -46,6 +46,10 @@ checking l e (at-help k b c) = absurd (let z : _≡_ {A = ℕ} 0 1 = cc in omega
 checking l e (at-cas k b c) = absurd (let z : _≡_ {A = ℕ} 0 1 = cc in omega arith)
 checking l e (at-linger k b c) = absurd (let z : _≡_ {A = ℕ} 0 1 = cc in omega arith)
 checking l e (at-grant k r b c n) = absurd (let z : _≡_ {A = ℕ} 0 1 = cc in omega arith)
+checking l e (at-draw k b r c) = absurd (let z : _≡_ {A = ℕ} 0 1 = cc in omega arith)
+checking l e (at-watch k b r c) = absurd (let z : _≡_ {A = ℕ} 0 1 = cc in omega arith)
+checking l e (at-shown r c) = absurd (let z : _≡_ {A = ℕ} 0 1 = cc in omega arith)
+checking l e (at-raise r c) = absurd (let z : _≡_ {A = ℕ} 0 1 = cc in omega arith)
 
 -- at or below the threshold, below it and other than it are one test
 pub same-test : (v h : ℕ) → v ≤ h → ltb v h ≡ not (eqb v h)
@@ -75,6 +79,6 @@ counts-at-check t 𝓐 s q i l h e =
 
 pub equality-law : Equality-law
 unfolding Equality-law run run-of
-equality-law t bits ok is all i l h e =
+equality-law t bits ok v is all i l h e =
     let 𝓐 = accepted t ok in
-    counts-at-check t 𝓐 (run t is fresh-words .state) (from-fresh t 𝓐 bits is all .there) i l h e
+    counts-at-check t 𝓐 (run t is (fresh-state t v) .state) (from-fresh t 𝓐 bits v is all .there) i l h e

@@ -11,6 +11,7 @@ use lib.ListN.{length, take, drop}
 use lib.Seq.{take-append-seam, drop-drop, drop-length}
 use borrow.Author.Tests.{not-false, eqb-true, eq-eqb, ne-eqb, lt-ltb, le-ltb}
 use Rattle.model.specs.Scans.{any-below, largest-below}
+use Rattle.model.specs.declared.State.{State}
 use Rattle.model.specs.Trees.{Tree, is-child, is-leaf, on-path, under, allowance}
 use Rattle.model.specs.Refusals.{tree-refusal}
 use Rattle.model.specs.Answers.{run-reply}
@@ -138,16 +139,16 @@ prefix-law xs ys = (
   λ e. record { remainder = drop (length xs) ys; joins = rw e at (take-drop (length xs) ys) },
 )
 
-stretches-own : (t : Tree) (S : List ℕ) (k : ℕ) (cs : List Call) → Stretches t S k cs → drop k S ≡ own-entries t S k cs
+stretches-own : (t : Tree) (f : State) (S : List ℕ) (k : ℕ) (cs : List Call) → Stretches t f S k cs → drop k S ≡ own-entries t f S k cs
 unfolding Stretches own-entries
-stretches-own t S k [] e = rw e (drop-length S)
-stretches-own t S k (c ∷ cs) e =
-    let own = added c (state-at t S k) in
-    sym (take-drop (length own) (drop k S)) ∙ rw (e .0, drop-drop (length own) k S) (ap (λ r. own ++ r) (stretches-own t S (k + length own) cs (e .1)))
+stretches-own t f S k [] e = rw e (drop-length S)
+stretches-own t f S k (c ∷ cs) e =
+    let own = added c (state-at t f S k) in
+    sym (take-drop (length own) (drop k S)) ∙ rw (e .0, drop-drop (length own) k S) (ap (λ r. own ++ r) (stretches-own t f S (k + length own) cs (e .1)))
 
 pub stretches-law : Stretches-law
 unfolding Stretches-law
-stretches-law t S cs e = stretches-own t S 0 cs e
+stretches-law t f S cs e = stretches-own t f S 0 cs e
 
 -- REFUSED RUNS
 pub refused-run-law : Refused-run-law

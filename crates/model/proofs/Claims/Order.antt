@@ -13,7 +13,7 @@ use Rattle.model.proofs.Queues.Lists.{same-or, rest}
 use Rattle.model.proofs.Queues.Moves as moves
 use Rattle.model.proofs.Queues.Moves.{State, Event, empty, Run, here}
 use Rattle.model.proofs.Queues.Order.{in-order}
-use Rattle.model.proofs.Words.Outcome.{standing-shown, entry-shown, shown}
+use Rattle.model.proofs.Words.Outcome.{ends-shown, standing-shown, entry-shown, shown}
 use Rattle.model.proofs.Claims.Reached.{all-shown}
 
 -- EVENTS behind events
@@ -48,17 +48,32 @@ unfolding moves.given moves.given-by
 entry-given d true i = refl
 entry-given d false i = refl
 
+-- ends begin nothing, and end what they name
+ends-begun : (d e : ℕ) (ms : List ℕ) → moves.begun d (ends-shown e ms) ≡ []
+unfolding moves.begun moves.begun-by ends-shown
+ends-begun d e [] = refl
+ends-begun d e (m ∷ ms) = ends-begun d e ms
+
+ends-given : (d e : ℕ) (ms : List ℕ) → moves.given d (ends-shown e ms) ≡ cond (eqb e d) ms []
+unfolding moves.given moves.given-by ends-shown
+ends-given d e [] = sym (neither (eqb e d) [] refl)
+ends-given d e (m ∷ ms) = rw (here-turned d e m, ends-given d e ms) (by (eqb e d))
+  where
+    by : (b : Bool) → cond b (m ∷ []) [] ++ cond b ms [] ≡ cond b (m ∷ ms) []
+    by true = refl
+    by false = refl
+
 standing-begun : (d e : ℕ) (x : Standing) → moves.begun d (standing-shown x e) ≡ cond (eqb e d) (begun-in x) []
 unfolding moves.begun moves.begun-by standing-shown begun-in
 standing-begun d e unchanged = sym (neither (eqb e d) [] refl)
 standing-begun d e (begins m) = append-nil (here d e m) ∙ here-turned d e m
-standing-begun d e (ends m) = sym (neither (eqb e d) [] refl)
+standing-begun d e (ends ms) = ends-begun d e ms ∙ sym (neither (eqb e d) [] refl)
 
 standing-given : (d e : ℕ) (x : Standing) → moves.given d (standing-shown x e) ≡ cond (eqb e d) (ended-in x) []
 unfolding moves.given moves.given-by standing-shown ended-in
 standing-given d e unchanged = sym (neither (eqb e d) [] refl)
 standing-given d e (begins m) = sym (neither (eqb e d) [] refl)
-standing-given d e (ends m) = append-nil (here d e m) ∙ here-turned d e m
+standing-given d e (ends ms) = ends-given d e ms
 
 step-begun : (d : ℕ) (x : Step) → moves.begun d (shown x) ≡ cond (eqb (x .domain) d) (begun-in (x .standing)) []
 unfolding shown entry-shown

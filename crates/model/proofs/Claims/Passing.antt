@@ -8,10 +8,10 @@ use native.Mathlib.Omega.{arith}
 use lib.Dec.{eqb}
 use borrow.Author.Tests.{eq-eqb, ne-eqb, eqb-false, not-true}
 use Rattle.model.specs.declared.Place.{Place}
-use Rattle.model.specs.declared.Place.the-variants.{Idle, Prep, Swap, Link, Wait, Inside, Check, Help, Cas, Linger, Grant, Invalid}
+use Rattle.model.specs.declared.Place.the-variants.{Idle, Prep, Swap, Link, Wait, Inside, Check, Help, Cas, Linger, Grant, Draw, Watch, Raise, Invalid}
 use Rattle.model.specs.declared.State.{State as WordState}
 use Rattle.model.specs.Trees.{Tree, own-record}
-use Rattle.model.specs.States.{acquire-parent, wait-word, status, place, fresh-words}
+use Rattle.model.specs.States.{acquire-parent, wait-word, status, place, fresh-state}
 use Rattle.model.specs.Steps.{is-entry, wait-row, row, step}
 use Rattle.model.specs.Runs.{steps, state-after, counts-of, run-of, run}
 use Rattle.model.specs.Refusals.{tree-refusal}
@@ -24,7 +24,7 @@ use Rattle.model.proofs.Trees.Paths.{ancestor-not-root}
 use Rattle.model.proofs.Trees.Records.{own-record-at}
 use Rattle.model.proofs.Queues.Moves.{Stage, ready, low, State}
 use Rattle.model.proofs.Words.View.{Words, words-in}
-use Rattle.model.proofs.Words.Represents.{waiting-word, Fits, at-idle, at-prep, at-swap, at-link, at-wait, at-woken, at-ready, at-inside, at-check, at-pass, at-help, at-cas, at-linger, at-grant}
+use Rattle.model.proofs.Words.Represents.{waiting-word, Fits, at-idle, at-prep, at-swap, at-link, at-wait, at-woken, at-ready, at-inside, at-check, at-pass, at-help, at-cas, at-linger, at-grant, at-draw, at-watch, at-shown, at-raise}
 use Rattle.model.proofs.Laws.Runs.{run-join}
 use Rattle.model.proofs.Laws.Passed.{passed-law}
 use Rattle.model.proofs.Claims.Reached.{Queued, from-fresh, threads-join}
@@ -42,7 +42,7 @@ waiting l e (at-ready k b c v p) = passed-on k b (cc) refl p
 waiting l e at-idle = absurd (let z : _≡_ {A = ℕ} 0 1 = cc in omega arith)
 waiting l e (at-prep k b c) = absurd (let z : _≡_ {A = ℕ} 0 1 = cc in omega arith)
 waiting l e (at-swap k b c n v) = absurd (let z : _≡_ {A = ℕ} 0 1 = cc in omega arith)
-waiting l e (at-link k p b c a n v) = absurd (let z : _≡_ {A = ℕ} 0 1 = cc in omega arith)
+waiting l e (at-link k p b c d a n v) = absurd (let z : _≡_ {A = ℕ} 0 1 = cc in omega arith)
 waiting l e (at-inside c) = absurd (let z : _≡_ {A = ℕ} 0 1 = cc in omega arith)
 waiting l e (at-check k b c) = absurd (let z : _≡_ {A = ℕ} 0 1 = cc in omega arith)
 waiting l e (at-pass k r v b c n q y) = absurd (let z : _≡_ {A = ℕ} 0 1 = cc in omega arith)
@@ -50,6 +50,10 @@ waiting l e (at-help k b c) = absurd (let z : _≡_ {A = ℕ} 0 1 = cc in omega 
 waiting l e (at-cas k b c) = absurd (let z : _≡_ {A = ℕ} 0 1 = cc in omega arith)
 waiting l e (at-linger k b c) = absurd (let z : _≡_ {A = ℕ} 0 1 = cc in omega arith)
 waiting l e (at-grant k r b c n) = absurd (let z : _≡_ {A = ℕ} 0 1 = cc in omega arith)
+waiting l e (at-draw k b r c) = absurd (let z : _≡_ {A = ℕ} 0 1 = cc in omega arith)
+waiting l e (at-watch k b r c) = absurd (let z : _≡_ {A = ℕ} 0 1 = cc in omega arith)
+waiting l e (at-shown r c) = absurd (let z : _≡_ {A = ℕ} 0 1 = cc in omega arith)
+waiting l e (at-raise r c) = absurd (let z : _≡_ {A = ℕ} 0 1 = cc in omega arith)
 
 module _ (t : Tree) (𝓐 : Accepted t) (s : WordState) (q : Queued t s) (i l : ℕ) (h : i < t .threads) (n : l ≢ 0) where
   abbrev w : Words
@@ -81,10 +85,10 @@ module _ (t : Tree) (𝓐 : Accepted t) (s : WordState) (q : Queued t s) (i l : 
 
 pub passing-law : Passing-law
 unfolding Passing-law run run-of step row words-in
-passing-law t bits ok is all i l h e n f =
+passing-law t bits ok v is all i l h e n f =
     let 𝓐 = accepted t ok in
-    let q = from-fresh t 𝓐 bits is all .there in
-    enough t 𝓐 (run t is fresh-words .state) q i l h n (waiting l e (q .represents .fits i h)) (rw e at f)
+    let q = from-fresh t 𝓐 bits v is all .there in
+    enough t 𝓐 (run t is (fresh-state t v) .state) q i l h n (waiting l e (q .represents .fits i h)) (rw e at f)
 
 -- ALL THRESHOLDS 1
 and-false : (b : Bool) → b && false ≡ false
@@ -92,59 +96,65 @@ and-false true = refl
 and-false false = refl
 
 -- one entry behind others
-after-one : (t : Tree) (pre : List ℕ) (i : ℕ) → run t (pre ++ (i ∷ [])) fresh-words .state ≡ step t i (run t pre fresh-words .state) .state
+after-one : (t : Tree) (f : WordState) (pre : List ℕ) (i : ℕ) → run t (pre ++ (i ∷ [])) f .state ≡ step t i (run t pre f .state) .state
 unfolding then-run run run-of steps state-after
-after-one t pre i = ap (λ x. x .state) (run-join t pre (i ∷ []) fresh-words)
+after-one t f pre i = ap (λ x. x .state) (run-join t pre (i ∷ []) f)
 
-module _ (t : Tree) (ok : tree-refusal t .number ≡ 0) (ones : (d : ℕ) → t .threshold d ≤ 1) where
+module _ (t : Tree) (ok : tree-refusal t .number ≡ 0) (ones : (d : ℕ) → t .threshold d ≤ 1) (v : ℕ) where
+  abbrev f : WordState
+  f = fresh-state t v
+
   sixteen : Sixteen-bit t
   sixteen d = omega (arith, ones d)
 
   -- no step from a state reached from fresh is an entry from Wait below the root
-  none-below : (pre : List ℕ) → All-threads t pre → (i : ℕ) → i < t .threads → (p : Place) → place (run t pre fresh-words .state) i ≡ p →
-      is-entry (step t i (run t pre fresh-words .state) .kind) && waits-below p ≡ false
+  none-below : (pre : List ℕ) → All-threads t pre → (i : ℕ) → i < t .threads → (p : Place) → place (run t pre f .state) i ≡ p →
+      is-entry (step t i (run t pre f .state) .kind) && waits-below p ≡ false
   unfolding waits-below Passing-law
-  none-below pre all i h (Wait l) e = by (eqb l 0) (is-entry (step t i (run t pre fresh-words .state) .kind)) refl refl
+  none-below pre all i h (Wait l) e = by (eqb l 0) (is-entry (step t i (run t pre f .state) .kind)) refl refl
     where
-      by : (b c : Bool) → eqb l 0 ≡ b → is-entry (step t i (run t pre fresh-words .state) .kind) ≡ c → c && not b ≡ false
-      by true true z f = refl
-      by true false z f = refl
-      by false false z f = refl
-      by false true z f = absurd (let two = passing-law t sixteen ok pre all i l h e (eqb-false l 0 z) f in omega (arith, ones l))
-  none-below pre all i h Idle e = and-false (is-entry (step t i (run t pre fresh-words .state) .kind))
-  none-below pre all i h (Prep l) e = and-false (is-entry (step t i (run t pre fresh-words .state) .kind))
-  none-below pre all i h (Swap l) e = and-false (is-entry (step t i (run t pre fresh-words .state) .kind))
-  none-below pre all i h (Link l p) e = and-false (is-entry (step t i (run t pre fresh-words .state) .kind))
-  none-below pre all i h Inside e = and-false (is-entry (step t i (run t pre fresh-words .state) .kind))
-  none-below pre all i h (Check l) e = and-false (is-entry (step t i (run t pre fresh-words .state) .kind))
-  none-below pre all i h (Help l) e = and-false (is-entry (step t i (run t pre fresh-words .state) .kind))
-  none-below pre all i h (Cas l) e = and-false (is-entry (step t i (run t pre fresh-words .state) .kind))
-  none-below pre all i h (Linger l) e = and-false (is-entry (step t i (run t pre fresh-words .state) .kind))
-  none-below pre all i h (Grant l r w) e = and-false (is-entry (step t i (run t pre fresh-words .state) .kind))
-  none-below pre all i h Invalid e = and-false (is-entry (step t i (run t pre fresh-words .state) .kind))
+      by : (b c : Bool) → eqb l 0 ≡ b → is-entry (step t i (run t pre f .state) .kind) ≡ c → c && not b ≡ false
+      by true true z y = refl
+      by true false z y = refl
+      by false false z y = refl
+      by false true z y = absurd (let two = passing-law t sixteen ok v pre all i l h e (eqb-false l 0 z) y in omega (arith, ones l))
+  none-below pre all i h Idle e = and-false (is-entry (step t i (run t pre f .state) .kind))
+  none-below pre all i h (Prep l) e = and-false (is-entry (step t i (run t pre f .state) .kind))
+  none-below pre all i h (Swap l) e = and-false (is-entry (step t i (run t pre f .state) .kind))
+  none-below pre all i h (Link l p) e = and-false (is-entry (step t i (run t pre f .state) .kind))
+  none-below pre all i h Inside e = and-false (is-entry (step t i (run t pre f .state) .kind))
+  none-below pre all i h (Check l) e = and-false (is-entry (step t i (run t pre f .state) .kind))
+  none-below pre all i h (Help l) e = and-false (is-entry (step t i (run t pre f .state) .kind))
+  none-below pre all i h (Cas l) e = and-false (is-entry (step t i (run t pre f .state) .kind))
+  none-below pre all i h (Linger l) e = and-false (is-entry (step t i (run t pre f .state) .kind))
+  none-below pre all i h (Grant l r w) e = and-false (is-entry (step t i (run t pre f .state) .kind))
+  none-below pre all i h Draw e = and-false (is-entry (step t i (run t pre f .state) .kind))
+  none-below pre all i h Watch e = and-false (is-entry (step t i (run t pre f .state) .kind))
+  none-below pre all i h Raise e = and-false (is-entry (step t i (run t pre f .state) .kind))
+  none-below pre all i h Invalid e = and-false (is-entry (step t i (run t pre f .state) .kind))
 
   step-none : (pre : List ℕ) → All-threads t pre → (i : ℕ) → i < t .threads →
-      is-entry (step t i (run t pre fresh-words .state) .kind) && waits-below (step t i (run t pre fresh-words .state) .place) ≡ false
+      is-entry (step t i (run t pre f .state) .kind) && waits-below (step t i (run t pre f .state) .place) ≡ false
   unfolding step
-  step-none pre all i h = none-below pre all i h (place (run t pre fresh-words .state) i) refl
+  step-none pre all i h = none-below pre all i h (place (run t pre f .state) i) refl
 
-  along : (pre is : List ℕ) → All-threads t pre → All-threads t is → entries-from-below (steps t is (run t pre fresh-words .state)) ≡ 0
+  along : (pre is : List ℕ) → All-threads t pre → All-threads t is → entries-from-below (steps t is (run t pre f .state)) ≡ 0
   unfolding steps entries-from-below All-threads
   along pre [] all later = refl
   along pre (i ∷ is) all later =
-      let s = run t pre fresh-words .state in
+      let s = run t pre f .state in
       let x = step t i s in
-      let next : run t (pre ++ (i ∷ [])) fresh-words .state ≡ x .state = after-one t pre i in
+      let next : run t (pre ++ (i ∷ [])) f .state ≡ x .state = after-one t f pre i in
       let rest : entries-from-below (steps t is (x .state)) ≡ 0 = rw next at (along (pre ++ (i ∷ [])) is (threads-join t pre (i ∷ []) all (later .0, tt)) (later .1)) in
       rw (step-none pre all i (later .0)) (omega (arith, rest))
 
-  pub fresh-none : (is : List ℕ) → All-threads t is → entries-from-below (steps t is fresh-words) ≡ 0
+  pub fresh-none : (is : List ℕ) → All-threads t is → entries-from-below (steps t is f) ≡ 0
   unfolding run run-of steps state-after All-threads
   fresh-none is all = along [] is tt all
 
 pub threshold-one-law : Threshold-one-law
 unfolding Threshold-one-law Passed-law
-threshold-one-law t ok ones is all =
-    let none = fresh-none t ok ones is all in
-    let both = passed-law t is fresh-words in
+threshold-one-law t ok ones v is all =
+    let none = fresh-none t ok ones v is all in
+    let both = passed-law t is (fresh-state t v) in
     (omega arith, omega arith)

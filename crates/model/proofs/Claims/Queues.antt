@@ -1,19 +1,20 @@
 -- Each domain reached from fresh has its queue, and exactly one thread acts for each member in it. Assumes nothing.
 use mathlib.Core.Path.{_≡_, refl, sym, ap, _∙_}
-use mathlib.Core.Bool.{true}
+use mathlib.Core.Bool.{Bool, true, false, cond, false≢true}
+use mathlib.Core.Logic.{inl, inr}
 use mathlib.Core.List.{List, [], _∷_}
-use Prim.Native.Nat.{ℕ, _≤_, _<_}
+use Prim.Native.Nat.{ℕ, _+_, _≤_, _<_}
 use native.Mathlib.Omega.{arith}
 use lib.ListN.{drop}
 use borrow.Author.Tests.{ltb-true, lt-ltb}
 use Rattle.model.specs.declared.State.{State as WordState}
-use Rattle.model.specs.Trees.{Tree, on-path, own-record}
-use Rattle.model.specs.States.{fresh-words, place}
+use Rattle.model.specs.Trees.{Tree, is-ticket, on-path, own-record}
+use Rattle.model.specs.States.{none, tail, status, place, wrap, fresh-state}
 use Rattle.model.specs.Runs.{steps, run-of, run}
 use Rattle.model.specs.Acts.{acts-at}
 use Rattle.model.specs.Acts as model
 use Rattle.model.specs.Laws.{Sixteen-bit}
-use Rattle.model.specs.Reached.{last-or-none, Acts-for, Acted-once, Queue-law}
+use Rattle.model.specs.Reached.{last-or-none, Consecutive, Acts-for, Acted-once, Queue-law}
 use Rattle.model.proofs.Tests.{and-both}
 use Rattle.model.proofs.Trees.Index.{ancestor, height, record-at}
 use Rattle.model.proofs.Trees.Accepted.{Accepted, accepted}
@@ -27,6 +28,7 @@ use Rattle.model.proofs.Queues.Remaining.{acts-real}
 use Rattle.model.proofs.Queues.Order.{in-order}
 use Rattle.model.proofs.Words.Links.{final}
 use Rattle.model.proofs.Words.View.{words-in}
+use Rattle.model.proofs.Words.Represents.{Tickets}
 use Rattle.model.proofs.Claims.Reached.{Queued, from-fresh}
 use Rattle.model.proofs.Claims.Order.{begun-shown, ended-shown}
 use Rattle.model.proofs.Claims.Bounded.{same-count}
@@ -42,6 +44,18 @@ rest-drop : (q : List ℕ) → rest q ≡ drop 1 q
 unfolding rest
 rest-drop [] = refl
 rest-drop (m ∷ ms) = refl
+
+-- the tail names the last; at a ticket root there is none
+tail-there :
+    (t : Tree) (s : WordState) (q : Queued t s) (d : ℕ) (b : Bool) → is-ticket t d ≡ b → tail s d ≡ cond b none (last-or-none (q .queues .queue d))
+unfolding words-in
+tail-there t s q d true e = elim (q .facts .tails d) [ inl z ↦ z | inr m ↦ absurd (false≢true (sym (m .0) ∙ e)) ]
+tail-there t s q d false e = q .represents .linked d e .last ∙ same-last (q .queues .queue d)
+
+tickets-there : (s : WordState) (v : ℕ) (q : List ℕ) → Tickets (λ r. status s r) v (s .ticket) q → Consecutive s v q
+unfolding Tickets Consecutive
+tickets-there s v [] h = h
+tickets-there s v (m ∷ ms) h = (h .0, tickets-there s (wrap (v + 1)) ms (h .1))
 
 module _ (t : Tree) (𝓐 : Accepted t) (bits : Sixteen-bit t) (s : WordState) (q : Queued t s) where
   abbrev g : State
@@ -109,18 +123,19 @@ module _ (t : Tree) (𝓐 : Accepted t) (bits : Sixteen-bit t) (s : WordState) (
 
 pub queue-law : Queue-law
 unfolding Queue-law run run-of words-in
-queue-law t bits ok is all =
+queue-law t bits ok v is all =
     let 𝓐 = accepted t ok in
-    let x = from-fresh t 𝓐 bits is all in
+    let x = from-fresh t 𝓐 bits v is all in
     let q = x .there in
-    let s = run t is fresh-words .state in
+    let s = run t is (fresh-state t v) .state in
     let g = q .queues in
     let inv = q .represents .invariant in
     record {
       queue = g .queue;
-      tails = λ d. q .represents .linked d .last ∙ same-last (g .queue d);
+      tails = λ d. tail-there t s q d _ refl;
+      tickets = λ e. tickets-there s (s .grant) (g .queue 0) (q .represents .numbered e .held);
       standing = λ d.
-          rw (← begun-shown d (steps t is fresh-words), ← ended-shown d (steps t is fresh-words), ← rest-drop (g .queue d)) (in-order t d (x .follows));
+          rw (← begun-shown d (steps t is (fresh-state t v)), ← ended-shown d (steps t is (fresh-state t v)), ← rest-drop (g .queue d)) (in-order t d (x .follows));
       members = λ d m b.
           let a = inv .acted d m (rw (same-count m (g .queue d)) b) in
           let r = acts-real t (laws t 𝓐) g inv (a .thread) (a .index) (a .acting) in

@@ -9,7 +9,7 @@ use lib.Dec.{eqb}
 use lib.ListN.{length, getD}
 use borrow.Author.Tests.{eq-eqb, eqb-true}
 use Rattle.model.specs.declared.Place.{Place}
-use Rattle.model.specs.declared.Place.the-variants.{Idle, Prep, Swap, Link, Wait, Inside, Check, Help, Cas, Linger, Grant, Invalid}
+use Rattle.model.specs.declared.Place.the-variants.{Idle, Prep, Swap, Link, Wait, Inside, Check, Help, Cas, Linger, Grant, Draw, Watch, Raise, Invalid}
 use Rattle.model.specs.declared.TreeWords.{TreeWords}
 use Rattle.model.specs.declared.State.{State}
 use Rattle.model.specs.Trees.{Tree, tree-of, on-path, is-member}
@@ -17,14 +17,15 @@ use Rattle.model.specs.Places.{place-words, words-of, place-of, place-do
 use Rattle.model.specs.States.{place}
 use Rattle.model.specs.Steps.{Kind, stay, root-entry, passed-entry, crossed-entry, kind-number, is-kind, is-entry, Step, step}
 use Rattle.model.specs.Runs.{steps, state-after, how-many, counts-of, run-of, run, occurrences}
-use Rattle.model.specs.WellFormed.{good-place}
+use Rattle.model.specs.WellFormed.{queue-on-path, good-place}
 use Rattle.model.specs.Refusals.{tree-refusal, run-refusal, accepted, refusal}
 use Rattle.model.specs.Answers.{first-kind, step-reply, step-answer, run-reply, run-answer}
 use Rattle.model.specs.Laws.{All-threads, Sixteen-bit, Formed, Form-law, Tells-domain, Domain-law, told-kinds, told-counts, Told-law}
 use Rattle.model.proofs.Tests.{and-both}
 use Rattle.model.proofs.Places.{words-of-place}
 use Rattle.model.proofs.Trees.Accepted.{Accepted, accepted as accepted-tree}
-use Rattle.model.proofs.Trees.Paths.{on-path-home}
+use Rattle.model.proofs.Trees.Tickets.{queue-facts}
+use Rattle.model.proofs.Trees.Paths.{on-path-home, on-path-root}
 use Rattle.model.proofs.Laws.Facts.{well-formed-facts}
 use Rattle.model.proofs.Laws.Form.{valid, form-law}
 use Rattle.model.proofs.Laws.Runs.{steps-length, entries-all}
@@ -44,22 +45,28 @@ named h (Help l) a b = inl refl
 named h (Cas l) a b = inl refl
 named h (Linger l) a b = inl refl
 named h (Grant l r w) a b = inl refl
+named h Draw a b = inl refl
+named h Watch a b = inl refl
+named h Raise a b = inl refl
 named h Invalid a b = inr refl
 
 -- a good place's domain is on the path
 good-domain : (t : Tree) → Accepted t → (i : ℕ) → i < t .threads → (p : Place) → good-place t i p ≡ true → on-path t i (place-domain (t .home i) p) ≡ true
 unfolding good-place
 good-domain t 𝓐 i h Idle g = on-path-home t 𝓐 i h
-good-domain t 𝓐 i h (Prep l) g = g
-good-domain t 𝓐 i h (Swap l) g = g
-good-domain t 𝓐 i h (Link l p) g = and-both (on-path t i l) (is-member t l p) g .0
-good-domain t 𝓐 i h (Wait l) g = g
+good-domain t 𝓐 i h (Prep l) g = queue-facts t i l g .0
+good-domain t 𝓐 i h (Swap l) g = queue-facts t i l g .0
+good-domain t 𝓐 i h (Link l p) g = queue-facts t i l (and-both (queue-on-path t i l) (is-member t l p) g .0) .0
+good-domain t 𝓐 i h (Wait l) g = queue-facts t i l g .0
 good-domain t 𝓐 i h Inside g = on-path-home t 𝓐 i h
 good-domain t 𝓐 i h (Check l) g = and-both (on-path t i l) (not (eqb l 0)) g .0
-good-domain t 𝓐 i h (Help l) g = g
-good-domain t 𝓐 i h (Cas l) g = g
-good-domain t 𝓐 i h (Linger l) g = g
-good-domain t 𝓐 i h (Grant l r w) g = and-both (on-path t i l) (is-member t l r) g .0
+good-domain t 𝓐 i h (Help l) g = queue-facts t i l g .0
+good-domain t 𝓐 i h (Cas l) g = queue-facts t i l g .0
+good-domain t 𝓐 i h (Linger l) g = queue-facts t i l g .0
+good-domain t 𝓐 i h (Grant l r w) g = queue-facts t i l (and-both (queue-on-path t i l) (is-member t l r) g .0) .0
+good-domain t 𝓐 i h Draw g = on-path-root t 𝓐 i h
+good-domain t 𝓐 i h Watch g = on-path-root t 𝓐 i h
+good-domain t 𝓐 i h Raise g = on-path-root t 𝓐 i h
 good-domain t 𝓐 i h Invalid g = absurd (false≢true g)
 
 pub domain-law : Domain-law

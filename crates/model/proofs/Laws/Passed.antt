@@ -6,11 +6,11 @@ use Prim.Native.Nat.{ℕ, _+_}
 use native.Mathlib.Omega.{arith}
 use lib.Dec.{eqb, ltb}
 use Rattle.model.specs.declared.Place.{Place}
-use Rattle.model.specs.declared.Place.the-variants.{Idle, Prep, Swap, Link, Wait, Inside, Check, Help, Cas, Linger, Grant, Invalid}
+use Rattle.model.specs.declared.Place.the-variants.{Idle, Prep, Swap, Link, Wait, Inside, Check, Help, Cas, Linger, Grant, Draw, Watch, Raise, Invalid}
 use Rattle.model.specs.declared.State.{State}
-use Rattle.model.specs.Trees.{Tree, own-record}
+use Rattle.model.specs.Trees.{Tree, is-ticket, own-record}
 use Rattle.model.specs.States.{acquire-parent, wait-word, locked, none, tail, next, status, place}
-use Rattle.model.specs.Steps.{passed-entry, crossed-entry, is-kind, is-entry, Row-result, prep-row, swap-row, link-row, wait-row, leave-row, check-row, help-row, cas-row, linger-row, grant-row, row, step}
+use Rattle.model.specs.Steps.{passed-entry, crossed-entry, is-kind, is-entry, Row-result, prep-row, swap-row, link-row, wait-row, leave-row, check-row, help-row, cas-row, linger-row, grant-row, draw-row, watch-row, raise-row, row, step}
 use Rattle.model.specs.Runs.{steps, how-many, counts-of, run-of, run}
 use Rattle.model.specs.Laws.{waits-below, entries-from-below, Passed-law}
 use Rattle.model.proofs.Tests.{by-test}
@@ -27,8 +27,9 @@ below-root l true e = rw e
 below-root l false e = rw e
 
 row-apart : (t : Tree) (i : ℕ) (p : Place) (s : State) → Told-apart p (row t i p s)
-unfolding row prep-row swap-row link-row wait-row leave-row check-row help-row cas-row linger-row grant-row is-kind is-entry waits-below
-row-apart t i Idle s = refl
+unfolding row prep-row swap-row link-row wait-row leave-row check-row help-row cas-row linger-row grant-row draw-row watch-row raise-row is-kind is-entry waits-below
+row-apart t i Idle s =
+    by-test (Told-apart Idle) (is-ticket t (t .home i)) _ _ (λ _. by-test (Told-apart Idle) (eqb (s .ticket) (s .grant)) _ _ (λ _. refl) (λ _. refl)) (λ _. refl)
 row-apart t i (Prep l) s = refl
 row-apart t i (Swap l) s =
     by-test (Told-apart (Swap l)) (eqb (tail s l) none) _ _ (λ _. by-test (Told-apart (Swap l)) (eqb l 0) _ _ (λ _. refl) (λ _. refl)) (λ _. refl)
@@ -45,6 +46,9 @@ row-apart t i (Help l) s = by-test (Told-apart (Help l)) (eqb (next s (own-recor
 row-apart t i (Cas l) s = by-test (Told-apart (Cas l)) (eqb (tail s l) (own-record t i l + 1)) _ _ (λ _. refl) (λ _. refl)
 row-apart t i (Linger l) s = by-test (Told-apart (Linger l)) (eqb (next s (own-record t i l)) none) _ _ (λ _. refl) (λ _. refl)
 row-apart t i (Grant l r w) s = refl
+row-apart t i Draw s = by-test (Told-apart Draw) (eqb (s .ticket) (s .grant)) _ _ (λ _. refl) (λ _. refl)
+row-apart t i Watch s = by-test (Told-apart Watch) (eqb (status s (own-record t i 0)) (s .grant)) _ _ (λ _. refl) (λ _. refl)
+row-apart t i Raise s = refl
 row-apart t i Invalid s = refl
 
 steps-apart :

@@ -221,6 +221,9 @@ module _ (t : Tree) (𝓐 : Accepted t) (i : ℕ) (h : i < t .threads) where
   pub on-path-home : on-path t i (t .home i) ≡ true
   on-path-home = rw ancestor-home at (on-path-at 0 (omega arith))
 
+  pub on-path-root : on-path t i 0 ≡ true
+  on-path-root = rw ancestor-root at (on-path-at (height t i) (omega arith))
+
   pub on-path-parent : (d : ℕ) → 0 < d → on-path t i d ≡ true → on-path t i (t .parent d) ≡ true
   on-path-parent d p e =
       let o = path-index d e in

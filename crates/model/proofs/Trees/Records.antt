@@ -11,7 +11,7 @@ use Rattle.model.specs.Trees.{Tree, child, child-from, own-record, is-ch
 use Rattle.model.proofs.Trees.Index.{ancestor, height, record-at}
 use Rattle.model.proofs.Tests.{and-both}
 use Rattle.model.proofs.Trees.Accepted.{Accepted, child-yes, child-facts}
-use Rattle.model.proofs.Trees.Paths.{ancestor-home, height-few, ancestor-real, ancestor-inner, ancestor-not-root, ancestor-parent-of, ancestor-strict, ancestor-injective, path-index, on-path-at}
+use Rattle.model.proofs.Trees.Paths.{ancestor-home, height-few, ancestor-real, ancestor-inner, ancestor-root, ancestor-not-root, ancestor-parent-of, ancestor-strict, ancestor-injective, path-index, on-path-at}
 
 -- MEMBERS
 minus-256 : (c : ℕ) → 256 + c - 256 ≡ c
@@ -118,6 +118,9 @@ module _ (t : Tree) (𝓐 : Accepted t) (i : ℕ) (h : i < t .threads) where
       let q = ancestor-strict t 𝓐 i h 0 (suc k) (omega arith) l in
       rw (ne-eqb (ancestor t i (suc k)) (t .home i) (omega (arith, ancestor-home t i)), child-at k l)
 
+  pub root-record : own-record t i 0 ≡ record-at t i (height t i)
+  root-record = rw (ancestor-root t 𝓐 i h) at (own-record-at (height t i) (omega arith))
+
   pub member-at : (k : ℕ) → k ≤ height t i → is-member t (ancestor t i k) (record-at t i k) ≡ true
   unfolding record-at
   member-at zero l = member-thread t 𝓐 (ancestor t i 0) i h (sym (ancestor-home t i))
@@ -171,3 +174,11 @@ module _ (t : Tree) (𝓐 : Accepted t) (i : ℕ) (h : i < t .threads) where
   record-injective zero (suc l) a b e = absurd (omega (arith, 𝓐 .few-threads))
   record-injective (suc k) zero a b e = absurd (omega (arith, 𝓐 .few-threads))
   record-injective (suc k) (suc l) a b e = ap suc (ancestor-injective t 𝓐 i h k l (omega arith) (omega arith) (omega arith))
+
+  -- the child of a domain above the home is not the root
+  pub child-inner : (d : ℕ) → on-path t i d ≡ true → d ≢ t .home i → child t i d ≢ 0
+  child-inner d e n = let o = path-index t 𝓐 i h d e in go (o .index) (o .within) (o .there)
+    where
+      go : (k : ℕ) → k ≤ height t i → ancestor t i k ≡ d → child t i d ≢ 0
+      go zero l q = absurd (n (sym q ∙ ancestor-home t i))
+      go (suc k) l q = λ z. let p = ancestor-inner t 𝓐 i h k l in let e = sym (child-at k l) ∙ ap (child t i) q ∙ z in omega arith

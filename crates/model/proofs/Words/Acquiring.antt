@@ -5,11 +5,11 @@ use Prim.Native.Nat.{ℕ, suc, _+_, _-_, _≤_, _<_}
 use native.Mathlib.Omega.{arith}
 use lib.Dec.{eqb}
 use borrow.Author.Tests.{eqb-true, eqb-false, eq-eqb, ne-eqb}
-use Rattle.model.specs.declared.Place.the-variants.{Prep, Swap, Link, Wait, Inside}
+use Rattle.model.specs.declared.Place.the-variants.{Swap, Link, Wait, Inside}
 use Rattle.model.specs.declared.State.{State as WordState}
-use Rattle.model.specs.Trees.{Tree}
+use Rattle.model.specs.Trees.{Tree, is-ticket}
 use Rattle.model.specs.States.{acquire-parent, wait-word, locked, none, tail, status}
-use Rattle.model.specs.Steps.{passed-entry, crossed-entry, is-entry, passing-kind, moves, prep-row, swap-row, link-row, wait-row}
+use Rattle.model.specs.Steps.{passed-entry, crossed-entry, is-entry, passing-kind, acquire-place, moves, prep-row, swap-row, link-row, wait-row}
 use Rattle.model.specs.Laws.{Sixteen-bit}
 use Rattle.model.proofs.Trees.Index.{ancestor, height, record-at}
 use Rattle.model.proofs.Trees.Accepted.{Accepted}
@@ -56,50 +56,50 @@ module _ (t : Tree) (𝓐 : Accepted t) (s : WordState) (room : Room s) (g : Sta
 
   -- SWAP
   swap-by :
-      (k : ℕ) → k ≤ height t i → g .stage i ≡ climb k → Counted t w g i k → w .nexts (record-at t i k) ≡ 0 →
+      (k : ℕ) → k ≤ height t i → is-ticket t (ancestor t i k) ≡ false → g .stage i ≡ climb k → Counted t w g i k → w .nexts (record-at t i k) ≡ 0 →
       w .statuses (record-at t i k) ≡ waiting-word (ancestor t i k) → (b c : Bool) → eqb (tail s (ancestor t i k)) 0 ≡ b → eqb (ancestor t i k) 0 ≡ c →
       Outcome t g i (ancestor t i k) (swap-row t i (ancestor t i k) s)
   unfolding swap-row row-shown standing-shown entry-shown is-entry words-in
-  swap-by k l e c nx sw true true y z =
+  swap-by k l nt e c nx sw true true y z =
       let b = record-small t 𝓐 i h k l in
       let d = domain-small k in
       let root = eqb-true (ancestor t i k) 0 z in
       let tl = eqb-true (tail s (ancestor t i k)) 0 y in
       rw (own-record-at t 𝓐 i h k l, y, z)
       (outcome _ _ (swap-placed s room i few Inside (ancestor t i k) (record-at t i k + 1) (record-at t i k) 0 d b)
-      (take-root t 𝓐 w g i h o k l e root (ancestor-zero t 𝓐 i h k l root) tl nx c) (more (join-root i k e root (empty-there t 𝓐 w g i h o k l tl)) done))
-  swap-by k l e c nx sw true false y z =
+      (take-root t 𝓐 w g i h o k l nt e root (ancestor-zero t 𝓐 i h k l root) tl nx c) (more (join-root i k e root (empty-there t 𝓐 w g i h o k l nt tl)) done))
+  swap-by k l nt e c nx sw true false y z =
       let b = record-small t 𝓐 i h k l in
       let d = domain-small k in
       let n = eqb-false (ancestor t i k) 0 z in
       let tl = eqb-true (tail s (ancestor t i k)) 0 y in
       let lower = ancestor-not-root t 𝓐 i h k l (omega (arith, n)) in
       rw (own-record-at t 𝓐 i h k l, y, z, ancestor-parent-of t 𝓐 i h k lower)
-      (outcome _ _ (swap-placed s room i few (Prep (ancestor t i (suc k))) (ancestor t i k) (record-at t i k + 1) (record-at t i k) 1 d b)
-      (take t 𝓐 w g i h o k l e n lower tl nx c) (silent (join-empty i k e n (empty-there t 𝓐 w g i h o k l tl)) done))
-  swap-by k l e c nx sw false x y z =
+      (outcome _ _ (swap-placed s room i few (acquire-place t (ancestor t i (suc k))) (ancestor t i k) (record-at t i k + 1) (record-at t i k) 1 d b)
+      (take t 𝓐 w g i h o k l nt e n lower tl nx c) (silent (join-empty i k e n (empty-there t 𝓐 w g i h o k l nt tl)) done))
+  swap-by k l nt e c nx sw false x y z =
       let d = domain-small k in
       let tl = eqb-false (tail s (ancestor t i k)) 0 y in
-      let f = stand-first t 𝓐 w g i h o k l tl in
+      let f = stand-first t 𝓐 w g i h o k l nt tl in
       rw (own-record-at t 𝓐 i h k l, y)
       (outcome _ _ (tail-placed s room i few (Link (ancestor t i k) (tail s (ancestor t i k) - 1)) (ancestor t i k) (record-at t i k + 1) d)
-      (stand t 𝓐 w g i h o k l e tl nx sw c) (more (join-behind i k (f .0) e (f .1)) done))
+      (stand t 𝓐 w g i h o k l nt e tl nx sw c) (more (join-behind i k (f .0) e (f .1)) done))
 
   pub swap-outcome :
-      (k : ℕ) → k ≤ height t i → g .stage i ≡ climb k → Counted t w g i k → w .nexts (record-at t i k) ≡ 0 →
+      (k : ℕ) → k ≤ height t i → is-ticket t (ancestor t i k) ≡ false → g .stage i ≡ climb k → Counted t w g i k → w .nexts (record-at t i k) ≡ 0 →
       w .statuses (record-at t i k) ≡ waiting-word (ancestor t i k) → Outcome t g i (ancestor t i k) (swap-row t i (ancestor t i k) s)
-  swap-outcome k l e c nx sw = swap-by k l e c nx sw _ _ refl refl
+  swap-outcome k l nt e c nx sw = swap-by k l nt e c nx sw _ _ refl refl
 
   -- LINK
   pub link-outcome :
-      (k p : ℕ) → k ≤ height t i → g .stage i ≡ queued k → Counted t w g i k → after (g .queue (ancestor t i k)) p ≡ suc (record-at t i k) → w .nexts p ≡ 0 →
+      (k p : ℕ) → k ≤ height t i → is-ticket t (ancestor t i k) ≡ false → g .stage i ≡ queued k → Counted t w g i k → after (g .queue (ancestor t i k)) p ≡ suc (record-at t i k) → w .nexts p ≡ 0 →
       w .statuses (record-at t i k) ≡ waiting-word (ancestor t i k) → Outcome t g i (ancestor t i k) (link-row t i (ancestor t i k) p s)
   unfolding link-row row-shown standing-shown entry-shown is-entry
-  link-outcome k p l e c a nx sw =
+  link-outcome k p l nt e c a nx sw =
       let b = member-small t 𝓐 g (o .invariant) (ancestor t i k) p (after-in (g .queue (ancestor t i k)) p (record-at t i k) a) in
       rw (own-record-at t 𝓐 i h k l)
       (outcome _ g (next-placed s room i few (Wait (ancestor t i k)) p (record-at t i k + 1) b)
-      (link t 𝓐 w g i h o k l p e a nx sw c) done)
+      (link t 𝓐 w g i h o k l nt p e a nx sw c) done)
 
   -- WAIT, not granted
   pub wait-outcome :
@@ -125,13 +125,13 @@ module _ (t : Tree) (𝓐 : Accepted t) (s : WordState) (room : Room s) (g : Sta
       let f = ne-eqb v wait-word (omega arith) in
       let y = eq-eqb v acquire-parent sw in
       rw (own-record-at t 𝓐 i h k l, z, f, y, ancestor-parent-of t 𝓐 i h k b)
-      (outcome _ g (status-placed s room i few (Prep (ancestor t i (suc k))) (record-at t i k) 1 (record-small t 𝓐 i h k l)) (climb-on t 𝓐 w g i h o k l e b ta c) done)
+      (outcome _ g (status-placed s room i few (acquire-place t (ancestor t i (suc k))) (record-at t i k) 1 (record-small t 𝓐 i h k l)) (climb-on t 𝓐 w g i h o k l e b ta c) done)
 
   -- WAIT, granted the lock
-  abbrev entered-state : State
+  abbrev pub entered-state : State
   entered-state = record { queue = g .queue; stage = put (g .stage) i inside; tally = g .tally }
 
-  entered : g .stage i ≡ ready → Counted t w g i (height t i) → Represents t (place-to i Inside w) entered-state
+  pub entered : g .stage i ≡ ready → Counted t w g i (height t i) → Represents t (place-to i Inside w) entered-state
   entered e c =
       replaced t 𝓐 w g i h o entered-state Inside inside (keeps t (laws t 𝓐) g (o .invariant) (enter i e)) refl refl (put-same (g .stage) i inside i refl)
       (λ j n. put-other (g .stage) i inside j n) (at-inside c)
@@ -158,7 +158,7 @@ module _ (t : Tree) (𝓐 : Accepted t) (s : WordState) (room : Room s) (g : Sta
       (outcome _ entered-state (placed s room i few Inside) (entered e c) (rw (passing-entry t i (ancestor t i k)) (more (enter i e) done)))
 
   -- IDLE: the thread starts, and does Prep at home
-  abbrev started-state : State
+  abbrev pub started-state : State
   started-state = record { queue = g .queue; stage = put (g .stage) i (climb 0); tally = g .tally }
 
   pub started : g .stage i ≡ out → Others t w started-state i
@@ -166,15 +166,16 @@ module _ (t : Tree) (𝓐 : Accepted t) (s : WordState) (room : Room s) (g : Sta
       record {
         invariant = keeps t (laws t 𝓐) g (o .invariant) (start i h e);
         linked = o .linked;
+        numbered = o .numbered;
         others = λ j hj n. left-alone (apart t 𝓐 w g i h o w started-state 0 (omega arith) j hj n refl (put-other (g .stage) i (climb 0) j n) (λ r q. refl)
-            (λ r q. refl) (λ r q. refl) (λ m p q a z. (a, z))) (o .others j hj n);
+            (λ r q. refl) (λ r q. refl) (λ m p q nd a z. (a, z))) (o .others j hj n);
       }
 
-pub idle-outcome :
+pub prepared-outcome :
     (t : Tree) (𝓐 : Accepted t) (s : WordState) (room : Room s) (g : State) (i : ℕ) (h : i < t .threads) → Others t (words-in s) g i →
     g .stage i ≡ out → Outcome t g i (t .home i) (prep-row t i (t .home i) s)
 unfolding ancestor prep-row row-shown standing-shown entry-shown is-entry
-idle-outcome t 𝓐 s room g i h o e =
+prepared-outcome t 𝓐 s room g i h o e =
     let x = prep-outcome t 𝓐 s room (record { queue = g .queue; stage = put (g .stage) i (climb 0); tally = g .tally }) i h (started t 𝓐 s room g i h o e) 0 (omega arith)
     (put-same (g .stage) i (climb 0) i refl) (λ m b q. absurd (omega arith)) in
     record { state = x .state; room = x .room; represents = x .represents; follows = silent (start i h e) (x .follows) }

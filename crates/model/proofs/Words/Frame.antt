@@ -1,28 +1,41 @@
 -- One thread's step: what the others keep, and how a new state is put together. Assumes nothing.
 use mathlib.Core.Path.{_≡_, refl, sym, ap, _∙_}
+use mathlib.Core.Bool.{true, false}
+use mathlib.Core.List.{List, [], _∷_}
 use mathlib.Core.Logic.{_≢_}
-use Prim.Native.Nat.{ℕ, suc, _≤_, _<_}
+use Prim.Native.Nat.{ℕ, suc, _+_, _≤_, _<_}
 use native.Mathlib.Omega.{arith}
 use Rattle.model.specs.declared.Place.{Place}
-use Rattle.model.specs.Trees.{Tree}
+use Rattle.model.specs.Trees.{Tree, is-ticket}
 use Rattle.model.proofs.Trees.Index.{ancestor, height, record-at}
 use Rattle.model.proofs.Trees.Accepted.{Accepted}
 use Rattle.model.proofs.Trees.Records.{record-injective}
-use Rattle.model.proofs.Queues.Lists.{same-or, put, put-same, put-other, count}
+use Rattle.model.proofs.Queues.Lists.{same-or, put, put-same, put-other, is-same, count, count-cons}
 use Rattle.model.proofs.Queues.Moves.{Stage, queued, low, State}
 use Rattle.model.proofs.Queues.Invariant.{Inv, Below, same-user}
 use Rattle.model.proofs.Words.Links.{after}
 use Rattle.model.proofs.Words.View.{Words, place-to}
-use Rattle.model.proofs.Words.Represents.{Linked, Counted, Fits, Represents, Apart, left-alone}
+use Rattle.model.proofs.Words.Represents.{Linked, Tickets, Numbered, Counted, Fits, Represents, Apart, left-alone}
 
 -- all that a state represents, but for what thread i's place says
 pub record Others (t : Tree) (w : Words) (g : State) (i : ℕ) : Type 0 where
   pub invariant : Inv t g
-  pub linked : (d : ℕ) → Linked w (g .queue d) d
+  pub linked : (d : ℕ) → is-ticket t d ≡ false → Linked w (g .queue d) d
+  pub numbered : t .ticket-root ≡ true → Numbered w (g .queue 0)
   pub others : (j : ℕ) → j < t .threads → j ≢ i → Fits t w g j (w .places j) (g .stage j)
 
 pub others-of : {t : Tree} {w : Words} {g : State} → Represents t w g → (i : ℕ) → Others t w g i
-others-of r i = record { invariant = r .invariant; linked = r .linked; others = λ j h n. r .fits j h }
+others-of r i = record { invariant = r .invariant; linked = r .linked; numbered = r .numbered; others = λ j h n. r .fits j h }
+
+-- tickets stay where the members' statuses stay
+pub tickets-kept :
+    (f f′ : ℕ → ℕ) (v b : ℕ) (q : List ℕ) → ((a : ℕ) → 1 ≤ count a q → f′ a ≡ f a) → Tickets f v b q → Tickets f′ v b q
+unfolding Tickets
+tickets-kept f f′ v b [] s h = h
+tickets-kept f f′ v b (m ∷ ms) s h = (
+  s m (omega (arith, count-cons m m ms, is-same m m refl)) ∙ h .0,
+  tickets-kept f f′ _ b ms (λ a c. s a (omega (arith, count-cons a m ms))) (h .1),
+)
 
 module _ (t : Tree) (𝓐 : Accepted t) (w : Words) (g : State) (i : ℕ) (h : i < t .threads) (o : Others t w g i) where
   -- a thread's records, up to where it is first, are its own
@@ -57,7 +70,7 @@ module _ (t : Tree) (𝓐 : Accepted t) (w : Words) (g : State) (i : ℕ) (h : i
       (w′ : Words) (g′ : State) (k : ℕ) → k ≤ low (height t i) (g .stage i) → (j : ℕ) → j < t .threads → j ≢ i → w′ .places j ≡ w .places j →
       g′ .stage j ≡ g .stage j → ((r : ℕ) → r ≢ record-at t i k → w′ .statuses r ≡ w .statuses r) →
       ((r : ℕ) → r ≢ record-at t i k → g′ .tally r ≡ g .tally r) → ((r : ℕ) → r ≢ record-at t i k → w′ .nexts r ≡ w .nexts r) →
-      ((n p : ℕ) → g .stage j ≡ queued n → after (g .queue (ancestor t j n)) p ≡ suc (record-at t j n) → w .nexts p ≡ 0 →
+      ((n p : ℕ) → g .stage j ≡ queued n → is-ticket t (ancestor t j n) ≡ false → after (g .queue (ancestor t j n)) p ≡ suc (record-at t j n) → w .nexts p ≡ 0 →
       (after (g′ .queue (ancestor t j n)) p ≡ suc (record-at t j n)) × (w′ .nexts p ≡ 0)) →
       Apart t w g w′ g′ j
   unfolding low
@@ -73,14 +86,23 @@ module _ (t : Tree) (𝓐 : Accepted t) (w : Words) (g : State) (i : ℕ) (h : i
         same-link = lk;
       }
 
+  -- a ticket lock keeps its tickets, where its queue and the statuses of its members stay
+  pub numbered-kept :
+      (w′ : Words) (g′ : State) → w′ .ticket ≡ w .ticket → w′ .grant ≡ w .grant → (t .ticket-root ≡ true → g′ .queue 0 ≡ g .queue 0) →
+      (t .ticket-root ≡ true → (a : ℕ) → 1 ≤ count a (g .queue 0) → w′ .statuses a ≡ w .statuses a) → t .ticket-root ≡ true → Numbered w′ (g′ .queue 0)
+  numbered-kept w′ g′ ti gr qu st e =
+      let old = o .numbered e in
+      rw (qu e) (record { small = rw gr (old .small); held = rw (ti, gr) (tickets-kept (w .statuses) (w′ .statuses) (w .grant) (w .ticket) (g .queue 0) (st e) (old .held)) })
+
   -- a new state, from its parts
   pub assembled :
-      (w′ : Words) (g′ : State) (p : Place) (x : Stage) → Inv t g′ → ((d : ℕ) → Linked w′ (g′ .queue d) d) → w′ .places i ≡ p → g′ .stage i ≡ x →
+      (w′ : Words) (g′ : State) (p : Place) (x : Stage) → Inv t g′ → ((d : ℕ) → is-ticket t d ≡ false → Linked w′ (g′ .queue d) d) → (t .ticket-root ≡ true → Numbered w′ (g′ .queue 0)) → w′ .places i ≡ p → g′ .stage i ≡ x →
       Fits t w′ g′ i p x → ((j : ℕ) → j < t .threads → j ≢ i → Apart t w g w′ g′ j) → Represents t w′ g′
-  assembled w′ g′ p x inv′ ln ep ex f ap′ =
+  assembled w′ g′ p x inv′ ln nu ep ex f ap′ =
       record {
         invariant = inv′;
         linked = ln;
+        numbered = nu;
         fits = λ j hj. same-or j i _ (λ z. rw z (rw (ep, ex) f)) (λ z. left-alone (ap′ j hj z) (o .others j hj z));
       }
 
@@ -89,7 +111,8 @@ module _ (t : Tree) (𝓐 : Accepted t) (w : Words) (g : State) (i : ℕ) (h : i
       (g′ : State) (p : Place) (x : Stage) → Inv t g′ → g′ .queue ≡ g .queue → g′ .tally ≡ g .tally → g′ .stage i ≡ x →
       ((j : ℕ) → j ≢ i → g′ .stage j ≡ g .stage j) → Fits t (place-to i p w) g′ i p x → Represents t (place-to i p w) g′
   replaced g′ p x inv′ qu ta sx sg f =
-      assembled (place-to i p w) g′ p x inv′ (λ d. rw qu (record { last = o .linked d .last; chain = o .linked d .chain }))
+      assembled (place-to i p w) g′ p x inv′ (λ d nd. rw qu (record { last = o .linked d nd .last; chain = o .linked d nd .chain }))
+      (numbered-kept (place-to i p w) g′ refl refl (λ _. rw qu) (λ _ a m. refl))
       (put-same (w .places) i p i refl) sx f
       (λ j hj n. apart (place-to i p w) g′ 0 (omega arith) j hj n (put-other (w .places) i p j n) (sg j n) (λ r e. refl) (λ r e. ap (λ (f : ℕ → ℕ). f r) ta)
-      (λ r e. refl) (λ m q e a z. (rw qu a, z)))
+      (λ r e. refl) (λ m q e nd a z. (rw qu a, z)))

@@ -6,7 +6,7 @@ use Prim.Native.Nat.{ℕ, _+_, _≤_, _<_}
 use Rattle.model.specs.declared.Place.{Place}
 use Rattle.model.specs.declared.State.{State as WordState}
 use Rattle.model.specs.Trees.{Tree}
-use Rattle.model.specs.States.{with-tail, with-next, with-status, with-place}
+use Rattle.model.specs.States.{with-tail, with-next, with-status, with-place, with-ticket, with-grant}
 use Rattle.model.specs.Steps.{Kind, is-entry, Standing, unchanged, begins, ends, Row-result, Step}
 use Rattle.model.proofs.Trees.Accepted.{Accepted}
 use Rattle.model.proofs.Trees.Records.{record-small}
@@ -16,14 +16,18 @@ use Rattle.model.proofs.Queues.Moves as moves
 use Rattle.model.proofs.Queues.Moves.{State, Event, Run}
 use Rattle.model.proofs.Queues.Invariant.{Inv}
 use Rattle.model.proofs.Queues.Remaining.{acts-real}
-use Rattle.model.proofs.Words.View.{Words, words-in, Room, tail-to, next-to, status-to, place-to, tail-stored, next-stored, status-stored, place-stored, tail-room, next-room, status-room, place-room}
+use Rattle.model.proofs.Words.View.{Words, words-in, Room, tail-to, next-to, status-to, place-to, ticket-to, grant-to, tail-stored, next-stored, status-stored, place-stored, ticket-stored, grant-stored, tail-room, next-room, status-room, place-room, ticket-room, grant-room}
 use Rattle.model.proofs.Words.Represents.{Represents}
 
--- what a step shows of the queues: a standing ungranted that begins or ends, and an entry
+-- what a step shows of the queues: standings ungranted that begin or end, and an entry
+unfoldable pub ends-shown : (domain : ℕ) → (members : List ℕ) → List Event
+ends-shown d [] = []
+ends-shown d (m ∷ ms) = moves.ends d m ∷ ends-shown d ms
+
 unfoldable pub standing-shown : Standing → (domain : ℕ) → List Event
 standing-shown unchanged d = []
 standing-shown (begins m) d = moves.begins d m ∷ []
-standing-shown (ends m) d = moves.ends d m ∷ []
+standing-shown (ends ms) d = ends-shown d ms
 
 unfoldable pub entry-shown : Kind → (thread : ℕ) → List Event
 entry-shown k i = cond (is-entry k) (moves.entered i ∷ []) []
@@ -63,6 +67,12 @@ module _ (s : WordState) (w : Words) (e : Stored s w) where
   pub then-place : (i : ℕ) (p : Place) → i < 256 → Stored (with-place i p s) (place-to i p w)
   then-place i p b = record { same = place-stored s (e .room) i p b ∙ ap (place-to i p) (e .same); room = place-room s (e .room) i p }
 
+  pub then-ticket : (v : ℕ) → Stored (with-ticket v s) (ticket-to v w)
+  then-ticket v = record { same = ticket-stored s (e .room) v ∙ ap (ticket-to v) (e .same); room = ticket-room s (e .room) v }
+
+  pub then-grant : (v : ℕ) → Stored (with-grant v s) (grant-to v w)
+  then-grant v = record { same = grant-stored s (e .room) v ∙ ap (grant-to v) (e .same); room = grant-room s (e .room) v }
+
 -- the stores of the rows
 module _ (s : WordState) (room : Room s) (i : ℕ) (h : i < 256) (p : Place) where
   start : Stored s (words-in s)
@@ -86,6 +96,13 @@ module _ (s : WordState) (room : Room s) (i : ℕ) (h : i < 256) (p : Place) whe
   pub swap-placed :
       (d n r v : ℕ) → d < 64 → r < 320 → Stored (with-place i p (with-status r v (with-tail d n s))) (place-to i p (status-to r v (tail-to d n (words-in s))))
   swap-placed d n r v b c = then-place _ _ (then-status _ _ (then-tail s _ start d n b) r v c) i p h
+
+  pub draw-placed :
+      (r v n : ℕ) → r < 320 → Stored (with-place i p (with-ticket n (with-status r v s))) (place-to i p (ticket-to n (status-to r v (words-in s))))
+  draw-placed r v n b = then-place _ _ (then-ticket _ _ (then-status s _ start r v b) n) i p h
+
+  pub grant-placed : (n : ℕ) → Stored (with-place i p (with-grant n s)) (place-to i p (grant-to n (words-in s)))
+  grant-placed n = then-place _ _ (then-grant s _ start n) i p h
 
 -- a member in a queue is a record
 pub member-small : (t : Tree) → Accepted t → (g : State) → Inv t g → (d m : ℕ) → 1 ≤ count m (g .queue d) → m < 320

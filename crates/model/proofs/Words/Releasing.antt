@@ -1,6 +1,6 @@
 -- The rows by which a thread lets go of a queue: Cas that succeeds, and Grant. Assumes nothing.
 use mathlib.Core.Path.{_≡_, refl, sym, ap, _∙_}
-use mathlib.Core.Bool.{Bool, true, false, cond}
+use mathlib.Core.Bool.{Bool, true, false, cond, false≢true}
 use mathlib.Core.List.{List, [], _∷_}
 use mathlib.Core.Logic.{_≢_}
 use Prim.Native.Nat.{ℕ, zero, suc, _+_, _-_, _≤_, _<_}
@@ -8,24 +8,25 @@ use native.Mathlib.Omega.{arith}
 use lib.Dec.{eqb}
 use borrow.Author.Tests.{eqb-true, ne-eqb}
 use Rattle.model.specs.declared.Place.{Place}
-use Rattle.model.specs.declared.Place.the-variants.{Idle, Wait, Help}
-use Rattle.model.specs.Trees.{Tree}
+use Rattle.model.specs.declared.Place.the-variants.{Idle, Wait, Help, Watch}
+use Rattle.model.specs.Trees.{Tree, is-ticket}
 use Rattle.model.specs.States.{none}
 use Rattle.model.specs.Steps.{done-place}
 use Rattle.model.proofs.Trees.Index.{ancestor, height, record-at}
 use Rattle.model.proofs.Trees.Accepted.{Accepted}
-use Rattle.model.proofs.Trees.Paths.{home-test}
+use Rattle.model.proofs.Trees.Tickets.{ticket-yes, queue-lower}
+use Rattle.model.proofs.Trees.Paths.{ancestor-root, home-test}
 use Rattle.model.proofs.Trees.Records.{child-at, record-injective}
 use Rattle.model.proofs.Queues.Lists.{same-or, put, put-same, put-other, first, rest, first-rest, is-same, count, count-cons, count-nil}
 use Rattle.model.proofs.Queues.Paths.{laws}
 use Rattle.model.proofs.Queues.Moves.{Stage, out, climb, queued, ready, inside, holding, releasing, down, low, acts, reach, State, Last, root, lower, let-go}
-use Rattle.model.proofs.Queues.Invariant.{Inv, same-user}
+use Rattle.model.proofs.Queues.Invariant.{Inv, same-user, one-queue}
 use Rattle.model.proofs.Queues.Keeps.{keeps}
 use Rattle.model.proofs.Queues.Order.{Second, second}
 use Rattle.model.proofs.Words.Links.{final, after, final-nil, final-second, alone, after-nil, after-here, after-past, before-second}
 use Rattle.model.proofs.Words.View.{Words, tail-to, status-to, place-to}
-use Rattle.model.proofs.Words.Represents.{Linked, Counted, letting-go, letting-go-root, letting-go-lower, letting-go-low, Fits, at-idle, at-prep, at-swap, at-link, at-wait, at-woken, at-ready, at-inside, at-check, at-pass, at-help, at-cas, at-linger, at-grant, Represents, Apart, left-alone}
-use Rattle.model.proofs.Words.Frame.{Others, below-low, other-record, apart, assembled}
+use Rattle.model.proofs.Words.Represents.{Linked, Numbered, Counted, letting-go, letting-go-root, letting-go-lower, letting-go-low, Fits, at-idle, at-prep, at-swap, at-link, at-wait, at-woken, at-ready, at-inside, at-check, at-pass, at-help, at-cas, at-linger, at-grant, at-draw, at-watch, at-shown, at-raise, Represents, Apart, left-alone}
+use Rattle.model.proofs.Words.Frame.{Others, below-low, other-record, apart, numbered-kept, assembled}
 
 pub letting-go-acts : (h k : ℕ) → acts h (letting-go h k) ≡ suc k
 unfolding acts letting-go
@@ -51,10 +52,11 @@ unfolding down
 done-fits t w g i zero l c = at-idle
 done-fits t w g i (suc k) l c = rw (← letting-go-lower (height t i) k l) (at-help k (omega arith) c)
 
--- a thread that stands ungranted is in Link or in Wait
+-- a thread that stands ungranted is in Link or in Wait, or watches at a ticket root
 pub data Ungranted (t : Tree) (w : Words) (g : State) (s n : ℕ) (p : Place) : Type 0 where
-  linking : (q : ℕ) → after (g .queue (ancestor t s n)) q ≡ suc (record-at t s n) → w .nexts q ≡ 0 → Ungranted t w g s n p
+  linking : (q : ℕ) → is-ticket t (ancestor t s n) ≡ false → after (g .queue (ancestor t s n)) q ≡ suc (record-at t s n) → w .nexts q ≡ 0 → Ungranted t w g s n p
   waiting : p ≡ Wait (ancestor t s n) → Counted t w g s n → Ungranted t w g s n p
+  watching : p ≡ Watch → n ≡ height t s → t .ticket-root ≡ true → Counted t w g s n → Ungranted t w g s n p
 
 -- at any other place its record is first wherever it acts
 pub firm : {C : Type 0} (h n : ℕ) (x : Stage) → x ≡ queued n → low h x ≡ acts h x → C
@@ -66,8 +68,12 @@ firm-last h n k e = firm h n (letting-go h k) e (letting-go-low h k ∙ sym (let
 
 pub ungranted : {t : Tree} {w : Words} {g : State} {s : ℕ} (n : ℕ) {p : Place} {x : Stage} → x ≡ queued n → Fits t w g s p x → Ungranted t w g s n p
 unfolding low acts
-ungranted {t} {s = s} n e (at-link k p l c a z f) = let q : k ≡ n = cc in linking p (rw q at a) z
+ungranted {t} {s = s} n e (at-link k p l c d a z f) = let q : k ≡ n = cc in linking p (rw q at d) (rw q at a) z
 ungranted {t} {s = s} n e (at-wait k l c f) = let q : k ≡ n = cc in waiting (ap (λ m. Wait (ancestor t s m)) q) (rw q at c)
+ungranted {t} {s = s} n e (at-watch k l r c) = let q : k ≡ n = cc in watching refl (sym q ∙ l) r (rw q at c)
+ungranted n e (at-draw k l r c) = firm 0 n (climb k) e refl
+ungranted n e (at-shown r c) = firm 0 n ready e refl
+ungranted n e (at-raise r c) = firm 0 n holding e refl
 ungranted n e at-idle = firm 0 n out e refl
 ungranted n e (at-prep k l c) = firm 0 n (climb k) e refl
 ungranted n e (at-swap k l c a z) = firm 0 n (climb k) e refl
@@ -82,7 +88,7 @@ ungranted {t} {s = s} n e (at-linger k l c) = firm-last (height t s) n k e
 ungranted {t} {s = s} n e (at-grant k r l c a) = firm-last (height t s) n k e
 
 module _ (t : Tree) (𝓐 : Accepted t) (w : Words) (g : State) (i : ℕ) (h : i < t .threads) (o : Others t w g i) (k : ℕ) (l : k ≤ height t i)
-    (first-there : k < low (height t i) (g .stage i)) where
+    (first-there : k < low (height t i) (g .stage i)) (nt : is-ticket t (ancestor t i k) ≡ false) where
   abbrev inv : Inv t g
   inv = o .invariant
 
@@ -98,7 +104,7 @@ module _ (t : Tree) (𝓐 : Accepted t) (w : Words) (g : State) (i : ℕ) (h : i
   -- CAS: nobody behind
   pub lone : w .tails L ≡ R + 1 → g .queue L ≡ R ∷ []
   lone e =
-      alone R (g .queue L) head (sym (o .linked L .last) ∙ e ∙ (let z : R + 1 ≡ suc R = omega arith in z)) (inv .once L R)
+      alone R (g .queue L) head (sym (o .linked L nt .last) ∙ e ∙ (let z : R + 1 ≡ suc R = omega arith in z)) (inv .once L R)
 
   pub last-there : g .stage i ≡ letting-go (height t i) k → Last t g i k
   last-there e =
@@ -114,16 +120,17 @@ module _ (t : Tree) (𝓐 : Accepted t) (w : Words) (g : State) (i : ℕ) (h : i
   vacate e tl c =
       let shape = lone tl in
       assembled t 𝓐 w g i h o vacated vacated-state (done-at t i k) (down k) (keeps t (laws t 𝓐) g inv (let-go i k (last-there e) shape))
-      (λ d. same-or d L _
+      (λ d nd. same-or d L _
       (λ z. rw (z, put-same (g .queue) L [] L refl)
       (record { last = put-same (w .tails) L none L refl ∙ sym final-nil; chain = λ a m n. absurd (omega (arith, count-nil a)) }))
       (λ z. rw (put-other (g .queue) L [] d z)
-      (record { last = put-other (w .tails) L none d z ∙ o .linked d .last; chain = o .linked d .chain })))
+      (record { last = put-other (w .tails) L none d z ∙ o .linked d nd .last; chain = o .linked d nd .chain })))
+      (numbered-kept t 𝓐 w g i h o vacated vacated-state refl refl (λ z. put-other (g .queue) L [] 0 (λ y. queue-lower t L nt z (sym y))) (λ _ a m. refl))
       (put-same (w .places) i (done-at t i k) i refl) (put-same (g .stage) i (down k) i refl)
       (done-fits t vacated vacated-state i k l (λ m b q. c m (omega arith) q))
       (λ j hj n. apart t 𝓐 w g i h o vacated vacated-state 0 (omega arith) j hj n (put-other (w .places) i (done-at t i k) j n)
       (put-other (g .stage) i (down k) j n) (λ r q. refl) (λ r q. refl) (λ r q. refl)
-      (λ m p q a z. (
+      (λ m p q nd a z. (
         same-or (ancestor t j m) L _
             (λ y.
             let a′ : after (R ∷ []) p ≡ suc (record-at t j m) = rw (y, shape) at a in
@@ -142,7 +149,7 @@ module _ (t : Tree) (𝓐 : Accepted t) (w : Words) (g : State) (i : ℕ) (h : i
     behind : first (rest (g .queue L)) ≡ suc r
     behind =
         let shape = first-rest R (g .queue L) head in
-        let a : w .nexts R ≡ after (g .queue L) R = o .linked L .chain R (omega (arith, ap (count R) shape, count-cons R R (rest (g .queue L)), is-same R R refl)) (λ z. omega arith) in
+        let a : w .nexts R ≡ after (g .queue L) R = o .linked L nt .chain R (omega (arith, ap (count R) shape, count-cons R R (rest (g .queue L)), is-same R R refl)) (λ z. omega arith) in
         let b : after (g .queue L) R ≡ first (rest (g .queue L)) = ap (λ q. after q R) shape ∙ after-here R R (rest (g .queue L)) refl in
         sym b ∙ sym a ∙ own
 
@@ -181,12 +188,15 @@ module _ (t : Tree) (𝓐 : Accepted t) (w : Words) (g : State) (i : ℕ) (h : i
     successor-waits n = by (ungranted N (successor .waits) (o .others S successor-real n))
       where
         by : Ungranted t w g S N (w .places S) → (w .places S ≡ Wait (ancestor t S N)) × Counted t w g S N
-        by (linking q a z) =
+        by (linking q d a z) =
             let a′ : after (R ∷ r ∷ rest-two) q ≡ suc r = rw (successor .place, successor .mine, shape-two) at a in
             let one : count r (R ∷ r ∷ rest-two) ≤ 1 = rw shape-two at (inv .once L r) in
             let e = before-second q R r rest-two a′ one in
             absurd (let z′ : w .nexts R ≡ 0 = rw e at z in omega arith)
         by (waiting e c) = (e, c)
+        by (watching e z y c) =
+            let root : ancestor t S N ≡ 0 = ap (ancestor t S) z ∙ ancestor-root t 𝓐 S successor-real in
+            absurd (false≢true (sym nt ∙ ticket-yes t L y (sym (successor .place) ∙ root)))
 
     module _ (v c : ℕ) (x : Stage) (n : g .stage i ≢ queued N) where
       abbrev pub granted-words : Words
@@ -196,21 +206,21 @@ module _ (t : Tree) (𝓐 : Accepted t) (w : Words) (g : State) (i : ℕ) (h : i
       granted-state =
           record { queue = put (g .queue) L (r ∷ rest-two); stage = put (put (g .stage) i (down k)) S x; tally = put (g .tally) r c }
 
-      popped-linked : (d : ℕ) → Linked granted-words (granted-state .queue d) d
-      popped-linked d =
+      popped-linked : (d : ℕ) → is-ticket t d ≡ false → Linked granted-words (granted-state .queue d) d
+      popped-linked d nd =
           same-or d L _
           (λ z. rw (z, put-same (g .queue) L (r ∷ rest-two) L refl)
           (record {
-            last = o .linked L .last ∙ ap final shape-two ∙ final-second R r rest-two;
+            last = o .linked L nt .last ∙ ap final shape-two ∙ final-second R r rest-two;
             chain = λ a m q.
                 let one : count R (R ∷ r ∷ rest-two) ≤ 1 = rw shape-two at (inv .once L R) in
                 let away : a ≢ R = λ y.
                 let m′ : 1 ≤ count R (r ∷ rest-two) = rw y at m in
                 omega (arith, count-cons R R (r ∷ rest-two), is-same R R refl) in
                 let m″ : 1 ≤ count a (g .queue L) = rw shape-two (omega (arith, count-cons a R (r ∷ rest-two))) in
-                o .linked L .chain a m″ q ∙ ap (λ y. after y a) shape-two ∙ after-past a R (r ∷ rest-two) away;
+                o .linked L nt .chain a m″ q ∙ ap (λ y. after y a) shape-two ∙ after-past a R (r ∷ rest-two) away;
           }))
-          (λ z. rw (put-other (g .queue) L (r ∷ rest-two) d z) (record { last = o .linked d .last; chain = o .linked d .chain }))
+          (λ z. rw (put-other (g .queue) L (r ∷ rest-two) d z) (record { last = o .linked d nd .last; chain = o .linked d nd .chain }))
 
       -- words at other records than the successor's stay
       pub status-far : (q : ℕ) → q ≢ r → granted-words .statuses q ≡ w .statuses q
@@ -218,6 +228,15 @@ module _ (t : Tree) (𝓐 : Accepted t) (w : Words) (g : State) (i : ℕ) (h : i
 
       pub tally-far : (q : ℕ) → q ≢ r → granted-state .tally q ≡ g .tally q
       tally-far q e = put-other (g .tally) r c q e
+
+      -- a ticket lock is another domain, with other members
+      popped-numbered : t .ticket-root ≡ true → Numbered granted-words (granted-state .queue 0)
+      popped-numbered =
+          numbered-kept t 𝓐 w g i h o granted-words granted-state refl refl (λ z. put-other (g .queue) L (r ∷ rest-two) 0 (λ y. queue-lower t L nt z (sym y)))
+          (λ z a m. status-far a (λ y.
+          let m′ : 1 ≤ count r (g .queue 0) = rw y at m in
+          let there : 1 ≤ count r (g .queue L) = rw shape-two (omega (arith, count-cons r R (r ∷ rest-two), count-cons r r rest-two, is-same r r refl)) in
+          queue-lower t L nt z (sym (one-queue t (laws t 𝓐) g inv 0 L r m′ there))))
 
       pub own-far : (m : ℕ) → m ≤ low (height t i) (g .stage i) → record-at t i m ≢ r
       own-far m b e =
@@ -241,7 +260,7 @@ module _ (t : Tree) (𝓐 : Accepted t) (w : Words) (g : State) (i : ℕ) (h : i
             same-tally = λ m b. tally-far (record-at t j m) (far m (omega arith));
             next-set = λ m q b e. e;
             next-none = λ m e z. z;
-            same-link = λ m p e a z. (
+            same-link = λ m p e nd a z. (
               same-or (ancestor t j m) L _
                   (λ y.
                   let a′ : after (R ∷ r ∷ rest-two) p ≡ suc (record-at t j m) = rw (y, shape-two) at a in
@@ -269,6 +288,7 @@ module _ (t : Tree) (𝓐 : Accepted t) (w : Words) (g : State) (i : ℕ) (h : i
           record {
             invariant = inv′;
             linked = popped-linked;
+            numbered = popped-numbered;
             fits = λ j hj. same-or j i _
                 (λ z. rw (z, put-same (w .places) i (done-at t i k) i refl, put-other (put (g .stage) i (down k)) S x i (λ e. ns (sym e)), put-same (g .stage) i (down k) i refl)
                 (done-fits t granted-words granted-state i k l (λ m b q.

@@ -1,16 +1,16 @@
 -- When the words of a state stand for queues, stages and counts; and what leaves a thread's part of that alone. Assumes nothing.
 use mathlib.Core.Path.{_≡_, refl, sym, ap, _∙_}
 use mathlib.Core.Bool.{Bool, true, false, cond}
-use mathlib.Core.List.{List}
+use mathlib.Core.List.{List, [], _∷_}
 use mathlib.Core.Logic.{_≢_}
-use Prim.Native.Nat.{ℕ, suc, _≤_, _<_}
+use Prim.Native.Nat.{ℕ, suc, _+_, _≤_, _<_}
 use native.Mathlib.Omega.{arith}
 use lib.Dec.{eqb}
 use borrow.Author.Tests.{eq-eqb, ne-eqb, eqb-true}
 use Rattle.model.specs.declared.Place.{Place}
-use Rattle.model.specs.declared.Place.the-variants.{Idle, Prep, Swap, Link, Wait, Inside, Check, Help, Cas, Linger, Grant}
-use Rattle.model.specs.Trees.{Tree}
-use Rattle.model.specs.States.{acquire-parent, wait-word, unlocked, locked, root-word}
+use Rattle.model.specs.declared.Place.the-variants.{Idle, Prep, Swap, Link, Wait, Inside, Check, Help, Cas, Linger, Grant, Draw, Watch, Raise}
+use Rattle.model.specs.Trees.{Tree, is-ticket}
+use Rattle.model.specs.States.{acquire-parent, wait-word, unlocked, locked, root-word, wrap}
 use Rattle.model.specs.Steps.{release-word}
 use Rattle.model.proofs.Trees.Index.{ancestor, height, record-at}
 use Rattle.model.proofs.Queues.Lists.{count}
@@ -27,6 +27,15 @@ waiting-word l = root-word l locked wait-word
 pub record Linked (w : Words) (q : List ℕ) (d : ℕ) : Type 0 where
   pub last : w .tails d ≡ final q
   pub chain : (a : ℕ) → 1 ≤ count a q → w .nexts a ≢ 0 → w .nexts a ≡ after q a
+
+-- a ticket lock in words: the members hold consecutive tickets from the grant on, and the ticket counter is the one behind the last
+unfoldable pub Tickets : (statuses : ℕ → ℕ) → (from behind : ℕ) → List ℕ → Type 0
+Tickets f v b [] = b ≡ v
+Tickets f v b (m ∷ ms) = (f m ≡ v) × Tickets f (wrap (v + 1)) b ms
+
+pub record Numbered (w : Words) (q : List ℕ) : Type 0 where
+  pub small : w .grant < 65536
+  pub held : Tickets (w .statuses) (w .grant) (w .ticket) q
 
 -- below an index, the statuses of a thread's records are their counts
 abbrev pub Counted : Tree → Words → State → (thread index : ℕ) → Type 0
@@ -60,8 +69,8 @@ pub data Fits (t : Tree) (w : Words) (g : State) (i : ℕ) : Place → Stage →
       (k : ℕ) → k ≤ height t i → Counted t w g i k → w .nexts (record-at t i k) ≡ 0 → w .statuses (record-at t i k) ≡ waiting-word (ancestor t i k) →
       Fits t w g i (Swap (ancestor t i k)) (climb k)
   at-link :
-      (k p : ℕ) → k ≤ height t i → Counted t w g i k → after (g .queue (ancestor t i k)) p ≡ suc (record-at t i k) → w .nexts p ≡ 0 →
-      w .statuses (record-at t i k) ≡ waiting-word (ancestor t i k) → Fits t w g i (Link (ancestor t i k) p) (queued k)
+      (k p : ℕ) → k ≤ height t i → Counted t w g i k → is-ticket t (ancestor t i k) ≡ false → after (g .queue (ancestor t i k)) p ≡ suc (record-at t i k) →
+      w .nexts p ≡ 0 → w .statuses (record-at t i k) ≡ waiting-word (ancestor t i k) → Fits t w g i (Link (ancestor t i k) p) (queued k)
   at-wait :
       (k : ℕ) → k ≤ height t i → Counted t w g i k → w .statuses (record-at t i k) ≡ waiting-word (ancestor t i k) →
       Fits t w g i (Wait (ancestor t i k)) (queued k)
@@ -85,10 +94,16 @@ pub data Fits (t : Tree) (w : Words) (g : State) (i : ℕ) : Place → Stage →
   at-grant :
       (k r : ℕ) → k ≤ height t i → Counted t w g i (suc k) → w .nexts (record-at t i k) ≡ suc r →
       Fits t w g i (Grant (ancestor t i k) r (release-word (ancestor t i k))) (letting-go (height t i) k)
+  -- at a ticket root: about to draw, watching, shown its ticket, about to raise
+  at-draw : (k : ℕ) → k ≡ height t i → t .ticket-root ≡ true → Counted t w g i k → Fits t w g i Draw (climb k)
+  at-watch : (k : ℕ) → k ≡ height t i → t .ticket-root ≡ true → Counted t w g i k → Fits t w g i Watch (queued k)
+  at-shown : t .ticket-root ≡ true → Counted t w g i (height t i) → Fits t w g i Watch ready
+  at-raise : t .ticket-root ≡ true → Counted t w g i (height t i) → Fits t w g i Raise holding
 
 pub record Represents (t : Tree) (w : Words) (g : State) : Type 0 where
   pub invariant : Inv t g
-  pub linked : (d : ℕ) → Linked w (g .queue d) d
+  pub linked : (d : ℕ) → is-ticket t d ≡ false → Linked w (g .queue d) d
+  pub numbered : t .ticket-root ≡ true → Numbered w (g .queue 0)
   pub fits : (i : ℕ) → i < t .threads → Fits t w g i (w .places i) (g .stage i)
 
 -- WHAT LEAVES A THREAD ALONE
@@ -100,7 +115,7 @@ pub record Apart (t : Tree) (w : Words) (g : State) (w′ : Words) (g′ : State
   pub next-set : (k r : ℕ) → k < low (height t j) (g .stage j) → w .nexts (record-at t j k) ≡ suc r → w′ .nexts (record-at t j k) ≡ suc r
   pub next-none : (k : ℕ) → g .stage j ≡ climb k → w .nexts (record-at t j k) ≡ 0 → w′ .nexts (record-at t j k) ≡ 0
   pub same-link :
-      (k p : ℕ) → g .stage j ≡ queued k → after (g .queue (ancestor t j k)) p ≡ suc (record-at t j k) → w .nexts p ≡ 0 →
+      (k p : ℕ) → g .stage j ≡ queued k → is-ticket t (ancestor t j k) ≡ false → after (g .queue (ancestor t j k)) p ≡ suc (record-at t j k) → w .nexts p ≡ 0 →
       (after (g′ .queue (ancestor t j k)) p ≡ suc (record-at t j k)) × (w′ .nexts p ≡ 0)
 
 module _ {t : Tree} {w : Words} {g : State} {w′ : Words} {g′ : State} {j : ℕ} (a : Apart t w g w′ g′ j) where
@@ -118,10 +133,10 @@ module _ {t : Tree} {w : Words} {g : State} {w′ : Words} {g′ : State} {j : �
   fits-kept e (at-swap k l c n s) =
       let z = stage-low (climb k) e in
       at-swap k l (counted-kept k (omega arith) c) (a .next-none k e n) (a .same-status k (omega arith) ∙ s)
-  fits-kept e (at-link k p l c f n s) =
+  fits-kept e (at-link k p l c q f n s) =
       let z = stage-low (queued k) e in
-      let both = a .same-link k p e f n in
-      at-link k p l (counted-kept k (omega arith) c) (both .0) (both .1) (a .same-status k (omega arith) ∙ s)
+      let both = a .same-link k p e q f n in
+      at-link k p l (counted-kept k (omega arith) c) q (both .0) (both .1) (a .same-status k (omega arith) ∙ s)
   fits-kept e (at-wait k l c s) =
       let z = stage-low (queued k) e in
       at-wait k l (counted-kept k (omega arith) c) (a .same-status k (omega arith) ∙ s)
@@ -147,6 +162,10 @@ module _ {t : Tree} {w : Words} {g : State} {w′ : Words} {g′ : State} {j : �
       let z = stage-low (letting-go (height t j) k) e in
       let y = letting-go-low (height t j) k in
       at-grant k r l (counted-kept (suc k) (omega arith) c) (a .next-set k r (omega arith) n)
+  fits-kept e (at-draw k l r c) = let z = stage-low (climb k) e in at-draw k l r (counted-kept k (omega arith) c)
+  fits-kept e (at-watch k l r c) = let z = stage-low (queued k) e in at-watch k l r (counted-kept k (omega arith) c)
+  fits-kept e (at-shown r c) = let z = stage-low ready e in at-shown r (counted-kept (height t j) (omega arith) c)
+  fits-kept e (at-raise r c) = let z = stage-low holding e in at-raise r (counted-kept (height t j) (omega arith) c)
 
   pub left-alone : Fits t w g j (w .places j) (g .stage j) → Fits t w′ g′ j (w′ .places j) (g′ .stage j)
   left-alone f = rw (a .same-place, a .same-stage) (fits-kept refl f)

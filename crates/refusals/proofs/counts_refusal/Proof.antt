@@ -9,7 +9,7 @@ use Rattle.refusals.proofs.counts_refusal.Statement.{statement}
 use Rattle.refusals.proofs.counts_refusal.Tie as tie
 
 abbrev words : (domains threads : ℕ) → TreeWords
-words n m = record { domains = n; threads = m; parents = []; thresholds = []; homes = [] }
+words n m = record { domains = n; threads = m; parents = []; thresholds = []; homes = []; «ticket_root» = 0 }
 
 refusal-at-requires : tie.Need-refusal-at-requires
 refusal-at-requires c κs = search needs

@@ -9,7 +9,7 @@ use Rattle.refusals.proofs.domains_refusal.Statement.{statement}
 use Rattle.refusals.proofs.domains_refusal.Tie as tie
 
 abbrev words : (domains : ℕ) → (parents thresholds : List ℕ) → TreeWords
-words n ps ts = record { domains = n; threads = 0; parents = ps; thresholds = ts; homes = [] }
+words n ps ts = record { domains = n; threads = 0; parents = ps; thresholds = ts; homes = []; «ticket_root» = 0 }
 
 sound-domains-requires : tie.Need-sound-domains-requires
 sound-domains-requires c κs = search needs

@@ -8,7 +8,7 @@ use Rattle.refusals.proofs.shape_refusal.Statement.{statement}
 use Rattle.refusals.proofs.shape_refusal.Tie as tie
 
 abbrev words : (domains threads : ℕ) → (parents thresholds : List ℕ) → TreeWords
-words n m ps ts = record { domains = n; threads = m; parents = ps; thresholds = ts; homes = [] }
+words n m ps ts = record { domains = n; threads = m; parents = ps; thresholds = ts; homes = []; «ticket_root» = 0 }
 
 counts-refusal-requires : tie.Need-counts-refusal-requires
 counts-refusal-requires c κs = search needs

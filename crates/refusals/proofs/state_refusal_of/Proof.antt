@@ -3,6 +3,7 @@ use mathlib.Core.Path.{_∙_}
 use mathlib.Core.Bool.{true, false}
 use Rattle.model.specs.Trees.{tree-of}
 use Rattle.model.specs.Refusals.{accepted}
+use Rattle.refusals.proofs.Reading.{told-same}
 use Rattle.refusals.proofs.Scanning.{by-answer}
 use Rattle.refusals.proofs.StateTests.{told-tree, tree-accepted, told-accepted, told-state}
 use borrow.Author.Needs.{needs}
@@ -15,12 +16,12 @@ tree-refusal-of-requires c κs = search needs
 returns : tie.Need-returns
 returns c =
     let s = c .before .before .before .before .before .before .before in
-    told-tree (tree-of (s .args .t1)) (s .args .state) _ (c .before .before .tree-refusal-of .ensures) (c .if1 .taken)
+    told-tree (tree-of (s .args .t1)) (s .args .state) _ (c .before .before .tree-refusal-of .ensures ∙ told-same (s .args .t1)) (c .if1 .taken)
 
 is-well-formed-requires : tie.Need-is-well-formed-requires
 is-well-formed-requires c κs =
     let s = c .before .before .before .before .before .before .before in
-    tree-accepted (tree-of (s .args .t1)) (s .args .state) _ (c .before .before .tree-refusal-of .ensures) (c .if1 .left)
+    tree-accepted (tree-of (s .args .t1)) (s .args .state) _ (c .before .before .tree-refusal-of .ensures ∙ told-same (s .args .t1)) (c .if1 .left)
 
 refusal-at-requires : tie.Need-refusal-at-requires
 refusal-at-requires c κs = search needs
@@ -31,7 +32,7 @@ returns-2 c =
     let formed = c .before .before in
     let s = formed .before .before .before .before .before .before .before .before in
     c .refusal-at .ensures
-    ∙ told-accepted (tree-of (s .args .t1)) (s .args .state) _ (formed .before .before .before .tree-refusal-of .ensures) (formed .before .if1 .left)
+    ∙ told-accepted (tree-of (s .args .t1)) (s .args .state) _ (formed .before .before .before .tree-refusal-of .ensures ∙ told-same (s .args .t1)) (formed .before .if1 .left)
     (by-answer _ true (formed .is-well-formed .ensures) (c .before .if2 .taken))
 
 refusal-at-requires-2 : tie.Need-refusal-at-requires-2
@@ -42,7 +43,7 @@ returns-3 c =
     let formed = c .before .before in
     let s = formed .before .before .before .before .before .before .before .before in
     c .refusal-at2 .ensures
-    ∙ told-state (tree-of (s .args .t1)) (s .args .state) _ (formed .before .before .before .tree-refusal-of .ensures) (formed .before .if1 .left)
+    ∙ told-state (tree-of (s .args .t1)) (s .args .state) _ (formed .before .before .before .tree-refusal-of .ensures ∙ told-same (s .args .t1)) (formed .before .if1 .left)
     (by-answer _ false (formed .is-well-formed .ensures) (c .before .if2 .left))
 
 pub state-refusal-of-spec : {M : Type 1} → statement M

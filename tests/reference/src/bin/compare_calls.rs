@@ -6,8 +6,9 @@ use reference::met::Met;
 use reference::options::{conclude, Options};
 use reference::random::Random;
 use reference::random_file::{broken_draft, valid_draft};
-use reference::random_state::{random_state, spoil, tree_words};
+use reference::random_state::{random_start, random_state, spoil, tree_words};
 use reference::refusals::{accept_tree, LONGEST_SCHEDULE};
+use reference::root_met::RootMet;
 use reference::words::*;
 use std::process::exit;
 
@@ -27,6 +28,7 @@ enum Call {
 struct Case {
     call: Call,
     tree: TreeWords,
+    start: u16,
     state: StateWords,
     schedule: Vec<u16>,
     trace: Vec<u16>,
@@ -52,14 +54,15 @@ fn random_case(random: &mut Random) -> Case {
         _ => schedule.len() + random.below(20),
     };
     let trace = (0..CANARY + room + CANARY).map(|_| random.below(65_536) as u16).collect();
-    Case { call, tree, state, schedule, trace }
+    Case { call, tree, start: random_start(random), state, schedule, trace }
 }
 
 fn case_state(random: &mut Random, words: &TreeWords) -> StateWords {
     let tree = words.tree();
     if accept_tree(&tree).is_err() {
         let mut state = StateWords::fresh();
-        state.places[255].row = random.pick(&[0, 11]);
+        state.places[255].row = random.pick(&[0, 11, 14]);
+        (state.ticket, state.grant) = (random_start(random), random_start(random));
         return state;
     }
     let mut state = random_state(random, &tree);
@@ -88,9 +91,9 @@ fn make(calls: Calls, case: &Case) -> Left {
     let (mut state, mut trace) = (case.state, case.trace.clone());
     let mut told = StepAnswer::default();
     let reply = match case.call {
-        Call::Fresh => without_counts((calls.fresh)(&case.tree)),
+        Call::Fresh => without_counts((calls.fresh)(&case.tree, case.start)),
         Call::FreshInPlace => {
-            let (number, place) = (calls.fresh_in_place)(&case.tree, &mut state);
+            let (number, place) = (calls.fresh_in_place)(&case.tree, &mut state, case.start);
             without_counts(Reply { number, place, state })
         }
         Call::Step => {
@@ -122,6 +125,7 @@ fn main() {
     println!("{subject}: {} cases, seed {}", options.count, options.seed);
     let mut random = Random::new(options.seed);
     let mut met = Met::new(&REFUSALS);
+    let mut root_met = RootMet::default();
     for number in 0..options.count {
         let case = random_case(&mut random);
         let table = make(TABLE, &case);
@@ -131,14 +135,19 @@ fn main() {
             exit(1);
         }
         met.count(table.reply.number);
+        if !matches!(case.call, Call::Fresh | Call::FreshInPlace) {
+            root_met.count(&case.tree, &case.state, table.reply.number);
+        }
     }
     met.print();
-    conclude(met.complete(), library.is_some(), &["HMCS_LIBRARY", "HMCS_CALLS"]);
+    root_met.print();
+    conclude(met.complete() && root_met.complete(), library.is_some(), &["HMCS_LIBRARY", "HMCS_CALLS"]);
 }
 
 fn report(case: &Case, table: &Left, other: &Left) {
     let (domains, threads) = ((case.tree.domains as usize).min(64), (case.tree.threads as usize).min(256));
-    println!("{:?}, trace buffer of {} elements, schedule {:?}", case.call, case.trace.len() - 2 * CANARY, case.schedule);
+    println!("{:?}, start {}, ticket root {}", case.call, case.start, case.tree.ticket_root);
+    println!("trace buffer of {} elements, schedule {:?}", case.trace.len() - 2 * CANARY, case.schedule);
     println!("{} domains, parents {:?}, thresholds {:?}", case.tree.domains, &case.tree.parents[..domains], &case.tree.thresholds[..domains]);
     println!("{} threads, homes {:?}", case.tree.threads, &case.tree.homes[..threads]);
     let fresh = StateWords::fresh();
@@ -160,6 +169,7 @@ fn differences(one: &StateWords, other: &StateWords) -> String {
     list(&mut found, "next", &one.nexts, &other.nexts);
     list(&mut found, "status", &one.statuses, &other.statuses);
     list(&mut found, "place", &one.places, &other.places);
+    list(&mut found, "ticket and grant", &[(one.ticket, one.grant)], &[(other.ticket, other.grant)]);
     found.join(", ")
 }
 

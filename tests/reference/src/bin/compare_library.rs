@@ -1,7 +1,7 @@
 //! Compares the library's file call with the step table's on random lock files; without the library it only counts what the files meet.
 
 use reference::library::{self, RunFile};
-use reference::lock_file::{self, FileAnswer};
+use reference::lock_file::{self, FileAnswer, TICKET_ROOT_BIT};
 use reference::met::Met;
 use reference::options::{conclude, Options};
 use reference::random::Random;
@@ -69,7 +69,7 @@ fn main() {
     println!("{subject}: {} files, seed {}", options.count, options.seed);
     let mut random = Random::new(options.seed);
     let mut met = Met::new(&REFUSALS);
-    let mut totals = [0; 6];
+    let (mut totals, mut roots) = ([0; 6], [0_u64; 2]);
     for number in 0..options.count {
         let (file, room, seed) = (random_file(&mut random), Room::random(&mut random), random.word());
         let (table, other) = results(library.unwrap_or(lock_file::run_file), &file, room, seed);
@@ -80,11 +80,15 @@ fn main() {
         }
         met.count(table.answer.number);
         add_counts(&mut totals, &table);
+        if table.answer.number == 0 {
+            roots[usize::from(file[0] >= TICKET_ROOT_BIT)] += 1;
+        }
     }
     met.print();
+    println!("accepted with a queue root: {}, with a ticket root: {}", roots[0], roots[1]);
     let [steps, entries, stays, root, passed, crossed] = totals;
     println!("in the accepted files: {steps} steps, {entries} entries, {stays} stays, {root} root, {passed} passed and {crossed} crossed entries");
-    conclude(met.complete(), library.is_some(), &["HMCS_LIBRARY"]);
+    conclude(met.complete() && !roots.contains(&0), library.is_some(), &["HMCS_LIBRARY"]);
 }
 
 /// Adds the six numbers of the listing's first line.

@@ -1,8 +1,9 @@
-//! Compares the step table with Listing 1 on random trees and schedules.
+//! Compares the step table with Listing 1, and at a ticket root with Listing 1 whose second template is the ticket lock, on random trees and schedules.
 
 use reference::draft::{random_draft, Draft, Size};
 use reference::options::Options;
 use reference::random::Random;
+use reference::random_state::random_start;
 use reference::refusals::{levels, well_formed};
 use reference::schedules::{schedule, STYLES};
 use reference::side_by_side::{compare, Coverage, Difference};
@@ -10,26 +11,43 @@ use reference::table::{Tree, DEEPEST_LEVEL};
 use std::process::exit;
 
 fn main() {
-    let options = Options::read(20_000, 200_000);
+    let options = Options::read(40_000, 400_000);
     println!("step table against Listing 1: {} schedules, seed {}", options.count, options.seed);
     let mut random = Random::new(options.seed);
-    let mut coverage = Coverage::default();
-    let mut depths = [0; DEEPEST_LEVEL as usize];
+    let mut roots = [Seen::new("queue root"), Seen::new("ticket root")];
     for number in 0..options.count {
-        let draft = random_case(&mut random);
-        depths[depth(&draft.tree()) - 1] += 1;
-        if let Err(difference) = compare_one(&draft, &mut coverage) {
-            report(number, &draft, &difference);
+        let (draft, start) = (random_case(&mut random), random_start(&mut random));
+        let seen = &mut roots[usize::from(draft.ticket_root)];
+        seen.depths[depth(&draft.tree()) - 1] += 1;
+        if let Err(difference) = compare_one(&draft, start, &mut seen.coverage) {
+            report(number, &draft, start, &difference);
             exit(1);
         }
     }
-    println!("schedules on trees of 1 to 6 levels: {depths:?}");
-    print_coverage(&coverage);
-    if !coverage.complete() || depths.contains(&0) {
-        println!("a way through the listing was never taken, or no tree was so deep");
+    roots.iter().for_each(Seen::print);
+    if roots.iter().zip([false, true]).any(|(seen, ticket_root)| !seen.coverage.complete(ticket_root) || seen.depths.contains(&0)) {
+        println!("a way through the listing was never taken or is not among those expected, no grant came round, or no tree was so deep");
         exit(1);
     }
     println!("no difference");
+}
+
+/// What the schedules at one kind of root were.
+struct Seen {
+    name: &'static str,
+    depths: [u64; DEEPEST_LEVEL as usize],
+    coverage: Coverage,
+}
+
+impl Seen {
+    fn new(name: &'static str) -> Seen {
+        Seen { name, depths: [0; DEEPEST_LEVEL as usize], coverage: Coverage::default() }
+    }
+
+    fn print(&self) {
+        println!("{}: schedules on trees of 1 to 6 levels: {:?}", self.name, self.depths);
+        print_coverage(&self.coverage);
+    }
 }
 
 /// The level of the deepest home.
@@ -50,9 +68,9 @@ fn random_case(random: &mut Random) -> Draft {
 }
 
 /// The state after the run is also well formed: unused room keeps the fresh words.
-fn compare_one(draft: &Draft, coverage: &mut Coverage) -> Result<(), Difference> {
+fn compare_one(draft: &Draft, start: u16, coverage: &mut Coverage) -> Result<(), Difference> {
     let tree = draft.tree();
-    let state = compare(&tree, &draft.schedule, coverage)?;
+    let state = compare(&tree, start, &draft.schedule, coverage)?;
     if well_formed(&tree, &state) {
         Ok(())
     } else {
@@ -60,8 +78,9 @@ fn compare_one(draft: &Draft, coverage: &mut Coverage) -> Result<(), Difference>
     }
 }
 
-fn report(number: usize, draft: &Draft, difference: &Difference) {
+fn report(number: usize, draft: &Draft, start: u16, difference: &Difference) {
     println!("schedule {number} differs after entry {}: {}", difference.position, difference.text);
+    println!("{}", if draft.ticket_root { format!("ticket root, start {start}") } else { "queue root".to_string() });
     println!("parents {:?}", draft.parents);
     println!("thresholds {:?}", draft.thresholds);
     println!("homes {:?}", draft.homes);
@@ -69,8 +88,8 @@ fn report(number: usize, draft: &Draft, difference: &Difference) {
 }
 
 fn print_coverage(coverage: &Coverage) {
-    println!("{} entries; how often a thread went from line to line (0 is the critical section):", coverage.entries);
+    println!("{} entries; how often a thread went from line to line (0 is the critical section, 90 to 92 the ticket lock):", coverage.entries);
     let ways: Vec<String> = coverage.ways.iter().map(|((from, to), times)| format!("{from} to {to}: {times}")).collect();
     println!("{}", ways.join(", "));
-    println!("a threshold kept a successor waiting: {}", coverage.thresholds_reached);
+    println!("a threshold kept a successor waiting: {}; a grant went from 65,535 to 0: {}", coverage.thresholds_reached, coverage.grants_to_zero);
 }

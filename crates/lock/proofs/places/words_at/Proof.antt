@@ -75,6 +75,24 @@ enum-told-3 c = search needs
 words-from-requires-12 : tie.Need-words-from-requires-12
 words-from-requires-12 c κs = search needs
 
+enum-told-4 : tie.Need-enum-told-4
+enum-told-4 c = search needs
+
+words-from-requires-13 : tie.Need-words-from-requires-13
+words-from-requires-13 c κs = search needs
+
+enum-told-5 : tie.Need-enum-told-5
+enum-told-5 c = search needs
+
+words-from-requires-14 : tie.Need-words-from-requires-14
+words-from-requires-14 c κs = search needs
+
+enum-told-6 : tie.Need-enum-told-6
+enum-told-6 c = search needs
+
+words-from-requires-15 : tie.Need-words-from-requires-15
+words-from-requires-15 c κs = search needs
+
 returns : tie.Need-returns
 returns c = rw (c .words-from .ensures, c .before .enum-told .given .1)
 
@@ -111,6 +129,15 @@ returns-11 c = rw (c .words-from11 .ensures, c .before .before .place9 .given .1
 returns-12 : tie.Need-returns-12
 returns-12 c = rw (c .words-from12 .ensures, c .before .enum-told3 .given .1)
 
+returns-13 : tie.Need-returns-13
+returns-13 c = rw (c .words-from13 .ensures, c .before .enum-told4 .given .1)
+
+returns-14 : tie.Need-returns-14
+returns-14 c = rw (c .words-from14 .ensures, c .before .enum-told5 .given .1)
+
+returns-15 : tie.Need-returns-15
+returns-15 c = rw (c .words-from15 .ensures, c .before .enum-told6 .given .1)
+
 pub words-at-spec : {M : Type 1} → statement M
 words-at-spec =
     tie.close
@@ -139,6 +166,12 @@ words-at-spec =
     words-from-requires-11
     enum-told-3
     words-from-requires-12
+    enum-told-4
+    words-from-requires-13
+    enum-told-5
+    words-from-requires-14
+    enum-told-6
+    words-from-requires-15
     returns
     returns-2
     returns-3
@@ -150,4 +183,7 @@ words-at-spec =
     returns-9
     returns-10
     returns-11
-    returns-12)
+    returns-12
+    returns-13
+    returns-14
+    returns-15)

@@ -4,6 +4,7 @@ use native.Mathlib.Nat.{mod-eq-of-lt}
 use borrow.Author.Tests.{eq-eqb, ne-eqb, lt-ltb, le-ltb}
 use Rattle.model.specs.Steps.{check-row}
 use borrow.Author.Needs.{needs}
+use Rattle.lock.proofs.Leaving.{release-is}
 use Rattle.lock.proofs.rows.check.Statement.{statement}
 use Rattle.lock.proofs.rows.check.Tie as tie
 
@@ -22,7 +23,7 @@ returns c =
     record {
       does = λ t i s R d.
           let fits = mod-eq-of-lt (c .before .before .before .struct-known .given .1 .1 .1 .1 .1 .0 .fits) in
-          rw (c .moves .ensures, c .before .release-place-at .ensures, ← R .own-is, ← R .status-is, ← R .threshold-is d, fits, le-ltb _ _ (c .before .before .if1 .taken), ← R .parent-is d)
+          rw (c .moves .ensures, c .before .release-place-at .ensures, release-is t i s _ R _, ← R .own-is, ← R .status-is, ← R .threshold-is d, fits, le-ltb _ _ (c .before .before .if1 .taken), ← R .parent-is d)
           (record { kind-told = refl; state-left = refl });
     }
 
@@ -38,7 +39,7 @@ returns-2 c =
     record {
       does = λ t i s R d.
           let fits = mod-eq-of-lt (c .before .before .before .before .struct-known .given .1 .1 .1 .1 .1 .0 .fits) in
-          rw (c .moves2 .ensures, c .before .release-place-at2 .ensures, ← R .own-is, ← R .status-is, ← R .next-is, ← R .threshold-is d, fits, lt-ltb _ _ (c .before .before .before .if1 .left), eq-eqb _ _ (c .before .before .if2 .taken), ← R .parent-is d)
+          rw (c .moves2 .ensures, c .before .release-place-at2 .ensures, release-is t i s _ R _, ← R .own-is, ← R .status-is, ← R .next-is, ← R .threshold-is d, fits, lt-ltb _ _ (c .before .before .before .if1 .left), eq-eqb _ _ (c .before .before .if2 .taken), ← R .parent-is d)
           (record { kind-told = refl; state-left = refl });
     }
 

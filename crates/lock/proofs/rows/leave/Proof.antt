@@ -2,6 +2,7 @@
 use mathlib.Core.Path.{refl}
 use Rattle.model.specs.Steps.{leave-row}
 use borrow.Author.Needs.{needs}
+use Rattle.lock.proofs.Leaving.{release-is}
 use Rattle.lock.proofs.rows.leave.Statement.{statement}
 use Rattle.lock.proofs.rows.leave.Tie as tie
 
@@ -16,7 +17,7 @@ unfolding leave-row
 returns c =
     record {
       does = λ t i s R.
-          rw (c .moves .ensures, c .before .release-place-at .ensures, ← R .home-is) (record { kind-told = refl; state-left = refl });
+          rw (c .moves .ensures, c .before .release-place-at .ensures, release-is t i s _ R _, ← R .home-is) (record { kind-told = refl; state-left = refl });
     }
 
 pub leave-spec : {M : Type 1} → statement M

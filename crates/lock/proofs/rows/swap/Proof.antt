@@ -3,6 +3,7 @@ use mathlib.Core.Path.{refl}
 use borrow.Author.Tests.{eq-eqb, ne-eqb, lt-ltb}
 use Rattle.model.specs.Steps.{swap-row}
 use borrow.Author.Needs.{needs}
+use Rattle.lock.proofs.Leaving.{acquire-is}
 use Rattle.lock.proofs.rows.swap.Statement.{statement}
 use Rattle.lock.proofs.rows.swap.Tie as tie
 
@@ -39,6 +40,9 @@ returns-2 c =
           (record { kind-told = refl; state-left = rw (lt-ltb _ _ (c .before .before .before .pre .domain-fits), lt-ltb _ _ (c .before .before .before .pre .own-fits)) });
     }
 
+acquire-place-at-requires : tie.Need-acquire-place-at-requires
+acquire-place-at-requires c κs = search needs
+
 moves-requires-3 : tie.Need-moves-requires-3
 moves-requires-3 c κs = search needs
 
@@ -48,10 +52,11 @@ add-e-3 c = search needs
 returns-3 : tie.Need-returns-3
 unfolding swap-row
 returns-3 c =
+    let d = c .before .before in
     record {
       does = λ t i s R.
-          rw (c .moves3 .ensures, ← R .own-is, ← R .tail-is, eq-eqb _ _ (c .before .before .if1 .left), ne-eqb _ _ (c .before .if2 .left), ← R .parent-is (c .before .if2 .left))
-          (record { kind-told = refl; state-left = rw (lt-ltb _ _ (c .before .before .before .pre .domain-fits), lt-ltb _ _ (c .before .before .before .pre .own-fits)) });
+          rw (c .moves3 .ensures, c .before .acquire-place-at .ensures, acquire-is t i s _ R _, ← R .own-is, ← R .tail-is, eq-eqb _ _ (d .before .if1 .left), ne-eqb _ _ (d .if2 .left), ← R .parent-is (d .if2 .left))
+          (record { kind-told = refl; state-left = rw (lt-ltb _ _ (d .before .before .pre .domain-fits), lt-ltb _ _ (d .before .before .pre .own-fits)) });
     }
 
 pub swap-spec : {M : Type 1} → statement M
@@ -65,6 +70,7 @@ swap-spec =
     moves-requires-2
     add-e-2
     returns-2
+    acquire-place-at-requires
     moves-requires-3
     add-e-3
     returns-3)

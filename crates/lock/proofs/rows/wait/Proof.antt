@@ -2,7 +2,7 @@
 use mathlib.Core.Path.{refl}
 use borrow.Author.Tests.{eq-eqb, ne-eqb, lt-ltb}
 use Rattle.model.specs.Steps.{wait-row}
-use Rattle.lock.proofs.Leaving.{unmoved}
+use Rattle.lock.proofs.Leaving.{unmoved, acquire-is}
 use borrow.Author.Needs.{needs}
 use Rattle.lock.proofs.rows.wait.Statement.{statement}
 use Rattle.lock.proofs.rows.wait.Tie as tie
@@ -43,16 +43,20 @@ returns-3 c =
           (record { kind-told = refl; state-left = unmoved s i 0 _ (R .place-is) });
     }
 
+acquire-place-at-requires : tie.Need-acquire-place-at-requires
+acquire-place-at-requires c κs = search needs
+
 moves-requires-2 : tie.Need-moves-requires-2
 moves-requires-2 c κs = search needs
 
 returns-4 : tie.Need-returns-4
 unfolding wait-row
 returns-4 c =
+    let d = c .before .before in
     record {
       does = λ t i s R.
-          rw (c .moves2 .ensures, ← R .own-is, ← R .status-is, ne-eqb _ _ (c .before .before .before .if1 .left), ne-eqb _ _ (c .before .before .if3 .left), eq-eqb _ _ (c .before .if4 .taken), ← R .parent-is (c .before .before .before .if1 .left))
-          (record { kind-told = refl; state-left = rw (lt-ltb _ _ (c .before .before .before .before .before .pre .own-fits)) });
+          rw (c .moves2 .ensures, c .before .acquire-place-at .ensures, acquire-is t i s _ R _, ← R .own-is, ← R .status-is, ne-eqb _ _ (d .before .before .if1 .left), ne-eqb _ _ (d .before .if3 .left), eq-eqb _ _ (d .if4 .taken), ← R .parent-is (d .before .before .if1 .left))
+          (record { kind-told = refl; state-left = rw (lt-ltb _ _ (d .before .before .before .before .pre .own-fits)) });
     }
 
 moves-requires-3 : tie.Need-moves-requires-3
@@ -91,6 +95,7 @@ wait-spec =
     returns-2
     effect-at-requires-2
     returns-3
+    acquire-place-at-requires
     moves-requires-2
     returns-4
     moves-requires-3

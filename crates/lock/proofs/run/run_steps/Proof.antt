@@ -22,7 +22,7 @@ abbrev μ-loop : tie.MeasureT-loop
 loop-holds : tie.Need-loop-holds Inv-loop μ-loop
 loop-holds c =
     let g = c .before .before .good .1 .0 .1 .1 in
-    start _ _ _ _ (record { typed = typed (c .before .before .args .state) _ _ _ _ (g .0) (g .1 .0) (g .1 .1 .0) (g .1 .1 .1 .0); form = run-facts _ _ _ _ (c .before .before .pre) .form })
+    start _ _ _ _ (record { typed = typed (c .before .before .args .state) _ _ _ _ _ _ (g .0) (g .1 .0) (g .1 .1 .0) (g .1 .1 .1 .0) (g .1 .1 .1 .1 .0) (g .1 .1 .1 .1 .1 .0); form = run-facts _ _ _ _ (c .before .before .pre) .form })
 
 cast-loop : tie.Need-cast-loop Inv-loop μ-loop
 cast-loop c = omega arith
@@ -82,37 +82,43 @@ store-next-requires c κs = search needs
 store-status-requires : tie.Need-store-status-requires Inv-loop μ-loop
 store-status-requires c κs = search needs
 
+store-counter-requires : tie.Need-store-counter-requires Inv-loop μ-loop
+store-counter-requires c κs = search needs
+
+store-counter-requires-2 : tie.Need-store-counter-requires-2 Inv-loop μ-loop
+store-counter-requires-2 c κs = search needs
+
 mul-place : tie.Need-mul-place Inv-loop μ-loop
-mul-place c = let test = c .before .before .before .before .before .before .before .before .before .before .before .before .before .before .before .before .before .before .before .before .before in omega (arith, thread-small _ _ _ _ _ (run-facts _ _ _ _ (test .before .before .before .before .pre)) (test .loop-test .taken))
+mul-place c = let test = c .before .before .before .before .before .before .before .before .before .before .before .before .before .before .before .before .before .before .before .before .before .before .before .before .before in omega (arith, thread-small _ _ _ _ _ (run-facts _ _ _ _ (test .before .before .before .before .pre)) (test .loop-test .taken))
 
 element-set-from-place : tie.Need-element-set-from-place Inv-loop μ-loop
-element-set-from-place c = let test = c .before .before .before .before .before .before .before .before .before .before .before .before .before .before .before .before .before .before .before .before .before in omega (arith, thread-small _ _ _ _ _ (run-facts _ _ _ _ (test .before .before .before .before .pre)) (test .loop-test .taken))
+element-set-from-place c = let test = c .before .before .before .before .before .before .before .before .before .before .before .before .before .before .before .before .before .before .before .before .before .before .before .before .before in omega (arith, thread-small _ _ _ _ _ (run-facts _ _ _ _ (test .before .before .before .before .pre)) (test .loop-test .taken))
 
 trace-at-requires : tie.Need-trace-at-requires Inv-loop μ-loop
 trace-at-requires c κs =
-    let test = c .before .before .before .before .before .before .before .before .before .before .before .before .before .before .before .before .before .before .before .before .before .before in
+    let test = c .before .before .before .before .before .before .before .before .before .before .before .before .before .before .before .before .before .before .before .before .before .before .before .before .before .before in
     let g = test .before .loop .inv in
     let r = run-facts _ _ _ _ (test .before .before .before .before .pre) in
     (omega (arith, test .loop-test .taken, g .entries-fit, g .long, r .fits), omega (arith, test .loop-test .taken, g .entries-fit, r .short))
 
 add-k-2 : tie.Need-add-k-2 Inv-loop μ-loop
-add-k-2 c = let test = c .before .before .before .before .before .before .before .before .before .before .before .before .before .before .before .before .before .before .before .before .before .before .before .before .before in omega (arith, test .loop-test .taken, run-facts _ _ _ _ (test .before .before .before .before .pre) .short)
+add-k-2 c = let test = c .before .before .before .before .before .before .before .before .before .before .before .before .before .before .before .before .before .before .before .before .before .before .before .before .before .before .before .before .before in omega (arith, test .loop-test .taken, run-facts _ _ _ _ (test .before .before .before .before .pre) .short)
 
 loop-less-2 : tie.Need-loop-less-2 Inv-loop μ-loop
-loop-less-2 c = omega (arith, c .before .before .before .before .before .before .before .before .before .before .before .before .before .before .before .before .before .before .before .before .before .before .before .before .before .loop-test .taken)
+loop-less-2 c = omega (arith, c .before .before .before .before .before .before .before .before .before .before .before .before .before .before .before .before .before .before .before .before .before .before .before .before .before .before .before .before .before .loop-test .taken)
 
 loop-again-2 : tie.Need-loop-again-2 Inv-loop μ-loop
 loop-again-2 c =
     let traced = c .before .before .trace-at in
-    let counted-in = c .before .before .before .before .before .before .before .before .before .before .before .before .count-in in
-    let e = c .before .before .before .before .before .before .before .before .before .before .before .before .before .before .decide in
-    let test = c .before .before .before .before .before .before .before .before .before .before .before .before .before .before .before .before .before .before .before .before .before .before .before .before .before in
+    let counted-in = c .before .before .before .before .before .before .before .before .before .before .before .before .before .before .before .before .count-in in
+    let e = c .before .before .before .before .before .before .before .before .before .before .before .before .before .before .before .before .before .before .decide in
+    let test = c .before .before .before .before .before .before .before .before .before .before .before .before .before .before .before .before .before .before .before .before .before .before .before .before .before .before .before .before .before in
     let r = run-facts _ _ _ _ (test .before .before .before .before .pre) in
     let l = test .before .loop in
     rw (counted-in .ensures)
     (turn _ _ _ _ _ _ _ _ _ _ _ _ _ (e .result) _ _ _ (r .tree) (sixteen _) (r .threads) (r .fits) (test .loop-test .taken) (l .inv)
     (e .ensures .does (l .n .places) refl)
-    (all-stored _ (e .result) (l .n) _ _ _ (c .before .before .before .before .before .before .before .before .before .store-tail .ensures) (c .before .before .before .before .before .before .before .store-next .ensures) (c .before .before .before .before .before .store-status .ensures))
+    (all-stored _ (e .result) (l .n) _ _ _ _ _ (c .before .before .before .before .before .before .before .before .before .before .before .before .before .store-tail .ensures) (c .before .before .before .before .before .before .before .before .before .before .before .store-next .ensures) (c .before .before .before .before .before .before .before .before .before .store-status .ensures) (c .before .before .before .before .before .before .before .store-counter .ensures) (c .before .before .before .before .before .store-counter2 .ensures))
     (traced .ensures .0) (traced .ensures .1))
 
 cast-at-2 : tie.Need-cast-at-2 Inv-loop μ-loop
@@ -162,6 +168,8 @@ run-steps-spec =
     store-tail-requires
     store-next-requires
     store-status-requires
+    store-counter-requires
+    store-counter-requires-2
     mul-place
     element-set-from-place
     trace-at-requires

@@ -6,7 +6,7 @@ use lib.ListN.{length}
 use lib.Seq.{length-take-le}
 use borrow.Author.Needs.{needs}
 use Rattle.lock_file.specs.FileAnswers.{outcome-reply, outcome-output}
-use Rattle.lock_file.proofs.FileRun.{fresh-state, run-in-buffers}
+use Rattle.lock_file.proofs.FileRun.{fresh-zero, run-in-buffers}
 use Rattle.lock_file.proofs.calling.run_in.Statement.{statement}
 use Rattle.lock_file.proofs.calling.run_in.Tie as tie
 
@@ -43,7 +43,7 @@ answer-run-requires c κs =
     let all =
     run-in-buffers (a .file .now) (a .at) (a .tree) (fresh .result .state) (x .result) (a .schedule .now) (l .last .1 .1 .1 .0)
     (a .trace .now) (x .last .1 .1 .1 .0) (omega (arith, pre .1)) (omega (arith, pre .1)) (l .ensures)
-    (fresh-state (a .tree) (fresh .result) (fresh .ensures)) (x .ensures .0) (x .ensures .1)
+    (fresh-zero (a .tree) (fresh .result) (fresh .ensures)) (x .ensures .0) (x .ensures .1)
     in
     (omega (arith, all .0, x .kept .1 .1 .1 .0, pre .1), omega (arith, x .kept .1 .1 .1 .0, pre .1))
 
@@ -66,7 +66,7 @@ returns c =
     let all =
     run-in-buffers (a .file .now) (a .at) (a .tree) (fresh .result .state) (x .result) (a .schedule .now) (l .last .1 .1 .1 .0)
     (a .trace .now) (x .last .1 .1 .1 .0) (omega (arith, pre .1)) (omega (arith, pre .1)) (l .ensures)
-    (fresh-state (a .tree) (fresh .result) (fresh .ensures)) (x .ensures .0) (x .ensures .1)
+    (fresh-zero (a .tree) (fresh .result) (fresh .ensures)) (x .ensures .0) (x .ensures .1)
     in
     let r = c .before .before .answer-run .ensures in
     (r .0 ∙ ap outcome-reply (all .1 _), r .1 ∙ ap (λ o. outcome-output o (a .output .now)) (all .1 _))

@@ -1,6 +1,6 @@
 -- `read_tree` meets its contract. Assumes nothing.
 use borrow.Author.Needs.{needs}
-use Rattle.lock_file.specs.Reading.{tree-read}
+use Rattle.lock_file.specs.Reading.{domain-count, tree-read}
 use Rattle.lock_file.proofs.reading.read_tree.Statement.{statement}
 use Rattle.lock_file.proofs.reading.read_tree.Tie as tie
 
@@ -16,6 +16,9 @@ byte-at-requires c κs = search needs
 domain-count-of-requires : tie.Need-domain-count-of-requires
 domain-count-of-requires c κs = search needs
 
+root-number-of-requires : tie.Need-root-number-of-requires
+root-number-of-requires c κs = search needs
+
 thread-count-of-requires : tie.Need-thread-count-of-requires
 thread-count-of-requires c κs = search needs
 
@@ -24,7 +27,7 @@ schedule-start-of-requires c κs = search needs
 
 returns : tie.Need-returns
 unfolding tree-read
-returns c = rw (c .schedule-start-of .ensures, c .before .thread-count-of .ensures, c .before .before .domain-count-of .ensures, c .before .before .before .byte-at .ensures, c .before .before .before .before .before .read-threads .ensures, c .before .before .before .before .before .before .before .before .read-domains .ensures)
+returns c = rw (c .schedule-start-of .ensures, c .before .thread-count-of .ensures, c .before .before .root-number-of .ensures, c .before .before .before .domain-count-of .ensures, c .before .before .before .before .byte-at .ensures, c .before .before .before .before .before .before .read-threads .ensures, c .before .before .before .before .before .before .before .before .before .read-domains .ensures)
 
 pub read-tree-spec : {M : Type 1} → statement M
 read-tree-spec =
@@ -34,6 +37,7 @@ read-tree-spec =
     read-threads-requires
     byte-at-requires
     domain-count-of-requires
+    root-number-of-requires
     thread-count-of-requires
     schedule-start-of-requires
     returns)

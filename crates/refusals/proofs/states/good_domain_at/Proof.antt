@@ -6,18 +6,18 @@ use borrow.Author.Needs.{needs}
 use Rattle.refusals.proofs.states.good_domain_at.Statement.{statement}
 use Rattle.refusals.proofs.states.good_domain_at.Tie as tie
 
-is-root-check-requires : tie.Need-is-root-check-requires
-is-root-check-requires c κs = search needs
+is-barred-at-requires : tie.Need-is-barred-at-requires
+is-barred-at-requires c κs = search needs
 
 returns : tie.Need-returns
-returns c = rw (by-answer _ true (c .before .is-root-check .ensures) (c .if1 .taken))
+returns c = rw (by-answer _ true (c .before .is-barred-at .ensures) (c .if1 .taken))
 
 meets-at-requires : tie.Need-meets-at-requires
 meets-at-requires c κs = search needs
 
 returns-2 : tie.Need-returns-2
 returns-2 c =
-    let a = by-answer _ false (c .before .before .before .is-root-check .ensures) (c .before .before .if1 .left) in
+    let a = by-answer _ false (c .before .before .before .is-barred-at .ensures) (c .before .before .if1 .left) in
     let b = by-answer _ false (c .before .meets-at .ensures) (not-true _ (c .if2 .taken)) in
     rw (a, b)
 
@@ -26,7 +26,7 @@ good-peer-at-requires c κs = search needs
 
 returns-3 : tie.Need-returns-3
 returns-3 c =
-    let a = by-answer _ false (c .before .before .before .before .is-root-check .ensures) (c .before .before .before .if1 .left) in
+    let a = by-answer _ false (c .before .before .before .before .is-barred-at .ensures) (c .before .before .before .if1 .left) in
     let b = by-answer _ true (c .before .before .meets-at .ensures) (not-false _ (c .before .if2 .left)) in
     rw (c .good-peer-at .ensures, a, b)
 
@@ -34,7 +34,7 @@ pub good-domain-at-spec : {M : Type 1} → statement M
 good-domain-at-spec =
     tie.close
     (tie.spec
-    is-root-check-requires
+    is-barred-at-requires
     returns
     meets-at-requires
     returns-2

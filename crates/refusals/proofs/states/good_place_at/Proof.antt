@@ -7,9 +7,12 @@ use borrow.Author.Needs.{needs}
 use Rattle.refusals.proofs.states.good_place_at.Statement.{statement}
 use Rattle.refusals.proofs.states.good_place_at.Tie as tie
 
+good-ticket-place-at-requires : tie.Need-good-ticket-place-at-requires
+good-ticket-place-at-requires c κs = search needs
+
 returns : tie.Need-returns
 unfolding place-in
-returns c = rw (lt-ltb _ _ (c .if1 .taken))
+returns c = rw (c .good-ticket-place-at .ensures, lt-ltb _ _ (c .before .if1 .taken))
 
 has-spare-word-requires : tie.Need-has-spare-word-requires
 has-spare-word-requires c κs = search needs
@@ -49,6 +52,7 @@ pub good-place-at-spec : {M : Type 1} → statement M
 good-place-at-spec =
     tie.close
     (tie.spec
+    good-ticket-place-at-requires
     returns
     has-spare-word-requires
     returns-2

@@ -26,11 +26,13 @@ returns-2 : tie.Need-returns-2
 returns-2 c =
     let s = c .before .before .before .before .before in
     let n = by-answer _ true (c .before .before .before .good-next-at .ensures) (not-false _ (c .before .before .if1 .left)) in
-    let p = rests-good (parents-in (s .args .domains) (s .args .parents .now)) (s .args .owners .now) (getD (s .args .owners .now) (s .args .i) 0) (s .args .q) (c .before .rests-at .ensures .rests (c .if2 .taken) _ (omega (arith, s .pre .1 .1 .0, s .pre .0 .0)) (s .pre .1 .1 .1)) in
+    let home = getD (s .args .owners .now) (s .args .i) 0 in
+    let p = rests-good (s .args .ticket-root) (parents-in (s .args .domains) (s .args .parents .now)) (s .args .owners .now) (s .args .statuses .now) (s .args .i) home (s .args .q)
+    (s .args .resting) (s .pre .1 .1 .1) (omega (arith, s .pre .1 .1 .0, s .pre .0 .0)) (c .before .rests-at .ensures .rests (c .if2 .taken)) in
     rw (n, p)
 
 good-place-at-requires : tie.Need-good-place-at-requires
-good-place-at-requires c κs = let s = c .before .before .before .before .before in (s .pre .0 .0, (s .pre .1 .0, s .pre .1 .1 .0))
+good-place-at-requires c κs = let s = c .before .before .before .before .before in (s .pre .0, (s .pre .1 .0, s .pre .1 .1 .0))
 
 returns-3 : tie.Need-returns-3
 returns-3 c =

@@ -8,13 +8,13 @@ use Rattle.refusals.proofs.states.resting_numbers.Statement.{statement}
 use Rattle.refusals.proofs.states.resting_numbers.Tie as tie
 
 abbrev Inv-loop : tie.InvT-loop
-Inv-loop resting₀ homes threads i₀ resting i = (i ≤ threads) × Resting i homes resting
+Inv-loop resting₀ homes threads row i₀ resting i = (i ≤ threads) × Resting row i homes resting
 
 abbrev μ-loop : tie.MeasureT-loop
-μ-loop resting₀ homes threads i₀ resting i = threads - i
+μ-loop resting₀ homes threads row i₀ resting i = threads - i
 
 loop-holds : tie.Need-loop-holds Inv-loop μ-loop
-loop-holds c = (search needs, resting-first _)
+loop-holds c = (search needs, resting-first _ _)
 
 cast-at : tie.Need-cast-at Inv-loop μ-loop
 cast-at c = omega arith
@@ -38,10 +38,10 @@ loop-less : tie.Need-loop-less Inv-loop μ-loop
 loop-less c = omega arith
 
 loop-again : tie.Need-loop-again Inv-loop μ-loop
-loop-again c = (omega arith, resting-next _ _ _ _ (omega arith) (c .joined .ensures) (c .before .before .before .loop .inv .1))
+loop-again c = (omega arith, resting-next _ _ _ _ _ (omega arith) (c .joined .ensures) (c .before .before .before .loop .inv .1))
 
 returns : tie.Need-returns Inv-loop μ-loop
-returns c = resting-all _ _ _ _ (omega arith) (c .before .loop .inv .1)
+returns c = resting-all _ _ _ _ _ (omega arith) (c .before .loop .inv .1)
 
 pub resting-numbers-spec : {M : Type 1} → statement M
 resting-numbers-spec =

@@ -1,6 +1,6 @@
 //! The run on a caller's state: what each step adds to a run of one entry; and single steps.
 
-use crate::{draft_with_schedule, print_line, time, ROUNDS, SCHEDULES, TREES};
+use crate::{draft_with_schedule, print_head, print_line, shapes, time, Shape, Worst, ROUNDS, SCHEDULES};
 use reference::calls::{Calls, TABLE};
 use reference::library;
 use reference::opaque::opaque;
@@ -74,41 +74,40 @@ fn costs(programs: &[Calls], tree: &TreeWords, schedule: &[u16]) -> Vec<Cost> {
 }
 
 /// The step table turns words into a state and back at each call, so these lines stay out of the ratios.
-fn print_single(tree: (usize, usize), schedule: &str, costs: &[Cost]) {
+fn print_single(shape: Shape, schedule: &str, costs: &[Cost]) {
     for (name, cost) in [("step table", costs[0]), ("library", costs[1])] {
         let Cost { one, step, in_place, .. } = cost;
-        println!("{schedule:<14} {:>7} {:>7}  {name}: run of one {one:.0} ns, step {step:.0} ns, step in place {in_place:.0} ns", tree.0, tree.1);
+        print_head(schedule, shape);
+        println!("  {name}: run of one {one:.0} ns, step {step:.0} ns, step in place {in_place:.0} ns");
     }
 }
 
-fn print_schedule(programs: &[Calls], tree: (usize, usize), name: &str, style: Style) -> (Vec<Cost>, Vec<f64>) {
-    let draft = draft_with_schedule(tree, style, LONGEST_SCHEDULE);
+fn print_schedule(programs: &[Calls], shape: Shape, name: &str, style: Style) -> (Vec<Cost>, Vec<f64>) {
+    let draft = draft_with_schedule(shape, style, LONGEST_SCHEDULE);
     let words = tree_words(&mut Random::new(1), &draft);
     let costs = costs(programs, &words, &draft.schedule);
     let columns: Vec<[f64; 2]> = costs.iter().map(Cost::columns).collect();
-    let ratios = print_line(name, tree, &columns);
+    let ratios = print_line(name, shape, &columns);
     (costs, ratios)
 }
 
-/// Prints the table and returns its ratios; nothing where the library lacks these calls.
-pub fn print() -> Vec<f64> {
+/// Prints the table and adds its ratios; nothing where the library lacks these calls.
+pub fn print(worst: &mut Worst) {
     let library = match library::calls() {
         Some(library) => library,
-        None => return Vec::new(),
+        None => return,
     };
     println!("run on a caller's state, {LONGEST_SCHEDULE} entries: microseconds a run and nanoseconds a step, of the step table and the library; their ratios");
-    let mut ratios = Vec::new();
     let mut singles = Vec::new();
-    for tree in TREES {
+    for shape in [shapes(false), shapes(true)].concat() {
         for (name, style) in SCHEDULES {
-            let (costs, line) = print_schedule(&[TABLE, library], tree, name, style);
-            ratios.extend(line);
-            singles.push((tree, name, costs));
+            let (costs, ratios) = print_schedule(&[TABLE, library], shape, name, style);
+            worst.add(shape, ratios);
+            singles.push((shape, name, costs));
         }
     }
     println!("single calls, from the state that the run leaves");
-    for (tree, name, costs) in &singles {
-        print_single(*tree, name, costs);
+    for (shape, name, costs) in &singles {
+        print_single(*shape, name, costs);
     }
-    ratios
 }

@@ -1,6 +1,6 @@
 //! The file call: whole files, and what each step adds to a call without entries.
 
-use crate::{draft_with_schedule, print_line, time, ROUNDS, SCHEDULES, TREES};
+use crate::{draft_with_schedule, print_head, print_line, shapes, time, Shape, Worst, ROUNDS, SCHEDULES};
 use reference::library::{self, RunFile};
 use reference::lock_file::{self, LONGEST_FILE};
 use reference::opaque::opaque;
@@ -28,8 +28,8 @@ impl Cost {
     }
 }
 
-fn pair(tree: (usize, usize), style: Style) -> Pair {
-    let mut draft = draft_with_schedule(tree, style, ENTRIES);
+fn pair(shape: Shape, style: Style) -> Pair {
+    let mut draft = draft_with_schedule(shape, style, ENTRIES);
     let full = draft.write(&mut Random::new(1));
     draft.schedule.clear();
     Pair { full, empty: draft.write(&mut Random::new(1)) }
@@ -50,9 +50,10 @@ fn costs(calls: &[RunFile], pair: &Pair) -> Vec<Cost> {
 }
 
 /// What a call costs before its first step, in microseconds; it stays out of the ratios.
-fn print_empty(tree: (usize, usize), costs: &[Cost]) {
+fn print_empty(shape: Shape, costs: &[Cost]) {
     let empty: Vec<String> = costs.iter().map(|cost| format!("{:>9.2}", cost.empty / 1000.0)).collect();
-    println!("{:<14} {:>7} {:>7}  {}", "no entries", tree.0, tree.1, empty.join(&" ".repeat(10)));
+    print_head("no entries", shape);
+    println!("  {}", empty.join(&" ".repeat(10)));
 }
 
 fn same_answers(calls: &[RunFile], file: &[u8]) -> bool {
@@ -63,33 +64,32 @@ fn same_answers(calls: &[RunFile], file: &[u8]) -> bool {
     calls.iter().all(|call| answer(call) == answer(&calls[0]))
 }
 
-fn print_schedule(calls: &[RunFile], tree: (usize, usize), name: &str, style: Style) -> (Vec<Cost>, Vec<f64>) {
-    let pair = pair(tree, style);
+fn print_schedule(calls: &[RunFile], shape: Shape, name: &str, style: Style) -> (Vec<Cost>, Vec<f64>) {
+    let pair = pair(shape, style);
     assert!(same_answers(calls, &pair.full), "the answers differ");
     let costs = costs(calls, &pair);
     let columns: Vec<[f64; 2]> = costs.iter().map(Cost::columns).collect();
-    let ratios = print_line(name, tree, &columns);
+    let ratios = print_line(name, shape, &columns);
     (costs, ratios)
 }
 
-/// Prints the table and returns its ratios.
-pub fn print() -> Vec<f64> {
+/// Prints the table and adds its ratios.
+pub fn print(worst: &mut Worst) {
     let calls: Vec<RunFile> = std::iter::once(lock_file::run_file as RunFile).chain(library::run_file()).collect();
     println!("file call, {ENTRIES} entries: microseconds a file and nanoseconds a step, of the step table and the library; their ratios");
-    let mut ratios = Vec::new();
-    for tree in TREES {
-        let lines = SCHEDULES.map(|(name, style)| print_schedule(&calls, tree, name, style));
-        ratios.extend(lines.iter().flat_map(|(_, ratios)| ratios));
-        print_empty(tree, &lines[0].0);
+    for shape in [shapes(false), shapes(true)].concat() {
+        let lines = SCHEDULES.map(|(name, style)| print_schedule(&calls, shape, name, style));
+        print_empty(shape, &lines[0].0);
+        lines.into_iter().for_each(|(_, ratios)| worst.add(shape, ratios));
     }
-    ratios
 }
 
 /// The file call of the step table or the library, as often as is said, on one schedule of one tree: for counting instructions.
+/// Trees are numbered as they are printed, those with ticket roots from 3.
 pub fn repeat(library: bool, schedule: usize, tree: usize, times: usize) {
     let calls: Vec<RunFile> = std::iter::once(lock_file::run_file as RunFile).chain(library::run_file()).collect();
     let call = calls[usize::from(library)];
-    let pair = pair(TREES[tree], SCHEDULES[schedule].1);
+    let pair = pair([shapes(false), shapes(true)].concat()[tree], SCHEDULES[schedule].1);
     let mut output = vec![0; LONGEST_FILE];
     for _ in 0..times {
         assert_eq!(call(opaque(&pair.full), &mut output).number, 0);

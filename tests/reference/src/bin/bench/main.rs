@@ -1,4 +1,5 @@
-//! What the library's calls cost against the step table's: four schedules, three trees; the last line is the worst ratio.
+//! What the library's calls cost against the step table's: four schedules, three trees, each with a queue root and with a ticket root.
+//! The last line is the worst ratio of the queue roots, the one before it that of the ticket roots.
 
 mod calls;
 mod files;
@@ -12,7 +13,41 @@ use std::time::Instant;
 const ROUNDS: usize = 15;
 const CALLS: usize = 20;
 const SCHEDULES: [(&str, Style); 4] = [("random", Style::Anybody), ("few busy", Style::Few), ("bursts", Style::Bursts), ("one thread", Style::One)];
-const TREES: [(usize, usize); 3] = [(3, 4), (15, 32), (64, 256)];
+const SIZES: [(usize, usize); 3] = [(3, 4), (15, 32), (64, 256)];
+
+/// A tree of the bench: domains, threads, and the kind of root.
+#[derive(Clone, Copy)]
+struct Shape {
+    domains: usize,
+    threads: usize,
+    ticket_root: bool,
+}
+
+fn shapes(ticket_root: bool) -> [Shape; 3] {
+    SIZES.map(|(domains, threads)| Shape { domains, threads, ticket_root })
+}
+
+/// The worst ratio at each kind of root, nothing where no library was measured.
+#[derive(Default)]
+struct Worst {
+    queue: Vec<f64>,
+    ticket: Vec<f64>,
+}
+
+impl Worst {
+    fn add(&mut self, shape: Shape, ratios: Vec<f64>) {
+        if shape.ticket_root { &mut self.ticket } else { &mut self.queue }.extend(ratios);
+    }
+
+    fn print(self) {
+        for (name, ratios) in [("ratio of ticket roots", self.ticket), ("ratio", self.queue)] {
+            match ratios.into_iter().reduce(f64::max) {
+                Some(ratio) => println!("{name} {ratio:.2}"),
+                None => println!("{name} none, no library named"),
+            }
+        }
+    }
+}
 
 /// A binary tree; six levels of it have 63 domains, so that the last domain of a full tree has the root as its parent.
 fn parent(domain: usize) -> u8 {
@@ -23,7 +58,7 @@ fn parent(domain: usize) -> u8 {
 }
 
 /// Domains as a binary tree, threads spread over its leaves.
-fn draft(domains: usize, threads: usize) -> Draft {
+fn draft(Shape { domains, threads, ticket_root }: Shape) -> Draft {
     let parents: Vec<u8> = (0..domains).map(parent).collect();
     let leaves: Vec<u8> = (0..domains as u8).filter(|domain| !parents[1..].contains(domain)).collect();
     Draft {
@@ -33,11 +68,12 @@ fn draft(domains: usize, threads: usize) -> Draft {
         homes: (0..threads).map(|thread| leaves[thread % leaves.len()]).collect(),
         parents,
         schedule: Vec::new(),
+        ticket_root,
     }
 }
 
-fn draft_with_schedule(tree: (usize, usize), style: Style, entries: usize) -> Draft {
-    let mut draft = draft(tree.0, tree.1);
+fn draft_with_schedule(shape: Shape, style: Style, entries: usize) -> Draft {
+    let mut draft = draft(shape);
     draft.schedule = schedule(&mut Random::new(1), &draft.tree(), style, entries);
     draft
 }
@@ -51,9 +87,13 @@ fn time(mut call: impl FnMut()) -> f64 {
     start.elapsed().as_nanos() as f64 / CALLS as f64
 }
 
+fn print_head(name: &str, Shape { domains, threads, ticket_root }: Shape) {
+    print!("{:<18} {domains:>7} {threads:>7}", if ticket_root { format!("{name}, ticket") } else { name.to_string() });
+}
+
 /// One line of a table: of the step table and, if it was measured, the library, with the ratio of each column; returns the ratios.
-fn print_line(name: &str, tree: (usize, usize), costs: &[[f64; 2]]) -> Vec<f64> {
-    print!("{name:<14} {:>7} {:>7}", tree.0, tree.1);
+fn print_line(name: &str, shape: Shape, costs: &[[f64; 2]]) -> Vec<f64> {
+    print_head(name, shape);
     for cost in costs {
         print!("  {:>9.2} {:>7.2}", cost[0], cost[1]);
     }
@@ -72,10 +112,9 @@ fn main() {
         return;
     }
     println!("best of {ROUNDS} rounds; buffers are not cleared between calls");
-    let ratios = [files::print(), calls::print()].concat();
+    let mut worst = Worst::default();
+    files::print(&mut worst);
+    calls::print(&mut worst);
     texts::print();
-    match ratios.into_iter().reduce(f64::max) {
-        Some(ratio) => println!("ratio {ratio:.2}"),
-        None => println!("ratio none, no library named"),
-    }
+    worst.print();
 }

@@ -1,0 +1,44 @@
+//! The ticket lock of source document 001, section 2, as a program of its own: what stands in for Listing 1's second template at a ticket root.
+//! A ticket is kept in the status of the QNode that draws it. `before` begins a schedule entry, as in the listing.
+
+use crate::listing::QNode;
+use crate::turnstile::{Stopped, Turn};
+use std::sync::atomic::{AtomicU16, Ordering::SeqCst};
+
+/// The lines of this program, numbered behind those of the listing, of which 89 is the last.
+pub const DRAW: u32 = 90;
+pub const WATCH: u32 = 91;
+pub const RAISE: u32 = 92;
+
+pub struct TicketLock {
+    ticket: AtomicU16,
+    grant: AtomicU16,
+}
+
+impl TicketLock {
+    pub fn new(start: u16) -> TicketLock {
+        TicketLock { ticket: AtomicU16::new(start), grant: AtomicU16::new(start) }
+    }
+
+    /// Ticket and grant.
+    pub fn counters(&self) -> (u16, u16) {
+        (self.ticket.load(SeqCst), self.grant.load(SeqCst))
+    }
+
+    /// Takes the ticket and increments, then waits until the grant equals it; the first look is in the entry that draws.
+    pub fn acquire(&self, node: &QNode, turn: &Turn) -> Result<(), Stopped> {
+        turn.before(DRAW)?;
+        node.set_status(self.ticket.fetch_add(1, SeqCst) as u64);
+        while node.status() != self.grant.load(SeqCst) as u64 {
+            turn.before(WATCH)?;
+        }
+        Ok(())
+    }
+
+    /// Increments the grant.
+    pub fn release(&self, turn: &Turn) -> Result<(), Stopped> {
+        turn.before(RAISE)?;
+        self.grant.fetch_add(1, SeqCst);
+        Ok(())
+    }
+}
