@@ -13,3 +13,4 @@ pub mod Equality
 pub mod Passing
 pub mod Acting
 pub mod Queues
+pub mod Moving

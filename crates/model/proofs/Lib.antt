@@ -10,3 +10,4 @@ pub mod Queues
 pub mod Words
 pub mod Claims
 pub mod ClaimCases
+pub mod MoveCases

@@ -1,12 +1,12 @@
 -- A place and its four numbers: each gives the other back; a store of a place, read back. Assumes nothing.
-use mathlib.Core.Path.{_≡_, refl, sym, _∙_}
-use mathlib.Core.Bool.{true, not, cond, false≢true}
+use mathlib.Core.Path.{_≡_, refl, sym, ap, _∙_}
+use mathlib.Core.Bool.{true, false, not, cond, false≢true}
 use mathlib.Core.Logic.{_≢_}
 use Prim.Native.Nat.{ℕ, _<_}
 use lib.Dec.{eqb}
 use lib.ListN.{length}
 use lib.Seq.{getD-set-same}
-use borrow.Author.Tests.{eqb-true, not-false}
+use borrow.Author.Tests.{eqb-true, eqb-false, not-false}
 use Rattle.model.specs.declared.PlaceWords.{PlaceWords}
 use Rattle.model.specs.declared.Place.{Place}
 use Rattle.model.specs.declared.Place.the-variants.{Idle, Prep, Swap, Link, Wait, Inside, Check, Help, Cas, Linger, Grant, Draw, Watch, Raise, Invalid}
@@ -77,6 +77,10 @@ words-of-place x =
     by-test B (not (eqb (x .peer) 0)) _ _ (λ _. invalid _ _ _ _) (λ np.
     let p = eqb-true (x .peer) 0 (not-false (eqb (x .peer) 0) np) in
     λ f. plain-gives-back (x .row) (x .domain) f ∙ rw (w, p)))))
+
+-- a place of another row than Idle's
+pub not-idle : (p : Place) → eqb (words-of p .row) 0 ≡ false → p ≢ Idle
+not-idle p f e = eqb-false _ _ f (ap (λ x. words-of x .row) e)
 
 pub idle-facts : (p : Place) → is-idle p ≡ true → p ≡ Idle
 unfolding is-idle

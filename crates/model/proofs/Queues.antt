@@ -10,3 +10,4 @@ pub mod Order
 pub mod Remaining
 pub mod Allowance
 pub mod Handovers
+pub mod Unblocked

@@ -17,3 +17,4 @@ pub mod Cases
 pub mod ClaimCases
 pub mod Search
 pub mod TicketCases
+pub mod MoveCases

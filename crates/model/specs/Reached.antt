@@ -8,10 +8,10 @@ use lib.Dec.{eqb}
 use lib.ListN.{length, drop}
 use Rattle.model.specs.declared.TreeWords.{TreeWords}
 use Rattle.model.specs.declared.State.{State}
-use Rattle.model.specs.declared.Place.the-variants.{Wait, Check, Grant}
+use Rattle.model.specs.declared.Place.the-variants.{Idle, Wait, Check, Grant}
 use Rattle.model.specs.Trees.{Tree, tree-of, is-ticket, own-record, is-member}
 use Rattle.model.specs.States.{none, tail, next, status, place, wrap, fresh-state, with-place}
-use Rattle.model.specs.Steps.{is-entry, Row-result, step-from, moves, release-place, check-row, step}
+use Rattle.model.specs.Steps.{stay, is-entry, Row-result, step-from, moves, release-place, check-row, step}
 use Rattle.model.specs.Runs.{steps, run, begun, ended, occurrences}
 use Rattle.model.specs.Acts.{acts}
 use Rattle.model.specs.Refusals.{accepted, tree-refusal}
@@ -105,6 +105,26 @@ pub record Has-queues (t : Tree) (f : State) (S : List ℕ) (s : State) : Type 0
 unfoldable pub Queue-law : Type 0
 Queue-law =
     (t : Tree) → Sixteen-bit t → tree-refusal t .number ≡ 0 → (start : ℕ) (is : List ℕ) → All-threads t is → Has-queues t (fresh-state t start) is (run t is (fresh-state t start) .state)
+
+-- SOMEONE CAN MOVE: a thread of the tree that is not Idle, and whose next step, which is what the step table gives, is no stay and so changes the state
+pub record Can-move (t : Tree) (s : State) : Type 0 where
+  pub thread : ℕ
+  pub real : thread < t .threads
+  pub not-idle : place s thread ≢ Idle
+  pub no-stay : step t thread s .kind ≢ stay
+  pub changes : step t thread s .state ≢ s
+
+-- for both kinds of root, in every state reached from fresh in which some thread is not Idle
+unfoldable pub Move-law : Type 0
+Move-law =
+    (t : Tree) → Sixteen-bit t → tree-refusal t .number ≡ 0 → (start : ℕ) (is : List ℕ) → All-threads t is → (i : ℕ) →
+    place (run t is (fresh-state t start) .state) i ≢ Idle → Can-move t (run t is (fresh-state t start) .state)
+
+-- and after every list of steps and runs on one fresh lock
+unfoldable pub List-move-law : Type 0
+List-move-law =
+    (w : TreeWords) (start : ℕ) (cs : List Call) → fresh-answer w start .number ≡ 0 → Names (tree-of w) cs (fresh-answer w start .state) →
+    (i : ℕ) → place (last-state cs (fresh-answer w start .state)) i ≢ Idle → Can-move (tree-of w) (last-state cs (fresh-answer w start .state))
 
 -- A RUN ON A LOCK OF ITS OWN, as the file call makes it, is such a list
 abbrev pub lone-run : TreeWords → (schedule buffer : List ℕ) → Call

@@ -18,7 +18,7 @@ use Rattle.model.proofs.Claims.Calls.{returned, joined-threads}
 use Rattle.model.proofs.Claims.Demand.{sixteen-bit, demand-three}
 
 -- the state that the last call returned is the table's behind the list's schedule
-last-reached :
+pub last-reached :
     (t : Tree) (f : State) (cs : List Call) (pre : List ℕ) (s : State) → s ≡ run t pre f .state → Names t cs s →
     last-state cs s ≡ run t (pre ++ joined cs s) f .state
 unfolding last-state joined Names

@@ -90,7 +90,7 @@ module _ (t : Tree) (𝓐 : Accepted t) (i : ℕ) (h : i < t .threads) (n : ℕ)
     acts-stage e (at-prep k l c) = higher-test k l
     acts-stage e (at-swap k l c a v) = higher-test k l
     acts-stage e (at-link k p l c d a z v) = there-test k l
-    acts-stage e (at-wait k l c v) =
+    acts-stage e (at-wait k p l c d a z v) =
         rw (own-record-at t 𝓐 i h k l) (or-false _ _ (stays-out k _ v) ∙ there-test k l)
     acts-stage e (at-woken k b c v y) =
         let l : k ≤ height t i = omega arith in
@@ -111,7 +111,7 @@ module _ (t : Tree) (𝓐 : Accepted t) (i : ℕ) (h : i < t .threads) (n : ℕ)
         or-right (leb (ancestor t i k) (ancestor t i n)) _ (lt-ltb v acquire-parent (omega (arith, bits (ancestor t i k)))) ∙ everywhere
     acts-stage e (at-help k l c) = there-test k l ∙ ap (ltb n) (sym (letting-go-acts (height t i) k))
     acts-stage e (at-cas k l c) = there-test k l ∙ ap (ltb n) (sym (letting-go-acts (height t i) k))
-    acts-stage e (at-linger k l c) = there-test k l ∙ ap (ltb n) (sym (letting-go-acts (height t i) k))
+    acts-stage e (at-linger k l c z) = there-test k l ∙ ap (ltb n) (sym (letting-go-acts (height t i) k))
     acts-stage e (at-grant k r l c a) = by (eqb (ancestor t i k) 0) refl ∙ ap (ltb n) (sym (letting-go-acts (height t i) k))
       where
         by : (b : Bool) → eqb (ancestor t i k) 0 ≡ b → leb (ancestor t i k) (ancestor t i n) || ltb (cond (eqb (ancestor t i k) 0) 0 acquire-parent) acquire-parent ≡ ltb n (suc k)

@@ -23,7 +23,7 @@ inside-stage e at-idle = absurd (let z : _≡_ {A = ℕ} 0 1 = cc in omega arith
 inside-stage e (at-prep k l c) = absurd (let z : _≡_ {A = ℕ} 0 1 = cc in omega arith)
 inside-stage e (at-swap k l c n v) = absurd (let z : _≡_ {A = ℕ} 0 1 = cc in omega arith)
 inside-stage e (at-link k p l c d a n v) = absurd (let z : _≡_ {A = ℕ} 0 1 = cc in omega arith)
-inside-stage e (at-wait k l c v) = absurd (let z : _≡_ {A = ℕ} 0 1 = cc in omega arith)
+inside-stage e (at-wait k p l c d a n v) = absurd (let z : _≡_ {A = ℕ} 0 1 = cc in omega arith)
 inside-stage e (at-woken k b c v y) = absurd (let z : _≡_ {A = ℕ} 0 1 = cc in omega arith)
 inside-stage e (at-ready k l c v p) = absurd (let z : _≡_ {A = ℕ} 0 1 = cc in omega arith)
 inside-stage e (at-inside c) = refl
@@ -31,7 +31,7 @@ inside-stage e (at-check k b c) = absurd (let z : _≡_ {A = ℕ} 0 1 = cc in om
 inside-stage e (at-pass k r v b c n q y) = absurd (let z : _≡_ {A = ℕ} 0 1 = cc in omega arith)
 inside-stage e (at-help k l c) = absurd (let z : _≡_ {A = ℕ} 0 1 = cc in omega arith)
 inside-stage e (at-cas k l c) = absurd (let z : _≡_ {A = ℕ} 0 1 = cc in omega arith)
-inside-stage e (at-linger k l c) = absurd (let z : _≡_ {A = ℕ} 0 1 = cc in omega arith)
+inside-stage e (at-linger k l c n) = absurd (let z : _≡_ {A = ℕ} 0 1 = cc in omega arith)
 inside-stage e (at-grant k r l c n) = absurd (let z : _≡_ {A = ℕ} 0 1 = cc in omega arith)
 inside-stage e (at-draw k l r c) = absurd (let z : _≡_ {A = ℕ} 0 1 = cc in omega arith)
 inside-stage e (at-watch k l r c) = absurd (let z : _≡_ {A = ℕ} 0 1 = cc in omega arith)

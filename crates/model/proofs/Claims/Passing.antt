@@ -36,7 +36,7 @@ data Waiting (t : Tree) (w : Words) (g : State) (i l : ℕ) (x : Stage) : Type 0
   passed-on : (k : ℕ) → k ≤ height t i → l ≡ ancestor t i k → x ≡ ready → (k < height t i → 2 ≤ g .tally (record-at t i k)) → Waiting t w g i l x
 
 waiting : {t : Tree} {w : Words} {g : State} {i : ℕ} (l : ℕ) {p : Place} {x : Stage} → p ≡ Wait l → Fits t w g i p x → Waiting t w g i l x
-waiting l e (at-wait k b c v) = ungranted k b (cc) v
+waiting l e (at-wait k p b c d a n v) = ungranted k b (cc) v
 waiting l e (at-woken k b c v y) = woken k (omega arith) (cc) v
 waiting l e (at-ready k b c v p) = passed-on k b (cc) refl p
 waiting l e at-idle = absurd (let z : _≡_ {A = ℕ} 0 1 = cc in omega arith)
@@ -48,7 +48,7 @@ waiting l e (at-check k b c) = absurd (let z : _≡_ {A = ℕ} 0 1 = cc in omega
 waiting l e (at-pass k r v b c n q y) = absurd (let z : _≡_ {A = ℕ} 0 1 = cc in omega arith)
 waiting l e (at-help k b c) = absurd (let z : _≡_ {A = ℕ} 0 1 = cc in omega arith)
 waiting l e (at-cas k b c) = absurd (let z : _≡_ {A = ℕ} 0 1 = cc in omega arith)
-waiting l e (at-linger k b c) = absurd (let z : _≡_ {A = ℕ} 0 1 = cc in omega arith)
+waiting l e (at-linger k b c n) = absurd (let z : _≡_ {A = ℕ} 0 1 = cc in omega arith)
 waiting l e (at-grant k r b c n) = absurd (let z : _≡_ {A = ℕ} 0 1 = cc in omega arith)
 waiting l e (at-draw k b r c) = absurd (let z : _≡_ {A = ℕ} 0 1 = cc in omega arith)
 waiting l e (at-watch k b r c) = absurd (let z : _≡_ {A = ℕ} 0 1 = cc in omega arith)

@@ -168,7 +168,7 @@ module _ (t : Tree) (𝓐 : Accepted t) (s : WordState) (room : Room s) (g : Sta
         linked = o .linked;
         numbered = o .numbered;
         others = λ j hj n. left-alone (apart t 𝓐 w g i h o w started-state 0 (omega arith) j hj n refl (put-other (g .stage) i (climb 0) j n) (λ r q. refl)
-            (λ r q. refl) (λ r q. refl) (λ m p q nd a z. (a, z))) (o .others j hj n);
+            (λ r q. refl) (λ r q. refl) (λ m p q nd a. (a, refl)) (λ d r q z. z)) (o .others j hj n);
       }
 
 pub prepared-outcome :

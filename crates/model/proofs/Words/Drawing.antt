@@ -120,7 +120,7 @@ module _ (t : Tree) (𝓐 : Accepted t) (s : WordState) (room : Room s) (g : Sta
         (put-same (w .places) i Inside i refl) (put-same (g .stage) i inside i refl)
         (at-inside (λ m b q. counted-below t 𝓐 w g i h o (drawn Inside) g′ k within others-kept (λ r n. refl) c m (omega arith) q))
         (λ j hj n. join-apart t 𝓐 w g i h o k within (drawn Inside) g′ refl refl e j hj n (put-other (w .places) i Inside j n)
-        (put-other (g .stage) i inside j n) others-kept (λ r q. refl))
+        (put-other (g .stage) i inside j n) others-kept (λ r q. refl) (λ d r q z. z))
 
     draw-watches : g .stage i ≡ climb k → Counted t w g i k → w .ticket ≢ w .grant → Represents t (drawn Watch) (stood-state t 𝓐 w g i h o k within)
     draw-watches e c z =
@@ -131,7 +131,7 @@ module _ (t : Tree) (𝓐 : Accepted t) (s : WordState) (room : Room s) (g : Sta
         (put-same (w .places) i Watch i refl) (put-same (g .stage) i (queued k) i refl)
         (at-watch k top root (counted-below t 𝓐 w g i h o (drawn Watch) g′ k within others-kept (λ r n. refl) c))
         (λ j hj n. join-apart t 𝓐 w g i h o k within (drawn Watch) g′ refl refl e j hj n (put-other (w .places) i Watch j n)
-        (put-other (g .stage) i (queued k) j n) others-kept (λ r q. refl))
+        (put-other (g .stage) i (queued k) j n) others-kept (λ r q. refl) (λ d r q z. z))
 
     draw-by :
         (d : ℕ) → L ≡ d → g .stage i ≡ climb k → Counted t w g i k → (b : Bool) → eqb (s .ticket) (s .grant) ≡ b → Outcome t g i d (draw-row t i s)

@@ -70,11 +70,11 @@ module _ (t : Tree) (𝓐 : Accepted t) (w : Words) (g : State) (i : ℕ) (h : i
       (w′ : Words) (g′ : State) (k : ℕ) → k ≤ low (height t i) (g .stage i) → (j : ℕ) → j < t .threads → j ≢ i → w′ .places j ≡ w .places j →
       g′ .stage j ≡ g .stage j → ((r : ℕ) → r ≢ record-at t i k → w′ .statuses r ≡ w .statuses r) →
       ((r : ℕ) → r ≢ record-at t i k → g′ .tally r ≡ g .tally r) → ((r : ℕ) → r ≢ record-at t i k → w′ .nexts r ≡ w .nexts r) →
-      ((n p : ℕ) → g .stage j ≡ queued n → is-ticket t (ancestor t j n) ≡ false → after (g .queue (ancestor t j n)) p ≡ suc (record-at t j n) → w .nexts p ≡ 0 →
-      (after (g′ .queue (ancestor t j n)) p ≡ suc (record-at t j n)) × (w′ .nexts p ≡ 0)) →
-      Apart t w g w′ g′ j
+      ((n p : ℕ) → g .stage j ≡ queued n → is-ticket t (ancestor t j n) ≡ false → after (g .queue (ancestor t j n)) p ≡ suc (record-at t j n) →
+      (after (g′ .queue (ancestor t j n)) p ≡ suc (record-at t j n)) × (w′ .nexts p ≡ w .nexts p)) →
+      ((d r : ℕ) → r ≢ record-at t i k → w .tails d ≢ suc r → w′ .tails d ≢ suc r) → Apart t w g w′ g′ j
   unfolding low
-  apart w′ g′ k a j hj n pl sg st ta nx lk =
+  apart w′ g′ k a j hj n pl sg st ta nx lk tl =
       let far : (l : ℕ) → l ≤ low (height t j) (g .stage j) → record-at t j l ≢ record-at t i k = λ l b. other-record j k l hj n a b in
       record {
         same-place = pl;
@@ -84,6 +84,7 @@ module _ (t : Tree) (𝓐 : Accepted t) (w : Words) (g : State) (i : ℕ) (h : i
         next-set = λ l r b e. nx (record-at t j l) (far l (omega arith)) ∙ e;
         next-none = λ l e z. let b : l ≤ low (height t j) (g .stage j) = rw e (omega arith) in nx (record-at t j l) (far l b) ∙ z;
         same-link = lk;
+        not-last = λ l b. tl (ancestor t j l) (record-at t j l) (far l (omega arith));
       }
 
   -- a ticket lock keeps its tickets, where its queue and the statuses of its members stay
@@ -115,4 +116,4 @@ module _ (t : Tree) (𝓐 : Accepted t) (w : Words) (g : State) (i : ℕ) (h : i
       (numbered-kept (place-to i p w) g′ refl refl (λ _. rw qu) (λ _ a m. refl))
       (put-same (w .places) i p i refl) sx f
       (λ j hj n. apart (place-to i p w) g′ 0 (omega arith) j hj n (put-other (w .places) i p j n) (sg j n) (λ r e. refl) (λ r e. ap (λ (f : ℕ → ℕ). f r) ta)
-      (λ r e. refl) (λ m q e nd a z. (rw qu a, z)))
+      (λ r e. refl) (λ m q e nd a. (rw qu a, refl)) (λ d r e z. z))

@@ -74,7 +74,7 @@ module _ (t : Tree) (𝓐 : Accepted t) (w : Words) (g : State) (i : ℕ) (h : i
       (put-same (w .nexts) R none R refl) (put-same (w .statuses) R (waiting-word L) R refl))
       (λ j hj n. apart t 𝓐 w g i h o prepared g k (climb-low e) j hj n (put-other (w .places) i (Swap L) j n) refl
       (changed (w .statuses) (waiting-word L)) (λ r q. refl) (changed (w .nexts) none)
-      (λ m p q nd a z. (a, same-or p R _ (λ y. put-same (w .nexts) R none p y) (λ y. changed (w .nexts) none p y ∙ z))))
+      (λ m p q nd a. (a, changed (w .nexts) none p (away e (ancestor t j m) p (after-in (g .queue (ancestor t j m)) p (record-at t j m) a)))) (λ d r q z. z))
 
   -- SWAP: the record at the end of the queue
   abbrev pub grown : ℕ → List ℕ
@@ -83,23 +83,31 @@ module _ (t : Tree) (𝓐 : Accepted t) (w : Words) (g : State) (i : ℕ) (h : i
   abbrev pub swapped : Words
   swapped = tail-to L (R + 1) w
 
+  -- no other record becomes the last
+  swapped-last : (d r : ℕ) → r ≢ R → w .tails d ≢ suc r → swapped .tails d ≢ suc r
+  swapped-last d r n z e =
+      same-or d L _
+      (λ y. n (let q = put-same (w .tails) L (R + 1) d y in omega arith))
+      (λ y. z (sym (put-other (w .tails) L (R + 1) d y) ∙ e))
+
   module _ (w′ : Words) (g′ : State) (nexts : w′ .nexts ≡ w .nexts) (queues : g′ .queue ≡ grown) where
     next-same : (r : ℕ) → w′ .nexts r ≡ w .nexts r
     next-same r = ap (λ (f : ℕ → ℕ). f r) nexts
 
     pub join-apart :
         g .stage i ≡ climb k → (j : ℕ) → j < t .threads → j ≢ i → w′ .places j ≡ w .places j → g′ .stage j ≡ g .stage j →
-        ((r : ℕ) → r ≢ R → w′ .statuses r ≡ w .statuses r) → ((r : ℕ) → r ≢ R → g′ .tally r ≡ g .tally r) → Apart t w g w′ g′ j
-    join-apart e j hj n pl sg st ta =
+        ((r : ℕ) → r ≢ R → w′ .statuses r ≡ w .statuses r) → ((r : ℕ) → r ≢ R → g′ .tally r ≡ g .tally r) →
+        ((d r : ℕ) → r ≢ R → w .tails d ≢ suc r → w′ .tails d ≢ suc r) → Apart t w g w′ g′ j
+    join-apart e j hj n pl sg st ta tl =
         apart t 𝓐 w g i h o w′ g′ k (climb-low e) j hj n pl sg st ta (λ r q. next-same r)
-        (λ m p q nd a z. (
+        (λ m p q nd a. (
           rw queues (same-or (ancestor t j m) L _
               (λ y.
               let a′ : after (g .queue L) p ≡ suc (record-at t j m) = rw y at a in
               rw (y, put-same (g .queue) L (g .queue L ++ (R ∷ [])) L refl) (after-snoc (g .queue L) p (record-at t j m) R a′))
               (λ y. rw (put-other (g .queue) L (g .queue L ++ (R ∷ [])) (ancestor t j m) y) a)),
-          next-same p ∙ z,
-        ))
+          next-same p,
+        )) tl
 
     -- where the domain has a queue, a ticket lock is another
     pub join-numbered :
@@ -161,7 +169,7 @@ module _ (t : Tree) (𝓐 : Accepted t) (w : Words) (g : State) (i : ℕ) (h : i
         (put-same (w .places) i Inside i refl) (put-same (g .stage) i inside i refl)
         (at-inside (λ m b q. counted-below t 𝓐 w g i h o took-root took-root-state k l st (λ r n. refl) c m (omega arith) q))
         (λ j hj n. join-apart took-root took-root-state refl refl e j hj n (put-other (w .places) i Inside j n) (put-other (g .stage) i inside j n) st
-        (λ r q. refl))
+        (λ r q. refl) swapped-last)
 
     -- none there, elsewhere
     abbrev pub took : (p : Place) → Words
@@ -182,7 +190,7 @@ module _ (t : Tree) (𝓐 : Accepted t) (w : Words) (g : State) (i : ℕ) (h : i
         (put-same (w .places) i p i refl) (put-same (g .stage) i (climb (suc k)) i refl)
         (acquired-fits t 𝓐 (took p) took-state i h (suc k) b (counted-through t 𝓐 w g i h o (took p) took-state k (counted-below t 𝓐 w g i h o (took p) took-state k l st ta c)
         (put-same (w .statuses) R cohort-start R refl ∙ sym (put-same (g .tally) R 1 R refl))))
-        (λ j hj n. join-apart (took p) took-state refl refl e j hj n (put-other (w .places) i p j n) (put-other (g .stage) i (climb (suc k)) j n) st ta)
+        (λ j hj n. join-apart (took p) took-state refl refl e j hj n (put-other (w .places) i p j n) (put-other (g .stage) i (climb (suc k)) j n) st ta swapped-last)
 
     -- another record there
     abbrev pub stood : Words
@@ -205,7 +213,7 @@ module _ (t : Tree) (𝓐 : Accepted t) (w : Words) (g : State) (i : ℕ) (h : i
         (at-link k p l (counted-below t 𝓐 w g i h o stood stood-state k l (λ r n. refl) (λ r n. refl) c) nt
         (rw (put-same (g .queue) L (g .queue L ++ (R ∷ [])) L refl) (after-snoc-last p R (g .queue L) last (inv .once L p))) quiet sw)
         (λ j hj n. join-apart stood stood-state refl refl e j hj n (put-other (w .places) i (Link L p) j n) (put-other (g .stage) i (queued k) j n)
-        (λ r q. refl) (λ r q. refl))
+        (λ r q. refl) (λ r q. refl) swapped-last)
 
     -- LINK
     abbrev pub linked-up : (before : ℕ) → Words
@@ -229,7 +237,8 @@ module _ (t : Tree) (𝓐 : Accepted t) (w : Words) (g : State) (i : ℕ) (h : i
               (λ y. nx b y ∙ o .linked d nd .chain b m (λ q. n (nx b y ∙ q)));
         })
         (numbered-kept t 𝓐 w g i h o (linked-up p) g refl refl (λ _. refl) (λ _ b m. refl))
-        (put-same (w .places) i (Wait L) i refl) e (at-wait k l c sw)
+        (put-same (w .places) i (Wait L) i refl) e
+        (at-wait k p l c nt a (put-same (w .nexts) p (R + 1) p refl ∙ (let q : R + 1 ≡ suc R = omega arith in q)) sw)
         (λ j hj n. record {
           same-place = put-other (w .places) i (Wait L) j n;
           same-stage = refl;
@@ -241,15 +250,16 @@ module _ (t : Tree) (𝓐 : Accepted t) (w : Words) (g : State) (i : ℕ) (h : i
               nx (record-at t j m) (λ x.
               let f = fresh t (laws t 𝓐) g inv j m L q in
               let f′ : count p (g .queue L) ≡ 0 = rw x at f in omega arith) ∙ y;
-          same-link = λ m q s nd b y. (
+          same-link = λ m q s nd b. (
             b,
             nx q (λ x.
                 let b′ : after (g .queue (ancestor t j m)) p ≡ suc (record-at t j m) = rw x at b in
                 let same = one-queue t (laws t 𝓐) g inv (ancestor t j m) L p (after-in (g .queue (ancestor t j m)) p (record-at t j m) b′) here in
                 let b″ : after (g .queue L) p ≡ suc (record-at t j m) = rw same at b′ in
                 let acts-j : m < acts (height t j) (g .stage j) = rw s (omega arith) in
-                n (unique t (laws t 𝓐) g inv j i m k acts-j acting (omega arith) .0)) ∙ y,
+                n (unique t (laws t 𝓐) g inv j i m k acts-j acting (omega arith) .0)),
           );
+          not-last = λ m b z. z;
         })
 
   -- WAIT with ACQUIRE_PARENT: its count starts, and on to the parent
@@ -273,4 +283,4 @@ module _ (t : Tree) (𝓐 : Accepted t) (w : Words) (g : State) (i : ℕ) (h : i
       (acquired-fits t 𝓐 (climbed p) g i h (suc k) b (counted-through t 𝓐 w g i h o (climbed p) g k (counted-below t 𝓐 w g i h o (climbed p) g k l st (λ r n. refl) c)
       (put-same (w .statuses) R cohort-start R refl ∙ sym ta)))
       (λ j hj n. apart t 𝓐 w g i h o (climbed p) g k (rw e (omega arith)) j hj n (put-other (w .places) i p j n) refl st (λ r q. refl) (λ r q. refl)
-      (λ m q s nd b y. (b, y)))
+      (λ m q s nd b. (b, refl)) (λ d r q z. z))

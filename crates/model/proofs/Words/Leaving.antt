@@ -127,8 +127,10 @@ module _ (t : Tree) (𝓐 : Accepted t) (s : WordState) (room : Room s) (g : Sta
         (outcome _ _ (tail-placed s room i few (done-at t i k) (ancestor t i k) 0 d) (vacate t 𝓐 w g i h o k l first-there nt e tl c)
         (silent (let-go i k (last-there t 𝓐 w g i h o k l first-there nt e) (lone t 𝓐 w g i h o k l first-there nt tl)) done))
     cas-by false z =
+        let other = eqb-false (tail s (ancestor t i k)) (record-at t i k + 1) z in
         rw (own-record-at t 𝓐 i h k l, z)
-        (outcome _ g (placed s room i few (Linger (ancestor t i k))) (stands-still (Linger (ancestor t i k)) (letting-go (height t i) k) e (at-linger k l c)) done)
+        (outcome _ g (placed s room i few (Linger (ancestor t i k)))
+        (stands-still (Linger (ancestor t i k)) (letting-go (height t i) k) e (at-linger k l c (λ y. other (omega arith)))) done)
 
     pub cas-outcome : Outcome t g i (ancestor t i k) (cas-row t i (ancestor t i k) s)
     cas-outcome = cas-by _ refl

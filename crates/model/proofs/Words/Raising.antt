@@ -48,7 +48,7 @@ watcher at-idle e = absurd (false≢true e)
 watcher (at-prep k l c) e = absurd (false≢true e)
 watcher (at-swap k l c n v) e = absurd (false≢true e)
 watcher (at-link k p l c d a n v) e = absurd (false≢true e)
-watcher (at-wait k l c v) e = absurd (false≢true e)
+watcher (at-wait k p l c d a n v) e = absurd (false≢true e)
 watcher (at-woken k l c v y) e = absurd (false≢true e)
 watcher (at-ready k l c v p) e = absurd (false≢true e)
 watcher (at-inside c) e = absurd (false≢true e)
@@ -56,7 +56,7 @@ watcher (at-check k l c) e = absurd (false≢true e)
 watcher (at-pass k r v l c n q y) e = absurd (false≢true e)
 watcher (at-help k l c) e = absurd (false≢true e)
 watcher (at-cas k l c) e = absurd (false≢true e)
-watcher (at-linger k l c) e = absurd (false≢true e)
+watcher (at-linger k l c n) e = absurd (false≢true e)
 watcher (at-grant k r l c n) e = absurd (false≢true e)
 watcher (at-draw k l r c) e = absurd (false≢true e)
 watcher (at-raise r c) e = absurd (false≢true e)
@@ -165,7 +165,7 @@ module _ (t : Tree) (𝓐 : Accepted t) (s : WordState) (room : Room s) (g : Sta
         (done-fits t raised-words empty-state i k (omega arith) c)
         (λ j hj n. apart t 𝓐 w g i h o raised-words empty-state 0 (omega arith) j hj n (put-other (w .places) i (done-at t i k) j n)
         (put-other (g .stage) i (down k) j n) (λ r q. refl) (λ r q. refl) (λ r q. refl)
-        (λ m p q nd a z. (rw (put-other (g .queue) L [] (ancestor t j m) (λ y. queue-lower t (ancestor t j m) nd ticket (y ∙ there))) a, z)))
+        (λ m p q nd a. (rw (put-other (g .queue) L [] (ancestor t j m) (λ y. queue-lower t (ancestor t j m) nd ticket (y ∙ there))) a, refl)) (λ d r q z. z))
 
     raise-alone : Outcome t g i 0 (raise-row t i s)
     unfolding raise-row row-shown standing-shown ends-shown entry-shown is-entry words-in
@@ -214,8 +214,8 @@ module _ (t : Tree) (𝓐 : Accepted t) (s : WordState) (room : Room s) (g : Sta
     S-watches = by (ungranted N (behind .waits) (o .others S S-real S-other))
       where
         by : Ungranted t w g S N (w .places S) → Watches
-        by (linking q d a z) = absurd (false≢true (sym d ∙ ticket-yes t (ancestor t S N) ticket root-S))
-        by (waiting p f) =
+        by (linking q p d a z) = absurd (false≢true (sym d ∙ ticket-yes t (ancestor t S N) ticket root-S))
+        by (waiting q p f a z) =
             let there-good : good-place t S (Wait (ancestor t S N)) ≡ true = rw p at (good S S-real) in
             absurd (false≢true (sym (queue-facts t S (ancestor t S N) there-good .1) ∙ ticket-yes t (ancestor t S N) ticket root-S))
         by (watching p n q f) = record { watching-there = p; at-top = n; counted = f }
@@ -299,10 +299,11 @@ module _ (t : Tree) (𝓐 : Accepted t) (s : WordState) (room : Room s) (g : Sta
           same-tally = λ m b. tally-far (record-at t j m) (others-far j m hj ns (omega arith));
           next-set = λ m q b z. z;
           next-none = λ m q z. z;
-          same-link = λ m p q nd a z. (
+          same-link = λ m p q nd a. (
             rw (put-other (g .queue) L (r ∷ ys) (ancestor t j m) (λ y. queue-lower t (ancestor t j m) nd ticket (y ∙ there))) a,
-            z,
+            refl,
           );
+          not-last = λ m b z. z;
         }
 
     handed-over : Represents t raised-words handed-state

@@ -8,7 +8,7 @@ use native.Mathlib.Omega.{arith}
 use lib.Dec.{eqb}
 use borrow.Author.Tests.{eqb-true, ne-eqb}
 use Rattle.model.specs.declared.Place.{Place}
-use Rattle.model.specs.declared.Place.the-variants.{Idle, Wait, Help, Watch}
+use Rattle.model.specs.declared.Place.the-variants.{Idle, Link, Wait, Help, Watch}
 use Rattle.model.specs.Trees.{Tree, is-ticket}
 use Rattle.model.specs.States.{none}
 use Rattle.model.specs.Steps.{done-place}
@@ -17,7 +17,7 @@ use Rattle.model.proofs.Trees.Accepted.{Accepted}
 use Rattle.model.proofs.Trees.Tickets.{ticket-yes, queue-lower}
 use Rattle.model.proofs.Trees.Paths.{ancestor-root, home-test}
 use Rattle.model.proofs.Trees.Records.{child-at, record-injective}
-use Rattle.model.proofs.Queues.Lists.{same-or, put, put-same, put-other, first, rest, first-rest, is-same, count, count-cons, count-nil}
+use Rattle.model.proofs.Queues.Lists.{same-or, put, put-same, put-other, first, rest, first-cons, first-rest, is-same, count, count-cons, count-nil}
 use Rattle.model.proofs.Queues.Paths.{laws}
 use Rattle.model.proofs.Queues.Moves.{Stage, out, climb, queued, ready, inside, holding, releasing, down, low, acts, reach, State, Last, root, lower, let-go}
 use Rattle.model.proofs.Queues.Invariant.{Inv, same-user, one-queue}
@@ -54,8 +54,12 @@ done-fits t w g i (suc k) l c = rw (← letting-go-lower (height t i) k l) (at-h
 
 -- a thread that stands ungranted is in Link or in Wait, or watches at a ticket root
 pub data Ungranted (t : Tree) (w : Words) (g : State) (s n : ℕ) (p : Place) : Type 0 where
-  linking : (q : ℕ) → is-ticket t (ancestor t s n) ≡ false → after (g .queue (ancestor t s n)) q ≡ suc (record-at t s n) → w .nexts q ≡ 0 → Ungranted t w g s n p
-  waiting : p ≡ Wait (ancestor t s n) → Counted t w g s n → Ungranted t w g s n p
+  linking :
+      (q : ℕ) → p ≡ Link (ancestor t s n) q → is-ticket t (ancestor t s n) ≡ false → after (g .queue (ancestor t s n)) q ≡ suc (record-at t s n) → w .nexts q ≡ 0 →
+      Ungranted t w g s n p
+  waiting :
+      (q : ℕ) → p ≡ Wait (ancestor t s n) → Counted t w g s n → after (g .queue (ancestor t s n)) q ≡ suc (record-at t s n) → w .nexts q ≡ suc (record-at t s n) →
+      Ungranted t w g s n p
   watching : p ≡ Watch → n ≡ height t s → t .ticket-root ≡ true → Counted t w g s n → Ungranted t w g s n p
 
 -- at any other place its record is first wherever it acts
@@ -68,8 +72,8 @@ firm-last h n k e = firm h n (letting-go h k) e (letting-go-low h k ∙ sym (let
 
 pub ungranted : {t : Tree} {w : Words} {g : State} {s : ℕ} (n : ℕ) {p : Place} {x : Stage} → x ≡ queued n → Fits t w g s p x → Ungranted t w g s n p
 unfolding low acts
-ungranted {t} {s = s} n e (at-link k p l c d a z f) = let q : k ≡ n = cc in linking p (rw q at d) (rw q at a) z
-ungranted {t} {s = s} n e (at-wait k l c f) = let q : k ≡ n = cc in waiting (ap (λ m. Wait (ancestor t s m)) q) (rw q at c)
+ungranted {t} {s = s} n e (at-link k p l c d a z f) = let q : k ≡ n = cc in linking p (ap (λ m. Link (ancestor t s m) p) q) (rw q at d) (rw q at a) z
+ungranted {t} {s = s} n e (at-wait k p l c d a z f) = let q : k ≡ n = cc in waiting p (ap (λ m. Wait (ancestor t s m)) q) (rw q at c) (rw q at a) (rw q at z)
 ungranted {t} {s = s} n e (at-watch k l r c) = let q : k ≡ n = cc in watching refl (sym q ∙ l) r (rw q at c)
 ungranted n e (at-draw k l r c) = firm 0 n (climb k) e refl
 ungranted n e (at-shown r c) = firm 0 n ready e refl
@@ -84,7 +88,7 @@ ungranted n e (at-check k l c) = firm 0 n holding e refl
 ungranted n e (at-pass k r v l c a z b) = firm 0 n holding e refl
 ungranted {t} {s = s} n e (at-help k l c) = firm-last (height t s) n k e
 ungranted {t} {s = s} n e (at-cas k l c) = firm-last (height t s) n k e
-ungranted {t} {s = s} n e (at-linger k l c) = firm-last (height t s) n k e
+ungranted {t} {s = s} n e (at-linger k l c m) = firm-last (height t s) n k e
 ungranted {t} {s = s} n e (at-grant k r l c a) = firm-last (height t s) n k e
 
 module _ (t : Tree) (𝓐 : Accepted t) (w : Words) (g : State) (i : ℕ) (h : i < t .threads) (o : Others t w g i) (k : ℕ) (l : k ≤ height t i)
@@ -130,7 +134,7 @@ module _ (t : Tree) (𝓐 : Accepted t) (w : Words) (g : State) (i : ℕ) (h : i
       (done-fits t vacated vacated-state i k l (λ m b q. c m (omega arith) q))
       (λ j hj n. apart t 𝓐 w g i h o vacated vacated-state 0 (omega arith) j hj n (put-other (w .places) i (done-at t i k) j n)
       (put-other (g .stage) i (down k) j n) (λ r q. refl) (λ r q. refl) (λ r q. refl)
-      (λ m p q nd a z. (
+      (λ m p q nd a. (
         same-or (ancestor t j m) L _
             (λ y.
             let a′ : after (R ∷ []) p ≡ suc (record-at t j m) = rw (y, shape) at a in
@@ -138,8 +142,11 @@ module _ (t : Tree) (𝓐 : Accepted t) (w : Words) (g : State) (i : ℕ) (h : i
             (λ x. absurd (omega (arith, after-here p R [] x, first-none)))
             (λ x. absurd (omega (arith, after-past p R [] x, after-nil p))))
             (λ y. rw (put-other (g .queue) L [] (ancestor t j m) y) a),
-        z,
-      )))
+        refl,
+      ))
+      (λ d r q z y. same-or d L _
+      (λ x. let none-there = put-same (w .tails) L none d x in omega arith)
+      (λ x. z (sym (put-other (w .tails) L none d x) ∙ y))))
     where
       first-none : first [] ≡ 0
       first-none = unfold first in refl
@@ -188,12 +195,12 @@ module _ (t : Tree) (𝓐 : Accepted t) (w : Words) (g : State) (i : ℕ) (h : i
     successor-waits n = by (ungranted N (successor .waits) (o .others S successor-real n))
       where
         by : Ungranted t w g S N (w .places S) → (w .places S ≡ Wait (ancestor t S N)) × Counted t w g S N
-        by (linking q d a z) =
+        by (linking q p d a z) =
             let a′ : after (R ∷ r ∷ rest-two) q ≡ suc r = rw (successor .place, successor .mine, shape-two) at a in
             let one : count r (R ∷ r ∷ rest-two) ≤ 1 = rw shape-two at (inv .once L r) in
             let e = before-second q R r rest-two a′ one in
             absurd (let z′ : w .nexts R ≡ 0 = rw e at z in omega arith)
-        by (waiting e c) = (e, c)
+        by (waiting q e c a z) = (e, c)
         by (watching e z y c) =
             let root : ancestor t S N ≡ 0 = ap (ancestor t S) z ∙ ancestor-root t 𝓐 S successor-real in
             absurd (false≢true (sym nt ∙ ticket-yes t L y (sym (successor .place) ∙ root)))
@@ -260,15 +267,17 @@ module _ (t : Tree) (𝓐 : Accepted t) (w : Words) (g : State) (i : ℕ) (h : i
             same-tally = λ m b. tally-far (record-at t j m) (far m (omega arith));
             next-set = λ m q b e. e;
             next-none = λ m e z. z;
-            same-link = λ m p e nd a z. (
+            same-link = λ m p e nd a. (
               same-or (ancestor t j m) L _
                   (λ y.
                   let a′ : after (R ∷ r ∷ rest-two) p ≡ suc (record-at t j m) = rw (y, shape-two) at a in
-                  let away : p ≢ R = λ q. let z′ : w .nexts R ≡ 0 = rw q at z in omega arith in
+                  let low-j : low (height t j) (g .stage j) ≡ m = ap (low (height t j)) e in
+                  let away : p ≢ R = λ q. far m (omega arith) (omega (arith, after-here p R (r ∷ rest-two) q, first-cons r rest-two)) in
                   rw (y, put-same (g .queue) L (r ∷ rest-two) L refl) (sym (after-past p R (r ∷ rest-two) away) ∙ a′))
                   (λ y. rw (put-other (g .queue) L (r ∷ rest-two) (ancestor t j m) y) a),
-              z,
+              refl,
             );
+            not-last = λ m b z. z;
           }
 
       -- the successor's counts below where it stood

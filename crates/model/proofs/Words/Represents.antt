@@ -61,7 +61,7 @@ letting-go-low h k = by (eqb k h) refl
     by true e = ap suc (sym (eqb-true k h e))
     by false e = refl
 
--- what a thread's place says of the queues and the words, with the stage that it is
+-- what a thread's place says of the queues and the words, with the stage that it is. In Link the record before has no next yet, in Wait it names the own
 pub data Fits (t : Tree) (w : Words) (g : State) (i : ℕ) : Place → Stage → Type 0 where
   at-idle : Fits t w g i Idle out
   at-prep : (k : ℕ) → k ≤ height t i → Counted t w g i k → Fits t w g i (Prep (ancestor t i k)) (climb k)
@@ -72,8 +72,8 @@ pub data Fits (t : Tree) (w : Words) (g : State) (i : ℕ) : Place → Stage →
       (k p : ℕ) → k ≤ height t i → Counted t w g i k → is-ticket t (ancestor t i k) ≡ false → after (g .queue (ancestor t i k)) p ≡ suc (record-at t i k) →
       w .nexts p ≡ 0 → w .statuses (record-at t i k) ≡ waiting-word (ancestor t i k) → Fits t w g i (Link (ancestor t i k) p) (queued k)
   at-wait :
-      (k : ℕ) → k ≤ height t i → Counted t w g i k → w .statuses (record-at t i k) ≡ waiting-word (ancestor t i k) →
-      Fits t w g i (Wait (ancestor t i k)) (queued k)
+      (k p : ℕ) → k ≤ height t i → Counted t w g i k → is-ticket t (ancestor t i k) ≡ false → after (g .queue (ancestor t i k)) p ≡ suc (record-at t i k) →
+      w .nexts p ≡ suc (record-at t i k) → w .statuses (record-at t i k) ≡ waiting-word (ancestor t i k) → Fits t w g i (Wait (ancestor t i k)) (queued k)
   -- granted, and to acquire the parent
   at-woken :
       (k : ℕ) → k < height t i → Counted t w g i k → w .statuses (record-at t i k) ≡ acquire-parent → g .tally (record-at t i k) ≡ 1 →
@@ -90,7 +90,10 @@ pub data Fits (t : Tree) (w : Words) (g : State) (i : ℕ) : Place → Stage →
       v ≤ t .threshold (ancestor t i k) → Fits t w g i (Grant (ancestor t i k) r v) holding
   at-help : (k : ℕ) → k ≤ height t i → Counted t w g i (suc k) → Fits t w g i (Help (ancestor t i k)) (letting-go (height t i) k)
   at-cas : (k : ℕ) → k ≤ height t i → Counted t w g i (suc k) → Fits t w g i (Cas (ancestor t i k)) (letting-go (height t i) k)
-  at-linger : (k : ℕ) → k ≤ height t i → Counted t w g i (suc k) → Fits t w g i (Linger (ancestor t i k)) (letting-go (height t i) k)
+  -- the own record is not the last there
+  at-linger :
+      (k : ℕ) → k ≤ height t i → Counted t w g i (suc k) → w .tails (ancestor t i k) ≢ suc (record-at t i k) →
+      Fits t w g i (Linger (ancestor t i k)) (letting-go (height t i) k)
   at-grant :
       (k r : ℕ) → k ≤ height t i → Counted t w g i (suc k) → w .nexts (record-at t i k) ≡ suc r →
       Fits t w g i (Grant (ancestor t i k) r (release-word (ancestor t i k))) (letting-go (height t i) k)
@@ -115,8 +118,10 @@ pub record Apart (t : Tree) (w : Words) (g : State) (w′ : Words) (g′ : State
   pub next-set : (k r : ℕ) → k < low (height t j) (g .stage j) → w .nexts (record-at t j k) ≡ suc r → w′ .nexts (record-at t j k) ≡ suc r
   pub next-none : (k : ℕ) → g .stage j ≡ climb k → w .nexts (record-at t j k) ≡ 0 → w′ .nexts (record-at t j k) ≡ 0
   pub same-link :
-      (k p : ℕ) → g .stage j ≡ queued k → is-ticket t (ancestor t j k) ≡ false → after (g .queue (ancestor t j k)) p ≡ suc (record-at t j k) → w .nexts p ≡ 0 →
-      (after (g′ .queue (ancestor t j k)) p ≡ suc (record-at t j k)) × (w′ .nexts p ≡ 0)
+      (k p : ℕ) → g .stage j ≡ queued k → is-ticket t (ancestor t j k) ≡ false → after (g .queue (ancestor t j k)) p ≡ suc (record-at t j k) →
+      (after (g′ .queue (ancestor t j k)) p ≡ suc (record-at t j k)) × (w′ .nexts p ≡ w .nexts p)
+  pub not-last :
+      (k : ℕ) → k < low (height t j) (g .stage j) → w .tails (ancestor t j k) ≢ suc (record-at t j k) → w′ .tails (ancestor t j k) ≢ suc (record-at t j k)
 
 module _ {t : Tree} {w : Words} {g : State} {w′ : Words} {g′ : State} {j : ℕ} (a : Apart t w g w′ g′ j) where
   counted-kept : (n : ℕ) → n ≤ low (height t j) (g .stage j) → Counted t w g j n → Counted t w′ g′ j n
@@ -135,11 +140,12 @@ module _ {t : Tree} {w : Words} {g : State} {w′ : Words} {g′ : State} {j : �
       at-swap k l (counted-kept k (omega arith) c) (a .next-none k e n) (a .same-status k (omega arith) ∙ s)
   fits-kept e (at-link k p l c q f n s) =
       let z = stage-low (queued k) e in
-      let both = a .same-link k p e q f n in
-      at-link k p l (counted-kept k (omega arith) c) q (both .0) (both .1) (a .same-status k (omega arith) ∙ s)
-  fits-kept e (at-wait k l c s) =
+      let both = a .same-link k p e q f in
+      at-link k p l (counted-kept k (omega arith) c) q (both .0) (both .1 ∙ n) (a .same-status k (omega arith) ∙ s)
+  fits-kept e (at-wait k p l c q f n s) =
       let z = stage-low (queued k) e in
-      at-wait k l (counted-kept k (omega arith) c) (a .same-status k (omega arith) ∙ s)
+      let both = a .same-link k p e q f in
+      at-wait k p l (counted-kept k (omega arith) c) q (both .0) (both .1 ∙ n) (a .same-status k (omega arith) ∙ s)
   fits-kept e (at-woken k l c s v) =
       let z = stage-low (climb (suc k)) e in
       at-woken k l (counted-kept k (omega arith) c) (a .same-status k (omega arith) ∙ s) (a .same-tally k (omega arith) ∙ v)
@@ -156,8 +162,10 @@ module _ {t : Tree} {w : Words} {g : State} {w′ : Words} {g′ : State} {j : �
       let z = stage-low (letting-go (height t j) k) e in at-help k l (counted-kept (suc k) (omega (arith, letting-go-low (height t j) k)) c)
   fits-kept e (at-cas k l c) =
       let z = stage-low (letting-go (height t j) k) e in at-cas k l (counted-kept (suc k) (omega (arith, letting-go-low (height t j) k)) c)
-  fits-kept e (at-linger k l c) =
-      let z = stage-low (letting-go (height t j) k) e in at-linger k l (counted-kept (suc k) (omega (arith, letting-go-low (height t j) k)) c)
+  fits-kept e (at-linger k l c n) =
+      let z = stage-low (letting-go (height t j) k) e in
+      let y = letting-go-low (height t j) k in
+      at-linger k l (counted-kept (suc k) (omega arith) c) (a .not-last k (omega arith) n)
   fits-kept e (at-grant k r l c n) =
       let z = stage-low (letting-go (height t j) k) e in
       let y = letting-go-low (height t j) k in

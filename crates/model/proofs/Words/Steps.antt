@@ -55,7 +55,7 @@ module _ (t : Tree) (𝓐 : Accepted t) (bits : Sixteen-bit t) (s : WordState) (
   row-outcome y q e (at-prep k l c) = prep-outcome t 𝓐 s room g i h o k l e c
   row-outcome y q e (at-swap k l c n v) = swap-outcome t 𝓐 s room g i h o k l (queue-there k q) e c n v
   row-outcome y q e (at-link k p l c d a n v) = link-outcome t 𝓐 s room g i h o k p l d e c a n v
-  row-outcome y q e (at-wait k l c v) = wait-outcome t 𝓐 s room g i h o rep k l v _ refl
+  row-outcome y q e (at-wait k p l c d a n v) = wait-outcome t 𝓐 s room g i h o rep k l v _ refl
   row-outcome y q e (at-woken k b c v z) = woken-outcome t 𝓐 s room g i h o k b e c v z
   row-outcome y q e (at-ready k l c v p) = ready-outcome t 𝓐 s room g i h o bits k l e c v _ refl
   row-outcome y q e (at-inside c) = leave-outcome t 𝓐 s room g i h o e c
@@ -63,7 +63,7 @@ module _ (t : Tree) (𝓐 : Accepted t) (bits : Sixteen-bit t) (s : WordState) (
   row-outcome y q e (at-pass k r v b c n z f) = pass-outcome t 𝓐 s room g i h o k r v b e c n z f
   row-outcome y q e (at-help k l c) = help-outcome t 𝓐 s room g i h o k l (queue-there k q) e c
   row-outcome y q e (at-cas k l c) = cas-outcome t 𝓐 s room g i h o k l (queue-there k q) e c
-  row-outcome y q e (at-linger k l c) = linger-outcome t 𝓐 s room g i h o k l (queue-there k q) e c rep
+  row-outcome y q e (at-linger k l c n) = linger-outcome t 𝓐 s room g i h o k l (queue-there k q) e c rep
   row-outcome y q e (at-grant k r l c n) =
       grant-outcome t 𝓐 s room g i h o k l (queue-there k (and-both (queue-on-path t i (ancestor t i k)) (is-member t (ancestor t i k) r) q .0)) e c r n
   row-outcome y q e (at-draw k l r c) = draw-outcome t 𝓐 s room g i h o r k l 0 (ap (ancestor t i) l ∙ ancestor-root t 𝓐 i h) e c
