@@ -5,8 +5,8 @@
  *
  * Pointers are the one thing that no function can test. A buffer must be valid for its length, and may be null where the length is 0; the
  * pointers to a state, a place or a length must be valid, aligned and not null. The buffers of one call must not overlap, and two threads
- * that call at the same time must write to different ones. hmcs_run_file needs 160 KB of stack, every other function at
- * most 26 KB beside its arguments and its result, which are up to 16 KB in the caller.
+ * that call at the same time must write to different ones. hmcs_run_file and hmcs_run_many need 160 KB of stack, every other
+ * function at most 26 KB beside its arguments and its result, which are up to 16 KB in the caller.
  *
  * Compare two states field by field, never by memcmp: struct hmcs_place and struct hmcs_state have padding, and so has struct hmcs_text_reply.
  */
@@ -99,6 +99,8 @@ enum hmcs_refusal {
     HMCS_OUTPUT_SHORT = 14,    /* The output buffer is shorter than the listing. */
     HMCS_TEXT_WRONG = 15,      /* The text leaves the grammar, the place being the first byte that no text could continue with, or the length. */
     HMCS_EMPTY_DOMAIN = 16,    /* A domain has no thread under it, the place being the lowest such domain. Tested straight after 9. */
+    HMCS_LENGTHS_WRONG = 22,   /* The schedules' lengths do not add up to the entries given. */
+    HMCS_ROWS_SHORT = 23,      /* The row buffer holds fewer rows than there are schedules. */
     HMCS_BAD_TIME = 24         /* A passing time isn't a number from 1/1024 to 1,048,576, the place being 1 to 3. */
 };
 
@@ -122,6 +124,8 @@ static inline const char *hmcs_refusal_text(uint32_t number) {
     case HMCS_OUTPUT_SHORT: return "the output buffer is shorter than the listing";
     case HMCS_TEXT_WRONG: return "the text leaves the grammar of trees";
     case HMCS_EMPTY_DOMAIN: return "a domain has no thread under it";
+    case HMCS_LENGTHS_WRONG: return "the lengths do not add up to the entries given";
+    case HMCS_ROWS_SHORT: return "the row buffer holds fewer rows than there are schedules";
     case HMCS_BAD_TIME: return "a passing time isn't a number from 1/1024 to 1,048,576";
     default: return "no refusal has this number";
     }
@@ -212,6 +216,17 @@ hmcs_answer hmcs_fresh_in_place(hmcs_tree tree, hmcs_state *state, uint16_t star
 
 /* One step of the state that the host keeps, in place: the same as hmcs_step. Refused, the state is as it was. */
 hmcs_step_answer hmcs_step_in_place(hmcs_tree tree, hmcs_state *state, uint16_t thread);
+
+/* Numbers of a row: number, place, steps, entries, stays, root, passed and crossed, in this order, as hmcs_run_reply has them. */
+enum { HMCS_ROW_NUMBERS = 8 };
+
+/* Many schedules on one tree, their entries behind one another: lengths_length schedules, the first of lengths[0] entries, and so on. Each runs
+ * from its own fresh lock (of start 0), and what hmcs_run would answer of it alone, with a trace buffer of its length, is its row, in the order of the
+ * schedules at the front of the rows; nothing behind them is written, and no trace is kept. A schedule with more than 65,536 entries (11) or
+ * with an entry that is no thread (12, the place being its position in that schedule) has this in its row, with counts 0, and the others run
+ * all the same. The whole call is refused by 4 to 9 and 16, then by 22, then by 23; then the rows are as they came. A buffer of k numbers
+ * holds k / 8 rows, rounded down. No schedules and no entries is accepted. */
+hmcs_answer hmcs_run_many(hmcs_tree tree, const uint32_t *lengths, size_t lengths_length, const uint16_t *entries, size_t entries_length, uint32_t *rows, size_t rows_length);
 
 /* The file call: reads a lock file, runs its schedule from a fresh lock (of start 0), and writes the listing at the front of the output. Returns the
  * number; *place is its place, *length the listing's length, 0 where it is refused. Refused by 1 to 9, 16, 12 and 14; then the output is as

@@ -171,6 +171,41 @@ private:
     Refusal refusal_;
 };
 
+// Of one of many schedules: refused (11, 12), the counts are 0.
+struct Row {
+    Refusal refusal;
+    Counts counts;
+};
+
+struct ManyResult {
+    Refusal refusal;       // of the whole call, by the tree; then there are no rows
+    std::vector<Row> rows; // one for each schedule, in their order
+};
+
+// Many schedules on one tree, each from its own fresh lock. Traces are not kept.
+inline ManyResult run_many(const Tree &tree, const std::vector<std::vector<std::uint16_t>> &schedules) {
+    constexpr std::size_t longest = 65537; // a longer schedule is refused (11) as this one is
+    std::vector<std::uint32_t> lengths;
+    std::vector<std::uint16_t> entries;
+    for (const std::vector<std::uint16_t> &schedule : schedules) {
+        const std::size_t length = std::min(schedule.size(), longest);
+        lengths.push_back(static_cast<std::uint32_t>(length));
+        entries.insert(entries.end(), schedule.begin(), schedule.begin() + static_cast<std::ptrdiff_t>(length));
+    }
+    std::vector<std::uint32_t> numbers(schedules.size() * HMCS_ROW_NUMBERS);
+    const hmcs_answer answer = hmcs_run_many(tree.words(), lengths.data(), lengths.size(), entries.data(), entries.size(), numbers.data(), numbers.size());
+    ManyResult result;
+    result.refusal = Refusal{answer.number, answer.place};
+    if (result.refusal) {
+        return result;
+    }
+    for (std::size_t at = 0; at < numbers.size(); at += HMCS_ROW_NUMBERS) {
+        const std::uint32_t *n = numbers.data() + at;
+        result.rows.push_back(Row{Refusal{n[0], n[1]}, Counts{n[2], n[3], n[4], n[5], n[6], n[7]}});
+    }
+    return result;
+}
+
 struct FileResult {
     Refusal refusal;
     std::string listing;

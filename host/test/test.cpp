@@ -1,13 +1,10 @@
 // The C boundary as a host uses it: layouts by round trips, the specification's cases, and that nothing outside the buffers is touched.
 #include "check.hpp"
+#include "guarded.hpp"
 #include "hmcs.hpp"
 #include "same.hpp"
 
-#include <sys/mman.h>
-#include <unistd.h>
-
 #include <cstdio>
-#include <cstdlib>
 #include <cstring>
 #include <memory>
 #include <string>
@@ -15,35 +12,6 @@
 #include <vector>
 
 namespace {
-
-// Memory with pages before and behind it that nobody may read or write.
-class Guarded {
-public:
-    // The bytes end where the guard behind begins, or begin where the guard before ends.
-    Guarded(std::size_t size, bool at_end) : size_(size) {
-        const std::size_t page = static_cast<std::size_t>(sysconf(_SC_PAGESIZE));
-        const std::size_t inner = (size + page - 1) / page * page + (size == 0 ? page : 0);
-        whole_ = inner + 2 * page;
-        base_ = static_cast<unsigned char *>(mmap(nullptr, whole_, PROT_NONE, MAP_PRIVATE | MAP_ANONYMOUS, -1, 0));
-        if (base_ == MAP_FAILED || mprotect(base_ + page, inner, PROT_READ | PROT_WRITE) != 0) {
-            std::perror("guard pages");
-            std::exit(2);
-        }
-        bytes_ = at_end ? base_ + page + inner - size : base_ + page;
-    }
-    Guarded(const Guarded &) = delete;
-    Guarded &operator=(const Guarded &) = delete;
-    ~Guarded() { munmap(base_, whole_); }
-
-    template <typename T> T *as() { return reinterpret_cast<T *>(bytes_); }
-    std::size_t size() const { return size_; }
-
-private:
-    std::size_t size_;
-    std::size_t whole_;
-    unsigned char *base_;
-    unsigned char *bytes_;
-};
 
 const std::vector<std::uint16_t> schedule22 = {0, 0, 0, 0, 1, 1, 1, 1, 0, 0, 0, 1, 2, 2, 2, 2, 2, 1, 1, 1, 1, 2};
 

@@ -1,9 +1,11 @@
 // What a C or C++ host calls; host/include/hmcs.h declares it there. Numbers, arrays and structs of them alone cross.
 ghost use mathlib.Core.Path.{_≡_};
 ghost use Rattle.model.specs.Answers.{fresh-answer, step-answer, run-answer, trace-answer};
+ghost use Rattle.host.specs.Answers.{answer-of};
 ghost use Rattle.host.specs.InPlace.{fresh-kept, fresh-left, fresh-number, step-told};
 ghost use Rattle.lock_file.specs.FileAnswers.{file-answer, output-answer};
 ghost use Rattle.rate.specs.Answers.{rate-answer, reply-of};
+ghost use Rattle.schedules.specs.Answers.{many-answer, rows-answer};
 ghost use Rattle.text_tree.specs.Answers.{text-answer};
 use model::FreshReply;
 use model::RunReply;
@@ -136,4 +138,22 @@ pub extern "C" fn hmcs_read_text(text: &[u8]) -> TextReply
     ensures { λ r. ⌜ r ≡ text-answer (now (text .entry)) ⌝ }
 {
     text_tree::read_text(text)
+}
+
+// Many schedules on one tree, all entries behind one another, each run from its own fresh lock: of each a row of eight numbers at the front of the rows; refused as a whole, the rows as they came.
+#[no_mangle]
+pub extern "C" fn hmcs_run_many(
+    tree: TreeWords,
+    lengths: &[u32],
+    entries: &[u16],
+    rows: &mut [u32],
+) -> Answer
+    ensures { λ r. ⌜ r ≡ answer-of (many-answer tree (now (lengths .entry)) (now (entries .entry)) (now (rows .entry))) ⌝ }
+    ensures { λ r. ⌜ now (rows .exit) ≡ rows-answer tree (now (lengths .entry)) (now (entries .entry)) (now (rows .entry)) ⌝ }
+{
+    let r = lock::run_many(tree, lengths, entries, rows);
+    Answer {
+        number: r.number,
+        place: r.place,
+    }
 }

@@ -9,3 +9,4 @@ pub mod Turns
 pub mod LastTold
 pub mod Answering
 pub mod Starting
+pub mod FreshRow

@@ -6,7 +6,7 @@ use native.Mathlib.Nat.{mod-eq-of-lt}
 use lib.Dec.{eqb}
 use Rattle.model.specs.declared.TreeWords.{TreeWords}
 use Rattle.model.specs.Trees.{tree-of}
-use Rattle.model.specs.States.{wrap, fresh-state}
+use Rattle.model.specs.States.{wrap, fresh-words, fresh-state}
 use Rattle.lock.specs.Running.{fresh-from, first-number}
 
 first-is : (n k v : ℕ) → v < 65536 → first-number n k v ≡ cond (not (eqb k 0)) (wrap (cond (eqb n 0) v 0)) 0
@@ -21,3 +21,8 @@ first-is n k v h = by (eqb n 0) (eqb k 0)
 pub fresh-is : (w : TreeWords) (n v : ℕ) → v < 65536 → fresh-from (first-number n (w .«ticket_root») v) ≡ fresh-state (tree-of w) (cond (eqb n 0) v 0)
 unfolding fresh-state tree-of
 fresh-is w n v h = ap fresh-from (first-is n (w .«ticket_root») v h)
+
+-- counters that start at 0 are those of fresh words
+pub fresh-from-zero : fresh-from 0 ≡ fresh-words
+unfolding fresh-words
+fresh-from-zero = refl

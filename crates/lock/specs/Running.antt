@@ -74,3 +74,7 @@ fresh-from v = with-grant v (with-ticket v fresh-words)
 -- that number, by a refusal's number, the number that names the kind of root, and the start that is given
 abbrev pub first-number : (number kind start : ℕ) → ℕ
 first-number n k v = cond (eqb n 0) (cond (eqb k 0) 0 v) 0
+
+-- the numbers of a row, by number, place and counts
+abbrev pub row-numbers : (number place : ℕ) → Counts → List ℕ
+row-numbers n p c = n ∷ p ∷ c .steps ∷ c .entries ∷ c .stays ∷ c .root ∷ c .passed ∷ c .crossed ∷ []

@@ -3,7 +3,10 @@ ghost use mathlib.Core.Path.{_≡_};
 ghost use Rattle.lock.specs.Running.{fresh-from, first-number};
 ghost use Rattle.model.specs.Refusals.{refusal};
 ghost use Rattle.model.specs.Answers.{fresh-answer, step-answer, run-refused, run-answer, trace-answer};
+ghost use Rattle.refusals.specs.Arrays.{told};
+ghost use Rattle.schedules.specs.Answers.{many-answer, rows-answer};
 
+mod many;
 mod places;
 mod rows;
 mod run;
@@ -15,6 +18,7 @@ use model::RunReply;
 use model::State;
 use model::StepReply;
 use model::TreeWords;
+use refusals::Refusal;
 
 // The state of a fresh lock, by the number at which its counters start.
 fn fresh_state(first: u16) -> State
@@ -141,4 +145,18 @@ pub fn run_lock(tree: TreeWords, state: State, schedule: &[u16], trace: &mut [u1
         counts,
         state: after,
     }
+}
+
+// Many schedules, the entries of all of them behind one another: of each, run from its own fresh lock, one row of eight numbers at the front of the rows. Refused as a whole, the rows as they came.
+pub fn run_many(tree: TreeWords, lengths: &[u32], entries: &[u16], rows: &mut [u32]) -> Refusal
+    ensures { λ r. ⌜ r ≡ told (many-answer tree (now (lengths .entry)) (now (entries .entry)) (now (rows .entry))) ⌝ }
+    ensures { λ r. ⌜ now (rows .exit) ≡ rows-answer tree (now (lengths .entry)) (now (entries .entry)) (now (rows .entry)) ⌝ }
+{
+    let r = schedules::many_refusal_of(tree, lengths, entries.len(), rows.len());
+    if r.number != 0 {
+        return r;
+    }
+    let mut trace = [0u16; 65536];
+    many::run_rows(tree, lengths, entries, &mut trace, rows);
+    r
 }

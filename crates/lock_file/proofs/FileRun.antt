@@ -13,13 +13,14 @@ use Rattle.model.specs.declared.State.{State}
 use Rattle.model.specs.declared.FreshReply.{FreshReply}
 use Rattle.model.specs.declared.RunReply.{RunReply}
 use Rattle.model.specs.Trees.{Tree, tree-of}
-use Rattle.model.specs.States.{wrap, fresh-words, with-ticket, with-grant, fresh-state}
+use Rattle.model.specs.States.{fresh-words, fresh-state}
 use Rattle.model.specs.Steps.{is-entry, Step}
 use Rattle.model.specs.Runs.{Run, steps, how-many, counts-of, run-of, run}
 use Rattle.model.specs.Refusals.{tree-refusal, Refusal, lowest-bad, first-refusal, bad-room, tree-tests, run-tests, run-refusal}
 use Rattle.model.specs.Answers.{fresh-answer, run-accepted, run-refused, run-reply, run-buffer, run-answer, trace-answer}
 use Rattle.model.specs.Laws.{Count-law}
 use Rattle.model.proofs.Tests.{by-test}
+use Rattle.model.proofs.Laws.Form.{fresh-at-zero}
 use Rattle.model.proofs.Laws.Runs.{steps-length, count-law}
 use Rattle.lock_file.specs.Reading.{entries-from, entries-at}
 use Rattle.lock_file.specs.FileAnswers.{tree-outcome, run-outcome, file-run, file-trace}
@@ -95,14 +96,12 @@ replied-within w is buffer =
 
 -- a fresh call that starts at 0 returns words that are 0 throughout, accepted or refused
 pub zero-start : (w : TreeWords) → fresh-answer w 0 .state ≡ fresh-words
-unfolding fresh-answer fresh-state fresh-words
-zero-start w = by (eqb (tree-refusal (tree-of w) .number) 0) (tree-of w .ticket-root)
+unfolding fresh-answer
+zero-start w = by (eqb (tree-refusal (tree-of w) .number) 0)
   where
-    by : (a b : Bool) → (let first = cond b (wrap (cond a 0 0)) 0 in with-grant first (with-ticket first fresh-words)) ≡ fresh-words
-    by true true = refl
-    by true false = refl
-    by false true = refl
-    by false false = refl
+    by : (a : Bool) → fresh-state (tree-of w) (cond a 0 0) ≡ fresh-words
+    by true = fresh-at-zero (tree-of w)
+    by false = fresh-at-zero (tree-of w)
 
 pub fresh-zero : (w : TreeWords) (r : FreshReply) → r ≡ fresh-answer w 0 → r .state ≡ fresh-words
 fresh-zero w r e = ap (λ x. x .state) e ∙ zero-start w

@@ -3,14 +3,14 @@ use mathlib.Core.Bool.{cond}
 use mathlib.Core.List.{List, _++_}
 use Prim.Native.Nat.{ℕ}
 use lib.Dec.{ltb, eqb}
-use lib.ListN.{length, drop, replicate}
+use lib.ListN.{length, drop}
 use Rattle.model.specs.declared.TreeWords.{TreeWords}
 use Rattle.model.specs.declared.RunReply.{RunReply}
 use Rattle.model.specs.Trees.{tree-of}
 use Rattle.model.specs.States.{fresh-words}
 use Rattle.model.specs.Runs.{run}
 use Rattle.model.specs.Refusals.{Refusal, refusal}
-use Rattle.model.specs.Answers.{run-answer}
+use Rattle.model.specs.Answers.{lone-answer}
 use Rattle.lock_file.specs.declared.FileReply.{FileReply}
 use Rattle.lock_file.specs.Reading.{Reading, refused, described, file-read}
 use Rattle.lock_file.specs.Listing.{listing}
@@ -30,9 +30,9 @@ run-outcome r trace room =
     cond (eqb (r .number) 0) (listing-outcome (listing (r .counts) trace) room)
     (refused-by (refusal (r .number) (r .place)))
 
--- the file call's run: from a fresh lock, with a trace buffer of the schedule's length
+-- the file call's run, on a lock of its own
 unfoldable pub file-run : TreeWords → (schedule : List ℕ) → RunReply
-file-run w is = run-answer w fresh-words is (replicate (length is) 0)
+file-run w is = lone-answer w is
 
 unfoldable pub file-trace : TreeWords → (schedule : List ℕ) → List ℕ
 file-trace w is = run (tree-of w) is fresh-words .trace

@@ -3,7 +3,7 @@ use mathlib.Core.Bool.{cond}
 use mathlib.Core.List.{List, [], _∷_, _++_}
 use Prim.Native.Nat.{ℕ}
 use lib.Dec.{eqb}
-use lib.ListN.{length, drop}
+use lib.ListN.{length, drop, replicate}
 use Rattle.model.specs.declared.TreeWords.{TreeWords}
 use Rattle.model.specs.declared.State.{State}
 use Rattle.model.specs.declared.Counts.{Counts}
@@ -11,7 +11,7 @@ use Rattle.model.specs.declared.FreshReply.{FreshReply}
 use Rattle.model.specs.declared.StepReply.{StepReply}
 use Rattle.model.specs.declared.RunReply.{RunReply}
 use Rattle.model.specs.Trees.{tree-of}
-use Rattle.model.specs.States.{fresh-state}
+use Rattle.model.specs.States.{fresh-words, fresh-state}
 use Rattle.model.specs.Steps.{kind-number, Step}
 use Rattle.model.specs.Runs.{steps, state-after, Run, run}
 use Rattle.model.specs.Refusals.{Refusal, tree-refusal, step-refusal, run-refusal}
@@ -70,3 +70,7 @@ run-answer w s is b = run-reply (run-refusal (tree-of w) s is (length b)) s (run
 
 unfoldable pub trace-answer : TreeWords → State → (schedule buffer : List ℕ) → List ℕ
 trace-answer w s is b = run-buffer (run-refusal (tree-of w) s is (length b)) b (run (tree-of w) is s)
+
+-- a run on a lock of its own: from fresh words, with a trace buffer of the schedule's length
+abbrev pub lone-answer : TreeWords → (schedule : List ℕ) → RunReply
+lone-answer w is = run-answer w fresh-words is (replicate (length is) 0)

@@ -221,7 +221,7 @@ fn lowest_bad_entry(schedule: &[u16], threads: u32) -> u32
 }
 
 // A run's schedule, and the room for its trace, meet 11 to 13.
-fn schedule_refusal_of(threads: u32, schedule: &[u16], room: usize) -> Refusal
+pub fn schedule_refusal_of(threads: u32, schedule: &[u16], room: usize) -> Refusal
     ensures { λ r. ⌜ r ≡ told (first-refusal (schedule-room-tests (threads-in threads) (now (schedule .entry)) room)) ⌝ }
 {
     if 65536 < schedule.len() {

@@ -5,6 +5,7 @@ pub mod draft;
 pub mod library;
 pub mod listing;
 pub mod lock_file;
+pub mod many;
 pub mod met;
 pub mod opaque;
 pub mod options;

@@ -2,6 +2,7 @@
 
 use crate::calls::Calls;
 use crate::lock_file::FileAnswer;
+use crate::many::RunMany;
 use crate::rate::RateCall;
 use crate::text_tree::TextAnswer;
 
@@ -140,5 +141,38 @@ pub fn read_text() -> Option<ReadText> {
 
 #[cfg(not(library))]
 pub fn read_text() -> Option<ReadText> {
+    None
+}
+
+/// Many schedules in one call, built where the calls on a caller's tree are.
+#[cfg(calls)]
+mod many_entry {
+    use crate::words::TreeWords;
+
+    #[repr(C)]
+    struct Answer {
+        number: u32,
+        place: u32,
+    }
+
+    extern "C" {
+        fn hmcs_run_many(tree: TreeWords, lengths: *const u32, lengths_len: usize, entries: *const u16, entries_len: usize, rows: *mut u32, rows_len: usize) -> Answer;
+    }
+
+    pub fn run_many(tree: &TreeWords, lengths: &[u32], entries: &[u16], rows: &mut [u32]) -> (u32, u32) {
+        // The pointers are valid for their lengths, and nothing else uses what they point to during the call.
+        let answer = unsafe { hmcs_run_many(*tree, lengths.as_ptr(), lengths.len(), entries.as_ptr(), entries.len(), rows.as_mut_ptr(), rows.len()) };
+        (answer.number, answer.place)
+    }
+}
+
+/// The library's call of many schedules, if the program was built with the calls.
+#[cfg(calls)]
+pub fn run_many() -> Option<RunMany> {
+    Some(many_entry::run_many)
+}
+
+#[cfg(not(calls))]
+pub fn run_many() -> Option<RunMany> {
     None
 }

@@ -24,7 +24,7 @@ fn refuse_first(number: u32, mut places: impl Iterator<Item = usize>, bad: impl 
     }
 }
 
-fn refuse_if(number: u32, bad: bool) -> Outcome<()> {
+pub fn refuse_if(number: u32, bad: bool) -> Outcome<()> {
     if bad {
         refuse(number, 0)
     } else {

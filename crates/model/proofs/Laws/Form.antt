@@ -13,7 +13,7 @@ use Rattle.model.specs.declared.Place.the-variants.{Idle, Prep, Swap, Li
 use Rattle.model.specs.declared.State.{State}
 use Rattle.model.specs.Trees.{Tree, is-ticket, on-path, child, own-record, is-record, is-member, owner-domain}
 use Rattle.model.specs.Places.{place-words, words-of, place-of, is-watch}
-use Rattle.model.specs.States.{acquire-parent, wait-word, locked, unlocked, cohort-start, root-word, none, tail, next, status, place, wrap, with-tail, with-status, with-place, with-ticket, fresh-words, fresh-state}
+use Rattle.model.specs.States.{acquire-parent, wait-word, locked, unlocked, cohort-start, root-word, none, tail, next, status, place, wrap, with-tail, with-status, with-place, with-ticket, with-grant, fresh-words, fresh-state}
 use Rattle.model.specs.Steps.{Row-result, acquire-place, acquired-place, release-place, done-place, release-word, prep-row, swap-row, link-row, wait-row, leave-row, check-row, help-row, cas-row, linger-row, grant-row, draw-row, watch-row, raise-row, row, step}
 use Rattle.model.specs.WellFormed.{queue-on-path, good-place}
 use Rattle.model.specs.Laws.{Sixteen-bit, Formed, Form-law}
@@ -45,6 +45,15 @@ start-counters t v = by (t .ticket-root) refl
     by : (b : Bool) → t .ticket-root ≡ b → (t .ticket-root ≡ true) ⊎ ((cond (t .ticket-root) (wrap v) 0 ≡ 0) × (cond (t .ticket-root) (wrap v) 0 ≡ 0))
     by true e = inl e
     by false e = inr (rw e, rw e)
+
+-- a start of 0 is 0 throughout, at both kinds of root
+pub fresh-at-zero : (t : Tree) → fresh-state t 0 ≡ fresh-words
+unfolding fresh-state fresh-words
+fresh-at-zero t = by (t .ticket-root)
+  where
+    by : (b : Bool) → (let first = cond b (wrap 0) 0 in with-grant first (with-ticket first fresh-words)) ≡ fresh-words
+    by true = refl
+    by false = refl
 
 pub fresh-facts : (t : Tree) (v : ℕ) → Facts t (fresh-state t v)
 unfolding fresh-words fresh-state

@@ -3,6 +3,7 @@
 
 mod calls;
 mod files;
+mod many;
 mod texts;
 
 use reference::draft::Draft;
@@ -115,6 +116,7 @@ fn main() {
     let mut worst = Worst::default();
     files::print(&mut worst);
     calls::print(&mut worst);
+    many::print(&mut worst);
     texts::print();
     worst.print();
 }

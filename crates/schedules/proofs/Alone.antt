@@ -1,0 +1,135 @@
+-- A schedule run alone on an accepted tree: the tree and the fresh words pass, and the trace buffer has room, so its own tests decide. Assumes nothing.
+use mathlib.Core.Path.{_≡_, refl, sym, ap, subst, _∙_}
+use mathlib.Core.Bool.{Bool, true, false, cond}
+use mathlib.Core.List.{List, [], _∷_, _++_}
+use mathlib.Core.Logic.{_≢_, _⊎_, inl, inr, ⊎-elim}
+use Prim.Native.Nat.{ℕ, zero, suc, _≤_}
+use native.Mathlib.Omega.{arith}
+use native.Mathlib.Decide.{ℕ-discrete}
+use lib.Dec.{eqb}
+use lib.ListN.{length, drop, getD, replicate, length-replicate}
+use borrow.Author.Tests.{ne-eqb, eqb-true, le-ltb}
+use Rattle.model.specs.declared.TreeWords.{TreeWords}
+use Rattle.model.specs.declared.State.{State}
+use Rattle.model.specs.declared.RunReply.{RunReply}
+use Rattle.model.specs.Trees.{Tree, tree-of}
+use Rattle.model.specs.States.{fresh-words}
+use Rattle.model.specs.Runs.{Run, run}
+use Rattle.model.specs.Refusals.{Refusal, refusal, accepted, Test, first-refusal, lowest-bad, bad-state, bad-length, bad-entry, bad-room, entry-tests, state-tests, schedule-tests, room-tests, tree-tests, run-tests, has-number, tree-refusal, run-refusal}
+use Rattle.model.specs.Answers.{fresh-answer, run-reply, run-answer}
+use Rattle.model.specs.Laws.{Numbered, Refusal-law, Refuses-exactly, Form-law}
+use Rattle.model.specs.WellFormed.{well-formed}
+use Rattle.model.specs.Reached.{Lone-run-law}
+use Rattle.model.proofs.Refusing.{numbered}
+use Rattle.model.proofs.Laws.Refusals.{refusal-law, tree-numbered}
+use Rattle.model.proofs.Laws.Form.{fresh-at-zero, form-law}
+use Rattle.model.proofs.Laws.Calls.{run-reply-number}
+use Rattle.model.proofs.Tests.{by-test}
+use Rattle.model.proofs.Claims.Demand.{sixteen-bit}
+use Rattle.model.proofs.Claims.Accepts.{lone-run-law}
+use Rattle.refusals.proofs.Joining.{first-decides, other-decides}
+use Rattle.refusals.proofs.Scanning.{single-hit, single-missed}
+use Rattle.schedules.specs.Rows.{alone, row-of}
+use Rattle.schedules.specs.Laws.{Says}
+
+-- tests behind others that refuse nothing change no answer
+passing-behind : (xs ys : List Test) → Numbered xs → first-refusal ys ≡ accepted → first-refusal (xs ++ ys) ≡ first-refusal xs
+unfolding Refusal-law
+passing-behind xs ys n e =
+    elim (ℕ-discrete (first-refusal xs .number) 0) [
+      | yes z ↦ other-decides xs ys n z ∙ e ∙ sym (refusal-law xs n .zero-accepted z)
+      | no z ↦ first-decides xs ys z
+    ]
+
+schedule-numbered : (t : Tree) (is : List ℕ) → Numbered (schedule-tests t is)
+unfolding has-number
+schedule-numbered t is = numbered (schedule-tests t is) refl
+
+module _ (w : TreeWords) (ok : tree-refusal (tree-of w) .number ≡ 0) where
+  -- fresh words pass 10
+  fresh-passes : first-refusal (state-tests (tree-of w) fresh-words) ≡ accepted
+  unfolding Form-law bad-state first-refusal
+  fresh-passes = single-missed _ [] refl (rw (subst (λ x. well-formed (tree-of w) x ≡ true) (fresh-at-zero (tree-of w)) (form-law (tree-of w) (sixteen-bit w) ok .of-fresh 0 .form)))
+
+  -- so a run from them meets 11 to 13 alone
+  pub schedule-decides : (is : List ℕ) (room : ℕ) → run-refusal (tree-of w) fresh-words is room ≡ first-refusal (schedule-tests (tree-of w) is ++ room-tests is room)
+  unfolding run-refusal run-tests tree-refusal has-number refusal accepted
+  schedule-decides is room =
+      let t = tree-of w in
+      other-decides (tree-tests t) (state-tests t fresh-words ++ (schedule-tests t is ++ room-tests is room)) (tree-numbered t) ok
+      ∙ other-decides (state-tests t fresh-words) (schedule-tests t is ++ room-tests is room) (numbered (state-tests t fresh-words) refl) (ap (λ r. r .number) fresh-passes)
+
+  -- and with room for its trace 11 and 12
+  pub alone-decides : (is : List ℕ) (room : ℕ) → length is ≤ room → run-refusal (tree-of w) fresh-words is room ≡ first-refusal (schedule-tests (tree-of w) is)
+  unfolding bad-room first-refusal
+  alone-decides is room h =
+      schedule-decides is room
+      ∙ passing-behind (schedule-tests (tree-of w) is) (room-tests is room) (schedule-numbered (tree-of w) is) (single-missed _ [] refl (le-ltb room (length is) h))
+
+  -- what a run with a trace buffer of the schedule's length answers
+  pub answer-by-schedule :
+      (is b : List ℕ) → length b ≡ length is →
+      run-answer w fresh-words is b ≡ run-reply (first-refusal (schedule-tests (tree-of w) is)) fresh-words (run (tree-of w) is fresh-words)
+  unfolding run-answer
+  answer-by-schedule is b long = rw (alone-decides is (length b) (omega arith))
+
+  pub alone-by-schedule : (is : List ℕ) → alone w is ≡ run-reply (first-refusal (schedule-tests (tree-of w) is)) fresh-words (run (tree-of w) is fresh-words)
+  unfolding alone
+  alone-by-schedule is = answer-by-schedule is (replicate (length is) 0) (length-replicate {A = ℕ} (length is) 0)
+
+-- THE ROW of a run's reply
+row-number : (r : Refusal) (s : State) (x : Run) → getD (row-of (run-reply r s x)) 0 0 ≡ r .number
+unfolding row-of
+row-number r s x = run-reply-number r s x
+
+row-place : (r : Refusal) (s : State) (x : Run) → (r .number ≡ 0 → r .place ≡ 0) → getD (row-of (run-reply r s x)) 1 0 ≡ r .place
+unfolding row-of run-reply
+row-place r s x h =
+    by-test (λ (y : RunReply). y .place ≡ r .place) (eqb (r .number) 0) _ _ (λ e. sym (h (eqb-true (r .number) 0 e))) (λ e. refl)
+
+row-no-counts : (r : Refusal) (s : State) (x : Run) → r .number ≢ 0 → drop 2 (row-of (run-reply r s x)) ≡ replicate 6 0
+unfolding row-of run-reply
+row-no-counts r s x h = rw (ne-eqb (r .number) 0 h)
+
+-- an accepted answer has place 0
+zero-place : (r : Refusal) → (r .number ≡ 0 → r ≡ accepted) → r .number ≡ 0 → r .place ≡ 0
+unfolding accepted refusal
+zero-place r f z = ap (λ x. x .place) (f z)
+
+-- a schedule's tests have the numbers 11 and 12
+lowest-number : (n : ℕ) (f : ℕ → Bool) (k p : ℕ) (r : Refusal) → (lowest-bad n f k p r .number ≡ n) ⊎ (lowest-bad n f k p r .number ≡ r .number)
+unfolding lowest-bad refusal
+lowest-number n f zero p r = inr refl
+lowest-number n f (suc k) p r =
+    by-test (λ (y : Refusal). (y .number ≡ n) ⊎ (y .number ≡ r .number)) (f p) (refusal n p) (lowest-bad n f k (suc p) r) (λ e. inl refl) (λ e. lowest-number n f k (suc p) r)
+
+schedule-number : (t : Tree) (is : List ℕ) → let n = first-refusal (schedule-tests t is) .number in (n ≡ 0) ⊎ ((n ≡ 11) ⊎ (n ≡ 12))
+unfolding first-refusal accepted refusal
+schedule-number t is =
+    ⊎-elim (λ e. inr (inl e))
+    (λ e. ⊎-elim (λ f. inr (inr (e ∙ f))) (λ f. inl (e ∙ f)) (lowest-number 12 (bad-entry t is) (length is) 0 accepted))
+    (lowest-number 11 (bad-length is) 1 0 (first-refusal (entry-tests t is)))
+
+module _ (w : TreeWords) (ok : tree-refusal (tree-of w) .number ≡ 0) (is : List ℕ) where
+  abbrev met : Refusal
+  met = first-refusal (schedule-tests (tree-of w) is)
+
+  abbrev ran : Run
+  ran = run (tree-of w) is fresh-words
+
+  -- what a row says, of the row that its schedule gives alone
+  pub row-says : Says w is (row-of (alone w is))
+  unfolding fresh-answer refusal Refusal-law Lone-run-law tree-refusal
+  row-says =
+      let e = alone-by-schedule w ok is in
+      let exactly = refusal-law (schedule-tests (tree-of w) is) (schedule-numbered (tree-of w) is) in
+      let number : getD (row-of (alone w is)) 0 0 ≡ met .number = ap (λ y. getD (row-of y) 0 0) e ∙ row-number met fresh-words ran in
+      let place : getD (row-of (alone w is)) 1 0 ≡ met .place =
+      ap (λ y. getD (row-of y) 1 0) e ∙ row-place met fresh-words ran (zero-place met (exactly .zero-accepted)) in
+      record {
+        alone = λ b long. rw (ok, fresh-at-zero (tree-of w)) (ap row-of (e ∙ sym (answer-by-schedule w ok is b long)));
+        refused = rw (number, place);
+        number = rw number (schedule-number (tree-of w) is);
+        no-counts = λ h. ap (λ y. drop 2 (row-of y)) e ∙ row-no-counts met fresh-words ran (λ z. h (number ∙ z));
+        claimed = λ b. lone-run-law w 0 is b ok;
+      }

@@ -1,0 +1,81 @@
+-- What refuses the whole call, in plain numbers. Assumes nothing.
+use mathlib.Core.Path.{_≡_, refl, sym, ap, _∙_}
+use mathlib.Core.Bool.{true, false}
+use mathlib.Core.List.{List, [], _∷_, _++_}
+use mathlib.Core.Logic.{_≢_}
+use Prim.Native.Nat.{ℕ, _*_, _/_, _≤_, _<_}
+use native.Mathlib.Omega.{arith}
+use lib.Dec.{eqb}
+use lib.ListN.{length}
+use borrow.Author.Tests.{eq-eqb, ne-eqb, eqb-true, eqb-false, lt-ltb, le-ltb}
+use Rattle.model.specs.Trees.{Tree}
+use Rattle.model.specs.Refusals.{refusal, accepted, first-refusal, tree-tests, has-number, tree-refusal}
+use Rattle.model.specs.Laws.{Refusal-law, Refuses-exactly}
+use Rattle.model.proofs.Refusing.{numbered}
+use Rattle.model.proofs.Laws.Refusals.{refusal-law, tree-numbered}
+use Rattle.refusals.specs.declared.Refusal.{Refusal}
+use Rattle.refusals.specs.Arrays.{told}
+use Rattle.refusals.proofs.Joining.{first-decides, other-decides}
+use Rattle.refusals.proofs.Scanning.{single-hit, single-missed}
+use Rattle.refusals.proofs.RunTests.{told-not, told-zero}
+use Rattle.schedules.specs.Rows.{total}
+use Rattle.schedules.specs.Refusals.{bad-total, bad-row-room, total-tests, row-room-tests, many-tests, many-refusal}
+use Rattle.schedules.specs.Laws.{Many-refusal-law}
+
+module _ (t : Tree) (ns : List ℕ) (n room : ℕ) where
+  exactly : Refuses-exactly (many-tests t ns n room)
+  unfolding Refusal-law has-number tree-tests many-tests
+  exactly = refusal-law (many-tests t ns n room) (numbered (many-tests t ns n room) refl)
+
+  tree-refused : tree-refusal t .number ≢ 0 → many-refusal t ns n room ≡ tree-refusal t
+  unfolding many-refusal many-tests tree-refusal
+  tree-refused h = first-decides (tree-tests t) (total-tests ns n ++ row-room-tests ns room) h
+
+  module _ (tree-passes : tree-refusal t .number ≡ 0) where
+    behind-tree : many-refusal t ns n room ≡ first-refusal (total-tests ns n ++ row-room-tests ns room)
+    unfolding many-refusal many-tests tree-refusal
+    behind-tree = other-decides (tree-tests t) (total-tests ns n ++ row-room-tests ns room) (tree-numbered t) tree-passes
+
+    total-refused : total ns ≢ n → many-refusal t ns n room ≡ refusal 22 0
+    unfolding bad-total
+    total-refused h = behind-tree ∙ single-hit _ (row-room-tests ns room) refl (rw (ne-eqb (total ns) n h))
+
+    module _ (adds-up : total ns ≡ n) where
+      behind-total : many-refusal t ns n room ≡ first-refusal (row-room-tests ns room)
+      unfolding bad-total
+      behind-total = behind-tree ∙ single-missed _ (row-room-tests ns room) refl (rw (eq-eqb (total ns) n adds-up))
+
+      room-refused : room < 8 * length ns → many-refusal t ns n room ≡ refusal 23 0
+      unfolding bad-row-room
+      room-refused h = behind-total ∙ single-hit _ [] refl (lt-ltb (room / 8) (length ns) (omega arith))
+
+      accepts : 8 * length ns ≤ room → many-refusal t ns n room ≡ accepted
+      unfolding bad-row-room first-refusal
+      accepts h = behind-total ∙ single-missed _ [] refl (le-ltb (room / 8) (length ns) (omega arith))
+
+pub many-refusal-law : Many-refusal-law
+unfolding Many-refusal-law
+many-refusal-law t ns n room =
+    record {
+      exactly = exactly t ns n room;
+      tree-refused = tree-refused t ns n room;
+      total-refused = total-refused t ns n room;
+      room-refused = room-refused t ns n room;
+      accepts = accepts t ns n room;
+    }
+
+-- what the code tells, by what it has tested
+module _ (t : Tree) (ns : List ℕ) (n room : ℕ) (r : Refusal) (e : r ≡ told (tree-refusal t)) where
+  pub told-tree : (r .number ≡ 0 → ⊥) → r ≡ told (many-refusal t ns n room)
+  told-tree h = e ∙ ap told (sym (tree-refused t ns n room (told-not r _ e h)))
+
+  module _ (z : r .number ≡ 0) where
+    pub told-total : false ≡ eqb (total ns) n → told (refusal 22 0) ≡ told (many-refusal t ns n room)
+    told-total h = ap told (sym (total-refused t ns n room (told-zero r _ e z) (eqb-false (total ns) n (sym h))))
+
+    module _ (h : true ≡ eqb (total ns) n) where
+      pub told-room : room / 8 < length ns → told (refusal 23 0) ≡ told (many-refusal t ns n room)
+      told-room l = ap told (sym (room-refused t ns n room (told-zero r _ e z) (eqb-true (total ns) n (sym h)) (omega arith)))
+
+      pub told-accepted : length ns ≤ room / 8 → told accepted ≡ told (many-refusal t ns n room)
+      told-accepted l = ap told (sym (accepts t ns n room (told-zero r _ e z) (eqb-true (total ns) n (sym h)) (omega arith)))

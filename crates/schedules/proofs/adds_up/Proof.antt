@@ -1,0 +1,62 @@
+-- `schedules::adds_up` meets its contract: what is left of the entries, and the lengths still ahead. Assumes nothing.
+use mathlib.Core.Path.{_≡_, sym}
+use Prim.Native.Nat.{_+_, _-_, _≤_}
+use native.Mathlib.Omega.{arith}
+use lib.ListN.{length, drop}
+use borrow.Author.Needs.{needs}
+use Rattle.schedules.specs.Rows.{total}
+use Rattle.schedules.proofs.Adding.{too-long, one-less, none-left}
+use Rattle.schedules.proofs.adds_up.Statement.{statement}
+use Rattle.schedules.proofs.adds_up.Tie as tie
+use Rattle.schedules.proofs.adds_up.Reads as reads
+use Rattle.schedules.proofs.adds_up.Lts as lts
+use Rattle.schedules.proofs.wide.Reads as wide-reads
+
+abbrev Inv-loop : tie.InvT-loop
+Inv-loop lengths entries left₀ k₀ left k = total lengths + left ≡ entries + total (drop k lengths)
+
+abbrev μ-loop : tie.MeasureT-loop
+μ-loop lengths entries left₀ k₀ left k = length lengths - k
+
+loop-holds : tie.Need-loop-holds Inv-loop μ-loop
+loop-holds c = omega arith
+
+mul-wide : tie.Need-mul-wide Inv-loop μ-loop
+mul-wide c = omega arith
+
+shared-slice-read-wide : tie.Need-shared-slice-read-wide Inv-loop μ-loop
+shared-slice-read-wide c = omega arith
+
+wide-requires : tie.Need-wide-requires Inv-loop μ-loop
+wide-requires c κs = search needs
+
+returns : tie.Need-returns Inv-loop μ-loop
+returns c = too-long _ _ _ (c .before .before .before .before .loop .k) (c .before .before .before .before .loop .inv) (omega arith) (omega arith)
+
+add-k : tie.Need-add-k Inv-loop μ-loop
+add-k c = omega arith
+
+loop-less : tie.Need-loop-less Inv-loop μ-loop
+loop-less c = omega arith
+
+loop-again : tie.Need-loop-again Inv-loop μ-loop
+loop-again c = one-less _ _ _ (c .before .before .before .before .loop .k) (c .before .before .before .before .loop .inv) (omega arith) (omega arith) _ (omega arith)
+
+returns-2 : tie.Need-returns-2 Inv-loop μ-loop
+returns-2 c = none-left _ _ _ (c .before .loop .k) (c .before .loop .inv) (omega arith)
+
+pub adds-up-spec : {M : Type 1} → statement M
+adds-up-spec =
+    tie.close
+    (tie.spec
+    Inv-loop
+    μ-loop
+    loop-holds
+    mul-wide
+    shared-slice-read-wide
+    wide-requires
+    returns
+    add-k
+    loop-less
+    loop-again
+    returns-2)

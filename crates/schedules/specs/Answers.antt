@@ -1,0 +1,22 @@
+-- Document 02, (xi): what the call answers, and the row buffer after it, for every input. Assumes nothing: these are definitions.
+use mathlib.Core.Bool.{cond}
+use mathlib.Core.List.{List, _++_}
+use Prim.Native.Nat.{ℕ}
+use lib.Dec.{eqb}
+use lib.ListN.{length, drop}
+use Rattle.model.specs.declared.TreeWords.{TreeWords}
+use Rattle.model.specs.Trees.{tree-of}
+use Rattle.model.specs.Refusals.{Refusal}
+use Rattle.schedules.specs.Rows.{cut, all-rows}
+use Rattle.schedules.specs.Refusals.{many-refusal}
+
+-- number and place
+unfoldable pub many-answer : TreeWords → (lengths entries buffer : List ℕ) → Refusal
+many-answer w ns es b = many-refusal (tree-of w) ns (length es) (length b)
+
+-- the row buffer by the call's refusal: the rows at its front and nothing behind them; refused, as it came
+unfoldable pub row-buffer : Refusal → (buffer rows : List ℕ) → List ℕ
+row-buffer r b xs = cond (eqb (r .number) 0) (xs ++ drop (length xs) b) b
+
+unfoldable pub rows-answer : TreeWords → (lengths entries buffer : List ℕ) → List ℕ
+rows-answer w ns es b = row-buffer (many-answer w ns es b) b (all-rows w (cut ns es))

@@ -1,0 +1,41 @@
+-- Document 02, (xi): the schedules of a call, and the row of each. Assumes nothing: these are definitions.
+use mathlib.Core.List.{List, [], _∷_, _++_}
+use Prim.Native.Nat.{ℕ, _+_}
+use lib.ListN.{length, take, drop}
+use Rattle.model.specs.declared.TreeWords.{TreeWords}
+use Rattle.model.specs.declared.RunReply.{RunReply}
+use Rattle.model.specs.Answers.{lone-answer}
+
+-- what the lengths add up to
+unfoldable pub total : (lengths : List ℕ) → ℕ
+total [] = 0
+total (n ∷ ns) = n + total ns
+
+-- the schedules: the entries, which stand behind one another, cut by the lengths
+unfoldable pub cut : (lengths entries : List ℕ) → List (List ℕ)
+cut [] es = []
+cut (n ∷ ns) es = take n es ∷ cut ns (drop n es)
+
+-- a schedule run alone: from its own fresh lock, with a trace buffer of its length
+unfoldable pub alone : TreeWords → (schedule : List ℕ) → RunReply
+alone w is = lone-answer w is
+
+-- a row: outcome, place and counts
+unfoldable pub row-of : RunReply → List ℕ
+row-of r =
+    r .number ∷ r .place ∷ r .counts .steps ∷ r .counts .entries ∷ r .counts .stays ∷ r .counts .root ∷ r .counts .passed
+    ∷ r .counts .crossed ∷ []
+
+-- one row for each schedule, in their order
+unfoldable pub rows-of : TreeWords → (schedules : List (List ℕ)) → List (List ℕ)
+rows-of w [] = []
+rows-of w (is ∷ iss) = row-of (alone w is) ∷ rows-of w iss
+
+-- some lists behind one another
+unfoldable pub behind-one-another : List (List ℕ) → List ℕ
+behind-one-another [] = []
+behind-one-another (xs ∷ xss) = xs ++ behind-one-another xss
+
+-- the numbers of all rows
+abbrev pub all-rows : TreeWords → (schedules : List (List ℕ)) → List ℕ
+all-rows w iss = behind-one-another (rows-of w iss)

@@ -1,0 +1,66 @@
+// Many schedules in one call: what refuses the whole call, 4 to 9 and 16, then 22 and 23. `lock` runs them.
+ghost use mathlib.Core.Path.{_≡_};
+ghost use Prim.Native.Nat.{ℕ};
+ghost use lib.Dec.{eqb};
+ghost use lib.ListN.{length};
+ghost use Rattle.model.specs.Trees.{tree-of};
+ghost use Rattle.refusals.specs.Arrays.{told};
+ghost use Rattle.schedules.specs.Rows.{total};
+ghost use Rattle.schedules.specs.Refusals.{many-refusal};
+use model::TreeWords;
+use refusals::Refusal;
+
+fn wide(x: u32) -> usize
+    ensures { λ r. ⌜ r ≡ x ⌝ }
+{
+    x as usize
+}
+
+// Whether the lengths add up to the entries. What is left of the entries falls, so that no sum is made that could wrap.
+fn adds_up(lengths: &[u32], entries: usize) -> bool
+    ensures { λ r. ⌜ r ≡ eqb (total (now (lengths .entry))) entries ⌝ }
+{
+    let mut left = entries;
+    let mut k: usize = 0;
+    while k < lengths.len() {
+        let n = wide(lengths[k]);
+        if left < n {
+            return false;
+        }
+        left -= n;
+        k += 1;
+    }
+    left == 0
+}
+
+// The whole call meets 4 to 9 and 16, then 22, then 23.
+pub fn many_refusal_of(tree: TreeWords, lengths: &[u32], entries: usize, room: usize) -> Refusal
+    ensures { λ r. ⌜ r ≡ told (many-refusal (tree-of tree) (now (lengths .entry)) entries room) ⌝ }
+{
+    let r = refusals::tree_refusal_of(
+        &tree.parents,
+        &tree.thresholds,
+        &tree.homes,
+        tree.domains,
+        tree.threads,
+    );
+    if r.number != 0 {
+        return r;
+    }
+    if !adds_up(lengths, entries) {
+        return Refusal {
+            number: 22,
+            place: 0,
+        };
+    }
+    if room / 8 < lengths.len() {
+        return Refusal {
+            number: 23,
+            place: 0,
+        };
+    }
+    Refusal {
+        number: 0,
+        place: 0,
+    }
+}

@@ -1,0 +1,49 @@
+//! Many schedules in one call, written from document 02, request (xi).
+
+use crate::refusals::*;
+use crate::table::*;
+use crate::words::TreeWords;
+
+/// Numbers of a row: number, place, steps, entries, stays, root, passed, crossed.
+pub const ROW: usize = 8;
+
+/// The form of the call, the step table's and the library's: number and place.
+pub type RunMany = fn(&TreeWords, &[u32], &[u16], &mut [u32]) -> (u32, u32);
+
+/// 4 to 9 and 16, then 22, then 23. The sum is made in 128 bits.
+fn accept_many(tree: &Tree, lengths: &[u32], entries: usize, rows: usize) -> Outcome<()> {
+    accept_tree(tree)?;
+    refuse_if(22, lengths.iter().map(|&length| length as u128).sum::<u128>() != entries as u128)?;
+    refuse_if(23, rows < lengths.len())
+}
+
+/// One schedule on a lock of its own; the trace is thrown away.
+fn run_alone(tree: &Tree, schedule: &[u16], trace: &mut Vec<u16>) -> Outcome<Counts> {
+    refuse_if(11, schedule.len() > LONGEST_SCHEDULE)?;
+    accept_entries(tree, schedule.iter().copied())?;
+    trace.clear();
+    Ok(run(tree, &mut State::fresh(), schedule.iter().copied(), trace))
+}
+
+fn row(outcome: Outcome<Counts>) -> [u32; ROW] {
+    match outcome {
+        Ok(Counts { steps, entries, stays, root, passed, crossed }) => [0, 0, steps, entries, stays, root, passed, crossed],
+        Err(Refusal { number, place }) => [number, place, 0, 0, 0, 0, 0, 0],
+    }
+}
+
+/// Rows in the order of the schedules, at the front of the buffer; a refused call leaves the buffer as it came.
+pub fn run_many(words: &TreeWords, lengths: &[u32], entries: &[u16], rows: &mut [u32]) -> (u32, u32) {
+    let tree = words.tree();
+    if let Err(refusal) = accept_many(&tree, lengths, entries.len(), rows.len() / ROW) {
+        return (refusal.number, refusal.place);
+    }
+    let mut rest = entries;
+    let mut trace = Vec::new();
+    for (&length, place) in lengths.iter().zip(rows.chunks_exact_mut(ROW)) {
+        let (schedule, behind) = rest.split_at(length as usize);
+        place.copy_from_slice(&row(run_alone(&tree, schedule, &mut trace)));
+        rest = behind;
+    }
+    (0, 0)
+}
