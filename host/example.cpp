@@ -1,5 +1,5 @@
 // The 22 entries of the specification's example, stepped one by one on a lock that the host keeps: what each step did, and who holds the lock after it.
-// Then two threads of a lock with a ticket root, whose counters start at 65,535.
+// Then two threads of a lock with a ticket root, whose counters start at 65,535; and of two more locks, why a thread waits.
 #include "hmcs.hpp"
 
 #include <cstdio>
@@ -26,6 +26,30 @@ static bool play(hmcs::Lock &lock, const std::vector<std::uint16_t> &schedule) {
     return true;
 }
 
+// What a thread on a chain does that does not wait.
+static const char *standing(const hmcs::Lock &lock, std::uint16_t thread) {
+    switch (lock.state().places[thread].row) {
+    case HMCS_IDLE: return "is idle";
+    case HMCS_INSIDE: return "is inside";
+    default: return "can go on";
+    }
+}
+
+// The chain of a thread in words.
+static bool explain(const hmcs::Lock &lock, std::uint32_t thread) {
+    const hmcs::ChainResult chain = lock.chain(thread);
+    if (chain.refusal) {
+        std::printf("refused %u at %u: %s\n", chain.refusal.number, chain.refusal.place, chain.refusal.text());
+        return false;
+    }
+    std::printf("thread %u", chain.threads.front());
+    for (std::size_t k = 1; k < chain.threads.size(); ++k) {
+        std::printf("%s waits for thread %u", k == 1 ? "" : ", which", chain.threads[k]);
+    }
+    std::printf("%s %s\n", chain.threads.size() == 1 ? "" : ", which", standing(lock, chain.threads.back()));
+    return true;
+}
+
 int main() {
     hmcs::Tree tree;
     const auto first = tree.add_domain(0, 2);
@@ -42,5 +66,12 @@ int main() {
     hmcs::Lock ticket_lock(small, 65535);
     if (!play(ticket_lock, {0, 1, 1, 0, 0, 1})) return 1;
     std::printf("the next ticket is %u, the grant is %u\n", ticket_lock.state().ticket, ticket_lock.state().grant);
+
+    hmcs::Lock busy(tree);
+    busy.run({0, 0, 0, 0, 1, 1, 1});
+    if (!explain(busy, 1) || !explain(busy, 0) || !explain(busy, 2)) return 1;
+    hmcs::Lock busier(tree);
+    busier.run({2, 2, 2, 2, 0, 0, 0, 0, 0, 1, 1, 1});
+    if (!explain(busier, 1)) return 1;
     return 0;
 }

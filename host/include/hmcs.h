@@ -99,6 +99,8 @@ enum hmcs_refusal {
     HMCS_OUTPUT_SHORT = 14,    /* The output buffer is shorter than the listing. */
     HMCS_TEXT_WRONG = 15,      /* The text leaves the grammar, the place being the first byte that no text could continue with, or the length. */
     HMCS_EMPTY_DOMAIN = 16,    /* A domain has no thread under it, the place being the lowest such domain. Tested straight after 9. */
+    HMCS_CHAIN_SHORT = 20,     /* The chain buffer has fewer elements than there are threads. */
+    HMCS_NO_CHAIN = 21,        /* A thread of the chain looks to nobody, to several, or to one that is already on it. */
     HMCS_LENGTHS_WRONG = 22,   /* The schedules' lengths do not add up to the entries given. */
     HMCS_ROWS_SHORT = 23,      /* The row buffer holds fewer rows than there are schedules. */
     HMCS_BAD_TIME = 24         /* A passing time isn't a number from 1/1024 to 1,048,576, the place being 1 to 3. */
@@ -124,6 +126,8 @@ static inline const char *hmcs_refusal_text(uint32_t number) {
     case HMCS_OUTPUT_SHORT: return "the output buffer is shorter than the listing";
     case HMCS_TEXT_WRONG: return "the text leaves the grammar of trees";
     case HMCS_EMPTY_DOMAIN: return "a domain has no thread under it";
+    case HMCS_CHAIN_SHORT: return "the chain buffer has fewer elements than there are threads";
+    case HMCS_NO_CHAIN: return "a thread of the chain looks to nobody, to several, or to one that is already on it";
     case HMCS_LENGTHS_WRONG: return "the lengths do not add up to the entries given";
     case HMCS_ROWS_SHORT: return "the row buffer holds fewer rows than there are schedules";
     case HMCS_BAD_TIME: return "a passing time isn't a number from 1/1024 to 1,048,576";
@@ -216,6 +220,15 @@ hmcs_answer hmcs_fresh_in_place(hmcs_tree tree, hmcs_state *state, uint16_t star
 
 /* One step of the state that the host keeps, in place: the same as hmcs_step. Refused, the state is as it was. */
 hmcs_step_answer hmcs_step_in_place(hmcs_tree tree, hmcs_state *state, uint16_t thread);
+
+/* Why a thread waits: the chain of threads that it waits for, itself first, at the front of the chain buffer, and nothing behind it. Waiting in a
+ * queue, a thread looks to whoever acts for the record ahead of its own; lingering, to whoever is in Link with its record; watching, to whoever
+ * acts at the root with the ticket one lower (docs/SPECIFICATION.md, "Why a thread waits"). The chain ends at a thread whose next step is not a
+ * stay, so of a thread that can move it is that thread alone. The buffer must have room for as many elements as there are threads. Returns the
+ * number; *place is its place, *length the chain's length, 0 where it is refused. Refused by 4 to 9, 16, 10, 12, 20 and 21; then the buffer is
+ * as it came. No state that is reached from a fresh one is refused by 21, and from such a state each thread of the chain can only stay while
+ * the next one in the chain takes no step. */
+uint32_t hmcs_chain(hmcs_tree tree, hmcs_state state, uint16_t thread, uint16_t *chain, size_t chain_length, uint32_t *place, uint32_t *length);
 
 /* Numbers of a row: number, place, steps, entries, stays, root, passed and crossed, in this order, as hmcs_run_reply has them. */
 enum { HMCS_ROW_NUMBERS = 8 };

@@ -120,6 +120,12 @@ struct StepResult {
     std::uint32_t domain = 0; // where it was; the thread's home where it was idle or inside
 };
 
+// Why a thread waits: refused, no threads.
+struct ChainResult {
+    Refusal refusal;
+    std::vector<std::uint16_t> threads; // the thread itself first; each waits for the next, and the last can move
+};
+
 // A lock that the host keeps: a tree and a state, stepped where it stands.
 class Lock {
 public:
@@ -152,6 +158,18 @@ public:
     }
 
     RunResult run(const std::vector<std::uint16_t> &schedule) { return run(schedule.data(), schedule.size()); }
+
+    // The chain of threads that a thread waits for. A thread above 65,535 is no thread, as 65,535 is none. A state that was reached by steps and
+    // runs has a chain for each of its threads.
+    ChainResult chain(std::uint32_t thread) const {
+        ChainResult result;
+        result.threads.resize(HMCS_THREADS);
+        std::uint32_t length = 0;
+        const std::uint16_t number = static_cast<std::uint16_t>(std::min<std::uint32_t>(thread, 65535));
+        result.refusal.number = hmcs_chain(tree_, state_, number, result.threads.data(), result.threads.size(), &result.refusal.place, &length);
+        result.threads.resize(length);
+        return result;
+    }
 
     // The thread that is Inside, where there is one.
     std::optional<std::uint16_t> holder() const {

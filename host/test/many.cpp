@@ -2,6 +2,7 @@
 #include "check.hpp"
 #include "guarded.hpp"
 #include "hmcs.hpp"
+#include "trees.hpp"
 
 #include <array>
 #include <cstdio>
@@ -13,18 +14,6 @@ namespace {
 
 using Schedule = std::vector<std::uint16_t>;
 using Numbers = std::array<std::uint32_t, HMCS_ROW_NUMBERS>;
-
-const Schedule schedule22 = {0, 0, 0, 0, 1, 1, 1, 1, 0, 0, 0, 1, 2, 2, 2, 2, 2, 1, 1, 1, 1, 2};
-
-hmcs::Tree example_tree() {
-    hmcs::Tree tree;
-    tree.add_domain(0, 2);
-    tree.add_domain(0, 16);
-    tree.add_thread(1);
-    tree.add_thread(1);
-    tree.add_thread(2);
-    return tree;
-}
 
 // What a run of the schedule alone answers, from a fresh state, with a trace buffer of its length.
 Numbers alone(const hmcs::Tree &tree, const Schedule &schedule) {
@@ -65,9 +54,7 @@ void wrapper() {
 
 // With a ticket lock at the root each schedule starts with both counters at 0, whatever the one before it drew.
 void ticket_root() {
-    hmcs::Tree tree(hmcs::RootKind::ticket);
-    tree.add_thread(0);
-    tree.add_thread(0);
+    const hmcs::Tree tree = root_alone(hmcs::RootKind::ticket, 2);
     const std::vector<Schedule> schedules = {{0, 1, 1, 0, 0, 1}, {1}, Schedule(3, 0)};
     const hmcs::ManyResult result = hmcs::run_many(tree, schedules);
     CHECK(!result.refusal && result.rows.size() == schedules.size());

@@ -3,6 +3,7 @@
 #include "guarded.hpp"
 #include "hmcs.hpp"
 #include "same.hpp"
+#include "trees.hpp"
 
 #include <cstdio>
 #include <cstring>
@@ -12,18 +13,6 @@
 #include <vector>
 
 namespace {
-
-const std::vector<std::uint16_t> schedule22 = {0, 0, 0, 0, 1, 1, 1, 1, 0, 0, 0, 1, 2, 2, 2, 2, 2, 1, 1, 1, 1, 2};
-
-hmcs::Tree example_tree() {
-    hmcs::Tree tree;
-    tree.add_domain(0, 2);
-    tree.add_domain(0, 16);
-    tree.add_thread(1);
-    tree.add_thread(1);
-    tree.add_thread(2);
-    return tree;
-}
 
 std::vector<std::uint8_t> example_file() {
     std::vector<std::uint8_t> file = {0x03, 0x02, 0x02, 0x00, 0x00, 0x03, 0x00, 0x01, 0x01, 0x00, 0x01, 0x02};

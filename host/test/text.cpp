@@ -1,6 +1,7 @@
 // Trees as text, as a host reads them: the cases of the table, layouts by round trips, and that nothing outside the text is read.
 #include "check.hpp"
 #include "hmcs.hpp"
+#include "trees.hpp"
 
 #include <sys/mman.h>
 #include <unistd.h>
@@ -45,13 +46,7 @@ hmcs::Tree tree_of_children(std::uint32_t count) {
 
 void printed_example() {
     const std::string example = "(2(#2) 16(#1))";
-    hmcs::Tree tree;
-    tree.add_domain(0, 2);
-    tree.add_domain(0, 16);
-    tree.add_thread(1);
-    tree.add_thread(1);
-    tree.add_thread(2);
-    CHECK(accepted(example, tree));
+    CHECK(accepted(example, example_tree()));
     for (std::size_t cut = 0; cut < example.size(); ++cut) {
         CHECK(refused(example.substr(0, cut), HMCS_TEXT_WRONG, cut));
     }

@@ -2,6 +2,7 @@
 #include "check.hpp"
 #include "hmcs.hpp"
 #include "same.hpp"
+#include "trees.hpp"
 
 #include <cstdio>
 #include <memory>
@@ -10,26 +11,6 @@
 #include <vector>
 
 namespace {
-
-// Threads at home at a root of this kind.
-hmcs::Tree root_alone(hmcs::RootKind root, int threads) {
-    hmcs::Tree tree(root);
-    for (int i = 0; i < threads; ++i) {
-        tree.add_thread(0);
-    }
-    return tree;
-}
-
-// Two domains below the root, thresholds 2 and 16; threads 0 and 1 in the first, 2 in the second.
-hmcs::Tree two_domains(hmcs::RootKind root) {
-    hmcs::Tree tree(root);
-    tree.add_domain(0, 2);
-    tree.add_domain(0, 16);
-    tree.add_thread(1);
-    tree.add_thread(1);
-    tree.add_thread(2);
-    return tree;
-}
 
 // A kind of root is no tree by itself.
 static_assert(!std::is_convertible_v<hmcs::RootKind, hmcs::Tree> && std::is_constructible_v<hmcs::Tree, hmcs::RootKind>);

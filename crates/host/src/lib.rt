@@ -1,5 +1,6 @@
 // What a C or C++ host calls; host/include/hmcs.h declares it there. Numbers, arrays and structs of them alone cross.
 ghost use mathlib.Core.Path.{_≡_};
+ghost use Rattle.chain.specs.Answers.{chain-answer, buffer-answer};
 ghost use Rattle.model.specs.Answers.{fresh-answer, step-answer, run-answer, trace-answer};
 ghost use Rattle.host.specs.Answers.{answer-of};
 ghost use Rattle.host.specs.InPlace.{fresh-kept, fresh-left, fresh-number, step-told};
@@ -156,4 +157,25 @@ pub extern "C" fn hmcs_run_many(
         number: r.number,
         place: r.place,
     }
+}
+
+// The chain of threads that a thread waits for, itself first, at the front of the chain buffer; refused, that buffer as it came. The number is returned; place and length go where the host says.
+#[no_mangle]
+pub extern "C" fn hmcs_chain(
+    tree: TreeWords,
+    state: State,
+    thread: u16,
+    chain: &mut [u16],
+    place: &mut u32,
+    length: &mut u32,
+) -> u32
+    ensures { λ r. ⌜ r ≡ chain-answer tree state thread (now (chain .entry)) .number ⌝ }
+    ensures { λ r. ⌜ now (place .exit) ≡ chain-answer tree state thread (now (chain .entry)) .place ⌝ }
+    ensures { λ r. ⌜ now (length .exit) ≡ chain-answer tree state thread (now (chain .entry)) .length ⌝ }
+    ensures { λ r. ⌜ now (chain .exit) ≡ buffer-answer tree state thread (now (chain .entry)) ⌝ }
+{
+    let reply = chain::chain(tree, state, thread, chain);
+    *place = reply.place;
+    *length = reply.length;
+    reply.number
 }

@@ -1,6 +1,7 @@
 //! Programs of the hierarchical MCS lock that share no code with the crates, and what compares them.
 
 pub mod calls;
+pub mod chain;
 pub mod draft;
 pub mod library;
 pub mod listing;

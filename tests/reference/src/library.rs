@@ -1,6 +1,7 @@
 //! The entries of the static library; no other Rust file declares one, and nothing checks the declarations but the comparison.
 
 use crate::calls::Calls;
+use crate::chain::ChainCall;
 use crate::lock_file::FileAnswer;
 use crate::many::RunMany;
 use crate::rate::RateCall;
@@ -174,5 +175,35 @@ pub fn run_many() -> Option<RunMany> {
 
 #[cfg(not(calls))]
 pub fn run_many() -> Option<RunMany> {
+    None
+}
+
+/// The chain of a thread, built where the calls on a caller's tree are.
+#[cfg(calls)]
+mod chain_entry {
+    use crate::chain::ChainAnswer;
+    use crate::words::{StateWords, TreeWords};
+
+    extern "C" {
+        fn hmcs_chain(tree: TreeWords, state: StateWords, thread: u16, chain: *mut u16, chain_len: usize, place: *mut u32, length: *mut u32) -> u32;
+    }
+
+    /// Place and length hold other words before the call, so that words left unwritten show.
+    pub fn chain(tree: &TreeWords, state: &StateWords, thread: u16, buffer: &mut [u16]) -> ChainAnswer {
+        let (mut place, mut length) = (0x5A5A_5A5A, 0xA5A5_A5A5);
+        // The pointers are valid for their lengths, and nothing else uses what they point to during the call.
+        let number = unsafe { hmcs_chain(*tree, *state, thread, buffer.as_mut_ptr(), buffer.len(), &mut place, &mut length) };
+        (number, place, length)
+    }
+}
+
+/// The library's chain, if the program was built with the calls.
+#[cfg(calls)]
+pub fn chain() -> Option<ChainCall> {
+    Some(chain_entry::chain)
+}
+
+#[cfg(not(calls))]
+pub fn chain() -> Option<ChainCall> {
     None
 }

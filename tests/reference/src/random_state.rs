@@ -46,14 +46,15 @@ pub fn random_state(random: &mut Random, tree: &Tree) -> StateWords {
     StateWords::of(&state)
 }
 
-fn reached(random: &mut Random, tree: &Tree) -> State {
+/// After a random schedule from fresh.
+pub fn reached(random: &mut Random, tree: &Tree) -> State {
     let (style, length) = (random.pick(&STYLES), random.between(0, 300));
     let mut state = State::fresh_at(tree, random_start(random));
     run(tree, &mut state, schedule(random, tree, style, length).into_iter(), &mut Vec::new());
     state
 }
 
-fn any_well_formed(random: &mut Random, tree: &Tree) -> State {
+pub fn any_well_formed(random: &mut Random, tree: &Tree) -> State {
     let mut state = State::fresh();
     for domain in 0..tree.domains {
         let members = members(tree, domain);
@@ -68,6 +69,32 @@ fn any_well_formed(random: &mut Random, tree: &Tree) -> State {
     }
     if tree.ticket_root {
         make_ticket_root(random, tree, &mut state);
+    }
+    state
+}
+
+/// Well formed, with most threads in a place that stays: each domain's members name one another in a ring, and some linger for others in Link.
+pub fn waiting(random: &mut Random, tree: &Tree) -> State {
+    let mut state = any_well_formed(random, tree);
+    for domain in 0..tree.domains {
+        let members = members(tree, domain);
+        let turn = random.below(members.len());
+        for (k, &record) in members.iter().enumerate().filter(|_| !random.one_in(6)) {
+            state.nexts[record as usize] = Some(members[(k + turn) % members.len()]);
+        }
+    }
+    for thread in 0..tree.threads {
+        let domain = domain_on_path(random, tree, thread);
+        let (at, record, member) = (domain as u8, tree.record(thread, domain), random.pick(&members(tree, domain)));
+        if tree.is_ticket(domain) || random.one_in(4) {
+            continue;
+        }
+        state.places[thread] = random.pick(&[Place::Wait(at), Place::Wait(at), Place::Wait(at), Place::Linger(at), Place::Link(at, member)]);
+        match state.places[thread] {
+            Place::Wait(_) => state.statuses[record] = if domain == ROOT { LOCKED } else { WAIT },
+            Place::Linger(_) => state.nexts[record] = None,
+            _ => (),
+        }
     }
     state
 }
@@ -111,11 +138,16 @@ fn random_word(random: &mut Random, tree: &Tree) -> u64 {
     random.pick(&near)
 }
 
-fn random_place(random: &mut Random, tree: &Tree, thread: usize) -> Place {
+fn domain_on_path(random: &mut Random, tree: &Tree, thread: usize) -> usize {
     let mut domain = tree.home(thread);
     while domain != ROOT && random.one_in(2) {
         domain = tree.parent(domain);
     }
+    domain
+}
+
+fn random_place(random: &mut Random, tree: &Tree, thread: usize) -> Place {
+    let domain = domain_on_path(random, tree, thread);
     let (at, member) = (domain as u8, random.pick(&members(tree, domain)));
     if tree.is_ticket(domain) {
         return random.pick(&[Place::Idle, Place::Inside, Place::Draw, Place::Watch, Place::Watch, Place::Watch, Place::Raise, Place::Raise]);

@@ -48,7 +48,7 @@ use Rattle.model.proofs.Claims.Demand.{sixteen-bit}
 no-stay : (k : Kind) → eqb (kind-number k) 0 ≡ false → k ≢ stay
 no-stay k f e = eqb-false _ _ f (ap kind-number e)
 
-abbrev Moves : Row-result → Type 0
+abbrev pub Moves : Row-result → Type 0
 Moves x = x .kind ≢ stay
 
 passing-moves : (b : Bool) → cond b passed-entry crossed-entry ≢ stay
@@ -63,22 +63,22 @@ pub record Mover (t : Tree) (s : WordState) : Type 0 where
   pub moves : row t thread (place s thread) s .kind ≢ stay
 
 -- a queue whose first is not its last has a second
-two-there : (r : ℕ) (q xs : List ℕ) → q ≡ r ∷ xs → final q ≢ suc r → (m : ℕ) × (ys : List ℕ) × (q ≡ r ∷ m ∷ ys)
+pub two-there : (r : ℕ) (q xs : List ℕ) → q ≡ r ∷ xs → final q ≢ suc r → (m : ℕ) × (ys : List ℕ) × (q ≡ r ∷ m ∷ ys)
 unfolding final
 two-there r q [] e n = absurd (n (ap final e))
 two-there r q (m ∷ ys) e n = (m, ys, e)
 
 module _ (t : Tree) (𝓐 : Accepted t) (bits : Sixteen-bit t) (s : WordState) (q : Queued t s) where
-  abbrev g : State
+  abbrev pub g : State
   g = q .queues
 
-  abbrev w : Words
+  abbrev pub w : Words
   w = words-in s
 
-  abbrev rep : Represents t (words-in s) (q .queues)
+  abbrev pub rep : Represents t (words-in s) (q .queues)
   rep = q .represents
 
-  abbrev inv : Inv t g
+  abbrev pub inv : Inv t g
   inv = q .represents .invariant
 
   -- what a thread's place comes to: someone can move, itself or the one behind it in Link; or it stands ungranted; or it is Idle
@@ -115,7 +115,7 @@ module _ (t : Tree) (𝓐 : Accepted t) (bits : Sixteen-bit t) (s : WordState) (
     draw-moves = by-test Moves (eqb (s .ticket) (s .grant)) _ _ (λ _. no-stay _ refl) (λ _. no-stay _ refl)
 
     -- granted, and to acquire the parent
-    woken-moves : (k : ℕ) → k < height t i → w .statuses (record-at t i k) ≡ acquire-parent → Moves (wait-row t i (ancestor t i k) s)
+    pub woken-moves : (k : ℕ) → k < height t i → w .statuses (record-at t i k) ≡ acquire-parent → Moves (wait-row t i (ancestor t i k) s)
     unfolding wait-row words-in
     woken-moves k b v =
         let inner = ne-eqb (ancestor t i k) 0 (omega (arith, ancestor-inner t 𝓐 i h k b)) in
@@ -123,7 +123,7 @@ module _ (t : Tree) (𝓐 : Accepted t) (bits : Sixteen-bit t) (s : WordState) (
         rw (own-record-at t 𝓐 i h k (omega arith), inner, ne-eqb x wait-word (omega arith), eq-eqb x acquire-parent v) (no-stay _ refl)
 
     -- granted the lock: UNLOCKED at the root, else a count
-    ready-moves :
+    pub ready-moves :
         (k : ℕ) → k ≤ height t i → g .stage i ≡ ready → (k < height t i → w .statuses (record-at t i k) ≡ g .tally (record-at t i k)) →
         (k ≡ height t i → w .statuses (record-at t i k) ≡ 0) → (b : Bool) → eqb (ancestor t i k) 0 ≡ b → Moves (wait-row t i (ancestor t i k) s)
     unfolding wait-row words-in low
@@ -141,7 +141,7 @@ module _ (t : Tree) (𝓐 : Accepted t) (bits : Sixteen-bit t) (s : WordState) (
         rw (own-record-at t 𝓐 i h k l, z, ne-eqb x wait-word (omega arith), ne-eqb x acquire-parent (omega arith)) (passing-moves (eqb (ancestor t i k) (t .home i)))
 
     -- shown its ticket
-    shown-moves : t .ticket-root ≡ true → g .stage i ≡ ready → Moves (watch-row t i s)
+    pub shown-moves : t .ticket-root ≡ true → g .stage i ≡ ready → Moves (watch-row t i s)
     unfolding watch-row words-in low
     shown-moves root e =
         let R = record-at t i (height t i) in

@@ -58,20 +58,20 @@ tickets-there s v [] h = h
 tickets-there s v (m ∷ ms) h = (h .0, tickets-there s (wrap (v + 1)) ms (h .1))
 
 module _ (t : Tree) (𝓐 : Accepted t) (bits : Sixteen-bit t) (s : WordState) (q : Queued t s) where
-  abbrev g : State
+  abbrev pub g : State
   g = q .queues
 
-  abbrev inv : Inv t g
+  abbrev pub inv : Inv t g
   inv = q .represents .invariant
 
   -- a thread that acts for a record works with it at an index where its stage acts
-  record Acting (d m i : ℕ) : Type 0 where
-    index : ℕ
-    within : index < acts (height t i) (g .stage i)
-    there : ancestor t i index ≡ d
-    mine : record-at t i index ≡ m
+  pub record Acting (d m i : ℕ) : Type 0 where
+    pub index : ℕ
+    pub within : index < acts (height t i) (g .stage i)
+    pub there : ancestor t i index ≡ d
+    pub mine : record-at t i index ≡ m
 
-  acting-index : (d m i : ℕ) → Acts-for t s d m i → Acting d m i
+  pub acting-index : (d m i : ℕ) → Acts-for t s d m i → Acting d m i
   unfolding model.acts words-in
   acting-index d m i a =
       let both = and-both (on-path t i d) (acts-at t s i (place s i) d) (a .acting) in
@@ -86,7 +86,7 @@ module _ (t : Tree) (𝓐 : Accepted t) (bits : Sixteen-bit t) (s : WordState) (
         mine = sym (own-record-at t 𝓐 i (a .real) k (o .within)) ∙ ap (own-record t i) (o .there) ∙ a .record-there;
       }
 
-  index-acting : (i k : ℕ) → k < acts (height t i) (g .stage i) → Acts-for t s (ancestor t i k) (record-at t i k) i
+  pub index-acting : (i k : ℕ) → k < acts (height t i) (g .stage i) → Acts-for t s (ancestor t i k) (record-at t i k) i
   unfolding model.acts words-in
   index-acting i k b =
       let r = acts-real t (laws t 𝓐) g inv i k b in
@@ -109,7 +109,7 @@ module _ (t : Tree) (𝓐 : Accepted t) (bits : Sixteen-bit t) (s : WordState) (
       }
 
   -- a record for which a thread acts is in the queue: first, or standing
-  in-queue : (i k : ℕ) → k < acts (height t i) (g .stage i) → 1 ≤ count (record-at t i k) (g .queue (ancestor t i k))
+  pub in-queue : (i k : ℕ) → k < acts (height t i) (g .stage i) → 1 ≤ count (record-at t i k) (g .queue (ancestor t i k))
   in-queue i k b =
       let th = inv .threads i in
       let lo = low (height t i) (g .stage i) in

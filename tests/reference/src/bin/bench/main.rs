@@ -2,6 +2,7 @@
 //! The last line is the worst ratio of the queue roots, the one before it that of the ticket roots.
 
 mod calls;
+mod chain;
 mod files;
 mod many;
 mod texts;
@@ -117,6 +118,7 @@ fn main() {
     files::print(&mut worst);
     calls::print(&mut worst);
     many::print(&mut worst);
+    chain::print();
     texts::print();
     worst.print();
 }

@@ -1,0 +1,65 @@
+-- THE LAWS OF THE CHAIN, document 02, (x). Each is a statement; proofs/ has its proof. Assumes nothing.
+use mathlib.Core.Path.{_≡_}
+use mathlib.Core.Bool.{true, false}
+use mathlib.Core.List.{List, [], _∷_, _++_}
+use mathlib.Core.Logic.{_≢_}
+use Prim.Native.Nat.{ℕ, _≤_, _<_}
+use Rattle.model.specs.declared.State.{State}
+use Rattle.model.specs.Trees.{Tree}
+use Rattle.model.specs.States.{fresh-state}
+use Rattle.model.specs.Steps.{stay, step}
+use Rattle.model.specs.Runs.{run, occurrences}
+use Rattle.model.specs.Refusals.{accepted, tree-refusal}
+use Rattle.model.specs.Laws.{All-threads, Sixteen-bit, Refuses-exactly}
+use Rattle.chain.specs.Chain.{stays, looks-to, chain}
+use Rattle.chain.specs.Answers.{chain-tests, chain-refusal}
+
+-- 1. THE CHAIN, said without fuel: it ends at a thread whose next step is not a stay, and goes on to the one thread that its last looks to, which is not yet in it
+pub data Chain-on (t : Tree) (s : State) : (so-far : List ℕ) → (last : ℕ) → (chain : List ℕ) → Type 0 where
+  ends : (c : List ℕ) (i : ℕ) → stays t s i ≡ false → Chain-on t s c i c
+  goes-on :
+      (c : List ℕ) (i j : ℕ) (all : List ℕ) → stays t s i ≡ true → looks-to t s i ≡ j ∷ [] → occurrences j c ≡ 0 →
+      Chain-on t s (c ++ (j ∷ [])) j all → Chain-on t s c i all
+
+-- the chain is the one list that is so, and empty where there is none
+pub record Is-chain (t : Tree) (s : State) (i : ℕ) : Type 0 where
+  pub found : chain t s i ≢ [] → Chain-on t s (i ∷ []) i (chain t s i)
+  pub exactly : (c : List ℕ) → Chain-on t s (i ∷ []) i c → chain t s i ≡ c
+
+unfoldable pub Chain-law : Type 0
+Chain-law = (t : Tree) (s : State) (i : ℕ) → i < t .threads → Is-chain t s i
+
+-- 2. REFUSALS: the call's tests are such a list as the law of refusals speaks of
+unfoldable pub Chain-refusal-law : Type 0
+Chain-refusal-law = (t : Tree) (s : State) (i room : ℕ) → Refuses-exactly (chain-tests t s i room)
+
+-- 3. FROM FRESH. While the thread ahead takes no step, the one behind can only stay: after every schedule without the one ahead, its next step is a stay
+unfoldable pub Only-stays : Tree → State → (behind ahead : ℕ) → Type 0
+Only-stays t s a b = (js : List ℕ) → All-threads t js → occurrences b js ≡ 0 → step t a (run t js s .state) .kind ≡ stay
+
+-- two threads one behind the other in a list
+pub record Link-in (chain : List ℕ) (behind ahead : ℕ) : Type 0 where
+  pub before : List ℕ
+  pub after : List ℕ
+  pub there : chain ≡ before ++ (behind ∷ ahead ∷ after)
+
+-- the chain has its thread first, no thread twice, and at its end a thread whose next step is not a stay; at every link, while the thread ahead takes no step, the one behind can only stay
+pub record Explains (t : Tree) (s : State) (i : ℕ) (chain : List ℕ) : Type 0 where
+  pub more : List ℕ
+  pub itself-first : chain ≡ i ∷ more
+  pub once : (j : ℕ) → occurrences j chain ≤ 1
+  pub front : List ℕ
+  pub last : ℕ
+  pub at-end : chain ≡ front ++ (last ∷ [])
+  pub last-moves : step t last s .kind ≢ stay
+  pub only-stays : (a b : ℕ) → Link-in chain a b → Only-stays t s a b
+
+-- and 21 never occurs: with room for as many entries as there are threads, no thread's chain is refused
+pub record Answers-why (t : Tree) (s : State) (i : ℕ) : Type 0 where
+  pub never-refused : (room : ℕ) → t .threads ≤ room → chain-refusal t s i room ≡ accepted
+  pub explains : Explains t s i (chain t s i)
+
+unfoldable pub Waiting-law : Type 0
+Waiting-law =
+    (t : Tree) → Sixteen-bit t → tree-refusal t .number ≡ 0 → (start : ℕ) (is : List ℕ) → All-threads t is → (i : ℕ) → i < t .threads →
+    Answers-why t (run t is (fresh-state t start) .state) i
