@@ -240,7 +240,7 @@ module _ (t : Tree) (b : Sixteen-bit t) (𝓐 : Accepted t) (i : ℕ) (h : i < t
     linger-keeps l o q =
         let n = next s (own-record t i l) in
         by-test (Kept t) (eqb n none) _ _ (λ _. k)
-        (λ e. placed k (Grant l (n - 1) (release-word l)) (grant-fits l (release-word l) o q (eqb-false n 0 e) (root-word-fits l unlocked acquire-parent (omega arith) (omega arith))))
+        (λ linked. placed k (Grant l (n - 1) (release-word l)) (grant-fits l (release-word l) o q (eqb-false n 0 linked) (root-word-fits l unlocked acquire-parent (omega arith) (omega arith))))
 
     grant-row-keeps : (l r w : ℕ) → on-path t i l ≡ true → is-ticket t l ≡ false → is-member t l r ≡ true → Sixty-four-bit w → Kept t (grant-row t i l r w s)
     unfolding grant-row

@@ -139,9 +139,9 @@ module _ (t : Tree) (𝓐 : Accepted t) (s : WordState) (room : Room s) (g : Sta
     linger-by : Represents t w g → (b : Bool) → eqb (next s (record-at t i k)) 0 ≡ b → Outcome t g i (ancestor t i k) (linger-row t i (ancestor t i k) s)
     unfolding linger-row row-shown standing-shown entry-shown is-entry
     linger-by rep true z = rw (own-record-at t 𝓐 i h k l, z) (outcome _ g (record { same = refl; room = room }) rep done)
-    linger-by rep false z =
-        rw (own-record-at t 𝓐 i h k l, z)
-        (outcome _ g (placed s room i few (Grant (ancestor t i k) (next s (record-at t i k) - 1) (release-word (ancestor t i k)))) (to-grant z) done)
+    linger-by rep false linked =
+        rw (own-record-at t 𝓐 i h k l, linked)
+        (outcome _ g (placed s room i few (Grant (ancestor t i k) (next s (record-at t i k) - 1) (release-word (ancestor t i k)))) (to-grant linked) done)
 
     pub linger-outcome : Represents t w g → Outcome t g i (ancestor t i k) (linger-row t i (ancestor t i k) s)
     linger-outcome rep = linger-by rep _ refl
