@@ -20,7 +20,7 @@ use Rattle.model.proofs.Trees.Index.{ancestor, height, record-at}
 use Rattle.model.proofs.Trees.Accepted.{Accepted}
 use Rattle.model.proofs.Trees.Paths.{ancestor-real, path-index, on-path-at, on-path-root}
 use Rattle.model.proofs.Trees.Records.{record-small, own-record-at, owner-at, member-owner}
-use Rattle.model.proofs.Queues.Lists.{less-or}
+use Rattle.model.proofs.Lists.{less-or}
 use Rattle.model.proofs.Laws.Form.{valid}
 use Rattle.chain.specs.Chain.{acts-ahead}
 use Rattle.chain.specs.Tables.{acts-from, Owned-nexts, names-below, ticket-key}

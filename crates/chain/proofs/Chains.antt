@@ -18,9 +18,9 @@ use Rattle.model.specs.Laws.{Refusal-law}
 use Rattle.model.proofs.Tests.{or-neither}
 use Rattle.model.proofs.Refusing.{numbered}
 use Rattle.model.proofs.Laws.Refusals.{refusal-law}
-use Rattle.model.proofs.Queues.Lists.{same-or}
-use Rattle.model.proofs.Words.Tickets.{list-short}
-use Rattle.model.proofs.Claims.Bounded.{same-count}
+use Rattle.model.proofs.Lists.{same-or}
+use Rattle.claims.proofs.Words.Tickets.{list-short}
+use Rattle.claims.proofs.Claims.Bounded.{same-count}
 use Rattle.chain.specs.Chain.{stays, looked-to, looks-to, only, among, chain-from, chain}
 use Rattle.chain.specs.Answers.{chain-tests}
 use Rattle.chain.specs.Laws.{Chain-on, ends, goes-on, Chain-law, Chain-refusal-law}

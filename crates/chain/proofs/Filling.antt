@@ -25,7 +25,7 @@ use Rattle.model.proofs.Trees.Index.{height}
 use Rattle.model.proofs.Trees.Accepted.{Accepted, accepted}
 use Rattle.model.proofs.Trees.Tickets.{queue-facts}
 use Rattle.model.proofs.Trees.Paths.{on-path-root}
-use Rattle.model.proofs.Queues.Lists.{same-or}
+use Rattle.model.proofs.Lists.{same-or}
 use Rattle.model.proofs.Laws.Form.{valid, replicate-all}
 use Rattle.chain.specs.Chain.{acts-ahead}
 use Rattle.chain.specs.Tables.{more-if, count-below, acts-from, Noted, link-key, ticket-key, Tables}

@@ -12,7 +12,7 @@ use borrow.Author.Tests.{eq-eqb, ne-eqb, lt-ltb}
 use Rattle.model.specs.declared.State.{State}
 use Rattle.model.specs.Trees.{Tree}
 use Rattle.model.specs.Runs.{occurrences}
-use Rattle.model.proofs.Queues.Lists.{same-or}
+use Rattle.model.proofs.Lists.{same-or}
 use Rattle.chain.specs.Chain.{stays, looks-to, only, among, chain-from, chain}
 use Rattle.chain.specs.Tables.{link, Followed}
 

@@ -23,7 +23,7 @@ use Rattle.model.proofs.Tests.{by-test}
 use Rattle.model.proofs.Places.{words-of-place}
 use Rattle.model.proofs.Trees.Accepted.{Accepted}
 use Rattle.model.proofs.Trees.Records.{own-record-member, member-owner, member-small}
-use Rattle.model.proofs.Queues.Lists.{same-or}
+use Rattle.model.proofs.Lists.{same-or}
 use Rattle.model.proofs.Laws.Form.{valid}
 use Rattle.chain.specs.Chain.{stays, acts-ahead, links, ticket-before, acts-holding, looked-to, looks-to, only}
 use Rattle.chain.specs.Tables.{count-below, Tables, link, waits-in, Sound-place, link-by}

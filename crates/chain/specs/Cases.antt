@@ -19,26 +19,38 @@ use Rattle.chain.specs.Answers.{chain-answer, buffer-answer}
 abbrev pub sevens : (room : ℕ) → List ℕ
 sevens n = replicate n 7
 
+-- THE LINES OF THE LIST
+pub data Case : Type 0 where
+  -- accepted, with the chain at the front of a buffer that has one entry more than there are threads
+  gives : TreeWords → State → (thread : ℕ) → (chain : List ℕ) → Case
+  -- refused, at place 0, with the buffer as it came
+  refuses : TreeWords → State → (thread room number : ℕ) → Case
+  -- refused by 21, with room for every thread: the chain comes to this last thread, which looks to these
+  breaks : TreeWords → State → (thread last : ℕ) → (looked : List ℕ) → Case
+
+-- WHEN A LINE HOLDS, of a reply and of the buffer after it
 abbrev pub replies : (number length : ℕ) → ChainReply → Bool
 replies n k r = eqb (r .number) n && (eqb (r .place) 0 && eqb (r .length) k)
 
--- accepted, with the chain at the front of a buffer that has one entry more than there are threads
-abbrev pub gives : TreeWords → State → (thread : ℕ) → (chain : List ℕ) → Bool
-gives w s i c =
-    let b = sevens (w .threads + 1) in
-    replies 0 (length c) (chain-answer w s i b) && same-numbers (buffer-answer w s i b) (c ++ drop (length c) b)
+abbrev pub gave : ChainReply → (after before chain : List ℕ) → Bool
+gave r a b c = replies 0 (length c) r && same-numbers a (c ++ drop (length c) b)
 
--- refused, at place 0, with the buffer as it came
-abbrev pub refuses : TreeWords → State → (thread room number : ℕ) → Bool
-refuses w s i room n = replies n 0 (chain-answer w s i (sevens room)) && same-numbers (buffer-answer w s i (sevens room)) (sevens room)
+abbrev pub refused : ChainReply → (after before : List ℕ) → (number : ℕ) → Bool
+refused r a b n = replies n 0 r && same-numbers a b
 
--- refused by 21, with room for every thread: the chain comes to this last thread, which looks to these
-abbrev pub breaks : TreeWords → State → (thread last : ℕ) → (looked : List ℕ) → Bool
-breaks w s i last c = refuses w s i (w .threads) 21 && same-numbers (looks-to (tree-of w) s last) c
+abbrev pub roomy : TreeWords → List ℕ
+roomy w = sevens (w .threads + 1)
 
-abbrev pub all : List Bool → Bool
-all [] = true
-all (b ∷ bs) = b && all bs
+unfoldable pub holds : Case → Bool
+holds (gives w s i c) = gave (chain-answer w s i (roomy w)) (buffer-answer w s i (roomy w)) (roomy w) c
+holds (refuses w s i room n) = refused (chain-answer w s i (sevens room)) (buffer-answer w s i (sevens room)) (sevens room) n
+holds (breaks w s i last c) =
+    refused (chain-answer w s i (sevens (w .threads))) (buffer-answer w s i (sevens (w .threads))) (sevens (w .threads)) 21
+    && same-numbers (looks-to (tree-of w) s last) c
+
+unfoldable pub all-hold : List Case → Bool
+all-hold [] = true
+all-hold (c ∷ cs) = holds c && all-hold cs
 
 -- the state after a schedule from fresh
 abbrev pub after : TreeWords → (schedule : List ℕ) → State
@@ -56,7 +68,7 @@ abbrev pub third-waits : State → State
 third-waits s = with-place 2 (Wait 0) (with-status 2 1 s)
 
 -- REACHED FROM FRESH
-abbrev pub reached : List Bool
+abbrev pub reached : List Case
 reached =
     -- nobody is looked to by a thread that can go on
     gives two-in-root fresh-words 0 (0 ∷ [])
@@ -83,7 +95,7 @@ reached =
     ∷ []
 
 -- WHO IS LOOKED TO, in states that are well formed and not reached from fresh
-abbrev pub looked : List Bool
+abbrev pub looked : List Case
 looked =
     -- a record whose next names the waiter's counts only where a thread acts for it
     gives three-in-root (third-waits (with-place 0 Inside (with-next 0 3 (with-next 1 3 fresh-words)))) 2 (2 ∷ 0 ∷ [])
@@ -94,7 +106,7 @@ looked =
     ∷ []
 
 -- 21: NONE
-abbrev pub nobody : List Bool
+abbrev pub nobody : List Case
 nobody =
     -- no next names the waiter's record
     breaks root-alone (with-place 0 (Wait 0) (with-status 0 1 fresh-words)) 0 0 []
@@ -111,7 +123,7 @@ nobody =
     ∷ []
 
 -- 21: SEVERAL
-abbrev pub several : List Bool
+abbrev pub several : List Case
 several =
     breaks three-in-root (third-waits (with-next 0 3 (with-next 1 3 (with-place 0 Inside (with-place 1 Inside fresh-words))))) 2 2 (0 ∷ 1 ∷ [])
     ∷ breaks three-in-root (with-place 0 (Linger 0) (with-place 1 (Link 0 0) (with-place 2 (Link 0 0) fresh-words))) 0 0 (1 ∷ 2 ∷ [])
@@ -124,7 +136,7 @@ circle-ahead =
     with-place 0 (Wait 1) (with-place 1 (Wait 0) (with-place 2 (Wait 0) (with-status 0 wait-word (with-status 257 1 (with-status 258 1 (with-next 1 1 (with-next 257 259 (with-next 258 258 fresh-words))))))))
 
 -- 21: COMES BACK
-abbrev pub comes-back : List Bool
+abbrev pub comes-back : List Case
 comes-back =
     -- to itself
     breaks root-alone (with-place 0 (Wait 0) (with-status 0 1 (with-next 0 1 fresh-words))) 0 0 (0 ∷ [])
@@ -135,7 +147,7 @@ comes-back =
     ∷ []
 
 -- THE REFUSALS BEFORE IT
-abbrev pub earlier : List Bool
+abbrev pub earlier : List Case
 earlier =
     -- 20 where the buffer is shorter than the threads, though the chain would fit; before 21
     refuses two-in-root fresh-words 0 1 20
@@ -146,5 +158,5 @@ earlier =
     ∷ refuses (tree 0 1 [] [] (0 ∷ [])) (with-place 0 (Check 0) fresh-words) 2 0 4
     ∷ []
 
-unfoldable pub cases : Bool
-cases = all reached && (all looked && (all nobody && (all several && (all comes-back && all earlier))))
+unfoldable pub cases : List Case
+cases = reached ++ looked ++ nobody ++ several ++ comes-back ++ earlier

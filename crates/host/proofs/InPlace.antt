@@ -1,7 +1,7 @@
 -- What a fresh call in place leaves, and that a step in place is a call of a list. Assumes nothing.
 use borrow.Author.Tests.{eq-eqb, ne-eqb}
 use Rattle.model.specs.Answers.{fresh-answer}
-use Rattle.model.specs.Claim.{answer-to, answer}
+use Rattle.model.specs.Calls.{answer-to, answer}
 use Rattle.host.specs.InPlace.{fresh-left, Fresh-in-place-law, In-place-law}
 
 pub fresh-in-place-law : Fresh-in-place-law

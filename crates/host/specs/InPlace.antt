@@ -11,7 +11,7 @@ use Rattle.model.specs.declared.StepReply.{StepReply}
 use Rattle.model.specs.Trees.{tree-of}
 use Rattle.model.specs.States.{fresh-state}
 use Rattle.model.specs.Answers.{fresh-answer, step-answer}
-use Rattle.model.specs.Claim.{one-step, stepped, answer}
+use Rattle.model.specs.Calls.{one-step, stepped, answer}
 use Rattle.host.specs.declared.Answer.{Answer}
 use Rattle.host.specs.declared.StepAnswer.{StepAnswer}
 

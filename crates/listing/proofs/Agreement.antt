@@ -17,16 +17,16 @@ use Rattle.model.specs.Steps.{release-word, prep-row, check-row, draw-row, row,
 use Rattle.model.specs.Runs.{steps, state-after, run-of, run}
 use Rattle.model.specs.Refusals.{tree-refusal}
 use Rattle.model.specs.Laws.{All-threads, Sixteen-bit, Form-law}
-use Rattle.model.specs.Reached.{equality-check-row, Equality-law}
+use Rattle.claims.specs.Reached.{equality-check-row, Equality-law}
 use Rattle.model.proofs.Trees.Index.{ancestor, height, record-at}
 use Rattle.model.proofs.Trees.Accepted.{Accepted, accepted}
-use Rattle.model.proofs.Queues.Lists.{same-or}
+use Rattle.model.proofs.Lists.{same-or}
 use Rattle.model.proofs.Trees.Paths.{ancestor-not-root}
 use Rattle.model.proofs.Laws.Facts.{well-formed-facts}
 use Rattle.model.proofs.Laws.Form.{replicate-all, form-law}
-use Rattle.model.proofs.Claims.Calls.{run-behind, run-one}
-use Rattle.model.proofs.Claims.Equality.{same-test, equality-law}
-use Rattle.model.proofs.Claims.Reached.{threads-join}
+use Rattle.claims.proofs.Claims.Calls.{run-behind, run-one}
+use Rattle.claims.proofs.Claims.Equality.{same-test, equality-law}
+use Rattle.claims.proofs.Claims.Reached.{threads-join}
 use Rattle.listing.specs.Calls.{behind-17, Frame, Control, control, outside, line-7, line-9, line-11, line-13, line-25, line-37, line-53, line-55, line-57, line-58, line-59, line-66, line-67, line-71, line-72, ticket-lock, line-90, line-91-again}
 use Rattle.listing.specs.Listing.{top-domain, top-back}
 use Rattle.listing.specs.Agreement.{called-place, ticket-place, place-at, place-of-control, entry, Threads, at-first, turn, turns, memory-of, Stands-at, at-idle, at-prep, at-swap, at-link, at-wait, at-inside, at-check, at-37, at-help, at-cas, at-linger, at-55, at-59, at-draw, at-watch, at-raise, Not-above, Entry-law, Listing-agrees}

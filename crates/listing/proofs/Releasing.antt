@@ -12,13 +12,13 @@ use Rattle.model.specs.declared.State.{State}
 use Rattle.model.specs.Trees.{Tree, is-ticket}
 use Rattle.model.specs.States.{unlocked, none, tail, next, status, place}
 use Rattle.model.specs.Steps.{release-place, release-word, leave-row, help-row, cas-row, linger-row, grant-row}
-use Rattle.model.specs.Reached.{equality-check-row}
+use Rattle.claims.specs.Reached.{equality-check-row}
 use Rattle.model.proofs.Trees.Index.{ancestor, height, record-at}
 use Rattle.model.proofs.Trees.Accepted.{Accepted}
 use Rattle.model.proofs.Trees.Tickets.{ticket-facts}
 use Rattle.model.proofs.Trees.Paths.{ancestor-parent-of, ancestor-not-root}
 use Rattle.model.proofs.Trees.Records.{own-record-at}
-use Rattle.model.proofs.Words.Releasing.{done-at, done-place-at}
+use Rattle.claims.proofs.Words.Releasing.{done-at, done-place-at}
 use Rattle.listing.specs.Calls.{store-lock, store-status, Return, from-release, behind-29, behind-41, behind-82, Frame, frame, critical, line-25, line-37, line-53, line-55, line-57, line-58, line-59, ticket-lock, line-92, control, goes, returns}
 use Rattle.listing.specs.Listing.{line, next-line, top-domain, top-node}
 use Rattle.listing.specs.Agreement.{entry, memory-of}

@@ -12,7 +12,7 @@ use Rattle.model.specs.Steps.{release-word}
 use Rattle.model.proofs.Trees.Index.{ancestor, height, record-at}
 use Rattle.model.proofs.Trees.Accepted.{Accepted}
 use Rattle.model.proofs.Trees.Paths.{ancestor-inner}
-use Rattle.model.proofs.Words.Releasing.{done-at}
+use Rattle.claims.proofs.Words.Releasing.{done-at}
 use Rattle.listing.specs.Calls.{Memory, lock-at, next-at, status-at, Return, from-release, behind-29, behind-31, behind-41, behind-43, behind-82, Frame, frame, critical, line-25, line-27, line-29, line-31, line-35, line-36, line-37, line-41, line-43, line-53, line-54, line-55, line-57, line-58, line-59, line-82, ticket-lock, line-92, Control, control, After, goes, release-real, release-helper, goes-back, returns}
 use Rattle.listing.specs.Listing.{line, top-domain, top-node, next-line}
 use Rattle.listing.specs.Agreement.{ticket-place, place-at, place-of-control, is-place, settle, entry}

@@ -16,7 +16,7 @@ use Rattle.model.proofs.Trees.Index.{ancestor, height, record-at}
 use Rattle.model.proofs.Trees.Accepted.{Accepted}
 use Rattle.model.proofs.Trees.Tickets.{ticket-facts}
 use Rattle.model.proofs.Trees.Records.{own-record-at, record-small}
-use Rattle.model.proofs.Words.Releasing.{done-at, done-place-at}
+use Rattle.claims.proofs.Words.Releasing.{done-at, done-place-at}
 use Rattle.listing.specs.Calls.{Memory, status-at, store-status, store-ticket, store-grant, Return, from-acquire, Frame, frame, outside, critical, ticket-lock, line-90, line-91, line-91-again, line-92, Control, control, After, goes, acquire-real, returns}
 use Rattle.listing.specs.TicketLock.{tests-grant, ticket-line}
 use Rattle.listing.specs.Listing.{line, next-line, top-domain, top-node, top-back}

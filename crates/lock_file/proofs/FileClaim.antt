@@ -14,10 +14,10 @@ use Rattle.lock_file.proofs.FileRun.{zero-start}
 use Rattle.model.specs.Refusals.{run-refusal}
 use Rattle.model.specs.Answers.{run-reply, run-answer, run-buffer, trace-answer}
 use Rattle.model.specs.Laws.{Count-law}
-use Rattle.model.specs.Reached.{Lone-run-law}
+use Rattle.claims.specs.Reached.{Lone-run-law}
 use Rattle.model.proofs.Laws.Runs.{count-law}
-use Rattle.model.proofs.Claims.Accepts.{lone-run-law}
-use Rattle.model.specs.Claim.{state-in, answer-to, answer, answers}
+use Rattle.claims.proofs.Claims.Accepts.{lone-run-law}
+use Rattle.model.specs.Calls.{state-in, answer-to, answer, answers}
 use Rattle.lock_file.specs.FileAnswers.{file-run, file-trace, reading-outcome, file-outcome}
 use Rattle.lock_file.specs.FileLaws.{Format-law, Described-law, File-claim-law}
 use Rattle.lock_file.proofs.FormatLaw.{format-law}

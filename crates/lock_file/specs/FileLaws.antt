@@ -10,7 +10,8 @@ use Rattle.model.specs.Trees.{Tree, tree-of}
 use Rattle.model.specs.States.{fresh-words}
 use Rattle.model.specs.Refusals.{Refusal, refusal, tree-tests, has-number}
 use Rattle.model.specs.Answers.{fresh-answer, trace-answer}
-use Rattle.model.specs.Claim.{Call, a-run, ran, answers, joined, Claim}
+use Rattle.model.specs.Calls.{Call, a-run, ran, answers, joined}
+use Rattle.claims.specs.Claim.{Claim}
 use Rattle.model.specs.Laws.{_⟺_}
 use Rattle.lock_file.specs.Reading.{refused, described, file-read}
 use Rattle.lock_file.specs.Listing.{numeral}

@@ -1,6 +1,6 @@
--- The allowances are reached, and the claim holds of a list with refused calls. Assumes nothing.
-use mathlib.Core.Path.{_≡_, refl, sym, ap, _∙_}
-use mathlib.Core.Bool.{Bool, true, false, cond}
+-- The allowances are reached, and a list with refused calls is answered as it says. Assumes nothing.
+use mathlib.Core.Path.{_≡_, refl, ap, _∙_}
+use mathlib.Core.Bool.{cond}
 use mathlib.Core.List.{List, [], _∷_, _++_}
 use Prim.Native.Nat.{ℕ, zero, suc, _<_}
 use native.Mathlib.Omega.{arith}
@@ -12,17 +12,16 @@ use Rattle.model.specs.Trees.{Tree, read-word, tree-of, is-ticket, is-ch
 use Rattle.model.specs.Places.{bare-place, plain-place, place-of, is-idle, is-watch}
 use Rattle.model.specs.States.{fresh-words, fresh-state}
 use Rattle.model.specs.Steps.{is-kind, is-entry, prep-row, swap-row, link-row, wait-row, leave-row, check-row, help-row, cas-row, linger-row, grant-row, draw-row, watch-row, is-watched, shown-members, raise-row, row, step}
-use Rattle.model.specs.Runs.{Run, steps, state-after, how-many, entering, counts-of, run-of, run, begun-in, ended-in, begun, ended, entries-under, occurrences}
+use Rattle.model.specs.Runs.{steps, state-after, how-many, entering, counts-of, run-of, run, begun-in, ended-in, begun, ended, entries-under, occurrences}
 use Rattle.model.specs.WellFormed.{good-tail, good-next, good-status, queue-on-path, good-place, good-watch, good-thread, good-counters, well-formed}
 use Rattle.model.specs.Refusals.{Refusal, refusal, accepted, lowest-bad, first-refusal, bad-domains, bad-threads, bad-parent, too-deep, no-threshold, bad-home, empty-domain, tree-tests, bad-state, bad-length, bad-entry, bad-room, step-tests, run-tests, tree-refusal, step-refusal, run-refusal}
 use Rattle.model.specs.Answers.{fresh-answer, step-reply, step-answer, run-reply, run-buffer, run-answer, trace-answer}
 use Rattle.model.specs.Laws.{Unread-law}
-use Rattle.model.specs.Claim.{Ask, one-step, a-run, Call, state-in, answer-to, answer, ask-refusal, call-refusal, asked-entries, added, answers, joined, Names, Demand-three}
+use Rattle.model.specs.Calls.{Ask, one-step, a-run, Call, state-in, answer-to, answer, ask-refusal, call-refusal, asked-entries, added, answers, joined, Names}
 use Rattle.model.specs.Cases.{padded, tree, count-up, same-numbers, two-homes}
-use Rattle.model.specs.ClaimCases.{reaches, one-leaf, thread-allowance-reached, two-leaves-below, until-leaf-stands, while-leaf-stands, inner-allowance-reached, Allowances-reached, too-many-domains, two-homes-again, mixed-calls, mixed-schedule, refusal-in, refusals-in, Refused-calls-allowed}
+use Rattle.model.specs.ClaimCases.{reaches, one-leaf, thread-allowance-reached, two-leaves-below, until-leaf-stands, while-leaf-stands, inner-allowance-reached, Allowances-reached, too-many-domains, two-homes-again, mixed-calls, mixed-schedule, refusal-in, refusals-in, Mixed-calls-answered}
 use Rattle.model.proofs.Laws.Calls.{step-reply-number, run-reply-number}
 use Rattle.model.proofs.Laws.Unread.{unread-law}
-use Rattle.model.proofs.Claims.Demand.{demand-three}
 
 pub allowances-reached : Allowances-reached
 unfolding any-below filter-below largest-below read-word tree-of is-ticket is-child is-leaf meets on-path child-from child own-record is-member under domain-allowance allowance bare-place plain-place place-of is-watch fresh-words fresh-state is-entry prep-row swap-row link-row wait-row leave-row check-row help-row cas-row linger-row grant-row draw-row watch-row is-watched shown-members raise-row row step steps state-after run-of run begun-in ended-in begun ended entries-under occurrences padded tree same-numbers reaches one-leaf thread-allowance-reached two-leaves-below until-leaf-stands while-leaf-stands inner-allowance-reached Allowances-reached
@@ -99,18 +98,5 @@ fresh-accepted : fresh-answer two-homes 0 .number ≡ 0
 unfolding any-below filter-below read-word tree-of is-ticket is-child is-leaf depth-from depth level meets on-path under refusal accepted lowest-bad first-refusal bad-domains bad-threads bad-parent too-deep no-threshold bad-home empty-domain tree-tests tree-refusal fresh-answer padded tree two-homes
 fresh-accepted = refl
 
--- at a queue root a fresh state is 0 throughout
-fresh-zero : fresh-answer two-homes 0 .state ≡ fresh-words
-unfolding fresh-answer fresh-state fresh-words tree-of two-homes tree
-fresh-zero = refl
-
-pub refused-calls-allowed : Refused-calls-allowed
-unfolding Demand-three
-refused-calls-allowed =
-    record {
-      fresh = fresh-accepted;
-      names = names;
-      refused = refused;
-      schedule = schedule;
-      claim = rw (fresh-zero, schedule) at (demand-three two-homes 0 mixed-calls fresh-accepted (rw fresh-zero names));
-    }
+pub mixed-calls-answered : Mixed-calls-answered
+mixed-calls-answered = record { fresh = fresh-accepted; names = names; refused = refused; schedule = schedule }

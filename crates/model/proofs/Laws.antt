@@ -11,3 +11,4 @@ pub mod Words
 pub mod Unread
 pub mod Search
 pub mod Root
+pub mod Telling

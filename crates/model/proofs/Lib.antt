@@ -1,13 +1,13 @@
--- The proofs: facts, laws of the second demand, the queues and words of the third, and its claim.
+-- The proofs: facts, the laws of the second demand, what the third demand's definitions mean, and the computed cases.
 pub mod Tests
+pub mod Lists
 pub mod Refusing
 pub mod Places
 pub mod Trees
 pub mod Laws
+pub mod Meanings
+pub mod Counting
+pub mod Computing
 pub mod Cases
 pub mod TicketCases
-pub mod Queues
-pub mod Words
-pub mod Claims
 pub mod ClaimCases
-pub mod MoveCases

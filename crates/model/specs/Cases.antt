@@ -6,9 +6,11 @@ use lib.Dec.{eqb}
 use lib.ListN.{length, drop, replicate}
 use Rattle.model.specs.declared.TreeWords.{TreeWords}
 use Rattle.model.specs.declared.PlaceWords.{PlaceWords}
-use Rattle.model.specs.declared.Place.the-variants.{Idle, Prep, Swap, Wait, Inside, Check, Help, Grant}
+use Rattle.model.specs.declared.Place.the-variants.{Idle, Prep, Swap, Wait, Inside, Check, Help, Linger, Grant}
 use Rattle.model.specs.declared.State.{State}
 use Rattle.model.specs.declared.Counts.{Counts}
+use Rattle.model.specs.declared.StepReply.{StepReply}
+use Rattle.model.specs.declared.RunReply.{RunReply}
 use Rattle.model.specs.Trees.{tree-of, allowance}
 use Rattle.model.specs.States.{wait-word, locked, fresh-words, with-tail, with-next, with-status, with-place, with-ticket, with-grant}
 use Rattle.model.specs.Runs.{steps, state-after, begun, ended, entries-under, occurrences}
@@ -152,6 +154,9 @@ cases =
     ∷ step-gives two-in-root (with-place 0 (Help 0) (with-next 0 2 fresh-words)) 0 1 0 (with-place 0 (Grant 0 1 0) (with-next 0 2 fresh-words))
     -- Grant writes the status of its record alone
     ∷ step-gives two-in-root (with-place 0 (Grant 0 1 0) (with-next 0 2 (with-status 1 locked fresh-words))) 0 1 0 (with-place 0 Idle (with-next 0 2 fresh-words))
+    -- Linger stays without a next, and goes on to grant with one
+    ∷ step-gives two-in-root (with-place 0 (Linger 0) fresh-words) 0 0 0 (with-place 0 (Linger 0) fresh-words)
+    ∷ step-gives two-in-root (with-place 0 (Linger 0) (with-next 0 2 fresh-words)) 0 1 0 (with-place 0 (Grant 0 1 0) (with-next 0 2 fresh-words))
     -- Prep at home steps as Idle does
     ∷ step-gives one-home (with-place 0 (Prep 1) fresh-words) 0 1 1 (with-place 0 (Swap 1) (with-status 0 wait-word fresh-words))
     -- Idle is at home, and so is leaving
@@ -202,25 +207,32 @@ unfoldable pub kept : (refused : ℕ) → (before after : State) → Bool
 kept zero s n = true
 kept (suc r) s n = same-state n s
 
--- number, place, counts and the whole trace buffer; refused, also the state
-unfoldable pub run-holds : TreeWords → State → (schedule buffer : List ℕ) → Expected → Bool
-run-holds w s is b x =
-    let r = run-answer w s is b in
+-- of a run's reply and trace buffer: number, place, counts and the whole buffer; refused, also the state
+abbrev pub run-holds : RunReply → (traced : List ℕ) → State → (buffer : List ℕ) → Expected → Bool
+run-holds r tr s b x =
     (gives (r .number) (r .place) x && same-counts (r .counts) (x .counts))
-    && (kept (x .number) s (r .state) && same-numbers (trace-answer w s is b) (x .trace ++ drop (length (x .trace)) b))
+    && (kept (x .number) s (r .state) && same-numbers tr (x .trace ++ drop (length (x .trace)) b))
+
+-- of a step's reply: number and place; refused, also the state, kind 0 and domain 0
+abbrev pub step-holds : StepReply → State → Expected → Bool
+step-holds r s x = (gives (r .number) (r .place) x && kept (x .number) s (r .state)) && (eqb (r .kind) 0 && eqb (r .domain) 0)
+
+-- of an accepted step's reply: kind, domain and the whole state
+abbrev pub step-gave : StepReply → (kind domain : ℕ) → State → Bool
+step-gave r k d n = (eqb (r .number) 0 && eqb (r .place) 0) && ((eqb (r .kind) k && eqb (r .domain) d) && same-state (r .state) n)
+
+-- the buffer of a run: as long as the schedule, and no number of it is a thread's
+abbrev pub trace-room : (schedule : List ℕ) → List ℕ
+trace-room is = replicate (length is) 999
 
 unfoldable pub holds : Case → Bool
 holds (fresh-call w x) = let r = fresh-answer w 7 in gives (r .number) (r .place) x && same-state (r .state) fresh-words
 holds (fresh-starts w v c) =
     let r = fresh-answer w v in
     (eqb (r .number) 0 && eqb (r .place) 0) && same-state (r .state) (counters c c fresh-words)
-holds (step-call w s i x) =
-    let r = step-answer w s i in
-    (gives (r .number) (r .place) x && kept (x .number) s (r .state)) && (eqb (r .kind) 0 && eqb (r .domain) 0)
-holds (step-gives w s i k d n) =
-    let r = step-answer w s i in
-    (eqb (r .number) 0 && eqb (r .place) 0) && ((eqb (r .kind) k && eqb (r .domain) d) && same-state (r .state) n)
-holds (run-call w s is x) = run-holds w s is (replicate (length is) 999) x
+holds (step-call w s i x) = step-holds (step-answer w s i) s x
+holds (step-gives w s i k d n) = step-gave (step-answer w s i) k d n
+holds (run-call w s is x) = run-holds (run-answer w s is (trace-room is)) (trace-answer w s is (trace-room is)) s (trace-room is) x
 
 unfoldable pub all-hold : List Case → Bool
 all-hold [] = true

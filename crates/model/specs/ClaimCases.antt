@@ -12,7 +12,7 @@ use Rattle.model.specs.Steps.{step}
 use Rattle.model.specs.Runs.{steps, run, begun-in, ended, entries-under, occurrences}
 use Rattle.model.specs.Refusals.{Refusal, refusal, accepted}
 use Rattle.model.specs.Answers.{fresh-answer}
-use Rattle.model.specs.Claim.{Ask, one-step, a-run, Call, Answer, stepped, ran, answers, joined, Names, Claim}
+use Rattle.model.specs.Calls.{Ask, one-step, a-run, Call, Answer, stepped, ran, answers, joined, Names}
 use Rattle.model.specs.Cases.{tree, count-up, same-numbers, two-homes}
 
 -- ALLOWANCES. All that the claim's `bounded` asks, of a schedule until m begins to stand with a thread's step, and the entries behind it: and there the entries under q are as many as q's allowance, which is the number given
@@ -87,12 +87,11 @@ unfoldable pub refusals-in : List Answer → List Refusal
 refusals-in [] = []
 refusals-in (a ∷ rest) = refusal-in a ∷ refusals-in rest
 
--- the fresh call is accepted, the list names its tree, some of the calls are refused, the list's schedule is that of the others, and the claim holds of it
-pub record Refused-calls-allowed : Type 0 where
+-- the fresh call is accepted, the list names its tree, some of the calls are refused, and the list's schedule is that of the others
+pub record Mixed-calls-answered : Type 0 where
   pub fresh : fresh-answer two-homes 0 .number ≡ 0
   pub names : Names (tree-of two-homes) mixed-calls fresh-words
   pub refused :
       refusals-in (answers mixed-calls fresh-words)
       ≡ accepted ∷ refusal 4 0 ∷ accepted ∷ refusal 12 1 ∷ accepted ∷ accepted ∷ []
   pub schedule : joined mixed-calls fresh-words ≡ mixed-schedule
-  pub claim : Claim (tree-of two-homes) fresh-words mixed-calls mixed-schedule

@@ -9,12 +9,10 @@ pub mod Acts
 pub mod WellFormed
 pub mod Refusals
 pub mod Answers
-pub mod Claim
+pub mod Calls
 pub mod Laws
-pub mod Reached
 pub mod Meanings
 pub mod Cases
 pub mod ClaimCases
 pub mod Search
 pub mod TicketCases
-pub mod MoveCases

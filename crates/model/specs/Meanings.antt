@@ -13,7 +13,7 @@ use Rattle.model.specs.Runs.{Run}
 use Rattle.model.specs.Refusals.{Refusal, tree-refusal}
 use Rattle.model.specs.Answers.{run-reply}
 use Rattle.model.specs.Laws.{_⟺_}
-use Rattle.model.specs.Claim.{Call, added, state-at, Stretches, Prefix}
+use Rattle.model.specs.Calls.{Call, added, state-at, Stretches, Prefix}
 
 -- UNDER. A domain is another, or lies below it: its parent is that other, or lies below it
 pub data Within (t : Tree) (other : ℕ) : (domain : ℕ) → Type 0 where

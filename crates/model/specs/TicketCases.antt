@@ -2,15 +2,16 @@
 use mathlib.Core.Path.{_≡_}
 use mathlib.Core.List.{List, [], _∷_, _++_}
 use Prim.Native.Nat.{ℕ}
-use lib.ListN.{set, replicate}
+use lib.ListN.{set, replicate, take}
 use Rattle.model.specs.declared.TreeWords.{TreeWords}
 use Rattle.model.specs.declared.PlaceWords.{PlaceWords}
 use Rattle.model.specs.declared.Place.the-variants.{Idle, Prep, Swap, Link, Wait, Inside, Check, Help, Cas, Linger, Grant, Draw, Watch, Raise}
 use Rattle.model.specs.declared.State.{State}
 use Rattle.model.specs.Trees.{tree-of}
 use Rattle.model.specs.Places.{place-words}
-use Rattle.model.specs.States.{wait-word, fresh-words, with-tail, with-next, with-status, with-place}
+use Rattle.model.specs.States.{wait-word, fresh-words, with-tail, with-status, with-place}
 use Rattle.model.specs.Steps.{shown-members}
+use Rattle.model.specs.Runs.{steps, begun, ended}
 use Rattle.model.specs.Cases.{tree, at-ticket-root, counters, ok, refused, Case, fresh-call, fresh-starts, step-call, step-gives, run-call, two-homes, root-alone, two-in-root, one-home}
 
 -- one thread, two threads and three threads in a ticket root
@@ -95,3 +96,10 @@ Several-shown =
     shown-members (tree-of three-in-ticket)
     (with-place 0 Watch (with-place 2 Watch (with-status 0 6 (with-status 1 6 (with-status 2 6 fresh-words))))) 6
     ≡ 0 ∷ 2 ∷ []
+
+-- WHO BEGINS TO STAND UNGRANTED AND WHOSE STANDING ENDS at a ticket root, three draws from 65,535 on: threads 1 and 2 begin; the raise of thread 0 ends the standing of thread 1, and the raise of thread 1 that of thread 2
+unfoldable pub Raises-in-order : Type 0
+Raises-in-order =
+    let t = tree-of three-in-ticket in
+    let xs = steps t (0 ∷ 1 ∷ 2 ∷ 0 ∷ 0 ∷ 1 ∷ 1 ∷ 1 ∷ []) (counters 65535 65535 fresh-words) in
+    (begun 0 xs ≡ 1 ∷ 2 ∷ []) × (ended 0 (take 4 xs) ≡ []) × (ended 0 (take 5 xs) ≡ 1 ∷ []) × (ended 0 xs ≡ 1 ∷ 2 ∷ [])

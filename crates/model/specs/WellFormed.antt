@@ -15,12 +15,18 @@ unfoldable pub good-tail : Tree → State → (domain : ℕ) → Bool
 good-tail t s d = eqb (tail s d) none || (not (is-ticket t d) && is-member t d (tail s d - 1))
 
 -- each next is none or a record of a member of the same domain as its owner; of unused room and record 256, none
+abbrev pub next-fits : Tree → (number next : ℕ) → Bool
+next-fits t r v = eqb v none || (is-record t r && is-member t (owner-domain t r) (v - 1))
+
 unfoldable pub good-next : Tree → State → (number : ℕ) → Bool
-good-next t s r = eqb (next s r) none || (is-record t r && is-member t (owner-domain t r) (next s r - 1))
+good-next t s r = next-fits t r (next s r)
 
 -- statuses of members are free; of unused room and record 256, 0
+abbrev pub status-fits : Tree → (number status : ℕ) → Bool
+status-fits t r v = eqb v 0 || is-record t r
+
 unfoldable pub good-status : Tree → State → (number : ℕ) → Bool
-good-status t s r = eqb (status s r) 0 || is-record t r
+good-status t s r = status-fits t r (status s r)
 
 -- a domain on the thread's path that has a queue
 unfoldable pub queue-on-path : Tree → (thread domain : ℕ) → Bool
@@ -45,12 +51,18 @@ good-place t i Raise = t .ticket-root
 good-place t i Invalid = false
 
 -- a watched status is at most 65,535
-unfoldable pub good-watch : Tree → State → (thread : ℕ) → Bool
-good-watch t s i = not (is-watch (place s i)) || leb (status s (own-record t i 0)) 65535
+abbrev pub watch-fits : Tree → State → (thread : ℕ) → Place → Bool
+watch-fits t s i p = not (is-watch p) || leb (status s (own-record t i 0)) 65535
 
--- of unused room, Idle
+unfoldable pub good-watch : Tree → State → (thread : ℕ) → Bool
+good-watch t s i = watch-fits t s i (place s i)
+
+-- a thread's place, and whether what it watches is good; of unused room, Idle
+abbrev pub thread-fits : Tree → (thread : ℕ) → Place → (watch : Bool) → Bool
+thread-fits t i p b = cond (ltb i (t .threads)) (good-place t i p && b) (is-idle p)
+
 unfoldable pub good-thread : Tree → State → (thread : ℕ) → Bool
-good-thread t s i = cond (ltb i (t .threads)) (good-place t i (place s i) && good-watch t s i) (is-idle (place s i))
+good-thread t s i = thread-fits t i (place s i) (good-watch t s i)
 
 -- the counters of a ticket lock; at a queue root 0
 unfoldable pub good-counters : Tree → State → Bool

@@ -1,7 +1,7 @@
 -- A schedule run alone on an accepted tree: the tree and the fresh words pass, and the trace buffer has room, so its own tests decide. Assumes nothing.
 use mathlib.Core.Path.{_≡_, refl, sym, ap, subst, _∙_}
-use mathlib.Core.Bool.{Bool, true, false, cond}
-use mathlib.Core.List.{List, [], _∷_, _++_}
+use mathlib.Core.Bool.{Bool, true}
+use mathlib.Core.List.{List, [], _++_}
 use mathlib.Core.Logic.{_≢_, _⊎_, inl, inr, ⊎-elim}
 use Prim.Native.Nat.{ℕ, zero, suc, _≤_}
 use native.Mathlib.Omega.{arith}
@@ -17,18 +17,18 @@ use Rattle.model.specs.States.{fresh-words}
 use Rattle.model.specs.Runs.{Run, run}
 use Rattle.model.specs.Refusals.{Refusal, refusal, accepted, Test, first-refusal, lowest-bad, bad-state, bad-length, bad-entry, bad-room, entry-tests, state-tests, schedule-tests, room-tests, tree-tests, run-tests, has-number, tree-refusal, run-refusal}
 use Rattle.model.specs.Answers.{fresh-answer, run-reply, run-answer}
-use Rattle.model.specs.Laws.{Numbered, Refusal-law, Refuses-exactly, Form-law}
+use Rattle.model.specs.Laws.{Numbered, Refusal-law, Form-law}
 use Rattle.model.specs.WellFormed.{well-formed}
-use Rattle.model.specs.Reached.{Lone-run-law}
+use Rattle.claims.specs.Reached.{Lone-run-law}
 use Rattle.model.proofs.Refusing.{numbered}
 use Rattle.model.proofs.Laws.Refusals.{refusal-law, tree-numbered}
 use Rattle.model.proofs.Laws.Form.{fresh-at-zero, form-law}
 use Rattle.model.proofs.Laws.Calls.{run-reply-number}
 use Rattle.model.proofs.Tests.{by-test}
-use Rattle.model.proofs.Claims.Demand.{sixteen-bit}
-use Rattle.model.proofs.Claims.Accepts.{lone-run-law}
+use Rattle.model.proofs.Trees.Accepted.{sixteen-bit}
+use Rattle.claims.proofs.Claims.Accepts.{lone-run-law}
 use Rattle.refusals.proofs.Joining.{first-decides, other-decides}
-use Rattle.refusals.proofs.Scanning.{single-hit, single-missed}
+use Rattle.refusals.proofs.Scanning.{single-missed}
 use Rattle.schedules.specs.Rows.{alone, row-of}
 use Rattle.schedules.specs.Laws.{Says}
 

@@ -8,9 +8,10 @@ use Rattle.model.specs.declared.TreeWords.{TreeWords}
 use Rattle.model.specs.Trees.{Tree, tree-of}
 use Rattle.model.specs.Refusals.{refusal, accepted, first-refusal, schedule-tests, tree-refusal}
 use Rattle.model.specs.Answers.{fresh-answer, run-answer}
-use Rattle.model.specs.Claim.{joined, Claim}
+use Rattle.model.specs.Calls.{joined}
+use Rattle.claims.specs.Claim.{Claim}
 use Rattle.model.specs.Laws.{Refuses-exactly}
-use Rattle.model.specs.Reached.{lone-run}
+use Rattle.claims.specs.Reached.{lone-run}
 use Rattle.schedules.specs.Rows.{total, cut, row-of, behind-one-another}
 use Rattle.schedules.specs.Refusals.{many-tests, many-refusal}
 use Rattle.schedules.specs.Answers.{many-answer, rows-answer}

@@ -16,22 +16,22 @@ use Rattle.model.specs.Steps.{Kind, stay, other, root-entry, passed-entry, cros
 use Rattle.model.specs.Acts.{acts}
 use Rattle.model.specs.WellFormed.{good-place}
 use Rattle.model.specs.Laws.{Sixteen-bit}
-use Rattle.model.specs.Reached.{Acts-for}
+use Rattle.claims.specs.Reached.{Acts-for}
 use Rattle.model.proofs.Trees.Index.{ancestor, height, record-at}
 use Rattle.model.proofs.Trees.Accepted.{Accepted}
 use Rattle.model.proofs.Trees.Paths.{ancestor-home, ancestor-root}
 use Rattle.model.proofs.Trees.Records.{own-record-at}
-use Rattle.model.proofs.Queues.Lists.{count}
-use Rattle.model.proofs.Queues.Paths.{laws}
-use Rattle.model.proofs.Queues.Moves.{Stage, queued, low, State}
-use Rattle.model.proofs.Queues.Moves as moves
-use Rattle.model.proofs.Queues.Invariant.{Inv, unique}
-use Rattle.model.proofs.Words.Links.{after}
-use Rattle.model.proofs.Words.View.{Words, words-in}
-use Rattle.model.proofs.Words.Represents.{waiting-word, letting-go-low, Fits, at-idle, at-prep, at-swap, at-link, at-wait, at-woken, at-ready, at-inside, at-check, at-pass, at-help, at-cas, at-linger, at-grant, at-draw, at-watch, at-shown, at-raise}
-use Rattle.model.proofs.Claims.Reached.{Queued}
-use Rattle.model.proofs.Claims.Queues.{Acting, acting-index, index-acting, in-queue}
-use Rattle.model.proofs.Claims.Moving.{woken-moves, ready-moves, shown-moves}
+use Rattle.model.proofs.Lists.{count}
+use Rattle.claims.proofs.Queues.Paths.{laws}
+use Rattle.claims.proofs.Queues.Moves.{Stage, queued, low, State}
+use Rattle.claims.proofs.Queues.Moves as moves
+use Rattle.claims.proofs.Queues.Invariant.{Inv, unique}
+use Rattle.claims.proofs.Words.Links.{after}
+use Rattle.claims.proofs.Words.View.{Words, words-in}
+use Rattle.claims.proofs.Words.Represents.{waiting-word, letting-go-low, Fits, at-idle, at-prep, at-swap, at-link, at-wait, at-woken, at-ready, at-inside, at-check, at-pass, at-help, at-cas, at-linger, at-grant, at-draw, at-watch, at-shown, at-raise}
+use Rattle.claims.proofs.Claims.Reached.{Queued}
+use Rattle.claims.proofs.Claims.Queues.{Acting, acting-index, index-acting, in-queue}
+use Rattle.claims.proofs.Claims.Moving.{woken-moves, ready-moves, shown-moves}
 use Rattle.chain.specs.Chain.{stays}
 use Rattle.chain.proofs.Linking.{stays-at, linger-stays, moves-on}
 

@@ -23,20 +23,20 @@ use Rattle.model.proofs.Trees.Accepted.{Accepted}
 use Rattle.model.proofs.Trees.Tickets.{ticket-yes, queue-facts}
 use Rattle.model.proofs.Trees.Paths.{ancestor-root}
 use Rattle.model.proofs.Trees.Records.{own-record-at, root-record}
-use Rattle.model.proofs.Queues.Lists.{rest, count, first-rest, first-cons}
-use Rattle.model.proofs.Queues.Paths.{laws}
-use Rattle.model.proofs.Queues.Moves.{Stage, queued, low, reach, State}
-use Rattle.model.proofs.Queues.Moves as moves
-use Rattle.model.proofs.Queues.Invariant.{Inv, one-queue}
-use Rattle.model.proofs.Queues.Order.{Second, second}
-use Rattle.model.proofs.Words.Links.{after, after-in, after-here, before-second}
-use Rattle.model.proofs.Words.View.{Words, words-in}
-use Rattle.model.proofs.Words.Represents.{Tickets, Fits, at-idle, at-prep, at-swap, at-link, at-wait, at-woken, at-ready, at-inside, at-check, at-pass, at-help, at-cas, at-linger, at-grant, at-draw, at-watch, at-shown, at-raise}
-use Rattle.model.proofs.Words.Tickets.{list-short, tickets-held, wrap-small}
-use Rattle.model.proofs.Words.Outcome.{member-small}
-use Rattle.model.proofs.Words.Releasing.{Ungranted, linking, waiting, watching, ungranted}
-use Rattle.model.proofs.Claims.Reached.{Queued}
-use Rattle.model.proofs.Claims.Moving.{two-there}
+use Rattle.model.proofs.Lists.{rest, count, first-rest, first-cons}
+use Rattle.claims.proofs.Queues.Paths.{laws}
+use Rattle.claims.proofs.Queues.Moves.{Stage, queued, low, reach, State}
+use Rattle.claims.proofs.Queues.Moves as moves
+use Rattle.claims.proofs.Queues.Invariant.{Inv, one-queue}
+use Rattle.claims.proofs.Queues.Order.{Second, second}
+use Rattle.claims.proofs.Words.Links.{after, after-in, after-here, before-second}
+use Rattle.claims.proofs.Words.View.{Words, words-in}
+use Rattle.claims.proofs.Words.Represents.{Tickets, Fits, at-idle, at-prep, at-swap, at-link, at-wait, at-woken, at-ready, at-inside, at-check, at-pass, at-help, at-cas, at-linger, at-grant, at-draw, at-watch, at-shown, at-raise}
+use Rattle.claims.proofs.Words.Tickets.{list-short, tickets-held, wrap-small}
+use Rattle.claims.proofs.Words.Outcome.{member-small}
+use Rattle.claims.proofs.Words.Releasing.{Ungranted, linking, waiting, watching, ungranted}
+use Rattle.claims.proofs.Claims.Reached.{Queued}
+use Rattle.claims.proofs.Claims.Moving.{two-there}
 use Rattle.chain.specs.Chain.{stays, acts-ahead, links, ticket-before, acts-holding, looked-to, looks-to}
 use Rattle.chain.proofs.Reached.Orders.{Once, after-same, just-before, ticket-next, ticket-same}
 use Rattle.chain.proofs.Reached.Actors.{Waits, waits, lingers, watches, stay-waits, same-thread, acting-there, actor, queued-there, stands-before}

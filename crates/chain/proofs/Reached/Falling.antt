@@ -19,12 +19,12 @@ use Rattle.model.proofs.Tests.{and-both, or-cases}
 use Rattle.model.proofs.Trees.Index.{ancestor, height, record-at}
 use Rattle.model.proofs.Trees.Accepted.{Accepted}
 use Rattle.model.proofs.Trees.Records.{root-record}
-use Rattle.model.proofs.Queues.Lists.{same-or, count}
-use Rattle.model.proofs.Queues.Moves.{State}
-use Rattle.model.proofs.Queues.Invariant.{Inv}
-use Rattle.model.proofs.Words.Tickets.{list-short}
-use Rattle.model.proofs.Words.Outcome.{member-small}
-use Rattle.model.proofs.Claims.Reached.{Queued}
+use Rattle.model.proofs.Lists.{same-or, count}
+use Rattle.claims.proofs.Queues.Moves.{State}
+use Rattle.claims.proofs.Queues.Invariant.{Inv}
+use Rattle.claims.proofs.Words.Tickets.{list-short}
+use Rattle.claims.proofs.Words.Outcome.{member-small}
+use Rattle.claims.proofs.Claims.Reached.{Queued}
 use Rattle.chain.specs.Chain.{stays, acts-ahead, ticket-before, acts-holding, looked-to}
 use Rattle.chain.specs.Tables.{waits-in}
 use Rattle.chain.proofs.Linking.{stays-at, wait-stays, moves-on}

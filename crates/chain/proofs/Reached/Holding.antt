@@ -22,18 +22,18 @@ use Rattle.model.proofs.Trees.Accepted.{Accepted}
 use Rattle.model.proofs.Trees.Tickets.{ticket-yes, queue-facts}
 use Rattle.model.proofs.Trees.Paths.{ancestor-root, ancestor-strict}
 use Rattle.model.proofs.Trees.Records.{own-record-at, root-record}
-use Rattle.model.proofs.Queues.Lists.{same-or, less-or, first, count, first-count, first-in, count-rest, count-later}
-use Rattle.model.proofs.Queues.Paths.{laws}
-use Rattle.model.proofs.Queues.Moves.{Stage, queued, low, State}
-use Rattle.model.proofs.Queues.Moves as moves
-use Rattle.model.proofs.Queues.Invariant.{Inv, acts-low, low-acts, one-queue}
-use Rattle.model.proofs.Words.Links.{after, after-behind, after-in}
-use Rattle.model.proofs.Words.View.{Words, words-in}
-use Rattle.model.proofs.Words.Represents.{letting-go-low, Fits, at-idle, at-prep, at-swap, at-link, at-wait, at-woken, at-ready, at-inside, at-check, at-pass, at-help, at-cas, at-linger, at-grant, at-draw, at-watch, at-shown, at-raise}
-use Rattle.model.proofs.Words.Tickets.{tickets-rest}
-use Rattle.model.proofs.Words.Frame.{others-of, other-record}
-use Rattle.model.proofs.Claims.Reached.{Queued}
-use Rattle.model.proofs.Claims.Queues.{Acting, in-queue}
+use Rattle.model.proofs.Lists.{same-or, less-or, first, count, first-count, first-in, count-rest, count-later}
+use Rattle.claims.proofs.Queues.Paths.{laws}
+use Rattle.claims.proofs.Queues.Moves.{Stage, queued, low, State}
+use Rattle.claims.proofs.Queues.Moves as moves
+use Rattle.claims.proofs.Queues.Invariant.{Inv, acts-low, low-acts, one-queue}
+use Rattle.claims.proofs.Words.Links.{after, after-behind, after-in}
+use Rattle.claims.proofs.Words.View.{Words, words-in}
+use Rattle.claims.proofs.Words.Represents.{letting-go-low, Fits, at-idle, at-prep, at-swap, at-link, at-wait, at-woken, at-ready, at-inside, at-check, at-pass, at-help, at-cas, at-linger, at-grant, at-draw, at-watch, at-shown, at-raise}
+use Rattle.claims.proofs.Words.Tickets.{tickets-rest}
+use Rattle.claims.proofs.Words.Frame.{others-of, other-record}
+use Rattle.claims.proofs.Claims.Reached.{Queued}
+use Rattle.claims.proofs.Claims.Queues.{Acting, in-queue}
 use Rattle.chain.specs.Chain.{stays, acts-ahead, links, ticket-before, acts-holding, looked-to}
 use Rattle.chain.specs.Tables.{waits-in}
 use Rattle.chain.proofs.Linking.{stays-at, wait-stays, linger-stays, watch-stays}

@@ -9,10 +9,10 @@ use lib.Dec.{eqb}
 use lib.ListN.{length}
 use borrow.Author.Tests.{eq-eqb, ne-eqb}
 use Rattle.model.specs.States.{wrap}
-use Rattle.model.proofs.Queues.Lists.{same-or, first, rest, is-same, is-other, count, count-cons, count-nil, first-count, count-later, rest-cons, first-cons, first-nil}
-use Rattle.model.proofs.Words.Links.{after, after-nil, after-here, after-past, after-behind, after-in}
-use Rattle.model.proofs.Words.Represents.{Tickets}
-use Rattle.model.proofs.Words.Tickets.{wrap-small, tickets-first, tickets-rest}
+use Rattle.model.proofs.Lists.{same-or, first, rest, is-same, is-other, count, count-cons, count-nil, first-count, count-later, rest-cons, first-cons, first-nil}
+use Rattle.claims.proofs.Words.Links.{after, after-nil, after-here, after-past, after-behind, after-in}
+use Rattle.claims.proofs.Words.Represents.{Tickets}
+use Rattle.claims.proofs.Words.Tickets.{wrap-small, tickets-first, tickets-rest}
 
 abbrev pub Once : List ℕ → Type 0
 Once q = (a : ℕ) → count a q ≤ 1

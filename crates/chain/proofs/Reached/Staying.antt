@@ -14,10 +14,10 @@ use Rattle.model.specs.Runs.{steps, state-after, run-of, run, occurrences}
 use Rattle.model.specs.Refusals.{tree-refusal}
 use Rattle.model.specs.Laws.{All-threads, Sixteen-bit, Kind-law}
 use Rattle.model.proofs.Trees.Accepted.{Accepted, accepted}
-use Rattle.model.proofs.Queues.Lists.{same-or}
+use Rattle.model.proofs.Lists.{same-or}
 use Rattle.model.proofs.Laws.Facts.{facts-well-formed}
 use Rattle.model.proofs.Laws.Kinds.{kind-law}
-use Rattle.model.proofs.Claims.Reached.{Queued, led}
+use Rattle.claims.proofs.Claims.Reached.{Queued, led}
 use Rattle.chain.specs.Chain.{stays, looked-to}
 use Rattle.chain.specs.Laws.{Only-stays}
 use Rattle.chain.proofs.Reached.Actors.{row-stays}

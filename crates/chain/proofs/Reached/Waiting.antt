@@ -15,10 +15,10 @@ use Rattle.model.specs.Runs.{run-of, run, occurrences}
 use Rattle.model.specs.Refusals.{accepted, refusal, tree-refusal}
 use Rattle.model.specs.Laws.{All-threads, Sixteen-bit, Form-law}
 use Rattle.model.proofs.Trees.Accepted.{Accepted, accepted as accepted-tree}
-use Rattle.model.proofs.Queues.Lists.{same-or}
+use Rattle.model.proofs.Lists.{same-or}
 use Rattle.model.proofs.Laws.Form.{form-law}
 use Rattle.model.proofs.Laws.Calls.{run-accepted}
-use Rattle.model.proofs.Claims.Reached.{Queued, from-fresh}
+use Rattle.claims.proofs.Claims.Reached.{Queued, from-fresh}
 use Rattle.chain.specs.Chain.{stays, looks-to, chain-from, chain}
 use Rattle.chain.specs.Laws.{Only-stays, Explains, Waiting-law}
 use Rattle.chain.proofs.Following.{occurrences-snoc}

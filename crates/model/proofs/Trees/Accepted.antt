@@ -6,8 +6,10 @@ use Prim.Native.Nat.{ℕ, _≤_, _<_}
 use native.Mathlib.Omega.{arith}
 use lib.Dec.{eqb, leb, ltb}
 use borrow.Author.Tests.{ltb-false, leb-false, eqb-true, eqb-false, not-true, not-false, eq-eqb, ne-eqb}
-use Rattle.model.specs.Trees.{Tree, level, is-child, is-leaf}
+use Rattle.model.specs.declared.TreeWords.{TreeWords}
+use Rattle.model.specs.Trees.{Tree, tree-of, level, is-child, is-leaf}
 use Rattle.model.specs.Refusals.{first-refusal, empty-tests, tests-before-16, tree-tests, has-number, tree-refusal, bad-domains, bad-threads, bad-parent, too-deep, no-threshold, bad-home}
+use Rattle.model.specs.Laws.{Sixteen-bit}
 use Rattle.model.proofs.Tests.{and-both, or-neither, any-none}
 use Rattle.model.proofs.Refusing.{tests-pass, numbered, first-passes}
 
@@ -80,3 +82,8 @@ pub leaf-childless : (t : Tree) (d c : ℕ) → is-leaf t d ≡ true → 0 < c �
 unfolding is-leaf
 leaf-childless t d c e p h q =
     true≢false (sym (child-yes t d c p q) ∙ any-none (t .domains) (is-child t d) (not-true _ e) c h)
+
+-- a threshold that a call names is a 16-bit number
+pub sixteen-bit : (w : TreeWords) → Sixteen-bit (tree-of w)
+unfolding tree-of
+sixteen-bit w d = omega arith

@@ -1,0 +1,13 @@
+-- The third demand: what holds along every schedule from fresh, and the one claim of a list of calls.
+pub mod Reached
+pub mod Alone
+pub mod Order
+pub mod Bounded
+pub mod Calls
+pub mod Demand
+pub mod Accepts
+pub mod Equality
+pub mod Passing
+pub mod Acting
+pub mod Queues
+pub mod Moving

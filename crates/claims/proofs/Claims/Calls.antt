@@ -1,0 +1,150 @@
+-- Each call of a list gives what the refusals and the step table give at its point of the whole schedule. Assumes nothing.
+use mathlib.Core.Path.{_≡_, refl, sym, ap, _∙_}
+use mathlib.Core.Bool.{Bool, true, false, cond}
+use mathlib.Core.List.{List, [], _∷_, _++_, append-assoc, append-nil}
+use Prim.Native.Nat.{ℕ, _+_}
+use lib.Dec.{eqb}
+use lib.ListN.{length, take, length-append}
+use lib.Seq.{take-append-seam, drop-append-seam, take-append-add}
+use borrow.Author.Tests.{eqb-true}
+use Rattle.model.specs.declared.TreeWords.{TreeWords}
+use Rattle.model.specs.declared.State.{State}
+use Rattle.model.specs.Trees.{Tree, tree-of}
+use Rattle.model.specs.Steps.{step}
+use Rattle.model.specs.Runs.{steps, state-after, run-of, run}
+use Rattle.model.specs.Refusals.{step-refusal, run-refusal}
+use Rattle.model.specs.Answers.{step-reply, step-answer, run-reply, run-buffer, run-answer, trace-answer}
+use Rattle.model.specs.Laws.{All-threads, then-run}
+use Rattle.model.specs.Calls.{Ask, one-step, a-run, Call, stepped, ran, state-in, answer-to, answer, ask-refusal, call-refusal, asked-entries, added, answers, joined, Names, state-at, stretch, expected-ask, expected, expected-answers, Stretches}
+use Rattle.model.proofs.Laws.Runs.{steps-take, steps-drop, run-join}
+use Rattle.model.proofs.Laws.Calls.{step-facts, run-facts}
+use Rattle.claims.proofs.Claims.Reached.{threads-join}
+
+-- THE STEP TABLE AT A SEAM of the schedule
+module _ (t : Tree) (f : State) (pre own rest : List ℕ) where
+  pub at-seam : state-at t f (pre ++ rest) (length pre) ≡ run t pre f .state
+  unfolding state-at
+  at-seam = ap (λ is. run t is f .state) (take-append-seam pre rest)
+
+  pub at-next-seam : state-at t f (pre ++ (own ++ rest)) (length pre + length own) ≡ run t (pre ++ own) f .state
+  unfolding state-at
+  at-next-seam =
+      ap (λ is. run t is f .state) (take-append-add pre (own ++ rest) (length own) ∙ ap (λ is. pre ++ is) (take-append-seam own rest))
+
+  pub stretch-between : stretch t f (pre ++ (own ++ rest)) (length pre) (length own) ≡ steps t own (run t pre f .state)
+  unfolding stretch run run-of
+  stretch-between =
+      ap (take (length own)) (steps-drop t (length pre) (pre ++ (own ++ rest)) f)
+      ∙ rw (take-append-seam pre (own ++ rest), drop-append-seam pre (own ++ rest)) (sym (steps-take t (length own) (own ++ rest) (state-after f (steps t pre f))))
+      ∙ ap (λ is. steps t is (state-after f (steps t pre f))) (take-append-seam own rest)
+
+  pub run-behind : run t (pre ++ own) f .state ≡ run t own (run t pre f .state) .state
+  unfolding then-run
+  run-behind = ap (λ x. x .state) (run-join t pre own f)
+
+pub run-one : (t : Tree) (i : ℕ) (s : State) → run t (i ∷ []) s .state ≡ step t i s .state
+unfolding run run-of steps state-after
+run-one t i s = refl
+
+-- ONE CALL, on the table's state at its point
+module _ (t : Tree) (f : State) (w : TreeWords) (pre rest : List ℕ) (s : State) (here : s ≡ run t pre f .state) where
+  abbrev u : Tree
+  u = tree-of w
+
+  own : Ask → List ℕ
+  own a = cond (eqb (ask-refusal u a s .number) 0) (asked-entries a) []
+
+  -- accepted: the stretch is the call's own entries
+  accepted-expected :
+      (a : Ask) → u ≡ t → eqb (ask-refusal u a s .number) 0 ≡ true →
+      answer-to w a s ≡ expected-ask t f (pre ++ (asked-entries a ++ rest)) (length pre) u a
+  unfolding answer-to expected-ask asked-entries step-answer run-answer trace-answer run
+  accepted-expected (one-step i) e z =
+      rw (at-seam t f pre [] ((i ∷ []) ++ rest), stretch-between t f pre (i ∷ []) rest, ← here)
+      (ap (λ (v : Tree). stepped (step-reply (step-refusal u s i) s (steps v (i ∷ []) s))) e)
+  accepted-expected (a-run is b) e z =
+      rw (at-seam t f pre [] (is ++ rest), stretch-between t f pre is rest, ← here)
+      (ap (λ (v : Tree). ran (run-reply (run-refusal u s is (length b)) s (run-of s (steps v is s))) (run-buffer (run-refusal u s is (length b)) b (run-of s (steps v is s)))) e)
+
+  -- refused: nothing of the table's steps is looked at
+  refused-expected :
+      (a : Ask) → eqb (ask-refusal u a s .number) 0 ≡ false → answer-to w a s ≡ expected-ask t f (pre ++ rest) (length pre) u a
+  unfolding answer-to expected-ask ask-refusal step-answer run-answer trace-answer step-reply run-reply run-buffer
+  refused-expected (one-step i) z = rw (at-seam t f pre [] rest, ← here, z)
+  refused-expected (a-run is b) z = rw (at-seam t f pre [] rest, ← here, z)
+
+  call-expected-by :
+      (a : Ask) → (ask-refusal u a s .number ≡ 0 → u ≡ t) → (b : Bool) → eqb (ask-refusal u a s .number) 0 ≡ b →
+      answer-to w a s ≡ expected-ask t f (pre ++ (cond b (asked-entries a) [] ++ rest)) (length pre) u a
+  call-expected-by a n true z = accepted-expected a (n (eqb-true _ _ z)) z
+  call-expected-by a n false z = refused-expected a z
+
+  -- the state that the call returns is the table's behind its entries
+  returned-by :
+      (a : Ask) → (ask-refusal u a s .number ≡ 0 → u ≡ t) → (b : Bool) → eqb (ask-refusal u a s .number) 0 ≡ b →
+      state-in (answer-to w a s) ≡ run t (pre ++ cond b (asked-entries a) []) f .state
+  unfolding state-in answer-to asked-entries ask-refusal step-answer run-answer step-reply run-reply run run-of
+  returned-by (one-step i) n true z =
+      rw (z, run-behind t f pre (i ∷ []) [], ← here) (ap (λ (v : Tree). run v (i ∷ []) s .state) (n (eqb-true _ _ z)))
+  returned-by (one-step i) n false z = rw (z, append-nil pre) here
+  returned-by (a-run is b) n true z = rw (z, run-behind t f pre is [], ← here) (ap (λ (v : Tree). run v is s .state) (n (eqb-true _ _ z)))
+  returned-by (a-run is b) n false z = rw (z, append-nil pre) here
+
+  own-threads-by : (a : Ask) → (ask-refusal u a s .number ≡ 0 → u ≡ t) → (b : Bool) → eqb (ask-refusal u a s .number) 0 ≡ b → All-threads t (cond b (asked-entries a) [])
+  unfolding asked-entries ask-refusal All-threads
+  own-threads-by (one-step i) n true z = let e = eqb-true _ _ z in let real = step-facts u s i e .thread in (rw (n e) at real, tt)
+  own-threads-by (one-step i) n false z = tt
+  own-threads-by (a-run is b) n true z = let e = eqb-true _ _ z in rw (n e) at (run-facts u s is (length b) e .threads)
+  own-threads-by (a-run is b) n false z = tt
+
+module _ (t : Tree) (f : State) (c : Call) (pre rest : List ℕ) (s : State) (here : s ≡ run t pre f .state) (n : call-refusal c s .number ≡ 0 → tree-of (c .tree) ≡ t) where
+  pub call-expected : answer c s ≡ expected t f (pre ++ (added c s ++ rest)) (length pre) c
+  unfolding answer expected added call-refusal
+  call-expected = call-expected-by t f (c .tree) pre rest s here (c .ask) n _ refl
+
+  pub returned : state-in (answer c s) ≡ run t (pre ++ added c s) f .state
+  unfolding answer added call-refusal
+  returned = returned-by t f (c .tree) pre rest s here (c .ask) n _ refl
+
+  pub own-threads : All-threads t (added c s)
+  unfolding added call-refusal
+  own-threads = own-threads-by t f (c .tree) pre rest s here (c .ask) n _ refl
+
+-- THE LIST
+pub each-from :
+    (t : Tree) (f : State) (cs : List Call) (pre : List ℕ) (s : State) → s ≡ run t pre f .state → Names t cs s →
+    answers cs s ≡ expected-answers t f (pre ++ joined cs s) (length pre) cs
+unfolding answers expected-answers joined Names
+each-from t f [] pre s here n = refl
+each-from t f (c ∷ cs) pre s here n =
+    let own = added c s in
+    let s′ = state-in (answer c s) in
+    let rest = joined cs s′ in
+    let next = each-from t f cs (pre ++ own) s′ (returned t f c pre rest s here (n .0)) (n .1) in
+    let at : state-at t f (pre ++ (own ++ rest)) (length pre) ≡ s = at-seam t f pre [] (own ++ rest) ∙ sym here in
+    rw (at, ← call-expected t f c pre rest s here (n .0), ← append-assoc pre own rest, ← length-append pre own) (ap (λ others. answer c s ∷ others) next)
+
+pub stretches-from :
+    (t : Tree) (f : State) (cs : List Call) (pre : List ℕ) (s : State) → s ≡ run t pre f .state → Names t cs s →
+    Stretches t f (pre ++ joined cs s) (length pre) cs
+unfolding Stretches joined Names
+stretches-from t f [] pre s here n = ap length (sym (append-nil pre))
+stretches-from t f (c ∷ cs) pre s here n =
+    let own = added c s in
+    let s′ = state-in (answer c s) in
+    let rest = joined cs s′ in
+    let next = stretches-from t f cs (pre ++ own) s′ (returned t f c pre rest s here (n .0)) (n .1) in
+    let at : state-at t f (pre ++ (own ++ rest)) (length pre) ≡ s = at-seam t f pre [] (own ++ rest) ∙ sym here in
+    rw at (
+      ap (take (length own)) (drop-append-seam pre (own ++ rest)) ∙ take-append-seam own rest,
+      rw (← append-assoc pre own rest, ← length-append pre own) next,
+    )
+
+pub joined-threads :
+    (t : Tree) (f : State) (cs : List Call) (pre : List ℕ) (s : State) → s ≡ run t pre f .state → Names t cs s → All-threads t (joined cs s)
+unfolding joined Names All-threads
+joined-threads t f [] pre s here n = tt
+joined-threads t f (c ∷ cs) pre s here n =
+    let own = added c s in
+    let s′ = state-in (answer c s) in
+    threads-join t own (joined cs s′) (own-threads t f c pre [] s here (n .0)) (joined-threads t f cs (pre ++ own) s′ (returned t f c pre [] s here (n .0)) (n .1))

@@ -1,0 +1,61 @@
+-- THE THIRD DEMAND, proved. Assumes nothing.
+use mathlib.Core.Path.{_≡_, refl}
+use mathlib.Core.List.{List, []}
+use Prim.Native.Nat.{ℕ}
+use lib.ListN.{take}
+use Rattle.model.specs.declared.State.{State}
+use Rattle.model.specs.Trees.{Tree, tree-of}
+use Rattle.model.specs.States.{fresh-state}
+use Rattle.model.specs.Runs.{steps, state-after, run-of, run}
+use Rattle.model.specs.Refusals.{tree-refusal}
+use Rattle.model.specs.Answers.{fresh-answer}
+use Rattle.model.specs.Laws.{All-threads, Sixteen-bit, Form-law}
+use Rattle.model.specs.Calls.{Call, joined, Names, state-at}
+use Rattle.claims.specs.Claim.{Claim, Demand-three}
+use Rattle.model.proofs.Trees.Accepted.{accepted, sixteen-bit}
+use Rattle.model.proofs.Laws.Runs.{steps-take}
+use Rattle.model.proofs.Laws.Facts.{well-formed-facts}
+use Rattle.model.proofs.Laws.Form.{form-law}
+use Rattle.claims.proofs.Claims.Reached.{from-fresh, threads-take}
+use Rattle.claims.proofs.Claims.Alone.{alone}
+use Rattle.claims.proofs.Claims.Order.{ordered}
+use Rattle.claims.proofs.Claims.Bounded.{bounded}
+use Rattle.claims.proofs.Claims.Calls.{each-from, stretches-from, joined-threads}
+
+module _ (t : Tree) (bits : Sixteen-bit t) (ok : tree-refusal t .number ≡ 0) (v : ℕ) (cs : List Call) (n : Names t cs (fresh-state t v)) where
+  abbrev f : State
+  f = fresh-state t v
+
+  -- the list's schedule
+  abbrev S : List ℕ
+  S = joined cs f
+
+  start : f ≡ run t [] f .state
+  unfolding run run-of steps state-after
+  start = refl
+
+  threads : All-threads t S
+  threads = joined-threads t f cs [] f start n
+
+  claim : Claim t f cs S
+  unfolding state-at Form-law run run-of
+  claim =
+      let 𝓐 = accepted t ok in
+      let whole = from-fresh t 𝓐 bits v S threads in
+      let front : (k : ℕ) → All-threads t (take k S) = λ k. threads-take t k S threads in
+      record {
+        each = each-from t f cs [] f start n;
+        stretches = stretches-from t f cs [] f start n;
+        alone = λ k.
+            let x = from-fresh t 𝓐 bits v (take k S) (front k) in
+            let formed = form-law t bits ok .of-run (take k S) f (front k) (form-law t bits ok .of-fresh v) in
+            alone t 𝓐 (run t (take k S) f .state) (well-formed-facts t _ formed) (x .there);
+        in-order = λ k d.
+            let x = from-fresh t 𝓐 bits v (take k S) (front k) in
+            rw (steps-take t k S f) at (ordered t d (steps t (take k S) f) (x .there .queues) (x .follows));
+        bounded = bounded t 𝓐 (steps t S f) (whole .there .queues) (whole .real) (whole .follows);
+      }
+
+pub demand-three : Demand-three
+unfolding Demand-three fresh-answer
+demand-three w start cs ok n = claim (tree-of w) (sixteen-bit w) ok _ cs n

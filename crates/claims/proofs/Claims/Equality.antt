@@ -1,0 +1,84 @@
+-- At every Check reached from fresh the status is a count from 1 to the threshold. Assumes nothing.
+use mathlib.Core.Path.{_≡_, refl, ap, _∙_}
+use mathlib.Core.Bool.{not}
+use Prim.Native.Nat.{ℕ, suc, _≤_, _<_}
+use native.Mathlib.Omega.{arith}
+use lib.Dec.{eqb, ltb}
+use borrow.Author.Tests.{eq-eqb, ne-eqb, lt-ltb, le-ltb}
+use Rattle.model.specs.declared.Place.{Place}
+use Rattle.model.specs.declared.Place.the-variants.{Check}
+use Rattle.model.specs.declared.State.{State as WordState}
+use Rattle.model.specs.Trees.{Tree, own-record}
+use Rattle.model.specs.States.{status, place, fresh-state}
+use Rattle.model.specs.Steps.{check-row, row, step}
+use Rattle.model.specs.Runs.{run-of, run}
+use Rattle.claims.specs.Reached.{equality-check-row, Counts-at-check, Equality-law}
+use Rattle.model.proofs.Trees.Index.{ancestor, height, record-at}
+use Rattle.model.proofs.Trees.Accepted.{Accepted, accepted}
+use Rattle.model.proofs.Trees.Paths.{ancestor-inner}
+use Rattle.model.proofs.Trees.Records.{own-record-at}
+use Rattle.model.proofs.Lists.{same-or}
+use Rattle.claims.proofs.Queues.Moves.{Stage, holding, low, State}
+use Rattle.claims.proofs.Words.View.{Words, words-in}
+use Rattle.claims.proofs.Words.Represents.{Fits, at-idle, at-prep, at-swap, at-link, at-wait, at-woken, at-ready, at-inside, at-check, at-pass, at-help, at-cas, at-linger, at-grant, at-draw, at-watch, at-shown, at-raise}
+use Rattle.claims.proofs.Claims.Reached.{Queued, from-fresh}
+
+-- what the place Check says
+record Checking (t : Tree) (w : Words) (g : State) (i l : ℕ) (x : Stage) : Type 0 where
+  index : ℕ
+  below : index < height t i
+  there : l ≡ ancestor t i index
+  stage : x ≡ holding
+  count : w .statuses (record-at t i index) ≡ g .tally (record-at t i index)
+
+checking : {t : Tree} {w : Words} {g : State} {i : ℕ} (l : ℕ) {p : Place} {x : Stage} → p ≡ Check l → Fits t w g i p x → Checking t w g i l x
+checking l e (at-check k b c) = record { index = k; below = b; there = cc; stage = refl; count = c k b b }
+checking l e at-idle = absurd (let z : _≡_ {A = ℕ} 0 1 = cc in omega arith)
+checking l e (at-prep k b c) = absurd (let z : _≡_ {A = ℕ} 0 1 = cc in omega arith)
+checking l e (at-swap k b c n v) = absurd (let z : _≡_ {A = ℕ} 0 1 = cc in omega arith)
+checking l e (at-link k p b c d a n v) = absurd (let z : _≡_ {A = ℕ} 0 1 = cc in omega arith)
+checking l e (at-wait k p b c d a n v) = absurd (let z : _≡_ {A = ℕ} 0 1 = cc in omega arith)
+checking l e (at-woken k b c v y) = absurd (let z : _≡_ {A = ℕ} 0 1 = cc in omega arith)
+checking l e (at-ready k b c v p) = absurd (let z : _≡_ {A = ℕ} 0 1 = cc in omega arith)
+checking l e (at-inside c) = absurd (let z : _≡_ {A = ℕ} 0 1 = cc in omega arith)
+checking l e (at-pass k r v b c n q y) = absurd (let z : _≡_ {A = ℕ} 0 1 = cc in omega arith)
+checking l e (at-help k b c) = absurd (let z : _≡_ {A = ℕ} 0 1 = cc in omega arith)
+checking l e (at-cas k b c) = absurd (let z : _≡_ {A = ℕ} 0 1 = cc in omega arith)
+checking l e (at-linger k b c n) = absurd (let z : _≡_ {A = ℕ} 0 1 = cc in omega arith)
+checking l e (at-grant k r b c n) = absurd (let z : _≡_ {A = ℕ} 0 1 = cc in omega arith)
+checking l e (at-draw k b r c) = absurd (let z : _≡_ {A = ℕ} 0 1 = cc in omega arith)
+checking l e (at-watch k b r c) = absurd (let z : _≡_ {A = ℕ} 0 1 = cc in omega arith)
+checking l e (at-shown r c) = absurd (let z : _≡_ {A = ℕ} 0 1 = cc in omega arith)
+checking l e (at-raise r c) = absurd (let z : _≡_ {A = ℕ} 0 1 = cc in omega arith)
+
+-- at or below the threshold, below it and other than it are one test
+pub same-test : (v h : ℕ) → v ≤ h → ltb v h ≡ not (eqb v h)
+same-test v h b = same-or v h _ (λ z. rw (eq-eqb v h z) (le-ltb v h (omega arith))) (λ z. rw (ne-eqb v h z) (lt-ltb v h (omega arith)))
+
+counts-at-check :
+    (t : Tree) → Accepted t → (s : WordState) → Queued t s → (i l : ℕ) → i < t .threads → place s i ≡ Check l → Counts-at-check t s i l
+unfolding words-in low step row check-row equality-check-row
+counts-at-check t 𝓐 s q i l h e =
+    let rep = q .represents in
+    let x = checking l e (rep .fits i h) in
+    let k = x .index in
+    let own : own-record t i l ≡ record-at t i k = ap (own-record t i) (x .there) ∙ own-record-at t 𝓐 i h k (omega (arith, x .below)) in
+    let all : low (height t i) (q .queues .stage i) ≡ suc (height t i) = ap (low (height t i)) (x .stage) in
+    let first = rep .invariant .threads i .heads k (omega (arith, x .below)) in
+    let inner = ancestor-inner t 𝓐 i h k (x .below) in
+    let counts = rep .invariant .counts (ancestor t i k) (record-at t i k) (λ z. omega arith) first in
+    let limit : t .threshold l ≡ t .threshold (ancestor t i k) = ap (t .threshold) (x .there) in
+    let value : status s (own-record t i l) ≡ q .queues .tally (record-at t i k) = ap (status s) own ∙ x .count in
+    let within : status s (own-record t i l) ≤ t .threshold l = omega (arith, counts .1) in
+    record {
+      started = omega (arith, counts .0);
+      within = within;
+      same-row = rw (same-test (status s (own-record t i l)) (t .threshold l) within);
+      same-step = rw (e, same-test (status s (own-record t i l)) (t .threshold l) within);
+    }
+
+pub equality-law : Equality-law
+unfolding Equality-law run run-of
+equality-law t bits ok v is all i l h e =
+    let 𝓐 = accepted t ok in
+    counts-at-check t 𝓐 (run t is (fresh-state t v) .state) (from-fresh t 𝓐 bits v is all .there) i l h e

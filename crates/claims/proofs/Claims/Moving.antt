@@ -1,0 +1,261 @@
+-- In every state reached from fresh in which a thread is not Idle, one that is not Idle has a next step that is no stay. Assumes nothing.
+use mathlib.Core.Path.{_≡_, refl, sym, ap, _∙_}
+use mathlib.Core.Bool.{Bool, true, false, cond, not, _&&_, false≢true}
+use mathlib.Core.List.{List, [], _∷_}
+use mathlib.Core.Logic.{_≢_}
+use Prim.Native.Nat.{ℕ, suc, _+_, _≤_, _<_}
+use native.Mathlib.Omega.{arith}
+use lib.Dec.{eqb, ltb}
+use borrow.Author.Tests.{eqb-true, eqb-false, eq-eqb, ne-eqb}
+use Rattle.model.specs.declared.Place.{Place}
+use Rattle.model.specs.declared.Place.the-variants.{Idle, Link, Linger}
+use Rattle.model.specs.declared.State.{State as WordState}
+use Rattle.model.specs.Trees.{Tree, tree-of, is-ticket, own-record}
+use Rattle.model.specs.States.{acquire-parent, wait-word, locked, none, tail, next, status, place, fresh-state}
+use Rattle.model.specs.Steps.{Kind, stay, passed-entry, crossed-entry, kind-number, Row-result, prep-row, swap-row, link-row, wait-row, leave-row, check-row, help-row, cas-row, linger-row, grant-row, draw-row, watch-row, raise-row, row, step}
+use Rattle.model.specs.Runs.{steps, state-after, run-of, run}
+use Rattle.model.specs.WellFormed.{good-place}
+use Rattle.model.specs.Answers.{fresh-answer}
+use Rattle.model.specs.Laws.{Sixteen-bit, Form-law, Kind-law}
+use Rattle.model.specs.Calls.{joined}
+use Rattle.claims.specs.Reached.{Move-law, List-move-law}
+use Rattle.model.proofs.Tests.{by-test}
+use Rattle.model.proofs.Places.{not-idle}
+use Rattle.model.proofs.Trees.Index.{ancestor, height, record-at}
+use Rattle.model.proofs.Trees.Accepted.{Accepted, accepted, sixteen-bit}
+use Rattle.model.proofs.Trees.Tickets.{ticket-yes, queue-facts}
+use Rattle.model.proofs.Trees.Paths.{ancestor-inner, ancestor-root, ancestor-zero, ancestor-not-root}
+use Rattle.model.proofs.Trees.Records.{own-record-at, root-record}
+use Rattle.model.proofs.Laws.Form.{form-law}
+use Rattle.model.proofs.Laws.Kinds.{kind-law}
+use Rattle.model.proofs.Lists.{less-or, first, first-rest, count}
+use Rattle.claims.proofs.Queues.Paths.{laws}
+use Rattle.claims.proofs.Queues.Moves.{Stage, out, queued, ready, low, acts, reach, State}
+use Rattle.claims.proofs.Queues.Invariant.{Inv}
+use Rattle.claims.proofs.Queues.Order.{Second, second}
+use Rattle.claims.proofs.Queues.Unblocked.{Unblocked, unblocked}
+use Rattle.claims.proofs.Words.Links.{final, after, before-second}
+use Rattle.claims.proofs.Words.View.{Words, words-in}
+use Rattle.claims.proofs.Words.Represents.{letting-go, letting-go-low, Fits, at-idle, at-prep, at-swap, at-link, at-wait, at-woken, at-ready, at-inside, at-check, at-pass, at-help, at-cas, at-linger, at-grant, at-draw, at-watch, at-shown, at-raise, Represents}
+use Rattle.claims.proofs.Words.Tickets.{tickets-first}
+use Rattle.claims.proofs.Words.Releasing.{Ungranted, linking, waiting, watching, firm, ungranted}
+use Rattle.claims.proofs.Claims.Reached.{Queued, from-fresh}
+use Rattle.claims.proofs.Claims.Calls.{joined-threads}
+use Rattle.claims.proofs.Claims.Accepts.{last-reached}
+
+-- a kind of another number than a stay's
+no-stay : (k : Kind) → eqb (kind-number k) 0 ≡ false → k ≢ stay
+no-stay k f e = eqb-false _ _ f (ap kind-number e)
+
+abbrev pub Moves : Row-result → Type 0
+Moves x = x .kind ≢ stay
+
+passing-moves : (b : Bool) → cond b passed-entry crossed-entry ≢ stay
+passing-moves true = no-stay passed-entry refl
+passing-moves false = no-stay crossed-entry refl
+
+-- a thread that is not Idle, and a step of it that is no stay
+pub record Mover (t : Tree) (s : WordState) : Type 0 where
+  pub thread : ℕ
+  pub real : thread < t .threads
+  pub not-idle : place s thread ≢ Idle
+  pub moves : row t thread (place s thread) s .kind ≢ stay
+
+-- a queue whose first is not its last has a second
+pub two-there : (r : ℕ) (q xs : List ℕ) → q ≡ r ∷ xs → final q ≢ suc r → (m : ℕ) × (ys : List ℕ) × (q ≡ r ∷ m ∷ ys)
+unfolding final
+two-there r q [] e n = absurd (n (ap final e))
+two-there r q (m ∷ ys) e n = (m, ys, e)
+
+module _ (t : Tree) (𝓐 : Accepted t) (bits : Sixteen-bit t) (s : WordState) (q : Queued t s) where
+  abbrev pub g : State
+  g = q .queues
+
+  abbrev pub w : Words
+  w = words-in s
+
+  abbrev pub rep : Represents t (words-in s) (q .queues)
+  rep = q .represents
+
+  abbrev pub inv : Inv t g
+  inv = q .represents .invariant
+
+  -- what a thread's place comes to: someone can move, itself or the one behind it in Link; or it stands ungranted; or it is Idle
+  data Found (i : ℕ) : Type 0 where
+    can-move : Mover t s → Found i
+    stands : (k : ℕ) → g .stage i ≡ queued k → Found i
+    idles : place s i ≡ Idle → g .stage i ≡ out → Found i
+
+  module _ (i : ℕ) (h : i < t .threads) where
+    someone : (p : Place) → place s i ≡ p → p ≢ Idle → Moves (row t i p s) → Mover t s
+    someone p e n m = record { thread = i; real = h; not-idle = rw e n; moves = rw e m }
+
+    -- THE ROWS
+    swap-moves : (l : ℕ) → Moves (swap-row t i l s)
+    unfolding swap-row
+    swap-moves l =
+        by-test Moves (eqb (tail s l) none) _ _ (λ _. by-test Moves (eqb l 0) _ _ (λ _. no-stay _ refl) (λ _. no-stay _ refl)) (λ _. no-stay _ refl)
+
+    check-moves : (l : ℕ) → Moves (check-row t i l s)
+    unfolding check-row
+    check-moves l =
+        by-test Moves (ltb (status s (own-record t i l)) (t .threshold l) && not (eqb (next s (own-record t i l)) none)) _ _ (λ _. no-stay _ refl) (λ _. no-stay _ refl)
+
+    help-moves : (l : ℕ) → Moves (help-row t i l s)
+    unfolding help-row
+    help-moves l = by-test Moves (eqb (next s (own-record t i l)) none) _ _ (λ _. no-stay _ refl) (λ _. no-stay _ refl)
+
+    cas-moves : (l : ℕ) → Moves (cas-row t i l s)
+    unfolding cas-row
+    cas-moves l = by-test Moves (eqb (tail s l) (own-record t i l + 1)) _ _ (λ _. no-stay _ refl) (λ _. no-stay _ refl)
+
+    draw-moves : Moves (draw-row t i s)
+    unfolding draw-row
+    draw-moves = by-test Moves (eqb (s .ticket) (s .grant)) _ _ (λ _. no-stay _ refl) (λ _. no-stay _ refl)
+
+    -- granted, and to acquire the parent
+    pub woken-moves : (k : ℕ) → k < height t i → w .statuses (record-at t i k) ≡ acquire-parent → Moves (wait-row t i (ancestor t i k) s)
+    unfolding wait-row words-in
+    woken-moves k b v =
+        let inner = ne-eqb (ancestor t i k) 0 (omega (arith, ancestor-inner t 𝓐 i h k b)) in
+        let x = status s (record-at t i k) in
+        rw (own-record-at t 𝓐 i h k (omega arith), inner, ne-eqb x wait-word (omega arith), eq-eqb x acquire-parent v) (no-stay _ refl)
+
+    -- granted the lock: UNLOCKED at the root, else a count
+    pub ready-moves :
+        (k : ℕ) → k ≤ height t i → g .stage i ≡ ready → (k < height t i → w .statuses (record-at t i k) ≡ g .tally (record-at t i k)) →
+        (k ≡ height t i → w .statuses (record-at t i k) ≡ 0) → (b : Bool) → eqb (ancestor t i k) 0 ≡ b → Moves (wait-row t i (ancestor t i k) s)
+    unfolding wait-row words-in low
+    ready-moves k l e c v true z =
+        let free = v (ancestor-zero t 𝓐 i h k l (eqb-true (ancestor t i k) 0 z)) in
+        rw (own-record-at t 𝓐 i h k l, z, ne-eqb (status s (record-at t i k)) locked (omega arith)) (no-stay _ refl)
+    ready-moves k l e c v false z =
+        let n = eqb-false (ancestor t i k) 0 z in
+        let b = ancestor-not-root t 𝓐 i h k l (omega (arith, n)) in
+        let first-there = inv .threads i .heads k (rw e (omega arith)) in
+        let fits = inv .counts (ancestor t i k) (record-at t i k) n first-there .1 in
+        let count = c b in
+        let small = bits (ancestor t i k) in
+        let x = status s (record-at t i k) in
+        rw (own-record-at t 𝓐 i h k l, z, ne-eqb x wait-word (omega arith), ne-eqb x acquire-parent (omega arith)) (passing-moves (eqb (ancestor t i k) (t .home i)))
+
+    -- shown its ticket
+    pub shown-moves : t .ticket-root ≡ true → g .stage i ≡ ready → Moves (watch-row t i s)
+    unfolding watch-row words-in low
+    shown-moves root e =
+        let R = record-at t i (height t i) in
+        let head : first (g .queue 0) ≡ suc R = rw (ancestor-root t 𝓐 i h) at (inv .threads i .heads (height t i) (rw e (omega arith))) in
+        let same = tickets-first (w .statuses) (w .grant) (w .ticket) R (g .queue 0) (rep .numbered root .held) head in
+        rw (root-record t 𝓐 i h, eq-eqb (status s R) (s .grant) same) (no-stay _ refl)
+
+  -- whoever stands behind a record without next is in Link, and moves
+  link-behind :
+      (d r m : ℕ) (ys : List ℕ) → is-ticket t d ≡ false → g .queue d ≡ r ∷ m ∷ ys → next s r ≡ 0 → Mover t s
+  unfolding words-in reach row link-row
+  link-behind d r m ys nt shape quiet = by (ungranted N (b .waits) (rep .fits S real))
+    where
+      b : Second t g d m
+      b = second t g inv d r m ys shape
+
+      S : ℕ
+      S = b .thread
+
+      N : ℕ
+      N = b .index
+
+      real : S < t .threads
+      real = inv .threads S .real (rw (b .waits) (omega arith))
+
+      by : Ungranted t w g S N (place s S) → Mover t s
+      by (linking p e nd a z) = someone S real (Link (ancestor t S N) p) e (not-idle _ refl) (no-stay _ refl)
+      by (waiting p e c a z) =
+          let a′ : after (r ∷ m ∷ ys) p ≡ suc m = rw (b .place, b .mine, shape) at a in
+          let one : count m (r ∷ m ∷ ys) ≤ 1 = rw shape at (inv .once d m) in
+          let same = before-second p r m ys a′ one in
+          absurd (let z′ : next s r ≡ suc (record-at t S N) = rw same at z in omega arith)
+      by (watching e z y c) =
+          absurd (false≢true (sym nt ∙ ticket-yes t d y (sym (b .place) ∙ ap (ancestor t S) z ∙ ancestor-root t 𝓐 S real)))
+
+  module _ (i : ℕ) (h : i < t .threads) where
+    -- LINGER: with a next it moves; without one, the member behind is in Link
+    linger-someone :
+        (k : ℕ) → k ≤ height t i → place s i ≡ Linger (ancestor t i k) → g .stage i ≡ letting-go (height t i) k →
+        w .tails (ancestor t i k) ≢ suc (record-at t i k) → (b : Bool) → eqb (next s (record-at t i k)) 0 ≡ b → Mover t s
+    unfolding words-in row linger-row good-place
+    linger-someone k l y e n true z =
+        let good : good-place t i (Linger (ancestor t i k)) ≡ true = rw y at (q .facts .places i .used h) in
+        let nt = queue-facts t i (ancestor t i k) good .1 in
+        let first-there : k < low (height t i) (g .stage i) = rw e (omega (arith, letting-go-low (height t i) k)) in
+        let shape = first-rest (record-at t i k) (g .queue (ancestor t i k)) (inv .threads i .heads k first-there) in
+        let two = two-there (record-at t i k) (g .queue (ancestor t i k)) _ shape (λ f. n (rep .linked (ancestor t i k) nt .last ∙ f)) in
+        link-behind (ancestor t i k) (record-at t i k) (two .0) (two .1) nt (two .2) (eqb-true (next s (record-at t i k)) 0 z)
+    linger-someone k l y e n false z =
+        someone i h (Linger (ancestor t i k)) y (not-idle _ refl) (rw (own-record-at t 𝓐 i h k l, z) (no-stay _ refl))
+
+    found-at : {p : Place} {x : Stage} → place s i ≡ p → g .stage i ≡ x → Fits t w g i p x → Found i
+    unfolding row prep-row link-row leave-row grant-row raise-row
+    found-at y e at-idle = idles y e
+    found-at y e (at-prep k l c) = can-move (someone i h _ y (not-idle _ refl) (no-stay _ refl))
+    found-at y e (at-swap k l c n v) = can-move (someone i h _ y (not-idle _ refl) (swap-moves i h (ancestor t i k)))
+    found-at y e (at-link k p l c d a n v) = can-move (someone i h _ y (not-idle _ refl) (no-stay _ refl))
+    found-at y e (at-wait k p l c d a n v) = stands k e
+    found-at y e (at-woken k b c v z) = can-move (someone i h _ y (not-idle _ refl) (woken-moves i h k b v))
+    found-at y e (at-ready k l c v p) = can-move (someone i h _ y (not-idle _ refl) (ready-moves i h k l e (λ b. c k b b) v _ refl))
+    found-at y e (at-inside c) = can-move (someone i h _ y (not-idle _ refl) (no-stay _ refl))
+    found-at y e (at-check k b c) = can-move (someone i h _ y (not-idle _ refl) (check-moves i h (ancestor t i k)))
+    found-at y e (at-pass k r v b c n z f) = can-move (someone i h _ y (not-idle _ refl) (no-stay _ refl))
+    found-at y e (at-help k l c) = can-move (someone i h _ y (not-idle _ refl) (help-moves i h (ancestor t i k)))
+    found-at y e (at-cas k l c) = can-move (someone i h _ y (not-idle _ refl) (cas-moves i h (ancestor t i k)))
+    found-at y e (at-linger k l c n) = can-move (linger-someone k l y e n _ refl)
+    found-at y e (at-grant k r l c n) = can-move (someone i h _ y (not-idle _ refl) (no-stay _ refl))
+    found-at y e (at-draw k l r c) = can-move (someone i h _ y (not-idle _ refl) (draw-moves i h))
+    found-at y e (at-watch k l r c) = stands k e
+    found-at y e (at-shown r c) = can-move (someone i h _ y (not-idle _ refl) (shown-moves i h r e))
+    found-at y e (at-raise r c) = can-move (someone i h _ y (not-idle _ refl) (no-stay _ refl))
+
+    found : Found i
+    unfolding words-in
+    found = found-at refl refl (rep .fits i h)
+
+  -- one that stands ungranted nowhere
+  from-unblocked : Unblocked t g → Mover t s
+  unfolding low acts reach
+  from-unblocked u = by (found i (inv .threads i .real (u .busy)))
+    where
+      i : ℕ
+      i = u .thread
+
+      by : Found i → Mover t s
+      by (can-move x) = x
+      by (stands k e) = firm (height t i) k (g .stage i) e (u .nowhere)
+      by (idles y e) = let b : 0 < reach (height t i) out = rw e at (u .busy) in absurd (omega arith)
+
+  from-any : (i : ℕ) → i < t .threads → place s i ≢ Idle → Mover t s
+  unfolding reach
+  from-any i h n = by (found i h)
+    where
+      by : Found i → Mover t s
+      by (can-move x) = x
+      by (stands k e) = from-unblocked (unblocked t (laws t 𝓐) g inv i (rw e (omega arith)))
+      by (idles y e) = absurd (n y)
+
+  -- room that the tree lacks is Idle
+  pub someone-moves : (i : ℕ) → place s i ≢ Idle → Mover t s
+  someone-moves i n = from-any i (less-or i (t .threads) _ (λ b. b) (λ b. absurd (n (q .facts .places i .unused b)))) n
+
+pub move-law : Move-law
+unfolding Move-law Form-law Kind-law run run-of step
+move-law t bits ok v is all i n =
+    let s = run t is (fresh-state t v) .state in
+    let x = someone-moves t (accepted t ok) bits s (from-fresh t (accepted t ok) bits v is all .there) i n in
+    let form = form-law t bits ok in
+    let told = kind-law t (x .thread) s ok (x .real) (form .of-run is (fresh-state t v) all (form .of-fresh v)) in
+    record { thread = x .thread; real = x .real; not-idle = x .not-idle; no-stay = x .moves; changes = λ e. x .moves (told .stays-exactly .1 e) }
+
+pub list-move-law : List-move-law
+unfolding List-move-law Move-law fresh-answer run run-of steps state-after
+list-move-law w start cs ok n i busy =
+    let t = tree-of w in
+    let f = fresh-answer w start .state in
+    let there = last-reached t f cs [] f refl n in
+    rw there (move-law t (sixteen-bit w) ok _ (joined cs f) (joined-threads t f cs [] f refl n) i (rw there at busy))

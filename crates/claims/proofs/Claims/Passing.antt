@@ -1,0 +1,159 @@
+-- Below the root the lock is passed on only where the threshold is at least 2. Assumes nothing.
+use mathlib.Core.Path.{_≡_, refl, sym, ap, _∙_}
+use mathlib.Core.Bool.{Bool, true, false, _&&_, not, false≢true}
+use mathlib.Core.List.{List, [], _∷_, _++_}
+use mathlib.Core.Logic.{_≢_}
+use Prim.Native.Nat.{ℕ, suc, _+_, _≤_, _<_}
+use native.Mathlib.Omega.{arith}
+use lib.Dec.{eqb}
+use borrow.Author.Tests.{eq-eqb, ne-eqb, eqb-false}
+use Rattle.model.specs.declared.Place.{Place}
+use Rattle.model.specs.declared.Place.the-variants.{Idle, Prep, Swap, Link, Wait, Inside, Check, Help, Cas, Linger, Grant, Draw, Watch, Raise, Invalid}
+use Rattle.model.specs.declared.State.{State as WordState}
+use Rattle.model.specs.Trees.{Tree, own-record}
+use Rattle.model.specs.States.{acquire-parent, wait-word, status, place, fresh-state}
+use Rattle.model.specs.Steps.{is-entry, wait-row, row, step}
+use Rattle.model.specs.Runs.{steps, state-after, run-of, run}
+use Rattle.model.specs.Refusals.{tree-refusal}
+use Rattle.model.specs.Laws.{All-threads, Sixteen-bit, then-run, waits-below, entries-from-below, Passed-law}
+use Rattle.claims.specs.Reached.{Passing-law, Threshold-one-law}
+use Rattle.model.proofs.Trees.Index.{ancestor, height, record-at}
+use Rattle.model.proofs.Trees.Accepted.{Accepted, accepted}
+use Rattle.model.proofs.Trees.Paths.{ancestor-not-root}
+use Rattle.model.proofs.Trees.Records.{own-record-at}
+use Rattle.claims.proofs.Queues.Moves.{Stage, ready, low, State}
+use Rattle.claims.proofs.Words.View.{Words, words-in}
+use Rattle.claims.proofs.Words.Represents.{waiting-word, Fits, at-idle, at-prep, at-swap, at-link, at-wait, at-woken, at-ready, at-inside, at-check, at-pass, at-help, at-cas, at-linger, at-grant, at-draw, at-watch, at-shown, at-raise}
+use Rattle.model.proofs.Laws.Runs.{run-join}
+use Rattle.model.proofs.Laws.Passed.{passed-law}
+use Rattle.claims.proofs.Claims.Reached.{Queued, from-fresh, threads-join}
+
+-- what the place Wait says below the root: not granted, to acquire the parent, or a count that was passed on
+data Waiting (t : Tree) (w : Words) (g : State) (i l : ℕ) (x : Stage) : Type 0 where
+  ungranted : (k : ℕ) → k ≤ height t i → l ≡ ancestor t i k → w .statuses (record-at t i k) ≡ waiting-word (ancestor t i k) → Waiting t w g i l x
+  woken : (k : ℕ) → k ≤ height t i → l ≡ ancestor t i k → w .statuses (record-at t i k) ≡ acquire-parent → Waiting t w g i l x
+  passed-on : (k : ℕ) → k ≤ height t i → l ≡ ancestor t i k → x ≡ ready → (k < height t i → 2 ≤ g .tally (record-at t i k)) → Waiting t w g i l x
+
+waiting : {t : Tree} {w : Words} {g : State} {i : ℕ} (l : ℕ) {p : Place} {x : Stage} → p ≡ Wait l → Fits t w g i p x → Waiting t w g i l x
+waiting l e (at-wait k p b c d a n v) = ungranted k b (cc) v
+waiting l e (at-woken k b c v y) = woken k (omega arith) (cc) v
+waiting l e (at-ready k b c v p) = passed-on k b (cc) refl p
+waiting l e at-idle = absurd (let z : _≡_ {A = ℕ} 0 1 = cc in omega arith)
+waiting l e (at-prep k b c) = absurd (let z : _≡_ {A = ℕ} 0 1 = cc in omega arith)
+waiting l e (at-swap k b c n v) = absurd (let z : _≡_ {A = ℕ} 0 1 = cc in omega arith)
+waiting l e (at-link k p b c d a n v) = absurd (let z : _≡_ {A = ℕ} 0 1 = cc in omega arith)
+waiting l e (at-inside c) = absurd (let z : _≡_ {A = ℕ} 0 1 = cc in omega arith)
+waiting l e (at-check k b c) = absurd (let z : _≡_ {A = ℕ} 0 1 = cc in omega arith)
+waiting l e (at-pass k r v b c n q y) = absurd (let z : _≡_ {A = ℕ} 0 1 = cc in omega arith)
+waiting l e (at-help k b c) = absurd (let z : _≡_ {A = ℕ} 0 1 = cc in omega arith)
+waiting l e (at-cas k b c) = absurd (let z : _≡_ {A = ℕ} 0 1 = cc in omega arith)
+waiting l e (at-linger k b c n) = absurd (let z : _≡_ {A = ℕ} 0 1 = cc in omega arith)
+waiting l e (at-grant k r b c n) = absurd (let z : _≡_ {A = ℕ} 0 1 = cc in omega arith)
+waiting l e (at-draw k b r c) = absurd (let z : _≡_ {A = ℕ} 0 1 = cc in omega arith)
+waiting l e (at-watch k b r c) = absurd (let z : _≡_ {A = ℕ} 0 1 = cc in omega arith)
+waiting l e (at-shown r c) = absurd (let z : _≡_ {A = ℕ} 0 1 = cc in omega arith)
+waiting l e (at-raise r c) = absurd (let z : _≡_ {A = ℕ} 0 1 = cc in omega arith)
+
+module _ (t : Tree) (𝓐 : Accepted t) (s : WordState) (q : Queued t s) (i l : ℕ) (h : i < t .threads) (n : l ≢ 0) where
+  abbrev w : Words
+  w = words-in s
+
+  own : (k : ℕ) → k ≤ height t i → l ≡ ancestor t i k → own-record t i l ≡ record-at t i k
+  own k b z = ap (own-record t i) z ∙ own-record-at t 𝓐 i h k b
+
+  -- with a status that stays or acquires the parent, the step is no entry
+  stays-out : status s (own-record t i l) ≡ wait-word → is-entry (wait-row t i l s .kind) ≡ false
+  unfolding wait-row is-entry
+  stays-out v = rw (ne-eqb l 0 n, eq-eqb (status s (own-record t i l)) wait-word v)
+
+  climbs : status s (own-record t i l) ≡ acquire-parent → is-entry (wait-row t i l s .kind) ≡ false
+  unfolding wait-row is-entry
+  climbs v = rw (ne-eqb l 0 n, ne-eqb (status s (own-record t i l)) wait-word (λ z. omega arith), eq-eqb (status s (own-record t i l)) acquire-parent v)
+
+  enough : Waiting t w (q .queues) i l (q .queues .stage i) → is-entry (wait-row t i l s .kind) ≡ true → 2 ≤ t .threshold l
+  unfolding words-in low waiting-word
+  enough (ungranted k b z v) e = absurd (false≢true (sym (stays-out (ap (status s) (own k b z) ∙ v ∙ ap waiting-word (sym z) ∙ rw (ne-eqb l 0 n))) ∙ e))
+  enough (woken k b z v) e = absurd (false≢true (sym (climbs (ap (status s) (own k b z) ∙ v)) ∙ e))
+  enough (passed-on k b z r p) e =
+      let inv = q .represents .invariant in
+      let inner : ancestor t i k ≢ 0 = λ y. n (z ∙ y) in
+      let below : k < height t i = ancestor-not-root t 𝓐 i h k b (omega (arith, inner)) in
+      let all : low (height t i) (q .queues .stage i) ≡ suc (height t i) = ap (low (height t i)) r in
+      let limit = inv .counts (ancestor t i k) (record-at t i k) inner (inv .threads i .heads k (omega arith)) .1 in
+      rw z (omega (arith, p below, limit))
+
+pub passing-law : Passing-law
+unfolding Passing-law run run-of step row words-in
+passing-law t bits ok v is all i l h e n f =
+    let 𝓐 = accepted t ok in
+    let q = from-fresh t 𝓐 bits v is all .there in
+    enough t 𝓐 (run t is (fresh-state t v) .state) q i l h n (waiting l e (q .represents .fits i h)) (rw e at f)
+
+-- ALL THRESHOLDS 1
+and-false : (b : Bool) → b && false ≡ false
+and-false true = refl
+and-false false = refl
+
+-- one entry behind others
+after-one : (t : Tree) (f : WordState) (pre : List ℕ) (i : ℕ) → run t (pre ++ (i ∷ [])) f .state ≡ step t i (run t pre f .state) .state
+unfolding then-run run run-of steps state-after
+after-one t f pre i = ap (λ x. x .state) (run-join t pre (i ∷ []) f)
+
+module _ (t : Tree) (ok : tree-refusal t .number ≡ 0) (ones : (d : ℕ) → t .threshold d ≤ 1) (v : ℕ) where
+  abbrev f : WordState
+  f = fresh-state t v
+
+  sixteen : Sixteen-bit t
+  sixteen d = omega (arith, ones d)
+
+  -- no step from a state reached from fresh is an entry from Wait below the root
+  none-below : (pre : List ℕ) → All-threads t pre → (i : ℕ) → i < t .threads → (p : Place) → place (run t pre f .state) i ≡ p →
+      is-entry (step t i (run t pre f .state) .kind) && waits-below p ≡ false
+  unfolding waits-below Passing-law
+  none-below pre all i h (Wait l) e = by (eqb l 0) (is-entry (step t i (run t pre f .state) .kind)) refl refl
+    where
+      by : (b c : Bool) → eqb l 0 ≡ b → is-entry (step t i (run t pre f .state) .kind) ≡ c → c && not b ≡ false
+      by true true z y = refl
+      by true false z y = refl
+      by false false z y = refl
+      by false true z y = absurd (let two = passing-law t sixteen ok v pre all i l h e (eqb-false l 0 z) y in omega (arith, ones l))
+  none-below pre all i h Idle e = and-false (is-entry (step t i (run t pre f .state) .kind))
+  none-below pre all i h (Prep l) e = and-false (is-entry (step t i (run t pre f .state) .kind))
+  none-below pre all i h (Swap l) e = and-false (is-entry (step t i (run t pre f .state) .kind))
+  none-below pre all i h (Link l p) e = and-false (is-entry (step t i (run t pre f .state) .kind))
+  none-below pre all i h Inside e = and-false (is-entry (step t i (run t pre f .state) .kind))
+  none-below pre all i h (Check l) e = and-false (is-entry (step t i (run t pre f .state) .kind))
+  none-below pre all i h (Help l) e = and-false (is-entry (step t i (run t pre f .state) .kind))
+  none-below pre all i h (Cas l) e = and-false (is-entry (step t i (run t pre f .state) .kind))
+  none-below pre all i h (Linger l) e = and-false (is-entry (step t i (run t pre f .state) .kind))
+  none-below pre all i h (Grant l r w) e = and-false (is-entry (step t i (run t pre f .state) .kind))
+  none-below pre all i h Draw e = and-false (is-entry (step t i (run t pre f .state) .kind))
+  none-below pre all i h Watch e = and-false (is-entry (step t i (run t pre f .state) .kind))
+  none-below pre all i h Raise e = and-false (is-entry (step t i (run t pre f .state) .kind))
+  none-below pre all i h Invalid e = and-false (is-entry (step t i (run t pre f .state) .kind))
+
+  step-none : (pre : List ℕ) → All-threads t pre → (i : ℕ) → i < t .threads →
+      is-entry (step t i (run t pre f .state) .kind) && waits-below (step t i (run t pre f .state) .place) ≡ false
+  unfolding step
+  step-none pre all i h = none-below pre all i h (place (run t pre f .state) i) refl
+
+  along : (pre is : List ℕ) → All-threads t pre → All-threads t is → entries-from-below (steps t is (run t pre f .state)) ≡ 0
+  unfolding steps entries-from-below All-threads
+  along pre [] all later = refl
+  along pre (i ∷ is) all later =
+      let s = run t pre f .state in
+      let x = step t i s in
+      let next : run t (pre ++ (i ∷ [])) f .state ≡ x .state = after-one t f pre i in
+      let rest : entries-from-below (steps t is (x .state)) ≡ 0 = rw next at (along (pre ++ (i ∷ [])) is (threads-join t pre (i ∷ []) all (later .0, tt)) (later .1)) in
+      rw (step-none pre all i (later .0)) (omega (arith, rest))
+
+  pub fresh-none : (is : List ℕ) → All-threads t is → entries-from-below (steps t is f) ≡ 0
+  unfolding run run-of steps state-after All-threads
+  fresh-none is all = along [] is tt all
+
+pub threshold-one-law : Threshold-one-law
+unfolding Threshold-one-law Passed-law
+threshold-one-law t ok ones v is all =
+    let none = fresh-none t ok ones v is all in
+    let both = passed-law t is (fresh-state t v) in
+    (omega arith, omega arith)

@@ -1,0 +1,96 @@
+-- From fresh, every schedule leads to a state that represents queues, and what its steps show is a run of moves. Assumes nothing.
+use mathlib.Core.Path.{_≡_, refl, sym, _∙_}
+use mathlib.Core.List.{List, [], _∷_, _++_}
+use Prim.Native.Nat.{ℕ, zero, suc, _<_}
+use native.Mathlib.Omega.{arith}
+use lib.ListN.{take, getD, replicate}
+use Rattle.model.specs.declared.Place.the-variants.{Idle}
+use Rattle.model.specs.declared.State.{State as WordState}
+use Rattle.model.specs.Trees.{Tree}
+use Rattle.model.specs.Places.{place-words, bare-place, plain-place, place-of}
+use Rattle.model.specs.States.{place, fresh-words, fresh-state}
+use Rattle.model.specs.Steps.{Step, step}
+use Rattle.model.specs.Runs.{steps, state-after}
+use Rattle.model.specs.Laws.{All-threads, Sixteen-bit}
+use Rattle.model.proofs.Trees.Accepted.{Accepted}
+use Rattle.model.proofs.Laws.Facts.{Facts}
+use Rattle.model.proofs.Laws.Form.{replicate-all, fresh-facts, step-keeps}
+use Rattle.model.proofs.Lists.{count-nil}
+use Rattle.claims.proofs.Queues.Moves.{State, Event, empty, Run, done}
+use Rattle.claims.proofs.Queues.Invariant.{inv-empty}
+use Rattle.claims.proofs.Queues.Order.{join-runs}
+use Rattle.claims.proofs.Words.Links.{final-nil}
+use Rattle.claims.proofs.Words.View.{words-in, Room}
+use Rattle.claims.proofs.Words.Represents.{Tickets, at-idle, Represents}
+use Rattle.claims.proofs.Words.Outcome.{row-shown, shown}
+use Rattle.claims.proofs.Words.Steps.{step-outcome}
+
+-- what some steps show, in order
+unfoldable pub all-shown : List Step → List Event
+all-shown [] = []
+all-shown (x ∷ xs) = shown x ++ all-shown xs
+
+-- a state with the queues that it represents
+pub record Queued (t : Tree) (s : WordState) : Type 0 where
+  pub queues : State
+  pub room : Room s
+  pub facts : Facts t s
+  pub represents : Represents t (words-in s) queues
+
+-- FRESH represents empty queues
+fresh-room : (t : Tree) (v : ℕ) → Room (fresh-state t v)
+fresh-room t v =
+    let f = fresh-facts t v .typed in
+    record { tails-room = f .tails-room; nexts-room = f .nexts-room; statuses-room = f .statuses-room; places-room = f .places-room }
+
+pub fresh-queued : (t : Tree) (v : ℕ) → Queued t (fresh-state t v)
+unfolding empty words-in fresh-words fresh-state place-of plain-place bare-place Tickets
+fresh-queued t v =
+    let zero-at : (n j : ℕ) → _≡_ {A = ℕ} (getD (replicate n 0) j 0) 0 = λ n j. replicate-all (λ (x : ℕ). x ≡ 0) n j 0 refl in
+    let idle : (i : ℕ) → place (fresh-state t v) i ≡ Idle = λ i. replicate-all (λ x. place-of x ≡ Idle) 256 i (place-words 0 0 0 0) refl in
+    record {
+      queues = empty;
+      room = fresh-room t v;
+      facts = fresh-facts t v;
+      represents = record {
+        invariant = inv-empty t;
+        linked = λ d nd. record { last = zero-at 64 d ∙ sym final-nil; chain = λ a m n. absurd (omega (arith, count-nil a)) };
+        numbered = λ e. record { small = fresh-facts t v .typed .grant-fits; held = refl };
+        fits = λ i h. rw (idle i) at-idle;
+      };
+    }
+
+-- ALONG A SCHEDULE
+-- every step is a thread's of the tree
+unfoldable pub All-real : Tree → List Step → Type 0
+All-real t [] = Unit {0}
+All-real t (x ∷ xs) = (x .thread < t .threads) × All-real t xs
+
+pub record Led (t : Tree) (s : WordState) (g : State) (xs : List Step) : Type 0 where
+  pub real : All-real t xs
+  pub there : Queued t (state-after s xs)
+  pub follows : Run t g (all-shown xs) (there .queues)
+
+module _ (t : Tree) (𝓐 : Accepted t) (bits : Sixteen-bit t) where
+  pub led : (is : List ℕ) → All-threads t is → (s : WordState) (q : Queued t s) → Led t s (q .queues) (steps t is s)
+  unfolding steps state-after step shown row-shown all-shown All-threads All-real
+  led [] l s q = record { real = tt; there = q; follows = done }
+  led (i ∷ is) l s q =
+      let x = step-outcome t 𝓐 bits s (q .room) (q .queues) (q .represents) (λ j b. q .facts .places j .used b) i (l .0) in
+      let rest = led is (l .1) (step t i s .state) (record { queues = x .state; room = x .room; facts = step-keeps t bits 𝓐 i (l .0) s (q .facts); represents = x .represents }) in
+      record { real = (l .0, rest .real); there = rest .there; follows = join-runs t (x .follows) (rest .follows) }
+
+  pub from-fresh : (v : ℕ) (is : List ℕ) → All-threads t is → Led t (fresh-state t v) empty (steps t is (fresh-state t v))
+  unfolding fresh-queued
+  from-fresh v is l = led is l (fresh-state t v) (fresh-queued t v)
+
+pub threads-take : (t : Tree) (k : ℕ) (is : List ℕ) → All-threads t is → All-threads t (take k is)
+unfolding All-threads
+threads-take t zero is l = tt
+threads-take t (suc k) [] l = tt
+threads-take t (suc k) (i ∷ is) l = (l .0, threads-take t k is (l .1))
+
+pub threads-join : (t : Tree) (is js : List ℕ) → All-threads t is → All-threads t js → All-threads t (is ++ js)
+unfolding All-threads
+threads-join t [] js a b = b
+threads-join t (i ∷ is) js a b = (a .0, threads-join t is js (a .1) b)

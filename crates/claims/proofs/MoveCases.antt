@@ -1,0 +1,72 @@
+-- The cases of "someone can move" hold, and it is false of states that a caller may hand in. Assumes nothing.
+use mathlib.Core.Path.{_≡_, refl, sym}
+use mathlib.Core.Bool.{Bool, true, false, _&&_, not, cond, false≢true, true≢false}
+use mathlib.Core.List.{List, [], _∷_, _++_, nil≢cons}
+use Prim.Native.Nat.{ℕ, zero, suc, _<_}
+use native.Mathlib.Omega.{arith}
+use Rattle.model.specs.declared.State.{State}
+use Rattle.model.specs.Scans.{any-below, all-below, filter-below}
+use Rattle.model.specs.Trees.{Tree, read-word, tree-of, is-ticket, is-child, is-leaf, depth-from, depth, level, meets, on-path, child-from, child, own-record, is-record, is-member, owner-domain, under}
+use Rattle.model.specs.Places.{bare-place, plain-place, place-of, is-idle, is-watch}
+use Rattle.model.specs.States.{place, fresh-words, fresh-state}
+use Rattle.model.specs.Steps.{Kind, stay, other, root-entry, passed-entry, crossed-entry, leaving, is-kind, prep-row, swap-row, link-row, wait-row, leave-row, check-row, help-row, cas-row, linger-row, grant-row, draw-row, watch-row, is-watched, shown-members, raise-row, row, step}
+use Rattle.model.specs.Runs.{steps, state-after, run-of, run}
+use Rattle.model.specs.WellFormed.{good-tail, good-next, good-status, queue-on-path, good-place, good-watch, good-thread, good-counters, well-formed}
+use Rattle.model.specs.Refusals.{refusal, accepted, lowest-bad, first-refusal, bad-domains, bad-threads, bad-parent, too-deep, no-threshold, bad-home, empty-domain, tree-tests, bad-state, bad-entry, step-tests, tree-refusal, step-refusal}
+use Rattle.model.specs.Answers.{first-kind, first-domain, step-reply, step-answer}
+use Rattle.claims.specs.Reached.{Can-move}
+use Rattle.model.specs.Cases.{padded, tree, at-ticket-root, same-numbers, two-homes, two-in-root, one-home}
+use Rattle.model.specs.TicketCases.{two-in-ticket, three-in-ticket}
+use Rattle.claims.specs.MoveCases.{busy-threads, moving-threads, three-in-root, until-lingering, until-woken, move-cases, move-holds, all-move, Nobody-moves, dead-queue, dead-ticket, Dead-states}
+use Rattle.model.proofs.Places.{not-idle, idle-facts}
+use Rattle.model.proofs.Lists.{same-or}
+
+-- each line is computed
+pub move-cases-hold : all-move move-cases ≡ true
+unfolding any-below filter-below read-word tree-of is-ticket meets on-path child-from child own-record bare-place plain-place place-of is-watch is-idle fresh-words fresh-state is-kind prep-row swap-row link-row wait-row leave-row check-row help-row cas-row linger-row grant-row draw-row watch-row is-watched shown-members raise-row row step steps state-after run-of run padded tree at-ticket-root two-homes one-home three-in-ticket busy-threads moving-threads three-in-root until-lingering until-woken move-cases move-holds all-move same-numbers
+move-cases-hold = refl
+
+-- NOBODY MOVES: no thread is among those that move
+append-none : (xs ys : List ℕ) → xs ++ ys ≡ [] → (xs ≡ []) × (ys ≡ [])
+append-none [] ys e = (refl, e)
+append-none (x ∷ xs) ys e = absurd (nil≢cons (sym e))
+
+filter-empty : (n : ℕ) (f : ℕ → Bool) → filter-below n f ≡ [] → (j : ℕ) → j < n → f j ≡ false
+unfolding filter-below
+filter-empty zero f e j h = absurd (omega arith)
+filter-empty (suc n) f e j h =
+    let both = append-none (filter-below n f) (cond (f n) (n ∷ []) []) e in
+    same-or j n _ (λ z. rw z (by (f n) (both .1))) (λ z. filter-empty n f (both .0) j (omega arith))
+  where
+    by : (b : Bool) → cond b (n ∷ []) [] ≡ [] → b ≡ false
+    by true z = absurd (nil≢cons (sym z))
+    by false z = refl
+
+stay-named : (k : Kind) → is-kind stay k ≡ true → k ≡ stay
+unfolding is-kind
+stay-named stay e = refl
+stay-named other e = absurd (false≢true e)
+stay-named root-entry e = absurd (false≢true e)
+stay-named passed-entry e = absurd (false≢true e)
+stay-named crossed-entry e = absurd (false≢true e)
+stay-named leaving e = absurd (false≢true e)
+
+nobody : (t : Tree) (s : State) → moving-threads t s ≡ [] → ¬ Can-move t s
+unfolding moving-threads
+nobody t s e x = by (is-idle (place s (x .thread))) (is-kind stay (step t (x .thread) s .kind)) refl refl (filter-empty (t .threads) _ e (x .thread) (x .real))
+  where
+    by : (b c : Bool) → is-idle (place s (x .thread)) ≡ b → is-kind stay (step t (x .thread) s .kind) ≡ c → not b && not c ≡ false → ⊥
+    by true c i k z = x .not-idle (idle-facts (place s (x .thread)) i)
+    by false true i k z = x .no-stay (stay-named (step t (x .thread) s .kind) k)
+    by false false i k z = true≢false z
+
+of-queue : Nobody-moves three-in-root dead-queue
+unfolding any-below all-below filter-below read-word tree-of is-ticket is-child is-leaf depth-from depth level meets on-path child-from child own-record is-record is-member owner-domain under bare-place plain-place place-of is-watch is-idle fresh-words is-kind wait-row linger-row watch-row row step steps state-after good-tail good-next good-status queue-on-path good-place good-watch good-thread good-counters well-formed refusal accepted lowest-bad first-refusal bad-domains bad-threads bad-parent too-deep no-threshold bad-home empty-domain tree-tests bad-state bad-entry step-tests tree-refusal step-refusal first-kind first-domain step-reply step-answer padded tree three-in-root moving-threads dead-queue
+of-queue = record { accepted = refl; not-idle = not-idle _ refl; nobody = nobody (tree-of three-in-root) dead-queue refl }
+
+of-ticket : Nobody-moves two-in-ticket dead-ticket
+unfolding any-below all-below filter-below read-word tree-of is-ticket is-child is-leaf depth-from depth level meets on-path child-from child own-record is-record is-member owner-domain under bare-place plain-place place-of is-watch is-idle fresh-words is-kind wait-row linger-row watch-row row step steps state-after good-tail good-next good-status queue-on-path good-place good-watch good-thread good-counters well-formed refusal accepted lowest-bad first-refusal bad-domains bad-threads bad-parent too-deep no-threshold bad-home empty-domain tree-tests bad-state bad-entry step-tests tree-refusal step-refusal first-kind first-domain step-reply step-answer padded tree at-ticket-root two-in-root two-in-ticket moving-threads dead-ticket
+of-ticket = record { accepted = refl; not-idle = not-idle _ refl; nobody = nobody (tree-of two-in-ticket) dead-ticket refl }
+
+pub dead-states : Dead-states
+dead-states = record { of-queue = of-queue; of-ticket = of-ticket }

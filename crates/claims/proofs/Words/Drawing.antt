@@ -1,0 +1,174 @@
+-- The rows of a ticket lock at the root by which a thread acquires it: Draw, Idle's own where the root is home, and Watch. Assumes nothing.
+use mathlib.Core.Path.{_≡_, refl, sym, ap, _∙_}
+use mathlib.Core.Bool.{Bool, true, false}
+use mathlib.Core.List.{List, [], _∷_, _++_}
+use mathlib.Core.Logic.{_≢_}
+use Prim.Native.Nat.{ℕ, suc, _+_, _≤_, _<_}
+use native.Mathlib.Omega.{arith}
+use lib.Dec.{eqb}
+use lib.ListN.{length}
+use borrow.Author.Tests.{eqb-true, eqb-false, eq-eqb, ne-eqb}
+use Rattle.model.specs.declared.Place.{Place}
+use Rattle.model.specs.declared.Place.the-variants.{Inside, Watch}
+use Rattle.model.specs.declared.State.{State as WordState}
+use Rattle.model.specs.Trees.{Tree, is-ticket}
+use Rattle.model.specs.States.{wrap, status}
+use Rattle.model.specs.Steps.{is-entry, draw-row, watch-row}
+use Rattle.model.proofs.Trees.Index.{ancestor, height, record-at}
+use Rattle.model.proofs.Trees.Accepted.{Accepted}
+use Rattle.model.proofs.Trees.Tickets.{queue-lower}
+use Rattle.model.proofs.Trees.Paths.{ancestor-root}
+use Rattle.model.proofs.Trees.Records.{root-record, record-small}
+use Rattle.model.proofs.Lists.{put, put-same, put-other, first, first-cons, rest, count}
+use Rattle.claims.proofs.Queues.Paths.{laws}
+use Rattle.claims.proofs.Queues.Moves.{climb, queued, ready, inside, low, acts, State, Move, begins, join-root, join-behind, enter, done, more}
+use Rattle.claims.proofs.Queues.Invariant.{Inv}
+use Rattle.claims.proofs.Queues.Keeps.{keeps}
+use Rattle.claims.proofs.Words.View.{Words, words-in, Room, status-to, place-to, ticket-to}
+use Rattle.claims.proofs.Words.Represents.{Linked, Tickets, Numbered, Counted, at-inside, at-watch, Represents}
+use Rattle.claims.proofs.Words.Tickets.{list-short, length-none, tickets-snoc, tickets-behind, tickets-first, tickets-rest}
+use Rattle.claims.proofs.Words.Frame.{Others, tickets-kept, counted-below, assembled}
+use Rattle.claims.proofs.Words.Joining.{away, grown, took-root-state, stood-state, join-apart}
+use Rattle.claims.proofs.Words.Acquiring.{entered-state, entered}
+use Rattle.claims.proofs.Words.Outcome.{standing-shown, entry-shown, row-shown, Outcome, outcome, placed, draw-placed, member-small}
+
+-- a queue that is not empty has a first
+some-first : (q : List ℕ) → q ≢ [] → (a : ℕ) × (first q ≡ suc a)
+some-first [] n = absurd (n refl)
+some-first (x ∷ xs) n = (x, first-cons x xs)
+
+begins-at : (t : Tree) (g g′ : State) (d e m : ℕ) → d ≡ e → Move t g (begins d m) g′ → Move t g (begins e m) g′
+begins-at t g g′ d e m z mv = rw z at mv
+
+-- the members at a ticket root, few enough for the counters
+pub root-short : (t : Tree) → Accepted t → (g : State) → Inv t g → length (g .queue 0) ≤ 320
+root-short t 𝓐 g inv = list-short 320 (g .queue 0) (member-small t 𝓐 g inv 0) (inv .once 0)
+
+module _ (t : Tree) (𝓐 : Accepted t) (s : WordState) (room : Room s) (g : State) (i : ℕ) (h : i < t .threads) (o : Others t (words-in s) g i)
+    (root : t .ticket-root ≡ true) where
+  abbrev w : Words
+  w = words-in s
+
+  abbrev inv : Inv t g
+  inv = o .invariant
+
+  few : i < 256
+  few = omega (arith, 𝓐 .few-threads)
+
+  -- DRAW
+  module _ (k : ℕ) (top : k ≡ height t i) where
+    abbrev L : ℕ
+    L = ancestor t i k
+
+    abbrev R : ℕ
+    R = record-at t i k
+
+    there : L ≡ 0
+    there = ap (ancestor t i) top ∙ ancestor-root t 𝓐 i h
+
+    within : k ≤ height t i
+    within = omega arith
+
+    queue-there : g .queue L ≡ g .queue 0
+    queue-there = ap (g .queue) there
+
+    abbrev drawn : Place → Words
+    drawn p = place-to i p (ticket-to (wrap (w .ticket + 1)) (status-to R (w .ticket) w))
+
+    others-kept : (r : ℕ) → r ≢ R → put (w .statuses) R (w .ticket) r ≡ w .statuses r
+    others-kept r n = put-other (w .statuses) R (w .ticket) r n
+
+    module _ (e : g .stage i ≡ climb k) (p : Place) (g′ : State) (queues : g′ .queue ≡ grown t 𝓐 w g i h o k within) where
+      drawn-linked : (d : ℕ) → is-ticket t d ≡ false → Linked (drawn p) (g′ .queue d) d
+      drawn-linked d nd =
+          let other : d ≢ L = λ z. queue-lower t d nd root (z ∙ there) in
+          rw (queues, put-other (g .queue) L (g .queue L ++ (R ∷ [])) d other) (record { last = o .linked d nd .last; chain = o .linked d nd .chain })
+
+      drawn-numbered : t .ticket-root ≡ true → Numbered (drawn p) (g′ .queue 0)
+      drawn-numbered z =
+          let old = o .numbered root in
+          rw (queues, put-same (g .queue) L (g .queue L ++ (R ∷ [])) 0 (sym there), queue-there)
+          (record {
+            small = old .small;
+            held = tickets-snoc (drawn p .statuses) (w .grant) (w .ticket) R (g .queue 0) (put-same (w .statuses) R (w .ticket) R refl)
+                (tickets-kept (w .statuses) (drawn p .statuses) (w .grant) (w .ticket) (g .queue 0)
+                (λ a m. others-kept a (away t 𝓐 w g i h o k within e 0 a m)) (old .held));
+          })
+
+    -- the ticket equals the grant exactly where nobody is there
+    nobody-there : w .ticket ≡ w .grant → g .queue L ≡ []
+    nobody-there z =
+        let old = o .numbered root in
+        let b = tickets-behind (w .statuses) (w .grant) (w .ticket) (g .queue 0) (old .small) (old .held) in
+        let few-there = root-short t 𝓐 g inv in
+        let small = old .small in
+        queue-there ∙ length-none (g .queue 0) (omega arith)
+
+    somebody-there : w .ticket ≢ w .grant → (a : ℕ) × (first (g .queue L) ≡ suc a)
+    unfolding Tickets
+    somebody-there n =
+        let old = o .numbered root in
+        some-first (g .queue L) (λ z.
+        let empty : Tickets (w .statuses) (w .grant) (w .ticket) [] = rw (sym queue-there ∙ z) at (old .held) in
+        n empty)
+
+    draw-enters : g .stage i ≡ climb k → Counted t w g i k → w .ticket ≡ w .grant → Represents t (drawn Inside) (took-root-state t 𝓐 w g i h o k within)
+    draw-enters e c z =
+        let g′ = took-root-state t 𝓐 w g i h o k within in
+        assembled t 𝓐 w g i h o (drawn Inside) g′ Inside inside (keeps t (laws t 𝓐) g inv (join-root i k e there (nobody-there z)))
+        (drawn-linked e Inside g′ refl) (drawn-numbered e Inside g′ refl)
+        (put-same (w .places) i Inside i refl) (put-same (g .stage) i inside i refl)
+        (at-inside (λ m b q. counted-below t 𝓐 w g i h o (drawn Inside) g′ k within others-kept (λ r n. refl) c m (omega arith) q))
+        (λ j hj n. join-apart t 𝓐 w g i h o k within (drawn Inside) g′ refl refl e j hj n (put-other (w .places) i Inside j n)
+        (put-other (g .stage) i inside j n) others-kept (λ r q. refl) (λ d r q z. z))
+
+    draw-watches : g .stage i ≡ climb k → Counted t w g i k → w .ticket ≢ w .grant → Represents t (drawn Watch) (stood-state t 𝓐 w g i h o k within)
+    draw-watches e c z =
+        let g′ = stood-state t 𝓐 w g i h o k within in
+        let f = somebody-there z in
+        assembled t 𝓐 w g i h o (drawn Watch) g′ Watch (queued k) (keeps t (laws t 𝓐) g inv (join-behind i k (f .0) e (f .1)))
+        (drawn-linked e Watch g′ refl) (drawn-numbered e Watch g′ refl)
+        (put-same (w .places) i Watch i refl) (put-same (g .stage) i (queued k) i refl)
+        (at-watch k top root (counted-below t 𝓐 w g i h o (drawn Watch) g′ k within others-kept (λ r n. refl) c))
+        (λ j hj n. join-apart t 𝓐 w g i h o k within (drawn Watch) g′ refl refl e j hj n (put-other (w .places) i Watch j n)
+        (put-other (g .stage) i (queued k) j n) others-kept (λ r q. refl) (λ d r q z. z))
+
+    draw-by :
+        (d : ℕ) → L ≡ d → g .stage i ≡ climb k → Counted t w g i k → (b : Bool) → eqb (s .ticket) (s .grant) ≡ b → Outcome t g i d (draw-row t i s)
+    unfolding draw-row row-shown standing-shown entry-shown is-entry words-in
+    draw-by d z e c true y =
+        let same = eqb-true (s .ticket) (s .grant) y in
+        rw (root-record t 𝓐 i h, ← top, y)
+        (outcome _ _ (draw-placed s room i few Inside R (s .ticket) (wrap (s .ticket + 1)) (record-small t 𝓐 i h k within)) (draw-enters e c same)
+        (more (join-root i k e there (nobody-there same)) done))
+    draw-by d z e c false y =
+        let other = eqb-false (s .ticket) (s .grant) y in
+        let f = somebody-there other in
+        rw (root-record t 𝓐 i h, ← top, y)
+        (outcome _ _ (draw-placed s room i few Watch R (s .ticket) (wrap (s .ticket + 1)) (record-small t 𝓐 i h k within)) (draw-watches e c other)
+        (more (begins-at t g _ L d R z (join-behind i k (f .0) e (f .1))) done))
+
+    pub draw-outcome : (d : ℕ) → L ≡ d → g .stage i ≡ climb k → Counted t w g i k → Outcome t g i d (draw-row t i s)
+    draw-outcome d z e c = draw-by d z e c _ refl
+
+  -- WATCH: not shown yet
+  pub watch-outcome : Represents t w g → g .stage i ≡ queued (height t i) → Outcome t g i 0 (watch-row t i s)
+  unfolding watch-row row-shown standing-shown entry-shown is-entry words-in low acts
+  watch-outcome rep e =
+      let old = o .numbered root in
+      let R = record-at t i (height t i) in
+      let stands : 1 ≤ count R (rest (g .queue (ancestor t i (height t i)))) = rw e at (inv .threads i .stands (rw e (omega arith))) in
+      let behind : 1 ≤ count R (rest (g .queue 0)) = rw (ancestor-root t 𝓐 i h) at stands in
+      let other = tickets-rest (w .statuses) (w .grant) (w .ticket) R (g .queue 0) (old .small) (root-short t 𝓐 g inv) (old .held) behind in
+      rw (root-record t 𝓐 i h, ne-eqb (status s R) (s .grant) other) (outcome _ g (record { same = refl; room = room }) rep done)
+
+  -- shown: the first at the root
+  pub shown-outcome : g .stage i ≡ ready → Counted t w g i (height t i) → Outcome t g i 0 (watch-row t i s)
+  unfolding watch-row row-shown standing-shown entry-shown is-entry words-in low
+  shown-outcome e c =
+      let old = o .numbered root in
+      let R = record-at t i (height t i) in
+      let head : first (g .queue 0) ≡ suc R = rw (ancestor-root t 𝓐 i h) at (inv .threads i .heads (height t i) (rw e (omega arith))) in
+      let same = tickets-first (w .statuses) (w .grant) (w .ticket) R (g .queue 0) (old .held) head in
+      rw (root-record t 𝓐 i h, eq-eqb (status s R) (s .grant) same)
+      (outcome _ (entered-state t 𝓐 s room g i h o) (placed s room i few Inside) (entered t 𝓐 s room g i h o e c) (more (enter i e) done))

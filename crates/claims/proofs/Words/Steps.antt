@@ -1,0 +1,75 @@
+-- Every step of the table, from a state that represents queues, is a move of the queues or none. Assumes nothing.
+use mathlib.Core.Path.{_≡_, refl, ap, _∙_}
+use mathlib.Core.Bool.{Bool, true, false, cond}
+use Prim.Native.Nat.{ℕ, _<_}
+use native.Mathlib.Omega.{arith}
+use Rattle.model.specs.declared.Place.{Place}
+use Rattle.model.specs.declared.State.{State as WordState}
+use Rattle.model.specs.Trees.{Tree, is-ticket, is-member}
+use Rattle.model.specs.Places.{place-domain}
+use Rattle.model.specs.States.{place}
+use Rattle.model.specs.Steps.{draw-row, prep-row, row}
+use Rattle.model.specs.WellFormed.{queue-on-path, good-place}
+use Rattle.model.specs.Laws.{Sixteen-bit}
+use Rattle.model.proofs.Tests.{and-both}
+use Rattle.model.proofs.Trees.Index.{ancestor, height}
+use Rattle.model.proofs.Trees.Accepted.{Accepted}
+use Rattle.model.proofs.Trees.Tickets.{ticket-facts, queue-facts}
+use Rattle.model.proofs.Trees.Paths.{ancestor-home, ancestor-root, ancestor-zero}
+use Rattle.model.proofs.Lists.{put-same}
+use Rattle.claims.proofs.Queues.Moves.{Stage, out, climb, queued, State, start, silent}
+use Rattle.claims.proofs.Words.View.{words-in, Room}
+use Rattle.claims.proofs.Words.Represents.{Fits, at-idle, at-prep, at-swap, at-link, at-wait, at-woken, at-ready, at-inside, at-check, at-pass, at-help, at-cas, at-linger, at-grant, at-draw, at-watch, at-shown, at-raise, Represents}
+use Rattle.claims.proofs.Words.Frame.{Others, others-of}
+use Rattle.claims.proofs.Words.Outcome.{Outcome}
+use Rattle.claims.proofs.Words.Acquiring.{prep-outcome, swap-outcome, link-outcome, wait-outcome, woken-outcome, ready-outcome, started-state, started, prepared-outcome}
+use Rattle.claims.proofs.Words.Drawing.{draw-outcome, watch-outcome, shown-outcome}
+use Rattle.claims.proofs.Words.Raising.{raise-outcome}
+use Rattle.claims.proofs.Words.Leaving.{leave-outcome, check-outcome, help-outcome, cas-outcome, linger-outcome, grant-outcome, pass-outcome}
+
+module _ (t : Tree) (𝓐 : Accepted t) (bits : Sixteen-bit t) (s : WordState) (room : Room s) (g : State) (rep : Represents t (words-in s) g)
+    (good : (j : ℕ) → j < t .threads → good-place t j (place s j) ≡ true) (i : ℕ) (h : i < t .threads) where
+  abbrev o : Others t (words-in s) g i
+  o = others-of rep i
+
+  -- IDLE: the thread starts, and draws or does Prep at home
+  idle-by : g .stage i ≡ out → (b : Bool) → is-ticket t (t .home i) ≡ b → Outcome t g i (t .home i) (cond b (draw-row t i s) (prep-row t i (t .home i) s))
+  idle-by e true z =
+      let f = ticket-facts t (t .home i) z in
+      let top : 0 ≡ height t i = ancestor-zero t 𝓐 i h 0 (omega arith) (ancestor-home t i ∙ f .1) in
+      let x = draw-outcome t 𝓐 s room (started-state t 𝓐 s room g i h o) i h (started t 𝓐 s room g i h o e) (f .0) 0 top (t .home i) (ancestor-home t i)
+      (put-same (g .stage) i (climb 0) i refl) (λ m b q. absurd (omega arith)) in
+      record { state = x .state; room = x .room; represents = x .represents; follows = silent (start i h e) (x .follows) }
+  idle-by e false z = prepared-outcome t 𝓐 s room g i h o e
+
+  -- a queue place is not at a ticket root
+  queue-there : (k : ℕ) → queue-on-path t i (ancestor t i k) ≡ true → is-ticket t (ancestor t i k) ≡ false
+  queue-there k q = queue-facts t i (ancestor t i k) q .1
+
+  row-outcome :
+      {p : Place} {x : Stage} → place s i ≡ p → good-place t i p ≡ true → g .stage i ≡ x → Fits t (words-in s) g i p x →
+      Outcome t g i (place-domain (t .home i) p) (row t i p s)
+  unfolding row good-place
+  row-outcome y q e at-idle = idle-by e _ refl
+  row-outcome y q e (at-prep k l c) = prep-outcome t 𝓐 s room g i h o k l e c
+  row-outcome y q e (at-swap k l c n v) = swap-outcome t 𝓐 s room g i h o k l (queue-there k q) e c n v
+  row-outcome y q e (at-link k p l c d a n v) = link-outcome t 𝓐 s room g i h o k p l d e c a n v
+  row-outcome y q e (at-wait k p l c d a n v) = wait-outcome t 𝓐 s room g i h o rep k l v _ refl
+  row-outcome y q e (at-woken k b c v z) = woken-outcome t 𝓐 s room g i h o k b e c v z
+  row-outcome y q e (at-ready k l c v p) = ready-outcome t 𝓐 s room g i h o bits k l e c v _ refl
+  row-outcome y q e (at-inside c) = leave-outcome t 𝓐 s room g i h o e c
+  row-outcome y q e (at-check k b c) = check-outcome t 𝓐 s room g i h o k b e c
+  row-outcome y q e (at-pass k r v b c n z f) = pass-outcome t 𝓐 s room g i h o k r v b e c n z f
+  row-outcome y q e (at-help k l c) = help-outcome t 𝓐 s room g i h o k l (queue-there k q) e c
+  row-outcome y q e (at-cas k l c) = cas-outcome t 𝓐 s room g i h o k l (queue-there k q) e c
+  row-outcome y q e (at-linger k l c n) = linger-outcome t 𝓐 s room g i h o k l (queue-there k q) e c rep
+  row-outcome y q e (at-grant k r l c n) =
+      grant-outcome t 𝓐 s room g i h o k l (queue-there k (and-both (queue-on-path t i (ancestor t i k)) (is-member t (ancestor t i k) r) q .0)) e c r n
+  row-outcome y q e (at-draw k l r c) = draw-outcome t 𝓐 s room g i h o r k l 0 (ap (ancestor t i) l ∙ ancestor-root t 𝓐 i h) e c
+  row-outcome y q e (at-watch k l r c) = watch-outcome t 𝓐 s room g i h o r rep (e ∙ ap queued l)
+  row-outcome y q e (at-shown r c) = shown-outcome t 𝓐 s room g i h o r e c
+  row-outcome y q e (at-raise r c) = raise-outcome t 𝓐 s room g i h o good r y e c
+
+  pub step-outcome : Outcome t g i (place-domain (t .home i) (place s i)) (row t i (place s i) s)
+  unfolding words-in
+  step-outcome = row-outcome refl (good i h) refl (rep .fits i h)

@@ -1,0 +1,5 @@
+-- The third demand; what holds in every state reached from fresh; computed examples of both. The definitions that they speak of are in `model`.
+pub mod Claim
+pub mod Reached
+pub mod RefusedCalls
+pub mod MoveCases

@@ -1,0 +1,137 @@
+-- WHAT HOLDS IN EVERY STATE REACHED FROM FRESH, beside the claim. Each is a statement; proofs/ has its proof. Assumes nothing.
+use mathlib.Core.Path.{_≡_}
+use mathlib.Core.Bool.{true, _&&_, not, cond}
+use mathlib.Core.List.{List, [], _∷_, _++_}
+use mathlib.Core.Logic.{_≢_}
+use Prim.Native.Nat.{ℕ, suc, _+_, _-_, _≤_, _<_}
+use lib.Dec.{eqb}
+use lib.ListN.{length, drop}
+use Rattle.model.specs.declared.TreeWords.{TreeWords}
+use Rattle.model.specs.declared.State.{State}
+use Rattle.model.specs.declared.Place.the-variants.{Idle, Wait, Check, Grant}
+use Rattle.model.specs.Trees.{Tree, tree-of, is-ticket, own-record, is-member}
+use Rattle.model.specs.States.{none, tail, next, status, place, wrap, fresh-state, with-place}
+use Rattle.model.specs.Steps.{stay, is-entry, Row-result, step-from, moves, release-place, check-row, step}
+use Rattle.model.specs.Runs.{steps, run, begun, ended, occurrences}
+use Rattle.model.specs.Acts.{acts}
+use Rattle.model.specs.Refusals.{accepted, tree-refusal}
+use Rattle.model.specs.Answers.{fresh-answer}
+use Rattle.model.specs.Laws.{All-threads, Sixteen-bit}
+use Rattle.model.specs.Calls.{Ask, one-step, a-run, Call, state-in, answer, call-refusal, joined, Names}
+use Rattle.claims.specs.Claim.{Claim}
+
+-- NOT EMPTY: in a list, a call that names the tree and existing threads, with room, is accepted
+-- the state that the last call of a list returned
+unfoldable pub last-state : List Call → State → State
+last-state [] s = s
+last-state (c ∷ cs) s = last-state cs (state-in (answer c s))
+
+-- existing threads, no more entries than are allowed, and a trace buffer at least as long as the schedule
+unfoldable pub Asks-well : Tree → Ask → Type 0
+Asks-well t (one-step i) = i < t .threads
+Asks-well t (a-run is b) = All-threads t is × (length is ≤ 65536) × (length is ≤ length b)
+
+unfoldable pub Never-refused : Type 0
+Never-refused =
+    (w : TreeWords) (start : ℕ) (cs : List Call) → fresh-answer w start .number ≡ 0 → Names (tree-of w) cs (fresh-answer w start .state) →
+    (c : Call) → tree-of (c .tree) ≡ tree-of w → Asks-well (tree-of w) (c .ask) → call-refusal c (last-state cs (fresh-answer w start .state)) ≡ accepted
+
+-- THE LISTING'S TEST. Check as the listing has it, by equality with the threshold
+unfoldable pub equality-check-row : Tree → (thread domain : ℕ) → State → Row-result
+equality-check-row t i l s =
+    let I = own-record t i l in
+    let v = status s I in
+    let n = next s I in
+    cond (not (eqb v (t .threshold l)) && not (eqb n none))
+    (moves (with-place i (Grant l (n - 1) (v + 1)) s))
+    (moves (with-place i (release-place t (t .parent l)) s))
+
+-- at every Check the status is a count from 1 to the threshold, so both tests give the same step
+pub record Counts-at-check (t : Tree) (s : State) (i l : ℕ) : Type 0 where
+  pub started : 1 ≤ status s (own-record t i l)
+  pub within : status s (own-record t i l) ≤ t .threshold l
+  pub same-row : check-row t i l s ≡ equality-check-row t i l s
+  pub same-step : step t i s ≡ step-from t i (Check l) (equality-check-row t i l s)
+
+unfoldable pub Equality-law : Type 0
+Equality-law =
+    (t : Tree) → Sixteen-bit t → tree-refusal t .number ≡ 0 → (start : ℕ) (is : List ℕ) → All-threads t is → (i l : ℕ) → i < t .threads →
+    place (run t is (fresh-state t start) .state) i ≡ Check l → Counts-at-check t (run t is (fresh-state t start) .state) i l
+
+-- PASSING ON. From fresh, an entry from Wait below the root is at a domain whose threshold is at least 2
+unfoldable pub Passing-law : Type 0
+Passing-law =
+    (t : Tree) → Sixteen-bit t → tree-refusal t .number ≡ 0 → (start : ℕ) (is : List ℕ) → All-threads t is → (i l : ℕ) → i < t .threads →
+    place (run t is (fresh-state t start) .state) i ≡ Wait l → l ≢ 0 → is-entry (step t i (run t is (fresh-state t start) .state) .kind) ≡ true → 2 ≤ t .threshold l
+
+-- so with every threshold 1 no run from fresh makes a passed or a crossed entry
+unfoldable pub Threshold-one-law : Type 0
+Threshold-one-law =
+    (t : Tree) → tree-refusal t .number ≡ 0 → ((d : ℕ) → t .threshold d ≤ 1) → (start : ℕ) (is : List ℕ) → All-threads t is →
+    (run t is (fresh-state t start) .counts .passed ≡ 0) × (run t is (fresh-state t start) .counts .crossed ≡ 0)
+
+-- QUEUES. One more than the last of a list, or none
+unfoldable pub last-or-none : List ℕ → ℕ
+last-or-none [] = none
+last-or-none (m ∷ []) = suc m
+last-or-none (m ∷ n ∷ ms) = last-or-none (n ∷ ms)
+
+-- thread i acts for the record m at the domain d
+pub record Acts-for (t : Tree) (s : State) (d m i : ℕ) : Type 0 where
+  pub real : i < t .threads
+  pub acting : acts t s i d ≡ true
+  pub record-there : own-record t i d ≡ m
+
+pub record Acted-once (t : Tree) (s : State) (d m : ℕ) : Type 0 where
+  pub thread : ℕ
+  pub acting : Acts-for t s d m thread
+  pub only : (j : ℕ) → Acts-for t s d m j → j ≡ thread
+
+-- members hold consecutive tickets from a number on, and the ticket counter is the one behind the last
+unfoldable pub Consecutive : State → (from : ℕ) → List ℕ → Type 0
+Consecutive s v [] = s .ticket ≡ v
+Consecutive s v (m ∷ ms) = (status s m ≡ v) × Consecutive s (wrap (v + 1)) ms
+
+-- each domain has a queue of members, none twice: the tail names its last, and at a ticket root there is none, but the members hold consecutive tickets from the grant on; behind its first are those who stand ungranted, in order; and exactly one thread acts for each of its members, and none for a member that is not in it
+pub record Has-queues (t : Tree) (f : State) (S : List ℕ) (s : State) : Type 0 where
+  pub queue : (domain : ℕ) → List ℕ
+  pub tails : (d : ℕ) → tail s d ≡ cond (is-ticket t d) none (last-or-none (queue d))
+  pub tickets : t .ticket-root ≡ true → Consecutive s (s .grant) (queue 0)
+  pub standing : (d : ℕ) → begun d (steps t S f) ≡ ended d (steps t S f) ++ drop 1 (queue d)
+  pub members : (d m : ℕ) → 1 ≤ occurrences m (queue d) → is-member t d m ≡ true
+  pub once : (d m : ℕ) → occurrences m (queue d) ≤ 1
+  pub acted : (d m : ℕ) → 1 ≤ occurrences m (queue d) → Acted-once t s d m
+  pub acted-only : (d m i : ℕ) → Acts-for t s d m i → 1 ≤ occurrences m (queue d)
+
+unfoldable pub Queue-law : Type 0
+Queue-law =
+    (t : Tree) → Sixteen-bit t → tree-refusal t .number ≡ 0 → (start : ℕ) (is : List ℕ) → All-threads t is → Has-queues t (fresh-state t start) is (run t is (fresh-state t start) .state)
+
+-- SOMEONE CAN MOVE: a thread of the tree that is not Idle, and whose next step, which is what the step table gives, is no stay and so changes the state
+pub record Can-move (t : Tree) (s : State) : Type 0 where
+  pub thread : ℕ
+  pub real : thread < t .threads
+  pub not-idle : place s thread ≢ Idle
+  pub no-stay : step t thread s .kind ≢ stay
+  pub changes : step t thread s .state ≢ s
+
+-- for both kinds of root, in every state reached from fresh in which some thread is not Idle
+unfoldable pub Move-law : Type 0
+Move-law =
+    (t : Tree) → Sixteen-bit t → tree-refusal t .number ≡ 0 → (start : ℕ) (is : List ℕ) → All-threads t is → (i : ℕ) →
+    place (run t is (fresh-state t start) .state) i ≢ Idle → Can-move t (run t is (fresh-state t start) .state)
+
+-- and after every list of steps and runs on one fresh lock
+unfoldable pub List-move-law : Type 0
+List-move-law =
+    (w : TreeWords) (start : ℕ) (cs : List Call) → fresh-answer w start .number ≡ 0 → Names (tree-of w) cs (fresh-answer w start .state) →
+    (i : ℕ) → place (last-state cs (fresh-answer w start .state)) i ≢ Idle → Can-move (tree-of w) (last-state cs (fresh-answer w start .state))
+
+-- A RUN ON A LOCK OF ITS OWN, as the file call makes it, is such a list
+abbrev pub lone-run : TreeWords → (schedule buffer : List ℕ) → Call
+lone-run w is b = record { tree = w; ask = a-run is b }
+
+unfoldable pub Lone-run-law : Type 0
+Lone-run-law =
+    (w : TreeWords) (start : ℕ) (is b : List ℕ) → fresh-answer w start .number ≡ 0 →
+    Claim (tree-of w) (fresh-answer w start .state) (lone-run w is b ∷ []) (joined (lone-run w is b ∷ []) (fresh-answer w start .state))

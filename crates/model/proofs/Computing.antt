@@ -1,0 +1,158 @@
+-- COMPUTED CASES, QUICKLY: whether a state is well formed asks for every word of an array by its index, which walks the array once for each word. Walked once it gives the same, so that a case is computed so. Assumes nothing.
+use mathlib.Core.Path.{_≡_, refl, sym, ap, _∙_}
+use mathlib.Core.Bool.{Bool, true, false, _&&_, not}
+use mathlib.Core.List.{List, [], _∷_, _++_}
+use Prim.Native.Nat.{ℕ, zero, suc, _+_}
+use native.Mathlib.Omega.{arith}
+use lib.Dec.{eqb}
+use lib.ListN.{length, getD}
+use borrow.Author.Tests.{eqb-true}
+use Rattle.model.specs.declared.TreeWords.{TreeWords}
+use Rattle.model.specs.declared.PlaceWords.{PlaceWords}
+use Rattle.model.specs.declared.State.{State}
+use Rattle.model.specs.declared.StepReply.{StepReply}
+use Rattle.model.specs.Scans.{all-below}
+use Rattle.model.specs.Trees.{Tree, tree-of}
+use Rattle.model.specs.Places.{place-words, place-of}
+use Rattle.model.specs.Runs.{steps, run}
+use Rattle.model.specs.WellFormed.{good-tail, next-fits, good-next, status-fits, good-status, watch-fits, good-watch, thread-fits, good-thread, good-counters, well-formed}
+use Rattle.model.specs.Refusals.{Refusal, Test, test, first-refusal, tree-tests, bad-state, entry-tests, schedule-tests, room-tests, step-tests, run-tests, step-refusal, run-refusal}
+use Rattle.model.specs.Answers.{step-reply, step-answer, run-reply, run-buffer, run-answer, trace-answer}
+use Rattle.model.specs.Cases.{Case, fresh-call, fresh-starts, step-call, step-gives, run-call, trace-room, step-holds, step-gave, run-holds, holds, all-hold}
+use Rattle.model.proofs.Tests.{and-both}
+
+-- every element passes, each with its index, from one on
+unfoldable pub walked : {A : Type 0} → (ℕ → A → Bool) → ℕ → List A → Bool
+walked f k [] = true
+walked f k (x ∷ xs) = f k x && walked f (suc k) xs
+
+and-assoc : (a b c : Bool) → (a && b) && c ≡ a && (b && c)
+and-assoc true b c = refl
+and-assoc false b c = refl
+
+-- the first number apart instead of the last
+first-apart : (n : ℕ) (f : ℕ → Bool) → all-below (suc n) f ≡ f 0 && all-below n (λ k. f (suc k))
+unfolding all-below
+first-apart zero f = true-last (f 0)
+  where
+    true-last : (b : Bool) → true && b ≡ b && true
+    true-last true = refl
+    true-last false = refl
+first-apart (suc n) f = ap (λ b. b && f (suc n)) (first-apart n f) ∙ and-assoc (f 0) (all-below n (λ k. f (suc k))) (f (suc n))
+
+all-same : (n : ℕ) (f g : ℕ → Bool) → ((k : ℕ) → f k ≡ g k) → all-below n f ≡ all-below n g
+unfolding all-below
+all-same zero f g e = refl
+all-same (suc n) f g e = rw (all-same n f g e, e n)
+
+-- a test of every index of an array is a walk over it
+pub walk : {A : Type 0} (f : ℕ → A → Bool) (d : A) (k : ℕ) (xs : List A) → all-below (length xs) (λ n. f (k + n) (getD xs n d)) ≡ walked f k xs
+unfolding all-below walked
+walk f d k [] = refl
+walk f d k (x ∷ xs) =
+    let g : ℕ → Bool = λ n. f (k + n) (getD (x ∷ xs) n d) in
+    let here : k + 0 ≡ k = omega arith in
+    first-apart (length xs) g
+    ∙ ap (λ b. b && all-below (length xs) (λ n. g (suc n))) (ap (λ j. f j x) here)
+    ∙ ap (λ b. f k x && b)
+    (all-same (length xs) (λ n. g (suc n)) (λ n. f (suc k + n) (getD xs n d)) (λ n. ap (λ j. f j (getD xs n d)) (omega arith)) ∙ walk f d (suc k) xs)
+
+-- the same of a whole array
+whole : {A : Type 0} (f : ℕ → A → Bool) (d : A) (n : ℕ) (xs : List A) → length xs ≡ n → all-below n (λ k. f k (getD xs k d)) ≡ walked f 0 xs
+whole f d n xs h =
+    all-same n (λ k. f k (getD xs k d)) (λ k. f (0 + k) (getD xs k d)) (λ k. ap (λ j. f j (getD xs k d)) (omega arith))
+    ∙ rw (sym h) (walk f d 0 xs)
+
+-- THE ROOM of a state: its long arrays are whole
+pub record Sized (s : State) : Type 0 where
+  pub nexts : length (s .nexts) ≡ 320
+  pub statuses : length (s .statuses) ≡ 320
+  pub places : length (s .places) ≡ 256
+
+abbrev pub thread-walked : Tree → State → (thread : ℕ) → PlaceWords → Bool
+thread-walked t s i q = thread-fits t i (place-of q) (watch-fits t s i (place-of q))
+
+-- well formed, by walks
+unfoldable pub formed-by-walks : Tree → State → Bool
+formed-by-walks t s =
+    (all-below 64 (good-tail t s) && walked (next-fits t) 0 (s .nexts))
+    && (walked (status-fits t) 0 (s .statuses) && (walked (thread-walked t s) 0 (s .places) && good-counters t s))
+
+pub same-formed : (t : Tree) (s : State) → Sized s → well-formed t s ≡ formed-by-walks t s
+unfolding well-formed formed-by-walks good-next good-status good-thread good-watch
+same-formed t s h =
+    rw (whole (next-fits t) 0 320 (s .nexts) (h .nexts), whole (status-fits t) 0 320 (s .statuses) (h .statuses), whole (thread-walked t s) (place-words 0 0 0 0) 256 (s .places) (h .places))
+
+-- ANSWERS, where 10 is tested by walks: what is refused, by whether the state is well formed and by the tests behind it
+abbrev pub refusal-by : Tree → (formed : Bool) → List Test → Refusal
+refusal-by t b xs = first-refusal (tree-tests t ++ ((test 10 1 (λ p. not b) ∷ []) ++ xs))
+
+unfoldable pub walked-step : TreeWords → State → (thread : ℕ) → StepReply
+walked-step w s i =
+    let t = tree-of w in
+    step-reply (refusal-by t (formed-by-walks t s) (entry-tests t (i ∷ []))) s (steps t (i ∷ []) s)
+
+unfoldable pub walked-refusal : TreeWords → State → (schedule : List ℕ) → (room : ℕ) → Refusal
+walked-refusal w s is room = let t = tree-of w in refusal-by t (formed-by-walks t s) (schedule-tests t is ++ room-tests is room)
+
+pub same-step : (w : TreeWords) (s : State) (i : ℕ) → Sized s → step-answer w s i ≡ walked-step w s i
+unfolding step-answer walked-step step-refusal step-tests bad-state
+same-step w s i h =
+    let t = tree-of w in
+    ap (λ b. step-reply (refusal-by t b (entry-tests t (i ∷ []))) s (steps t (i ∷ []) s)) (same-formed t s h)
+
+pub same-refusal : (w : TreeWords) (s : State) (is : List ℕ) (room : ℕ) → Sized s → run-refusal (tree-of w) s is room ≡ walked-refusal w s is room
+unfolding walked-refusal run-refusal run-tests bad-state
+same-refusal w s is room h = let t = tree-of w in ap (λ b. refusal-by t b (schedule-tests t is ++ room-tests is room)) (same-formed t s h)
+
+-- CASES, by such answers
+unfoldable pub holds-by-walks : Case → Bool
+holds-by-walks (fresh-call w x) = holds (fresh-call w x)
+holds-by-walks (fresh-starts w v c) = holds (fresh-starts w v c)
+holds-by-walks (step-call w s i x) = step-holds (walked-step w s i) s x
+holds-by-walks (step-gives w s i k d n) = step-gave (walked-step w s i) k d n
+holds-by-walks (run-call w s is x) =
+    let b = trace-room is in
+    let r = walked-refusal w s is (length b) in
+    let y = run (tree-of w) is s in
+    run-holds (run-reply r s y) (run-buffer r b y) s b x
+
+unfoldable pub all-hold-by-walks : List Case → Bool
+all-hold-by-walks [] = true
+all-hold-by-walks (c ∷ cs) = holds-by-walks c && all-hold-by-walks cs
+
+-- the states that the cases hand in are whole
+abbrev pub state-sized : State → Bool
+state-sized s = eqb (length (s .nexts)) 320 && (eqb (length (s .statuses)) 320 && eqb (length (s .places)) 256)
+
+unfoldable pub case-sized : Case → Bool
+case-sized (fresh-call w x) = true
+case-sized (fresh-starts w v c) = true
+case-sized (step-call w s i x) = state-sized s
+case-sized (step-gives w s i k d n) = state-sized s
+case-sized (run-call w s is x) = state-sized s
+
+unfoldable pub all-sized : List Case → Bool
+all-sized [] = true
+all-sized (c ∷ cs) = case-sized c && all-sized cs
+
+pub sized : (s : State) → state-sized s ≡ true → Sized s
+sized s e =
+    let a = and-both (eqb (length (s .nexts)) 320) (eqb (length (s .statuses)) 320 && eqb (length (s .places)) 256) e in
+    let b = and-both (eqb (length (s .statuses)) 320) (eqb (length (s .places)) 256) (a .1) in
+    record { nexts = eqb-true _ _ (a .0); statuses = eqb-true _ _ (b .0); places = eqb-true _ _ (b .1) }
+
+same-case : (c : Case) → case-sized c ≡ true → holds c ≡ holds-by-walks c
+unfolding holds-by-walks case-sized holds run-answer trace-answer
+same-case (fresh-call w x) e = refl
+same-case (fresh-starts w v c) e = refl
+same-case (step-call w s i x) e = rw (same-step w s i (sized s e))
+same-case (step-gives w s i k d n) e = rw (same-step w s i (sized s e))
+same-case (run-call w s is x) e = rw (same-refusal w s is (length (trace-room is)) (sized s e))
+
+pub same-cases : (cs : List Case) → all-sized cs ≡ true → all-hold cs ≡ all-hold-by-walks cs
+unfolding all-hold all-hold-by-walks all-sized
+same-cases [] e = refl
+same-cases (c ∷ cs) e =
+    let a = and-both (case-sized c) (all-sized cs) e in
+    rw (same-case c (a .0), same-cases cs (a .1))
