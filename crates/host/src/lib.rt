@@ -4,7 +4,7 @@ ghost use Rattle.chain.specs.Answers.{chain-answer, buffer-answer};
 ghost use Rattle.model.specs.Answers.{fresh-answer, step-answer, run-answer, trace-answer};
 ghost use Rattle.host.specs.Answers.{answer-of};
 ghost use Rattle.host.specs.InPlace.{fresh-kept, fresh-left, fresh-number, step-told};
-ghost use Rattle.lock_file.specs.FileAnswers.{file-answer, output-answer};
+ghost use Rattle.file_call.specs.FileAnswers.{file-answer, output-answer};
 ghost use Rattle.rate.specs.Answers.{rate-answer, reply-of};
 ghost use Rattle.schedules.specs.Answers.{many-answer, rows-answer};
 ghost use Rattle.text_tree.specs.Answers.{text-answer};
@@ -119,7 +119,7 @@ pub extern "C" fn hmcs_run_file(
     ensures { λ r. ⌜ now (length .exit) ≡ file-answer (now (file .entry)) (now (output .entry)) .length ⌝ }
     ensures { λ r. ⌜ now (output .exit) ≡ output-answer (now (file .entry)) (now (output .entry)) ⌝ }
 {
-    let r = lock_file::run_file(file, output);
+    let r = file_call::run_file(file, output);
     *place = r.place;
     *length = r.length;
     r.number

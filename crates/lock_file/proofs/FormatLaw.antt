@@ -13,7 +13,7 @@ use Rattle.lock_file.specs.declared.DomainsRead.{DomainsRead}
 use Rattle.lock_file.specs.declared.ThreadsRead.{ThreadsRead}
 use Rattle.lock_file.specs.Reading.{domain-count, root-number, byte, two-bytes, field-end, domains-from, domains-read, threads-from, threads-behind, threads-read, thread-count, schedule-start, tree-read, entries-at, described, reading-of, file-read}
 use Rattle.lock_file.specs.Format.{Full-room, Describes}
-use Rattle.lock_file.specs.FileLaws.{Format-law}
+use Rattle.lock_file.specs.ReadingLaws.{Format-law}
 use Rattle.lock_file.proofs.Bytes.{next-byte, starts, field-reached}
 use Rattle.lock_file.proofs.Stored.{zeros, same-words}
 use Rattle.lock_file.proofs.DomainEntries.{domains-room, domains-kept, domains-bytes, Domains-read, domains-stored}

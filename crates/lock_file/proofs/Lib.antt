@@ -1,9 +1,7 @@
 pub mod Cases
 pub mod Positions
 pub mod Within
-pub mod Numerals
-pub mod Writing
-pub mod Outcomes
+pub mod Filling
 pub mod Bytes
 pub mod DomainEntry
 pub mod ThreadEntry
@@ -16,8 +14,3 @@ pub mod FormatLaw
 pub mod Parts
 pub mod TreeParts
 pub mod ReadingRefusalLaw
-pub mod NumeralLaw
-pub mod FileRunLaw
-pub mod FileRefusalLaw
-pub mod FileRun
-pub mod FileClaim

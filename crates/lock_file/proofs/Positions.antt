@@ -2,7 +2,7 @@
 use mathlib.Core.Path.{_≡_, refl}
 use mathlib.Core.Bool.{Bool, true, false, cond}
 use mathlib.Core.List.{List}
-use Prim.Native.Nat.{ℕ, suc, _+_, _-_, _%_, _≤_, _<_}
+use Prim.Native.Nat.{ℕ, zero, suc, _+_, _-_, _%_, _≤_, _<_}
 use native.Mathlib.Omega.{arith}
 use native.Mathlib.Numerals.{add-one}
 use lib.Dec.{ltb, leb}
@@ -160,3 +160,9 @@ module _ (bs : List ℕ) (n k at : ℕ) (l : List ℕ) where
   pub schedule-over : n ≤ k → sets l k (entries-from bs (n - k) at) ≡ l
   unfolding entries-from
   schedule-over h = let z : n - k ≡ 0 = omega arith in rw z
+
+-- as many entries as were left
+pub entries-length : (bs : List ℕ) (k at : ℕ) → length (entries-from bs k at) ≡ k
+unfolding entries-from
+entries-length bs zero at = refl
+entries-length bs (suc k) at = let rest = entries-length bs k (at + 2) in omega arith

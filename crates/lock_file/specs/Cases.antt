@@ -1,13 +1,10 @@
--- Cases of reading and of the file call, in one list: the printed example's bytes, and 1 to 5, 9, 16, 12 and 14 at their places. Assumes nothing: these are definitions.
+-- Cases of reading, in one list: the printed example's bytes, kinds of root, defaults, and 2 and 3 at their places. Assumes nothing: these are definitions.
 use mathlib.Core.Bool.{Bool, true, false, _&&_}
 use mathlib.Core.List.{List, [], _∷_, _++_}
 use Prim.Native.Nat.{ℕ, suc}
 use lib.Dec.{eqb}
 use lib.ListN.{replicate}
-use Rattle.lock_file.specs.declared.FileReply.{FileReply}
 use Rattle.lock_file.specs.Reading.{Reading, refused, described, file-read}
-use Rattle.lock_file.specs.Listing.{numeral, refusal-line}
-use Rattle.lock_file.specs.FileAnswers.{file-answer, output-answer}
 
 abbrev pub same : List ℕ → List ℕ → Bool
 same [] [] = true
@@ -18,9 +15,6 @@ same (x ∷ xs) (y ∷ ys) = eqb x y && same xs ys
 abbrev pub all : List Bool → Bool
 all [] = true
 all (b ∷ bs) = b && all bs
-
-abbrev pub replies : (number place length : ℕ) → FileReply → Bool
-replies n p l r = eqb (r .number) n && eqb (r .place) p && eqb (r .length) l
 
 abbrev pub refuses : (number place : ℕ) → Reading → Bool
 refuses n p (refused r) = eqb (r .number) n && eqb (r .place) p
@@ -46,24 +40,14 @@ example-schedule = 0 ∷ 0 ∷ 0 ∷ 0 ∷ 1 ∷ 1 ∷ 1 ∷ 1 ∷ 0 ∷ 0 ∷ 0
 abbrev pub example : (last : ℕ) → List ℕ
 example l = example-tree ++ pairs (example-schedule ++ (l ∷ []))
 
--- "ok 22 3 1 2 1 0", then 0, 1 and 2
-abbrev pub example-listing : List ℕ
-example-listing = 111 ∷ 107 ∷ 32 ∷ 50 ∷ 50 ∷ 32 ∷ 51 ∷ 32 ∷ 49 ∷ 32 ∷ 50 ∷ 32 ∷ 49 ∷ 32 ∷ 48 ∷ 10 ∷ 48 ∷ 10 ∷ 49 ∷ 10 ∷ 50 ∷ 10 ∷ []
-
 -- domains and threads without fields, and no schedule
 abbrev pub plain : (domains threads-low threads-high threads : ℕ) → List ℕ
 plain d l h t = (suc d ∷ replicate d 0) ++ (l ∷ h ∷ replicate t 0)
 
 unfoldable pub cases : List Bool
 cases =
-    -- the printed example: read, listed, and the buffer behind the listing as it came
+    -- the printed example
     gives 3 0 3 (replicate 64 0) (0 ∷ 2 ∷ 16 ∷ replicate 61 0) (1 ∷ 1 ∷ 2 ∷ replicate 253 0) (example-schedule ++ (2 ∷ [])) (file-read (example 2))
-    ∷ replies 0 0 22 (file-answer (example 2) (replicate 22 7))
-    ∷ same (output-answer (example 2) (replicate 25 7)) (example-listing ++ (7 ∷ 7 ∷ 7 ∷ []))
-    -- one byte too few for the listing
-    ∷ replies 14 0 0 (file-answer (example 2) (replicate 21 7))
-    ∷ same (output-answer (example 2) (replicate 21 7)) (replicate 21 7)
-    ∷ replies 12 21 0 (file-answer (example 3) (replicate 22 7))
     -- the file ends: nothing there, inside a threshold, before T, inside T, before a home, an odd rest
     ∷ refuses 2 0 (file-read [])
     ∷ refuses 2 3 (file-read (3 ∷ 2 ∷ 2 ∷ []))
@@ -76,29 +60,12 @@ cases =
     ∷ refuses 3 2 (file-read (3 ∷ 0 ∷ 255 ∷ []))
     ∷ refuses 3 4 (file-read (1 ∷ 2 ∷ 0 ∷ 0 ∷ 2 ∷ 0 ∷ []))
     ∷ refuses 2 4 (file-read (2 ∷ 3 ∷ 0 ∷ 1 ∷ []))
-    -- more domains or threads than there is room for are read to the end, and 2 and 3 come before 4 and 5
+    -- more domains or threads than there is room for are read to the end
     ∷ refuses 2 65 (file-read (65 ∷ replicate 64 0))
-    ∷ replies 4 0 0 (file-answer (plain 64 1 0 1) [])
-    ∷ replies 5 0 0 (file-answer (plain 0 1 1 257) [])
     ∷ refuses 3 259 (file-read (plain 0 1 1 256 ++ (2 ∷ [])))
     ∷ gives 127 0 0 (replicate 64 0) (0 ∷ replicate 63 16) (replicate 256 0) (258 ∷ []) (file-read (plain 126 0 0 0 ++ (2 ∷ 1 ∷ [])))
     -- 128 more in the first byte: a ticket root, and D is the rest
     ∷ gives 127 1 0 (replicate 64 0) (0 ∷ replicate 63 16) (replicate 256 0) (258 ∷ []) (file-read ((255 ∷ replicate 126 0) ++ (0 ∷ 0 ∷ 2 ∷ 1 ∷ [])))
     ∷ gives 2 1 1 (replicate 64 0) (0 ∷ 16 ∷ replicate 62 0) (1 ∷ replicate 255 0) [] (file-read (130 ∷ 0 ∷ 1 ∷ 0 ∷ 1 ∷ 1 ∷ []))
-    ∷ replies 4 0 0 (file-answer (128 ∷ 0 ∷ 0 ∷ []) [])
-    ∷ replies 4 0 0 (file-answer ((193 ∷ replicate 64 0) ++ (1 ∷ 0 ∷ 0 ∷ [])) [])
-    -- two threads at a ticket root, whose counters start at 0: "ok 8 2 3 2 0 0", then 0 and 1
-    ∷ same (output-answer (129 ∷ 2 ∷ 0 ∷ 0 ∷ 0 ∷ pairs (0 ∷ 1 ∷ 1 ∷ 1 ∷ 1 ∷ 0 ∷ 0 ∷ 1 ∷ [])) (replicate 19 0))
-    (111 ∷ 107 ∷ 32 ∷ 56 ∷ 32 ∷ 50 ∷ 32 ∷ 51 ∷ 32 ∷ 50 ∷ 32 ∷ 48 ∷ 32 ∷ 48 ∷ 10 ∷ 48 ∷ 10 ∷ 49 ∷ 10 ∷ [])
-    -- D of 0 or 1 has no domain entry; without threads the rest is schedule
-    ∷ replies 4 0 0 (file-answer (0 ∷ 0 ∷ 0 ∷ []) [])
-    ∷ replies 5 0 0 (file-answer (1 ∷ 0 ∷ 0 ∷ 0 ∷ 0 ∷ []) [])
-    -- the home of the thread before, even one that is no domain; 9 at the first
-    ∷ gives 1 0 3 (replicate 64 0) (replicate 64 0) (0 ∷ 9 ∷ 9 ∷ replicate 253 0) [] (file-read (1 ∷ 3 ∷ 0 ∷ 0 ∷ 1 ∷ 9 ∷ 0 ∷ []))
-    ∷ replies 9 1 0 (file-answer (1 ∷ 3 ∷ 0 ∷ 0 ∷ 1 ∷ 9 ∷ 0 ∷ []) [])
-    -- a leaf without threads, also where a schedule entry is no thread
-    ∷ replies 16 2 0 (file-answer (3 ∷ 0 ∷ 0 ∷ 1 ∷ 0 ∷ 1 ∷ 1 ∷ 9 ∷ 0 ∷ []) [])
-    -- "refused 8 1", and an empty schedule's listing "ok 0 0 0 0 0 0"
-    ∷ same (refusal-line 8 1) (114 ∷ 101 ∷ 102 ∷ 117 ∷ 115 ∷ 101 ∷ 100 ∷ 32 ∷ 56 ∷ 32 ∷ 49 ∷ 10 ∷ [])
-    ∷ same (output-answer (1 ∷ 1 ∷ 0 ∷ 0 ∷ []) (replicate 15 0)) (111 ∷ 107 ∷ 32 ∷ 48 ∷ 32 ∷ 48 ∷ 32 ∷ 48 ∷ 32 ∷ 48 ∷ 32 ∷ 48 ∷ 32 ∷ 48 ∷ 10 ∷ [])
-    ∷ same (numeral 65535) (54 ∷ 53 ∷ 53 ∷ 51 ∷ 53 ∷ []) ∷ same (numeral 10) (49 ∷ 48 ∷ []) ∷ []
+    -- the home of the thread before, even one that is no domain
+    ∷ gives 1 0 3 (replicate 64 0) (replicate 64 0) (0 ∷ 9 ∷ 9 ∷ replicate 253 0) [] (file-read (1 ∷ 3 ∷ 0 ∷ 0 ∷ 1 ∷ 9 ∷ 0 ∷ [])) ∷ []

@@ -1,9 +1,9 @@
 -- Document 01, "The lock file", with the kind of root of document 02, (xii): reading it from left to right, with refusals 2 and 3. Assumes nothing: these are definitions.
 use mathlib.Core.Bool.{cond}
-use mathlib.Core.List.{List, [], _∷_}
+use mathlib.Core.List.{List, [], _∷_, _++_}
 use Prim.Native.Nat.{ℕ, zero, suc, _+_, _*_, _-_, _/_, _%_}
 use lib.Dec.{ltb, leb, eqb}
-use lib.ListN.{length, getD, set, replicate}
+use lib.ListN.{length, getD, set, drop, replicate}
 use Rattle.model.specs.declared.TreeWords.{TreeWords}
 use Rattle.model.specs.Refusals.{Refusal, refusal, accepted}
 use Rattle.lock_file.specs.declared.Reached.{Reached}
@@ -171,3 +171,7 @@ reading-of bs (BadMap p) w = refused (reached-refusal bs (BadMap p))
 
 unfoldable pub file-read : (bytes : List ℕ) → Reading
 file-read bs = reading-of bs (tree-read bs .reached) (tree-read bs .tree)
+
+-- entries at the front of a buffer and nothing behind them changed; a buffer that is too short for them, as it came
+unfoldable pub filled : (entries buffer : List ℕ) → List ℕ
+filled is b = cond (ltb (length b) (length is)) b (is ++ drop (length is) b)

@@ -30,7 +30,7 @@ fn byte_at(file: &[u8], at: usize) -> u8
 }
 
 // Two bytes, low byte first.
-pub(crate) fn two_bytes_at(file: &[u8], at: usize) -> u16
+fn two_bytes_at(file: &[u8], at: usize) -> u16
     ensures { λ r. ⌜ r ≡ two-bytes (now (file .entry)) at ⌝ }
 {
     if file.len() <= at {
@@ -329,7 +329,7 @@ fn schedule_start_of(file: &[u8], reached: Reached) -> Reached
 }
 
 // The whole file: the tree, and where the schedule starts.
-pub(crate) fn read_tree(file: &[u8]) -> TreeRead
+pub(crate) fn tree_of(file: &[u8]) -> TreeRead
     ensures { λ r. ⌜ r ≡ tree-read (now (file .entry)) ⌝ }
 {
     let ds = read_domains(file);
@@ -356,7 +356,7 @@ pub(crate) fn read_tree(file: &[u8]) -> TreeRead
 }
 
 // The schedule's entries, at the front of a buffer.
-pub(crate) fn read_schedule(file: &[u8], start: usize, entries: usize, schedule: &mut [u16])
+pub(crate) fn read_entries(file: &[u8], start: usize, entries: usize, schedule: &mut [u16])
     requires { ⌜ start + 2 * entries ≤ length (now file) ⌝ }
     requires { ⌜ entries ≤ length (now schedule) ⌝ }
     ensures { λ r. ⌜ now (schedule .exit) ≡ sets (now (schedule .entry)) 0 (entries-from (now (file .entry)) entries start) ⌝ }

@@ -3,6 +3,7 @@ pub mod Tests
 pub mod Lists
 pub mod Refusing
 pub mod Places
+pub mod Storing
 pub mod Trees
 pub mod Laws
 pub mod Meanings

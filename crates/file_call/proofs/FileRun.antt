@@ -1,0 +1,126 @@
+-- The file call's run in buffers that are longer than it needs: the same answer, and its trace at the front. Assumes nothing.
+use mathlib.Core.Path.{_≡_, refl, _∙_, ap}
+use mathlib.Core.Bool.{Bool, true, false, cond}
+use mathlib.Core.List.{List, [], _∷_}
+use Prim.Native.Nat.{ℕ, _-_, _/_, _≤_}
+use native.Mathlib.Omega.{arith}
+use lib.Dec.{eqb}
+use lib.ListN.{length, take, drop, replicate, length-replicate}
+use lib.Seq.{take-at}
+use borrow.Author.Tests.{le-ltb}
+use Rattle.model.specs.declared.TreeWords.{TreeWords}
+use Rattle.model.specs.declared.State.{State}
+use Rattle.model.specs.declared.FreshReply.{FreshReply}
+use Rattle.model.specs.declared.RunReply.{RunReply}
+use Rattle.model.specs.Trees.{Tree, tree-of}
+use Rattle.model.specs.States.{fresh-words, fresh-state}
+use Rattle.model.specs.Steps.{is-entry, Step}
+use Rattle.model.specs.Runs.{Run, steps, how-many, counts-of, run-of, run}
+use Rattle.model.specs.Refusals.{tree-refusal, Refusal, lowest-bad, first-refusal, bad-room, tree-tests, run-tests, run-refusal}
+use Rattle.model.specs.Answers.{fresh-answer, run-accepted, run-refused, run-reply, run-buffer, run-answer, trace-answer}
+use Rattle.model.specs.Laws.{Count-law}
+use Rattle.model.proofs.Tests.{by-test}
+use Rattle.model.proofs.Laws.Form.{fresh-at-zero}
+use Rattle.model.proofs.Laws.Runs.{steps-length, count-law}
+use Rattle.lock_file.specs.Reading.{entries-from, entries-at, filled}
+use Rattle.lock_file.proofs.Positions.{entries-length}
+use Rattle.file_call.specs.FileAnswers.{tree-outcome, run-outcome, file-run, file-trace}
+
+-- the schedule at the front of its buffer
+pub schedule-front :
+    (bs : List ℕ) (n at : ℕ) (l : List ℕ) → n ≤ length l → take n (filled (entries-from bs n at) l) ≡ entries-from bs n at
+unfolding filled
+schedule-front bs n at l h =
+    let is = entries-from bs n at in
+    let long = entries-length bs n at in
+    rw (le-ltb (length l) (length is) (omega arith)) (take-at is (drop (length is) l) n long)
+
+-- a run enters at most once a step
+counted-within : (xs : List Step) → how-many is-entry xs ≤ length xs
+unfolding how-many
+counted-within [] = omega arith
+counted-within (x ∷ xs) =
+    let rest = counted-within xs in
+    let one : cond (is-entry (x .kind)) 1 0 ≤ 1 = by-test (λ n. n ≤ 1) (is-entry (x .kind)) 1 0 (λ e. omega arith) (λ e. omega arith) in
+    omega arith
+
+pub entries-within : (t : Tree) (is : List ℕ) (s : State) → run t is s .counts .entries ≤ length is
+unfolding run run-of counts-of
+entries-within t is s = omega (arith, counted-within (steps t is s), steps-length t is s)
+
+-- more room for the trace makes no difference
+room-same :
+    (t : Tree) (s : State) (is : List ℕ) (a b : ℕ) → length is ≤ a → length is ≤ b → run-refusal t s is a ≡ run-refusal t s is b
+unfolding run-refusal run-tests tree-tests first-refusal lowest-bad bad-room
+room-same t s is a b h g = rw (le-ltb a (length is) h, le-ltb b (length is) g)
+
+pub run-same : (w : TreeWords) (is buffer : List ℕ) → length is ≤ length buffer → run-answer w fresh-words is buffer ≡ file-run w is
+unfolding file-run run-answer
+run-same w is buffer h =
+    let own : List ℕ = replicate (length is) 0 in
+    let enough : length is ≤ length own = omega (arith, length-replicate {A = ℕ} (length is) 0) in
+    rw (room-same (tree-of w) fresh-words is (length buffer) (length own) h enough)
+
+-- the listing of a run takes the front of its trace buffer
+front-listed :
+    (r : Refusal) (s : State) (x : Run) (buffer : List ℕ) (room : ℕ) → length (x .trace) ≡ x .counts .entries →
+    run-outcome (run-reply r s x) (take (run-reply r s x .counts .entries) (run-buffer r buffer x)) room
+    ≡ run-outcome (run-reply r s x) (x .trace) room
+unfolding run-reply run-buffer run-outcome
+front-listed r s x buffer room h = by (eqb (r .number) 0) refl
+  where
+    by :
+        (b : Bool) → eqb (r .number) 0 ≡ b →
+        run-outcome (run-reply r s x) (take (run-reply r s x .counts .entries) (run-buffer r buffer x)) room
+        ≡ run-outcome (run-reply r s x) (x .trace) room
+    by true e = rw (e, take-at (x .trace) (drop (length (x .trace)) buffer) (x .counts .entries) h)
+    by false e = rw (e, e)
+
+pub run-listed :
+    (w : TreeWords) (is buffer : List ℕ) (room : ℕ) → length is ≤ length buffer →
+    run-outcome (run-answer w fresh-words is buffer) (take (run-answer w fresh-words is buffer .counts .entries) (trace-answer w fresh-words is buffer)) room
+    ≡ tree-outcome w is room
+unfolding run-answer trace-answer file-trace Count-law
+run-listed w is buffer room h =
+    front-listed (run-refusal (tree-of w) fresh-words is (length buffer)) fresh-words (run (tree-of w) is fresh-words) buffer room
+    (count-law (tree-of w) is fresh-words .traced)
+    ∙ ap (λ r. run-outcome r (run (tree-of w) is fresh-words .trace) room) (run-same w is buffer h)
+
+-- a run's entries are no more than its schedule's
+pub replied-within : (w : TreeWords) (is buffer : List ℕ) → run-answer w fresh-words is buffer .counts .entries ≤ length is
+unfolding run-answer run-reply
+replied-within w is buffer =
+    by-test (λ r. r .counts .entries ≤ length is) (eqb (run-refusal (tree-of w) fresh-words is (length buffer) .number) 0)
+    (run-accepted (run (tree-of w) is fresh-words)) (run-refused (run-refusal (tree-of w) fresh-words is (length buffer)) fresh-words)
+    (λ e. entries-within (tree-of w) is fresh-words) (λ e. omega arith)
+
+-- a fresh call that starts at 0 returns words that are 0 throughout, accepted or refused
+pub zero-start : (w : TreeWords) → fresh-answer w 0 .state ≡ fresh-words
+unfolding fresh-answer
+zero-start w = by (eqb (tree-refusal (tree-of w) .number) 0)
+  where
+    by : (a : Bool) → fresh-state (tree-of w) (cond a 0 0) ≡ fresh-words
+    by true = fresh-at-zero (tree-of w)
+    by false = fresh-at-zero (tree-of w)
+
+pub fresh-zero : (w : TreeWords) (r : FreshReply) → r ≡ fresh-answer w 0 → r .state ≡ fresh-words
+fresh-zero w r e = ap (λ x. x .state) e ∙ zero-start w
+
+-- what the code has in its buffers, put together
+pub run-in-buffers :
+    (bs : List ℕ) (at : ℕ) (w : TreeWords) (s : State) (r : RunReply) (room-for-schedule schedule buffer trace : List ℕ) →
+    let n = (length bs - at) / 2 in
+    n ≤ length room-for-schedule → n ≤ length buffer → schedule ≡ filled (entries-at bs at) room-for-schedule → s ≡ fresh-words →
+    r ≡ run-answer w s (take n schedule) buffer → trace ≡ trace-answer w s (take n schedule) buffer →
+    (r .counts .entries ≤ n)
+    × ((room : ℕ) →
+    run-outcome r (take (r .counts .entries) trace) room ≡ tree-outcome w (entries-at bs at) room)
+unfolding entries-at
+run-in-buffers bs at w s r free schedule buffer trace h g stored fresh replied traced =
+    let n = (length bs - at) / 2 in
+    let is = entries-from bs n at in
+    let read : take n schedule ≡ is = rw stored (schedule-front bs n at free h) in
+    let reply : r ≡ run-answer w fresh-words is buffer = rw (← read, ← fresh) replied in
+    let left : trace ≡ trace-answer w fresh-words is buffer = rw (← read, ← fresh) traced in
+    let long = entries-length bs n at in
+    (rw reply (omega (arith, replied-within w is buffer)), λ room. rw (reply, left) (run-listed w is buffer room (omega arith)))

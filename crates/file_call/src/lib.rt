@@ -1,0 +1,52 @@
+// The file call.
+mod calling;
+
+ghost use mathlib.Core.Path.{_≡_};
+ghost use Prim.Native.Nat.{_≤_};
+ghost use Rattle.file_call.specs.FileAnswers.{file-answer, output-answer};
+use lock_file::Reached;
+
+// What the file call returns. Number 0 is accepted.
+#[repr(C)]
+pub struct FileReply {
+    pub number: u32,
+    pub place: u32,
+    pub length: u32,
+}
+
+fn place_word(place: usize) -> u32
+    requires { ⌜ place ≤ 65536 ⌝ }
+    ensures { λ r. ⌜ r ≡ place ⌝ }
+{
+    place as u32
+}
+
+// The file call: reads the lock file, runs its schedule from a fresh lock, and writes the listing.
+pub fn run_file(file: &[u8], output: &mut [u8]) -> FileReply
+    ensures { λ r. ⌜ r ≡ file-answer (now (file .entry)) (now (output .entry)) ⌝ }
+    ensures { λ r. ⌜ now (output .exit) ≡ output-answer (now (file .entry)) (now (output .entry)) ⌝ }
+{
+    if 65536 < file.len() {
+        return FileReply {
+            number: 1,
+            place: 0,
+            length: 0,
+        };
+    }
+    let read = lock_file::read_tree(file);
+    let reached = read.reached;
+    let tree = read.tree;
+    match reached {
+        Reached::At(at) => calling::run_tree(file, at, tree, output),
+        Reached::Ended => FileReply {
+            number: 2,
+            place: place_word(file.len()),
+            length: 0,
+        },
+        Reached::BadMap(p) => FileReply {
+            number: 3,
+            place: place_word(p),
+            length: 0,
+        },
+    }
+}

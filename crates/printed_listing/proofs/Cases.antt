@@ -1,0 +1,10 @@
+-- The cases hold, by computation. Assumes nothing.
+use mathlib.Core.Path.{_≡_, refl}
+use mathlib.Core.Bool.{true}
+use Rattle.model.specs.Cases.{same-numbers}
+use Rattle.printed_listing.specs.Listing.{digits, numeral, number-then, trace-lines, spaced, first-line, listing, refusal-line, printed}
+use Rattle.printed_listing.specs.Cases.{cases, all-hold}
+
+pub cases-hold : all-hold cases ≡ true
+unfolding same-numbers digits numeral number-then trace-lines spaced first-line listing refusal-line printed cases all-hold
+cases-hold = refl

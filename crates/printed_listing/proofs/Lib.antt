@@ -1,0 +1,5 @@
+pub mod Cases
+pub mod Numerals
+pub mod Writing
+pub mod Printing
+pub mod NumeralLaw

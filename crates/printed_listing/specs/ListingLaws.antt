@@ -1,0 +1,22 @@
+-- THE LAW OF NUMERALS; proofs/ has its proof. Assumes nothing.
+use mathlib.Core.Path.{_≡_}
+use mathlib.Core.List.{List, [], _∷_}
+use mathlib.Core.Logic.{_≢_}
+use Prim.Native.Nat.{ℕ, _+_, _*_, _-_, _≤_, _<_}
+use lib.ListN.{length, getD}
+use Rattle.printed_listing.specs.Listing.{numeral}
+
+-- the value that decimal digits have, behind those that were read
+unfoldable pub value-from : (value : ℕ) → (digits : List ℕ) → ℕ
+value-from v [] = v
+value-from v (b ∷ bs) = value-from (10 * v + (b - 48)) bs
+
+-- a numeral has digits only, at least one, reads back, and starts with 0 only if it is that of 0
+pub record Decimal (v : ℕ) (bytes : List ℕ) : Type 0 where
+  pub not-empty : 0 < length bytes
+  pub reads-back : value-from 0 bytes ≡ v
+  pub digits-only : (k : ℕ) → k < length bytes → (48 ≤ getD bytes k 0) × (getD bytes k 0 ≤ 57)
+  pub no-leading-zero : v ≢ 0 → getD bytes 0 0 ≢ 48
+
+unfoldable pub Numeral-law : Type 0
+Numeral-law = (v : ℕ) → Decimal v (numeral v)
