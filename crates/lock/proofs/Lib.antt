@@ -7,6 +7,7 @@ pub mod SoFar
 pub mod Typing
 pub mod Turns
 pub mod LastTold
+pub mod Telling
 pub mod Answering
 pub mod Starting
 pub mod FreshRow

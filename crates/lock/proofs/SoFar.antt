@@ -153,7 +153,7 @@ below t is z a k h = omega (arith, accepted t z .few-threads, thread-at t is a k
 
 module _ (t : Tree) (is b₀ : List ℕ) (s₀ : State) where
   -- the steps of the first k entries
-  abbrev first-steps : ℕ → List Step
+  abbrev pub first-steps : ℕ → List Step
   first-steps k = steps t (take k is) s₀
 
   -- k entries of the schedule are done
@@ -192,7 +192,7 @@ module _ (t : Tree) (is b₀ : List ℕ) (s₀ : State) where
       }
 
   -- one entry more: the steps so far, then one
-  next-step : (k : ℕ) → k < length is → first-steps (k + 1) ≡ first-steps k ++ (step t (getD is k 0) (state-after s₀ (first-steps k)) ∷ [])
+  pub next-step : (k : ℕ) → k < length is → first-steps (k + 1) ≡ first-steps k ++ (step t (getD is k 0) (state-after s₀ (first-steps k)) ∷ [])
   unfolding steps
   next-step k h =
       let z : k + 1 ≡ suc k = add-one k in

@@ -2,12 +2,12 @@
 use mathlib.Core.Path.{_≡_}
 use mathlib.Core.Bool.{Bool, true, _||_, cond}
 use mathlib.Core.List.{List, [], _∷_, _++_}
-use Prim.Native.Nat.{ℕ, _+_, _<_}
-use lib.Dec.{eqb}
+use Prim.Native.Nat.{ℕ, _+_, _*_, _<_}
+use lib.Dec.{eqb, ltb}
 use lib.ListN.{getD, set, length, drop}
 use Rattle.model.specs.declared.PlaceWords.{PlaceWords}
 use Rattle.model.specs.declared.State.{State}
-use Rattle.model.specs.Places.{place-words, place-of}
+use Rattle.model.specs.Places.{place-words, words-of, place-of}
 use Rattle.model.specs.States.{fresh-words, with-ticket, with-grant}
 use Rattle.model.specs.Trees.{Tree}
 use Rattle.model.specs.Refusals.{tree-refusal}
@@ -66,6 +66,23 @@ traced-at b n k i = cond (is-entry-number k) (set b n i) b
 -- the buffer with a run's trace at its front
 abbrev pub trace-front : List ℕ → Run → List ℕ
 trace-front b x = x .trace ++ drop (length (x .trace)) b
+
+-- what a step was, in one number: of its kind, of the row of the place that it came from and of the domain that this place names
+abbrev pub code-of : (kind row domain : ℕ) → ℕ
+code-of k r d = k + 8 * r + 128 * d
+
+unfoldable pub step-code : Step → ℕ
+step-code x = code-of (kind-number (x .kind)) (words-of (x .place) .row) (words-of (x .place) .domain)
+
+-- a buffer with a number at an index; where it has no such index, as it came
+abbrev pub told-at : List ℕ → (at code : ℕ) → List ℕ
+told-at b n v = cond (ltb n (length b)) (set b n v) b
+
+-- the buffer with the numbers of the first steps at its front, as many as it has room for
+unfoldable pub told-front : List ℕ → List Step → List ℕ
+told-front [] xs = []
+told-front (b ∷ bs) [] = b ∷ bs
+told-front (b ∷ bs) (x ∷ xs) = step-code x ∷ told-front bs xs
 
 -- a fresh state by the number at which its counters start
 abbrev pub fresh-from : (first : ℕ) → State

@@ -95,7 +95,16 @@ pub fn step_lock(tree: TreeWords, state: State, thread: u16) -> StepReply
     let mut trace = [0u16];
     let mut kinds = [0u32; 6];
     let mut last = [0u32; 2];
-    let after = run::run_steps(tree, state, &schedule, &mut trace, &mut kinds, &mut last);
+    let mut told = [0u16; 0];
+    let after = run::run_steps(
+        tree,
+        state,
+        &schedule,
+        &mut trace,
+        &mut kinds,
+        &mut last,
+        &mut told,
+    );
     let kind = last[0];
     let domain = last[1];
     StepReply {
@@ -137,7 +146,16 @@ pub fn run_lock(tree: TreeWords, state: State, schedule: &[u16], trace: &mut [u1
     }
     let mut kinds = [0u32; 6];
     let mut last = [0u32; 2];
-    let after = run::run_steps(tree, state, schedule, trace, &mut kinds, &mut last);
+    let mut told = [0u16; 0];
+    let after = run::run_steps(
+        tree,
+        state,
+        schedule,
+        trace,
+        &mut kinds,
+        &mut last,
+        &mut told,
+    );
     let counts = run::counts_of(&kinds);
     RunReply {
         number: 0,

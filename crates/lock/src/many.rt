@@ -56,7 +56,16 @@ fn run_row(
         return;
     }
     let mut last = [0u32; 2];
-    let after = run::run_steps(tree, fresh, schedule, trace, &mut kinds, &mut last);
+    let mut told = [0u16; 0];
+    let after = run::run_steps(
+        tree,
+        fresh,
+        schedule,
+        trace,
+        &mut kinds,
+        &mut last,
+        &mut told,
+    );
     put_row(rows, at, 0, 0, run::counts_of(&kinds));
 }
 

@@ -1,13 +1,13 @@
 // Effects stored into a state, and the run's loop.
 ghost use mathlib.Core.Path.{_≡_};
 ghost use mathlib.Core.Bool.{cond};
-ghost use Prim.Native.Nat.{_+_, _<_, _≤_};
+ghost use Prim.Native.Nat.{_+_, _*_, _<_, _≤_};
 ghost use lib.ListN.{length, getD};
 ghost use Rattle.model.specs.Trees.{tree-of};
 ghost use Rattle.model.specs.Refusals.{run-refusal};
 ghost use Rattle.model.specs.Runs.{steps, run};
 ghost use Rattle.lock.specs.Effects.{stored, counter-stored};
-ghost use Rattle.lock.specs.Running.{Last-told, kinds-of, counted, counts-by, is-entry-number, traced-at, trace-front};
+ghost use Rattle.lock.specs.Running.{Last-told, kinds-of, counted, counts-by, is-entry-number, traced-at, trace-front, code-of, told-at, told-front};
 use crate::places;
 use crate::rows;
 use model::Counts;
@@ -113,7 +113,17 @@ fn trace_at(trace: &mut [u16], at: u32, kind: u8, i: u16) -> u32
     at
 }
 
-// The steps of a schedule, stored one after another into one state, which is copied at the start and at the end alone. How many of them are of each kind, and kind and domain of the last one, are written where the caller lends room, so that the state alone is returned.
+// What a step was, in one number; where no room is lent for it, it is not told.
+fn tell(told: &mut [u16], at: usize, kind: u8, row: u8, domain: u8)
+    ensures { λ r. ⌜ now (told .exit) ≡ told-at (now (told .entry)) at (code-of kind row domain) ⌝ }
+{
+    if told.len() <= at {
+        return;
+    }
+    told[at] = kind as u16 + 8 * (row as u16) + 128 * (domain as u16);
+}
+
+// The steps of a schedule, stored one after another into one state, which is copied at the start and at the end alone. How many of them are of each kind, kind and domain of the last one, and what each of the first was, as many as there is room for, are written where the caller lends room, so that the state alone is returned.
 pub(crate) fn run_steps(
     tree: TreeWords,
     state: State,
@@ -121,12 +131,14 @@ pub(crate) fn run_steps(
     trace: &mut [u16],
     kinds: &mut [u32; 6],
     last: &mut [u32; 2],
+    told: &mut [u16],
 ) -> State
     requires { ⌜ run-refusal (tree-of tree) state (now schedule) (length (now trace)) .number ≡ 0 ⌝ }
     ensures { λ r. ⌜ r ≡ run (tree-of tree) (now (schedule .entry)) state .state ⌝ }
     ensures { λ r. ⌜ now (trace .exit) ≡ trace-front (now (trace .entry)) (run (tree-of tree) (now (schedule .entry)) state) ⌝ }
     ensures { λ r. ⌜ now (kinds .exit) ≡ kinds-of (steps (tree-of tree) (now (schedule .entry)) state) ⌝ }
     ensures { λ r. ⌜ Last-told (tree-of tree) (now (schedule .entry)) state (now (last .exit)) ⌝ }
+    ensures { λ r. ⌜ now (told .exit) ≡ told-front (now (told .entry)) (steps (tree-of tree) (now (schedule .entry)) state) ⌝ }
 {
     let mut n = state;
     let mut tally = [0u32; 6];
@@ -163,6 +175,7 @@ pub(crate) fn run_steps(
         thread = i;
         count_in(&mut tally, kind);
         if kind == model::STAY {
+            tell(told, position, kind, row, domain);
             k += 1;
             continue;
         }
@@ -174,6 +187,7 @@ pub(crate) fn run_steps(
         let place = e.place;
         n.places[at] = place;
         entries = trace_at(trace, entries, kind, i);
+        tell(told, position, kind, row, domain);
         k += 1;
     }
     *kinds = tally;

@@ -19,8 +19,11 @@ slice-aggregate-run-steps c = search needs
 slice-aggregate-run-steps-2 : tie.Need-slice-aggregate-run-steps-2
 slice-aggregate-run-steps-2 c = search needs
 
+slice-aggregate-run-steps-3 : tie.Need-slice-aggregate-run-steps-3
+slice-aggregate-run-steps-3 c = search needs
+
 run-steps-requires : tie.Need-run-steps-requires
-run-steps-requires c κs = let other = c .before .before .before .before in one-runs _ _ _ _ (other .before .before .run-refusal-of .ensures) (other .if1 .left)
+run-steps-requires c κs = let other = c .before .before .before .before .before in one-runs _ _ _ _ (other .before .before .run-refusal-of .ensures) (other .if1 .left)
 
 array-read-kind : tie.Need-array-read-kind
 array-read-kind c = search needs
@@ -30,9 +33,9 @@ array-read-domain c = search needs
 
 returns-2 : tie.Need-returns-2
 returns-2 c =
-    let ran = c .before in
-    let other = ran .before .before .before .before .before in
-    step-answered _ _ _ _ (other .before .before .run-refusal-of .ensures) (other .if1 .left) _ _ (ran .run-steps .ensures .0) (ran .run-steps .ensures .1 .1 .1)
+    let ran = c .before .before in
+    let other = ran .before .before .before .before .before .before in
+    step-answered _ _ _ _ (other .before .before .run-refusal-of .ensures) (other .if1 .left) _ _ (ran .run-steps .ensures .0) (ran .run-steps .ensures .1 .1 .1 .0)
 
 pub step-lock-spec : {M : Type 1} → statement M
 step-lock-spec =
@@ -43,6 +46,7 @@ step-lock-spec =
     returns
     slice-aggregate-run-steps
     slice-aggregate-run-steps-2
+    slice-aggregate-run-steps-3
     run-steps-requires
     array-read-kind
     array-read-domain
