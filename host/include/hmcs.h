@@ -83,7 +83,7 @@ typedef struct hmcs_state {
 /* What an answer's number means. 0 is accepted. An answer's place is what the sentence says, else 0. */
 enum hmcs_refusal {
     HMCS_ACCEPTED = 0,
-    HMCS_FILE_TOO_LONG = 1,    /* The lock file is longer than 65,536 bytes. */
+    HMCS_FILE_TOO_LONG = 1,    /* The lock file is longer than 65,536 bytes, or would be. */
     HMCS_FILE_CUT = 2,         /* The lock file ends inside a field or where one is still due, the place being its length. */
     HMCS_FILE_BIT = 3,         /* A bit map has a bit set that has no meaning, the place being its byte. */
     HMCS_BAD_DOMAINS = 4,      /* There are no domains, or more than 64. */
@@ -99,6 +99,7 @@ enum hmcs_refusal {
     HMCS_OUTPUT_SHORT = 14,    /* The output buffer is shorter than the listing. */
     HMCS_TEXT_WRONG = 15,      /* The text leaves the grammar, the place being the first byte that no text could continue with, or the length. */
     HMCS_EMPTY_DOMAIN = 16,    /* A domain has no thread under it, the place being the lowest such domain. Tested straight after 9. */
+    HMCS_FILE_SHORT = 17,      /* The file buffer is shorter than the lock file. */
     HMCS_CHAIN_SHORT = 20,     /* The chain buffer has fewer elements than there are threads. */
     HMCS_NO_CHAIN = 21,        /* A thread of the chain looks to nobody, to several, or to one that is already on it. */
     HMCS_LENGTHS_WRONG = 22,   /* The schedules' lengths do not add up to the entries given. */
@@ -126,6 +127,7 @@ static inline const char *hmcs_refusal_text(uint32_t number) {
     case HMCS_OUTPUT_SHORT: return "the output buffer is shorter than the listing";
     case HMCS_TEXT_WRONG: return "the text leaves the grammar of trees";
     case HMCS_EMPTY_DOMAIN: return "a domain has no thread under it";
+    case HMCS_FILE_SHORT: return "the file buffer is shorter than the lock file";
     case HMCS_CHAIN_SHORT: return "the chain buffer has fewer elements than there are threads";
     case HMCS_NO_CHAIN: return "a thread of the chain looks to nobody, to several, or to one that is already on it";
     case HMCS_LENGTHS_WRONG: return "the lengths do not add up to the entries given";
@@ -245,6 +247,12 @@ hmcs_answer hmcs_run_many(hmcs_tree tree, const uint32_t *lengths, size_t length
  * number; *place is its place, *length the listing's length, 0 where it is refused. Refused by 1 to 9, 16, 12 and 14; then the output is as
  * it came. */
 uint32_t hmcs_run_file(const uint8_t *file, size_t file_length, uint8_t *output, size_t output_length, uint32_t *place, uint32_t *length);
+
+/* Writes the lock file of a tree and a schedule at the front of the file buffer, and nothing behind it: a field is there only where its value is
+ * not what its absence means, so that no lock file for them is shorter, and reading it gives the same tree, threads and schedule. A buffer of
+ * 65,536 bytes is always long enough. Returns the number; *place is its place, *length the file's length, 0 where it is refused. Refused by 4 to
+ * 9, 16, 11 and 12, then by 1 where the file would be longer than 65,536 bytes, then by 17; then the buffer is as it came. */
+uint32_t hmcs_write_file(hmcs_tree tree, const uint16_t *schedule, size_t schedule_length, uint8_t *file, size_t file_length, uint32_t *place, uint32_t *length);
 
 /* What reading a text returns: number and place, and the tree; refused, all its words are 0. The place is a position in the text, however
  * long that is. */

@@ -244,6 +244,21 @@ inline FileResult run_file(const std::uint8_t *file, std::size_t length) {
 
 inline FileResult run_file(const std::vector<std::uint8_t> &file) { return run_file(file.data(), file.size()); }
 
+struct WriteResult {
+    Refusal refusal;
+    std::vector<std::uint8_t> file; // refused, empty
+};
+
+// The lock file of a tree and a schedule, as short as one can be.
+inline WriteResult write_file(const Tree &tree, const std::vector<std::uint16_t> &schedule) {
+    WriteResult result;
+    result.file.resize(65536); // a longer file is refused (1)
+    std::uint32_t written = 0;
+    result.refusal.number = hmcs_write_file(tree.words(), schedule.data(), schedule.size(), result.file.data(), result.file.size(), &result.refusal.place, &written);
+    result.file.resize(written);
+    return result;
+}
+
 // How long it takes to pass the lock on: p1 within a home, p2 between homes below one domain, p3 across the root; all in one unit.
 using PassingTimes = hmcs_passing_times;
 

@@ -1,5 +1,5 @@
 -- REFUSALS OF THE FILE CALL: 1 to 3, those of the tree, 12 and 14. Assumes nothing.
-use mathlib.Core.Path.{_≡_, refl}
+use mathlib.Core.Path.{refl}
 use mathlib.Core.List.{List}
 use mathlib.Core.Logic.{inl, inr}
 use Prim.Native.Nat.{ℕ, _-_, _/_, _≤_}

@@ -5,6 +5,7 @@ ghost use Rattle.model.specs.Answers.{fresh-answer, step-answer, run-answer, tr
 ghost use Rattle.host.specs.Answers.{answer-of};
 ghost use Rattle.host.specs.InPlace.{fresh-kept, fresh-left, fresh-number, step-told};
 ghost use Rattle.file_call.specs.FileAnswers.{file-answer, output-answer};
+ghost use Rattle.file_writer.specs.Answers.{write-answer, file-buffer-answer};
 ghost use Rattle.rate.specs.Answers.{rate-answer, reply-of};
 ghost use Rattle.schedules.specs.Answers.{many-answer, rows-answer};
 ghost use Rattle.text_tree.specs.Answers.{text-answer};
@@ -120,6 +121,26 @@ pub extern "C" fn hmcs_run_file(
     ensures { λ r. ⌜ now (output .exit) ≡ output-answer (now (file .entry)) (now (output .entry)) ⌝ }
 {
     let r = file_call::run_file(file, output);
+    *place = r.place;
+    *length = r.length;
+    r.number
+}
+
+// The lock file of a tree and a schedule, as short as one can be, at the front of the file's buffer; refused, that buffer as it came. The number is returned; place and length go where the host says.
+#[no_mangle]
+pub extern "C" fn hmcs_write_file(
+    tree: TreeWords,
+    schedule: &[u16],
+    file: &mut [u8],
+    place: &mut u32,
+    length: &mut u32,
+) -> u32
+    ensures { λ r. ⌜ r ≡ write-answer tree (now (schedule .entry)) (now (file .entry)) .number ⌝ }
+    ensures { λ r. ⌜ now (place .exit) ≡ write-answer tree (now (schedule .entry)) (now (file .entry)) .place ⌝ }
+    ensures { λ r. ⌜ now (length .exit) ≡ write-answer tree (now (schedule .entry)) (now (file .entry)) .length ⌝ }
+    ensures { λ r. ⌜ now (file .exit) ≡ file-buffer-answer tree (now (schedule .entry)) (now (file .entry)) ⌝ }
+{
+    let r = file_writer::write_file(tree, schedule, file);
     *place = r.place;
     *length = r.length;
     r.number

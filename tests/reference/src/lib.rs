@@ -3,6 +3,7 @@
 pub mod calls;
 pub mod chain;
 pub mod draft;
+pub mod file_writer;
 pub mod library;
 pub mod listing;
 pub mod lock_file;

@@ -2,6 +2,7 @@
 
 use crate::calls::Calls;
 use crate::chain::ChainCall;
+use crate::file_writer::WriteFile;
 use crate::lock_file::FileAnswer;
 use crate::many::RunMany;
 use crate::rate::RateCall;
@@ -205,5 +206,35 @@ pub fn chain() -> Option<ChainCall> {
 
 #[cfg(not(calls))]
 pub fn chain() -> Option<ChainCall> {
+    None
+}
+
+/// Writing a lock file, built where the calls on a caller's tree are.
+#[cfg(calls)]
+mod write_entry {
+    use crate::lock_file::FileAnswer;
+    use crate::words::TreeWords;
+
+    extern "C" {
+        fn hmcs_write_file(tree: TreeWords, schedule: *const u16, schedule_len: usize, file: *mut u8, file_len: usize, place: *mut u32, length: *mut u32) -> u32;
+    }
+
+    /// Place and length hold other words before the call, so that words left unwritten show.
+    pub fn write_file(tree: &TreeWords, schedule: &[u16], file: &mut [u8]) -> FileAnswer {
+        let (mut place, mut length) = (0x5A5A_5A5A, 0xA5A5_A5A5);
+        // The pointers are valid for their lengths, and nothing else uses what they point to during the call.
+        let number = unsafe { hmcs_write_file(*tree, schedule.as_ptr(), schedule.len(), file.as_mut_ptr(), file.len(), &mut place, &mut length) };
+        FileAnswer { number, place, length }
+    }
+}
+
+/// The library's writer of lock files, if the program was built with the calls.
+#[cfg(calls)]
+pub fn write_file() -> Option<WriteFile> {
+    Some(write_entry::write_file)
+}
+
+#[cfg(not(calls))]
+pub fn write_file() -> Option<WriteFile> {
     None
 }

@@ -76,6 +76,17 @@ pub struct RunReply {
 }
 
 impl TreeWords {
+    pub fn of(tree: &Tree) -> TreeWords {
+        TreeWords {
+            domains: tree.domains as u32,
+            threads: tree.threads as u32,
+            parents: tree.parents,
+            thresholds: tree.thresholds,
+            homes: tree.homes,
+            ticket_root: u32::from(tree.ticket_root),
+        }
+    }
+
     pub fn tree(&self) -> Tree {
         Tree {
             domains: self.domains as usize,

@@ -1,5 +1,7 @@
 //! Compares the library's file call with the step table's on random lock files; without the library it only counts what the files meet.
+//! Each file that is accepted is read, written again, by the library where it was built with the calls, and read again: the same, and never longer.
 
+use reference::file_writer::{self, wrong_when_written_again};
 use reference::library::{self, RunFile};
 use reference::lock_file::{self, FileAnswer, TICKET_ROOT_BIT};
 use reference::met::Met;
@@ -67,6 +69,7 @@ fn main() {
     let library = library::run_file();
     let subject = if library.is_some() { "the library's file call against the step table" } else { "no library named, files only counted" };
     println!("{subject}: {} files, seed {}", options.count, options.seed);
+    let writer = library::write_file().unwrap_or(file_writer::write_file);
     let mut random = Random::new(options.seed);
     let mut met = Met::new(&REFUSALS);
     let (mut totals, mut roots) = ([0; 6], [0_u64; 2]);
@@ -82,6 +85,10 @@ fn main() {
         add_counts(&mut totals, &table);
         if table.answer.number == 0 {
             roots[usize::from(file[0] >= TICKET_ROOT_BIT)] += 1;
+        }
+        if let (0 | 14, Some(wrong)) = (table.answer.number, wrong_when_written_again(writer, &file)) {
+            println!("file {number}, written again, {wrong}: {}", hexadecimal(&file));
+            exit(1);
         }
     }
     met.print();

@@ -6,6 +6,7 @@ mod chain;
 mod files;
 mod many;
 mod texts;
+mod writing;
 
 use reference::draft::Draft;
 use reference::random::Random;
@@ -120,5 +121,6 @@ fn main() {
     many::print(&mut worst);
     chain::print();
     texts::print();
+    writing::print();
     worst.print();
 }
