@@ -5,10 +5,11 @@
  *
  * Pointers are the one thing that no function can test. A buffer must be valid for its length, and may be null where the length is 0; the
  * pointers to a state, a place or a length must be valid, aligned and not null. The buffers of one call must not overlap, and two threads
- * that call at the same time must write to different ones. hmcs_run_file and hmcs_run_many need 160 KB of stack, every other
- * function at most 26 KB beside its arguments and its result, which are up to 16 KB in the caller.
+ * that call at the same time must write to different ones. hmcs_run_file and hmcs_run_many need 160 KB of stack,
+ * hmcs_check_journal 50 KB, every other function at most 26 KB beside its arguments and its result, which are up to 16 KB in the caller.
  *
- * Compare two states field by field, never by memcmp: struct hmcs_place and struct hmcs_state have padding, and so has struct hmcs_text_reply.
+ * Compare two states field by field, never by memcmp: struct hmcs_place and struct hmcs_state have padding, and so have struct hmcs_text_reply
+ * and struct hmcs_journal_answer.
  */
 #ifndef HMCS_H
 #define HMCS_H
@@ -104,7 +105,9 @@ enum hmcs_refusal {
     HMCS_NO_CHAIN = 21,        /* A thread of the chain looks to nobody, to several, or to one that is already on it. */
     HMCS_LENGTHS_WRONG = 22,   /* The schedules' lengths do not add up to the entries given. */
     HMCS_ROWS_SHORT = 23,      /* The row buffer holds fewer rows than there are schedules. */
-    HMCS_BAD_TIME = 24         /* A passing time isn't a number from 1/1024 to 1,048,576, the place being 1 to 3. */
+    HMCS_BAD_TIME = 24,        /* A passing time isn't a number from 1/1024 to 1,048,576, the place being 1 to 3. */
+    HMCS_JOURNAL_BROKEN = 25,  /* A journal's entry is cut off or has another bit set, the place being its first byte. */
+    HMCS_OTHER_KIND = 26       /* The kind that a journal's entry names is not the step's, the place being its first byte. */
 };
 
 /* The sentence of a refusal number, for people. */
@@ -133,6 +136,8 @@ static inline const char *hmcs_refusal_text(uint32_t number) {
     case HMCS_LENGTHS_WRONG: return "the lengths do not add up to the entries given";
     case HMCS_ROWS_SHORT: return "the row buffer holds fewer rows than there are schedules";
     case HMCS_BAD_TIME: return "a passing time isn't a number from 1/1024 to 1,048,576";
+    case HMCS_JOURNAL_BROKEN: return "a journal's entry is cut off or has another bit set";
+    case HMCS_OTHER_KIND: return "the kind that a journal's entry names is not the step's";
     default: return "no refusal has this number";
     }
 }
@@ -242,6 +247,24 @@ enum { HMCS_ROW_NUMBERS = 8 };
  * all the same. The whole call is refused by 4 to 9 and 16, then by 22, then by 23; then the rows are as they came. A buffer of k numbers
  * holds k / 8 rows, rounded down. No schedules and no entries is accepted. */
 hmcs_answer hmcs_run_many(hmcs_tree tree, const uint32_t *lengths, size_t lengths_length, const uint16_t *entries, size_t entries_length, uint32_t *rows, size_t rows_length);
+
+/* What the check of a journal returns: number and place. The place is a position in the journal, however long that is. */
+typedef struct hmcs_journal_answer {
+    uint32_t number;
+    size_t place;
+} hmcs_journal_answer;
+
+/* Bits of an entry's bit map. */
+enum {
+    HMCS_JOURNAL_THREAD = 1, /* two bytes follow, low first: the thread; else it is that of the entry before, 0 at first */
+    HMCS_JOURNAL_KIND = 2    /* then one byte follows: the step's kind, HMCS_STAY to HMCS_LEAVING; else it is HMCS_STAY */
+};
+
+/* Checks a journal that a host wrote of its own steps, one entry a step: a bit map and the fields whose bit is set. It is accepted exactly if
+ * the named threads, stepped one after another from a fresh lock (of start 0), give the named kinds; one without entries is accepted. Refused by 4 to
+ * 9 and 16 for the tree; then at the first entry that is refused, the place being that entry's first byte: by 25 where it is cut off or has
+ * another bit set, else by 12 where its thread is none of the tree, else by 26 where its kind is not the step's. The journal may have any length. */
+hmcs_journal_answer hmcs_check_journal(hmcs_tree tree, const uint8_t *journal, size_t journal_length);
 
 /* The file call: reads a lock file, runs its schedule from a fresh lock (of start 0), and writes the listing at the front of the output. Returns the
  * number; *place is its place, *length the listing's length, 0 where it is refused. Refused by 1 to 9, 16, 12 and 14; then the output is as

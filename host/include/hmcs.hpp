@@ -29,6 +29,8 @@ static_assert(sizeof(hmcs_passing_times) == 24 && offsetof(hmcs_passing_times, p
 static_assert(sizeof(hmcs_rate_reply) == 16 && offsetof(hmcs_rate_reply, rate) == 8, "layout of hmcs_rate_reply");
 static_assert(sizeof(hmcs_text_reply) == 480 && offsetof(hmcs_text_reply, place) == 8 && offsetof(hmcs_text_reply, tree) == 16, "layout of hmcs_text_reply");
 
+static_assert(sizeof(hmcs_journal_answer) == 16 && offsetof(hmcs_journal_answer, place) == 8, "layout of hmcs_journal_answer");
+
 // Number and place of an answer.
 struct Refusal {
     std::uint32_t number = 0;
@@ -223,6 +225,49 @@ inline ManyResult run_many(const Tree &tree, const std::vector<std::vector<std::
     }
     return result;
 }
+
+// Why a journal is refused; the place is a position in it, or 4 to 9 and 16 of the tree.
+struct JournalRefusal {
+    std::uint32_t number = 0;
+    std::size_t place = 0;
+
+    explicit operator bool() const { return number != 0; }
+    const char *text() const { return hmcs_refusal_text(number); }
+};
+
+// Checks a journal against steps from a fresh lock.
+inline JournalRefusal check_journal(const Tree &tree, const std::uint8_t *journal, std::size_t length) {
+    const hmcs_journal_answer answer = hmcs_check_journal(tree.words(), journal, length);
+    return JournalRefusal{answer.number, answer.place};
+}
+
+inline JournalRefusal check_journal(const Tree &tree, const std::vector<std::uint8_t> &journal) {
+    return check_journal(tree, journal.data(), journal.size());
+}
+
+// Writes a journal, one entry a step, and leaves out what the entry means without it. A debug build adds each step that it takes of a fresh lock.
+class JournalWriter {
+public:
+    void add(std::uint16_t thread, Kind kind) {
+        const bool other_thread = thread != thread_;
+        const bool moved = kind != Kind::stay;
+        bytes_.push_back(static_cast<std::uint8_t>((other_thread ? HMCS_JOURNAL_THREAD : 0) | (moved ? HMCS_JOURNAL_KIND : 0)));
+        if (other_thread) {
+            bytes_.push_back(static_cast<std::uint8_t>(thread & 255));
+            bytes_.push_back(static_cast<std::uint8_t>(thread >> 8));
+            thread_ = thread;
+        }
+        if (moved) {
+            bytes_.push_back(static_cast<std::uint8_t>(kind));
+        }
+    }
+
+    const std::vector<std::uint8_t> &bytes() const { return bytes_; }
+
+private:
+    std::vector<std::uint8_t> bytes_;
+    std::uint16_t thread_ = 0; // of the entry before
+};
 
 struct FileResult {
     Refusal refusal;

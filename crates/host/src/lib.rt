@@ -6,9 +6,11 @@ ghost use Rattle.host.specs.Answers.{answer-of};
 ghost use Rattle.host.specs.InPlace.{fresh-kept, fresh-left, fresh-number, step-told};
 ghost use Rattle.file_call.specs.FileAnswers.{file-answer, output-answer};
 ghost use Rattle.file_writer.specs.Answers.{write-answer, file-buffer-answer};
+ghost use Rattle.journal.specs.Answers.{journal-answer};
 ghost use Rattle.rate.specs.Answers.{rate-answer, reply-of};
 ghost use Rattle.schedules.specs.Answers.{many-answer, rows-answer};
 ghost use Rattle.text_tree.specs.Answers.{text-answer};
+use journal::JournalReply;
 use model::FreshReply;
 use model::RunReply;
 use model::State;
@@ -178,6 +180,14 @@ pub extern "C" fn hmcs_run_many(
         number: r.number,
         place: r.place,
     }
+}
+
+// The check of a journal: 0 where its threads, stepped one after another from a fresh lock, give its kinds; else the number and the first byte of the first entry that is refused.
+#[no_mangle]
+pub extern "C" fn hmcs_check_journal(tree: TreeWords, journal: &[u8]) -> JournalReply
+    ensures { λ r. ⌜ r ≡ journal-answer tree (now (journal .entry)) ⌝ }
+{
+    lock::check_journal(tree, journal)
 }
 
 // The chain of threads that a thread waits for, itself first, at the front of the chain buffer; refused, that buffer as it came. The number is returned; place and length go where the host says.

@@ -11,3 +11,4 @@ pub mod Telling
 pub mod Answering
 pub mod Starting
 pub mod FreshRow
+pub mod Journaling

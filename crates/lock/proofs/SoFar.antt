@@ -26,7 +26,7 @@ use Rattle.lock.specs.Effects.{apply, Does}
 use Rattle.lock.specs.Running.{kinds-of, counted, counts-by, is-entry-number, traced-at, trace-front}
 
 -- KINDS by their numbers
-kind-small : (k : Kind) → kind-number k < 6
+pub kind-small : (k : Kind) → kind-number k < 6
 kind-small stay = omega arith
 kind-small other = omega arith
 kind-small root-entry = omega arith

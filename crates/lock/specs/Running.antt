@@ -1,8 +1,8 @@
 -- A run by its effects: what is decided, stored, counted and traced. Assumes nothing: these are definitions.
 use mathlib.Core.Path.{_≡_}
-use mathlib.Core.Bool.{Bool, true, _||_, cond}
+use mathlib.Core.Bool.{Bool, true, _||_, not, cond}
 use mathlib.Core.List.{List, [], _∷_, _++_}
-use Prim.Native.Nat.{ℕ, _+_, _*_, _<_}
+use Prim.Native.Nat.{ℕ, _+_, _*_, _%_, _<_}
 use lib.Dec.{eqb, ltb}
 use lib.ListN.{getD, set, length, drop}
 use Rattle.model.specs.declared.PlaceWords.{PlaceWords}
@@ -83,6 +83,10 @@ unfoldable pub told-front : List ℕ → List Step → List ℕ
 told-front [] xs = []
 told-front (b ∷ bs) [] = b ∷ bs
 told-front (b ∷ bs) (x ∷ xs) = step-code x ∷ told-front bs xs
+
+-- the kind that an entry names is not the one told of its step: a step's number has its kind in the lowest three bits
+abbrev pub other-kind-told : (kinds told : List ℕ) → (entry : ℕ) → Bool
+other-kind-told ks cs j = not (eqb (getD ks j 0) (getD cs j 0 % 8))
 
 -- a fresh state by the number at which its counters start
 abbrev pub fresh-from : (first : ℕ) → State

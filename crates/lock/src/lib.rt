@@ -1,16 +1,19 @@
-// The three calls on a lock, by value: each answers as the model says, for every input.
+// The calls on a lock, by value: each answers as the model says, for every input.
 ghost use mathlib.Core.Path.{_≡_};
 ghost use Rattle.lock.specs.Running.{fresh-from, first-number};
 ghost use Rattle.model.specs.Refusals.{refusal};
 ghost use Rattle.model.specs.Answers.{fresh-answer, step-answer, run-refused, run-answer, trace-answer};
 ghost use Rattle.refusals.specs.Arrays.{told};
 ghost use Rattle.schedules.specs.Answers.{many-answer, rows-answer};
+ghost use Rattle.journal.specs.Answers.{journal-answer};
 
+mod journals;
 mod many;
 mod places;
 mod rows;
 mod run;
 
+use journal::JournalReply;
 use model::Counts;
 use model::FreshReply;
 use model::PlaceWords;
@@ -177,4 +180,35 @@ pub fn run_many(tree: TreeWords, lengths: &[u32], entries: &[u16], rows: &mut [u
     let mut trace = [0u16; 65536];
     many::run_rows(tree, lengths, entries, &mut trace, rows);
     r
+}
+
+// The check of a journal: its threads, stepped one after another from a fresh lock, give its kinds; else the number and the first byte of the first entry that is refused.
+pub fn check_journal(tree: TreeWords, journal: &[u8]) -> JournalReply
+    ensures { λ r. ⌜ r ≡ journal-answer tree (now (journal .entry)) ⌝ }
+{
+    let r = refusals::tree_refusal_of(
+        &tree.parents,
+        &tree.thresholds,
+        &tree.homes,
+        tree.domains,
+        tree.threads,
+    );
+    if r.number != 0 {
+        return JournalReply {
+            number: r.number,
+            place: r.place as usize,
+        };
+    }
+    let mut threads = [0u16; 1024];
+    let mut kinds = [0u8; 1024];
+    let mut trace = [0u16; 1024];
+    let mut told = [0u16; 1024];
+    journals::check_entries(
+        tree,
+        journal,
+        &mut threads,
+        &mut kinds,
+        &mut trace,
+        &mut told,
+    )
 }

@@ -1,4 +1,4 @@
-//! The step table's file call, and the reference's reader of texts, under the C form of the library's, for the fuzzer.
+//! The step table's file call and check of a journal, and the reference's reader of texts, under the C form of the library's, for the fuzzer.
 
 use std::slice;
 
@@ -20,4 +20,12 @@ pub unsafe extern "C" fn reference_run_file(file: *const u8, file_length: usize,
 pub unsafe extern "C" fn reference_read_text(text: *const u8, text_length: usize) -> reference::text_tree::TextAnswer {
     let text = if text_length == 0 { &[] } else { slice::from_raw_parts(text, text_length) };
     reference::text_tree::read_text(text)
+}
+
+/// # Safety
+/// The pointer is valid for its length.
+#[no_mangle]
+pub unsafe extern "C" fn reference_check_journal(tree: reference::words::TreeWords, journal: *const u8, journal_length: usize) -> reference::journal::JournalAnswer {
+    let journal = if journal_length == 0 { &[] } else { slice::from_raw_parts(journal, journal_length) };
+    reference::journal::check_journal(&tree, journal)
 }

@@ -4,6 +4,7 @@ pub mod calls;
 pub mod chain;
 pub mod draft;
 pub mod file_writer;
+pub mod journal;
 pub mod library;
 pub mod listing;
 pub mod lock_file;

@@ -3,6 +3,7 @@
 use crate::calls::Calls;
 use crate::chain::ChainCall;
 use crate::file_writer::WriteFile;
+use crate::journal::CheckJournal;
 use crate::lock_file::FileAnswer;
 use crate::many::RunMany;
 use crate::rate::RateCall;
@@ -236,5 +237,32 @@ pub fn write_file() -> Option<WriteFile> {
 
 #[cfg(not(calls))]
 pub fn write_file() -> Option<WriteFile> {
+    None
+}
+
+/// The check of a journal, built where the calls on a caller's tree are.
+#[cfg(calls)]
+mod journal_entry {
+    use crate::journal::JournalAnswer;
+    use crate::words::TreeWords;
+
+    extern "C" {
+        fn hmcs_check_journal(tree: TreeWords, journal: *const u8, journal_len: usize) -> JournalAnswer;
+    }
+
+    pub fn check_journal(tree: &TreeWords, journal: &[u8]) -> JournalAnswer {
+        // The pointer is valid for its length.
+        unsafe { hmcs_check_journal(*tree, journal.as_ptr(), journal.len()) }
+    }
+}
+
+/// The library's check of a journal, if the program was built with the calls.
+#[cfg(calls)]
+pub fn check_journal() -> Option<CheckJournal> {
+    Some(journal_entry::check_journal)
+}
+
+#[cfg(not(calls))]
+pub fn check_journal() -> Option<CheckJournal> {
     None
 }

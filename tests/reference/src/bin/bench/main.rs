@@ -4,6 +4,7 @@
 mod calls;
 mod chain;
 mod files;
+mod journals;
 mod many;
 mod texts;
 mod writing;
@@ -119,6 +120,7 @@ fn main() {
     files::print(&mut worst);
     calls::print(&mut worst);
     many::print(&mut worst);
+    journals::print(&mut worst);
     chain::print();
     texts::print();
     writing::print();

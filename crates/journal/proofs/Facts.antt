@@ -1,0 +1,40 @@
+-- An entry that is whole, at each bit map; and that every whole entry moves on. Assumes nothing.
+use mathlib.Core.Path.{_≡_, refl, sym, ap, _∙_, subst}
+use mathlib.Core.Bool.{Bool, true, false, cond}
+use mathlib.Core.List.{List}
+use Prim.Native.Nat.{ℕ, _+_, _-_, _≤_, _<_}
+use native.Mathlib.Omega.{arith}
+use lib.Dec.{ltb}
+use lib.ListN.{length, getD}
+use borrow.Author.Tests.{lt-ltb, le-ltb, ltb-true, ltb-false}
+use Rattle.journal.specs.declared.Entry.{Entry}
+use Rattle.journal.specs.declared.Entry.the-variants.{Named, Broken, End}
+use Rattle.journal.specs.Reading.{entry-size, entry-thread, entry-kind, entry-at}
+
+-- a bit map without another bit, and bytes enough behind it
+pub whole-entry :
+    (bs : List ℕ) (p b m : ℕ) → p < length bs → getD bs p 0 ≡ m → m ≤ 3 → entry-size m ≤ length bs - p →
+    entry-at bs p b ≡ Named (entry-thread bs p b m) (entry-kind bs p m) (p + entry-size m)
+whole-entry bs p b m h e k f = rw (lt-ltb p (length bs) h, e, le-ltb 3 m k, le-ltb (length bs - p) (entry-size m) f)
+
+-- what follows a whole entry is behind it, and within the journal; the end is behind every byte
+abbrev pub Ahead : (bytes : List ℕ) → (position : ℕ) → Entry → Type 0
+Ahead bs p (Named i k behind) = (p < behind) × (behind ≤ length bs)
+Ahead bs p Broken = Unit
+Ahead bs p End = length bs ≤ p
+
+pub ahead : (bs : List ℕ) (p b : ℕ) → Ahead bs p (entry-at bs p b)
+ahead bs p b = by (ltb p (length bs)) (ltb 3 (getD bs p 0)) (ltb (length bs - p) (entry-size (getD bs p 0))) refl refl
+  where
+    by : (x y z : Bool) → ltb p (length bs) ≡ x → ltb (length bs - p) (entry-size (getD bs p 0)) ≡ z
+        → Ahead bs p (cond x (cond y Broken (cond z Broken (Named (entry-thread bs p b (getD bs p 0)) (entry-kind bs p (getD bs p 0)) (p + entry-size (getD bs p 0))))) End)
+    by false y z e f = ltb-false p (length bs) e
+    by true true z e f = tt
+    by true false true e f = tt
+    by true false false e f = (omega arith, omega (arith, ltb-true p (length bs) e, ltb-false (length bs - p) (entry-size (getD bs p 0)) f))
+
+pub moves-on : (bs : List ℕ) (p b i k behind : ℕ) → entry-at bs p b ≡ Named i k behind → (p < behind) × (behind ≤ length bs)
+moves-on bs p b i k behind e = subst (Ahead bs p) e (ahead bs p b)
+
+pub at-end : (bs : List ℕ) (p b : ℕ) → entry-at bs p b ≡ End → length bs ≤ p
+at-end bs p b e = subst (Ahead bs p) e (ahead bs p b)

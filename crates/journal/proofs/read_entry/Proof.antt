@@ -1,0 +1,137 @@
+-- `journal::read_entry` meets its contract: each return by the tests that led there, a whole entry by `whole-entry` at its bit map. Assumes nothing.
+use Prim.Native.Nat.{ℕ, _+_, _≤_}
+use mathlib.Core.Path.{_≡_, sym, ap, _∙_}
+use native.Mathlib.Omega.{arith}
+use borrow.Author.Tests.{le-ltb, lt-ltb}
+use lib.Dec.{lit≤}
+use lib.ListN.{getD}
+use Rattle.journal.specs.declared.Entry.the-variants.{Named}
+use Rattle.journal.specs.Reading.{entry-size}
+use Rattle.journal.proofs.Facts.{whole-entry}
+use borrow.Author.Needs.{needs}
+use Rattle.journal.proofs.read_entry.Statement.{statement}
+use Rattle.journal.proofs.read_entry.Tie as tie
+use Rattle.journal.proofs.read_entry.Reads as reads
+use Rattle.journal.proofs.read_entry.Lts as lts
+use Rattle.journal.proofs.size_of.Reads as size-of-reads
+use Rattle.journal.proofs.two_bytes.Reads as two-bytes-reads
+
+three : (m : ℕ) → m ≤ 3 → (m ≡ 0 → ⊥) → (m ≡ 1 → ⊥) → (m ≡ 2 → ⊥) → m ≡ 3
+three m h a b c = omega (arith, a, b, c)
+
+returns : tie.Need-returns
+returns c = rw (le-ltb _ _ (c .if1 .taken))
+
+shared-slice-read-bits : tie.Need-shared-slice-read-bits
+shared-slice-read-bits c = search needs
+
+returns-2 : tie.Need-returns-2
+returns-2 c = rw (lt-ltb _ _ (c .before .before .if1 .left), lt-ltb _ _ (c .if2 .taken))
+
+sub-if3 : tie.Need-sub-if3
+sub-if3 c = search needs
+
+size-of-requires : tie.Need-size-of-requires
+size-of-requires c κs = search needs
+
+returns-3 : tie.Need-returns-3
+returns-3 c = rw (lt-ltb _ _ (c .before .before .before .before .if1 .left), le-ltb _ _ (c .before .before .if2 .left), ← c .before .size-of .ensures, lt-ltb _ _ (c .if3 .taken))
+
+add-t12 : tie.Need-add-t12
+add-t12 c = search needs
+
+add-two-bytes : tie.Need-add-two-bytes
+add-two-bytes c = search needs
+
+shared-slice-read-two-bytes : tie.Need-shared-slice-read-two-bytes
+shared-slice-read-two-bytes c = search needs
+
+add-two-bytes-2 : tie.Need-add-two-bytes-2
+add-two-bytes-2 c = search needs
+
+shared-slice-read-two-bytes-2 : tie.Need-shared-slice-read-two-bytes-2
+shared-slice-read-two-bytes-2 c = omega (arith, c .before .before .before .before .size-of .ensures ∙ ap entry-size (c .before .before .match .keys2), c .before .before .before .if3 .left)
+
+two-bytes-requires : tie.Need-two-bytes-requires
+two-bytes-requires c κs = search needs
+
+add-t20 : tie.Need-add-t20
+add-t20 c = search needs
+
+add-t21 : tie.Need-add-t21
+add-t21 c = search needs
+
+shared-slice-read-t23 : tie.Need-shared-slice-read-t23
+shared-slice-read-t23 c = search needs
+
+add-t24 : tie.Need-add-t24
+add-t24 c = search needs
+
+add-two-bytes-3 : tie.Need-add-two-bytes-3
+add-two-bytes-3 c = search needs
+
+shared-slice-read-two-bytes-3 : tie.Need-shared-slice-read-two-bytes-3
+shared-slice-read-two-bytes-3 c = search needs
+
+add-two-bytes-4 : tie.Need-add-two-bytes-4
+add-two-bytes-4 c = search needs
+
+shared-slice-read-two-bytes-4 : tie.Need-shared-slice-read-two-bytes-4
+shared-slice-read-two-bytes-4 c = search needs
+
+two-bytes-requires-2 : tie.Need-two-bytes-requires-2
+two-bytes-requires-2 c κs = search needs
+
+add-t32 : tie.Need-add-t32
+add-t32 c = search needs
+
+shared-slice-read-t34 : tie.Need-shared-slice-read-t34
+shared-slice-read-t34 c = omega (arith, c .before .before .before .before .before .before .size-of .ensures ∙ ap entry-size (three (getD (c .before .before .before .before .before .before .before .before .before .before .before .args .journal .now) (c .before .before .before .before .before .before .before .before .before .before .before .args .position) 0) (c .before .before .before .before .before .before .before .if2 .left) (c .before .before .before .before .match .rest .0 .0 .1) (c .before .before .before .before .match .rest .0 .1) (c .before .before .before .before .match .rest .1)), c .before .before .before .before .before .if3 .left)
+
+add-t35 : tie.Need-add-t35
+add-t35 c = search needs
+
+returns-4 : tie.Need-returns-4
+returns-4 c = sym (whole-entry (c .before .before .before .before .before .before .before .args .journal .now) (c .before .before .before .before .before .before .before .args .position) (c .before .before .before .before .before .before .before .args .before) 0 (c .before .before .before .before .before .if1 .left) (c .match .keys1) (lit≤ tt) (omega (arith, c .before .before .size-of .ensures ∙ ap entry-size (c .match .keys1), c .before .if3 .left)))
+
+returns-5 : tie.Need-returns-5
+returns-5 c = ap (λ (w : ℕ). Named w 0 (c .before .before .before .before .before .before .before .before .before .before .args .position + 3)) (c .two-bytes .ensures) ∙ sym (whole-entry (c .before .before .before .before .before .before .before .before .before .before .args .journal .now) (c .before .before .before .before .before .before .before .before .before .before .args .position) (c .before .before .before .before .before .before .before .before .before .before .args .before) 1 (c .before .before .before .before .before .before .before .before .if1 .left) (c .before .before .before .match .keys2) (lit≤ tt) (omega (arith, c .before .before .before .before .before .size-of .ensures ∙ ap entry-size (c .before .before .before .match .keys2), c .before .before .before .before .if3 .left)))
+
+returns-6 : tie.Need-returns-6
+returns-6 c = sym (whole-entry (c .before .before .before .before .before .before .before .before .args .journal .now) (c .before .before .before .before .before .before .before .before .args .position) (c .before .before .before .before .before .before .before .before .args .before) 2 (c .before .before .before .before .before .before .if1 .left) (c .before .match .keys3) (lit≤ tt) (omega (arith, c .before .before .before .size-of .ensures ∙ ap entry-size (c .before .match .keys3), c .before .before .if3 .left)))
+
+returns-7 : tie.Need-returns-7
+returns-7 c = ap (λ (w : ℕ). Named w (getD (c .before .before .before .before .before .before .before .before .before .before .before .args .journal .now) (c .before .before .before .before .before .before .before .before .before .before .before .args .position + 3) 0) (c .before .before .before .before .before .before .before .before .before .before .before .args .position + 4)) (c .before .two-bytes2 .ensures) ∙ sym (whole-entry (c .before .before .before .before .before .before .before .before .before .before .before .args .journal .now) (c .before .before .before .before .before .before .before .before .before .before .before .args .position) (c .before .before .before .before .before .before .before .before .before .before .before .args .before) 3 (c .before .before .before .before .before .before .before .before .before .if1 .left) (three (getD (c .before .before .before .before .before .before .before .before .before .before .before .args .journal .now) (c .before .before .before .before .before .before .before .before .before .before .before .args .position) 0) (c .before .before .before .before .before .before .before .if2 .left) (c .before .before .before .before .match .rest .0 .0 .1) (c .before .before .before .before .match .rest .0 .1) (c .before .before .before .before .match .rest .1)) (lit≤ tt) (omega (arith, c .before .before .before .before .before .before .size-of .ensures ∙ ap entry-size (three (getD (c .before .before .before .before .before .before .before .before .before .before .before .args .journal .now) (c .before .before .before .before .before .before .before .before .before .before .before .args .position) 0) (c .before .before .before .before .before .before .before .if2 .left) (c .before .before .before .before .match .rest .0 .0 .1) (c .before .before .before .before .match .rest .0 .1) (c .before .before .before .before .match .rest .1)), c .before .before .before .before .before .if3 .left)))
+
+pub read-entry-spec : {M : Type 1} → statement M
+read-entry-spec =
+    tie.close
+    (tie.spec
+    returns
+    shared-slice-read-bits
+    returns-2
+    sub-if3
+    size-of-requires
+    returns-3
+    add-t12
+    add-two-bytes
+    shared-slice-read-two-bytes
+    add-two-bytes-2
+    shared-slice-read-two-bytes-2
+    two-bytes-requires
+    add-t20
+    add-t21
+    shared-slice-read-t23
+    add-t24
+    add-two-bytes-3
+    shared-slice-read-two-bytes-3
+    add-two-bytes-4
+    shared-slice-read-two-bytes-4
+    two-bytes-requires-2
+    add-t32
+    shared-slice-read-t34
+    add-t35
+    returns-4
+    returns-5
+    returns-6
+    returns-7)

@@ -1,0 +1,63 @@
+-- The journal read by positions, as the reader reads it; proofs/ shows that this is the relation of Entries. Assumes nothing: these are definitions.
+use mathlib.Core.Path.{_≡_}
+use mathlib.Core.Bool.{Bool, cond}
+use mathlib.Core.List.{List, [], _∷_}
+use Prim.Native.Nat.{ℕ, zero, suc, _+_, _-_, _*_, _%_, _/_, _≤_, _<_}
+use lib.Dec.{eqb, ltb}
+use lib.ListN.{length, getD, take}
+use Rattle.journal.specs.declared.Entry.{Entry}
+use Rattle.journal.specs.declared.Entry.the-variants.{Named, Broken, End}
+use Rattle.journal.specs.declared.Piece.{Piece}
+
+-- the bytes of an entry by its bit map: the map, two for bit 0, one for bit 1
+abbrev pub entry-size : (bits : ℕ) → ℕ
+entry-size m = 1 + 2 * (m % 2) + m / 2
+
+abbrev pub entry-thread : (bytes : List ℕ) → (position before bits : ℕ) → ℕ
+entry-thread bs p b m = cond (eqb (m % 2) 1) (getD bs (p + 1) 0 + 256 * getD bs (p + 2) 0) b
+
+abbrev pub entry-kind : (bytes : List ℕ) → (position bits : ℕ) → ℕ
+entry-kind bs p m = cond (eqb (m / 2) 1) (getD bs (p + (1 + 2 * (m % 2))) 0) 0
+
+-- what stands at a position, where the entry before names a thread
+abbrev pub entry-by : (bytes : List ℕ) → (position before bits : ℕ) → Entry
+entry-by bs p b m =
+    cond (ltb 3 m) Broken
+    (cond (ltb (length bs - p) (entry-size m)) Broken (Named (entry-thread bs p b m) (entry-kind bs p m) (p + entry-size m)))
+
+abbrev pub entry-at : (bytes : List ℕ) → (position before : ℕ) → Entry
+entry-at bs p b = cond (ltb p (length bs)) (entry-by bs p b (getD bs p 0)) End
+
+-- the position behind so many entries; where there are fewer, behind the last of them
+abbrev pub position-by : Entry → (position : ℕ) → (then : (behind thread : ℕ) → ℕ) → ℕ
+position-by (Named i k behind) p f = f behind i
+position-by Broken p f = p
+position-by End p f = p
+
+unfoldable pub position-after : (count : ℕ) → (bytes : List ℕ) → (position before : ℕ) → ℕ
+position-after zero bs p b = p
+position-after (suc n) bs p b = position-by (entry-at bs p b) p (λ behind i. position-after n bs behind i)
+
+-- entries read one behind another, each of a known thread: their threads and kinds, the position behind them, the thread of the last
+pub data Stretch (known : ℕ) (bytes : List ℕ) : (position before : ℕ) → (threads kinds : List ℕ) → (end last : ℕ) → Type 0 where
+  none-read : {p b : ℕ} → Stretch known bytes p b [] [] p b
+  one-read :
+      {p b i k behind end last : ℕ} {is ks : List ℕ} → entry-at bytes p b ≡ Named i k behind → i < known →
+      Stretch known bytes behind i is ks end last → Stretch known bytes p b (i ∷ is) (k ∷ ks) end last
+
+-- why reading stops with a number: 25, the entry at the position is cut off or has another bit set; 12, its thread is unknown
+pub data Stops (known : ℕ) (bytes : List ℕ) (position before : ℕ) : (number : ℕ) → Type 0 where
+  for-room : Stops known bytes position before 0
+  for-broken : entry-at bytes position before ≡ Broken → Stops known bytes position before 25
+  for-thread : {i k behind : ℕ} → entry-at bytes position before ≡ Named i k behind → known ≤ i → Stops known bytes position before 12
+
+abbrev pub piece-of : (count position before number : ℕ) → Piece
+piece-of n p b m = record { count = n; position = p; before = b; number = m }
+
+-- a piece of the journal, its threads and kinds at the front of some room; it stops with no number where the room is full or the journal at its end
+pub record Piece-read (known : ℕ) (bytes : List ℕ) (position before : ℕ) (threads kinds : List ℕ) (piece : Piece) : Type 0 where
+  pub threads-fit : piece .count ≤ length threads
+  pub kinds-fit : piece .count ≤ length kinds
+  pub read : Stretch known bytes position before (take (piece .count) threads) (take (piece .count) kinds) (piece .position) (piece .before)
+  pub stops : Stops known bytes (piece .position) (piece .before) (piece .number)
+  pub full : piece .number ≡ 0 → piece .position < length bytes → (room : ℕ) → room ≤ length threads → room ≤ length kinds → room ≤ piece .count

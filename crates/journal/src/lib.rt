@@ -1,0 +1,196 @@
+// The journal of document 02, (xiv): a reader that holds the lent bytes and a position in them, and what the call reads with it. `lock` takes the steps.
+ghost use mathlib.Core.Path.{_≡_};
+ghost use Prim.Native.Nat.{_+_, _*_, _≤_};
+ghost use lib.ListN.{length};
+ghost use Rattle.journal.specs.Reading.{entry-size, entry-at, position-after, piece-of, Piece-read};
+
+// A lent journal and a position in it.
+pub struct Reader<'a> {
+    pub journal: &'a [u8],
+    pub position: usize,
+}
+
+// What stands at a position: an entry with the thread and the kind that it names and the position behind it; an entry that is cut off or has another bit set; the end of the journal.
+pub enum Entry {
+    Named {
+        thread: u16,
+        kind: u8,
+        behind: usize,
+    },
+    Broken,
+    End,
+}
+
+// Some entries behind one another: how many, the position behind them, the thread that the last one names. Where the entry at that position is refused by 25 or 12, this number, else 0.
+pub struct Piece {
+    pub count: usize,
+    pub position: usize,
+    pub before: u16,
+    pub number: u32,
+}
+
+// What the check of a journal answers. Number 0 is accepted; the place is that of a byte, in as many bits as a length.
+#[repr(C)]
+pub struct JournalReply {
+    pub number: u32,
+    pub place: usize,
+}
+
+fn two_bytes(low: u8, high: u8) -> u16
+    ensures { λ r. ⌜ r ≡ low + 256 * high ⌝ }
+{
+    (low as u16) + 256 * (high as u16)
+}
+
+fn size_of(bits: u8) -> usize
+    requires { ⌜ bits ≤ 3 ⌝ }
+    ensures { λ r. ⌜ r ≡ entry-size bits ⌝ }
+{
+    match bits {
+        0 => 1,
+        1 => 3,
+        2 => 2,
+        _ => 4,
+    }
+}
+
+// The entry at a position of some bytes, where the entry before names a thread. The reader's functions stand on this one.
+pub fn read_entry(journal: &[u8], position: usize, before: u16) -> Entry
+    ensures { λ r. ⌜ r ≡ entry-at (now (journal .entry)) position before ⌝ }
+{
+    if journal.len() <= position {
+        return Entry::End;
+    }
+    let bits = journal[position];
+    if 3 < bits {
+        return Entry::Broken;
+    }
+    if journal.len() - position < size_of(bits) {
+        return Entry::Broken;
+    }
+    match bits {
+        0 => Entry::Named {
+            thread: before,
+            kind: 0,
+            behind: position + 1,
+        },
+        1 => Entry::Named {
+            thread: two_bytes(journal[position + 1], journal[position + 2]),
+            kind: 0,
+            behind: position + 3,
+        },
+        2 => Entry::Named {
+            thread: before,
+            kind: journal[position + 1],
+            behind: position + 2,
+        },
+        _ => Entry::Named {
+            thread: two_bytes(journal[position + 1], journal[position + 2]),
+            kind: journal[position + 3],
+            behind: position + 4,
+        },
+    }
+}
+
+// A reader at a position of a lent journal.
+pub fn reader_at<'a>(journal: &'a [u8], position: usize) -> Reader<'a>
+    ensures { λ r. ⌜ (r .journal ≡ journal .entry) × (r .position ≡ position) ⌝ }
+{
+    Reader { journal, position }
+}
+
+// The entry where the reader stands.
+pub fn next_entry<'a>(reader: Reader<'a>, before: u16) -> Entry
+    ensures { λ r. ⌜ r ≡ entry-at (now (reader .entry .journal)) (reader .entry .position) before ⌝ }
+{
+    read_entry(reader.journal, reader.position, before)
+}
+
+// The same by plain parameters, through a reader of its own: who calls this needs no proof about the reader.
+pub fn entry_at(journal: &[u8], position: usize, before: u16) -> Entry
+    ensures { λ r. ⌜ r ≡ entry-at (now (journal .entry)) position before ⌝ }
+{
+    next_entry(reader_at(journal, position), before)
+}
+
+fn stopped(count: usize, position: usize, before: u16, number: u32) -> Piece
+    ensures { λ r. ⌜ r ≡ piece-of count position before number ⌝ }
+{
+    Piece {
+        count,
+        position,
+        before,
+        number,
+    }
+}
+
+// Reads entries from a position on, as many as there is room for, up to the journal's end or the first that 25 or 12 refuses; their threads and kinds at the front of the room.
+pub fn read_piece(
+    journal: &[u8],
+    position: usize,
+    before: u16,
+    known: u32,
+    threads: &mut [u16],
+    kinds: &mut [u8],
+) -> Piece
+    ensures { λ r. ⌜ Piece-read known (now (journal .entry)) position before (now (threads .exit)) (now (kinds .exit)) r ⌝ }
+{
+    let mut count: usize = 0;
+    let mut at = position;
+    let mut last = before;
+    while count < threads.len() {
+        if kinds.len() <= count {
+            return stopped(count, at, last, 0);
+        }
+        let e = entry_at(journal, at, last);
+        match e {
+            Entry::Named {
+                thread,
+                kind,
+                behind,
+            } => {
+                if known <= (thread as u32) {
+                    return stopped(count, at, last, 12);
+                }
+                threads[count] = thread;
+                kinds[count] = kind;
+                at = behind;
+                last = thread;
+                count += 1;
+            }
+            Entry::Broken => return stopped(count, at, last, 25),
+            Entry::End => return stopped(count, at, last, 0),
+        }
+    }
+    stopped(count, at, last, 0)
+}
+
+// The position behind so many entries; where there are fewer, behind the last of them.
+pub fn position_after(journal: &[u8], position: usize, before: u16, count: usize) -> usize
+    ensures { λ r. ⌜ r ≡ position-after count (now (journal .entry)) position before ⌝ }
+{
+    let mut at = position;
+    let mut last = before;
+    let mut k: usize = 0;
+    while k < count {
+        let e = entry_at(journal, at, last);
+        match e {
+            Entry::Named {
+                thread,
+                kind: _,
+                behind,
+            } => {
+                at = behind;
+                last = thread;
+                k += 1;
+            }
+            Entry::Broken => {
+                return at;
+            }
+            Entry::End => {
+                return at;
+            }
+        }
+    }
+    at
+}
