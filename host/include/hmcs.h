@@ -6,7 +6,8 @@
  * Pointers are the one thing that no function can test. A buffer must be valid for its length, and may be null where the length is 0; the
  * pointers to a state, a place or a length must be valid, aligned and not null. The buffers of one call must not overlap, and two threads
  * that call at the same time must write to different ones. hmcs_run_file and hmcs_run_many need 160 KB of stack,
- * hmcs_check_journal 50 KB, every other function at most 26 KB beside its arguments and its result, which are up to 16 KB in the caller.
+ * hmcs_check_journal 50 KB, hmcs_run_waits 32 KB, every other function at most 26 KB beside its arguments and its result, which are up to
+ * 16 KB in the caller.
  *
  * Compare two states field by field, never by memcmp: struct hmcs_place and struct hmcs_state have padding, and so have struct hmcs_text_reply
  * and struct hmcs_journal_answer.
@@ -101,6 +102,7 @@ enum hmcs_refusal {
     HMCS_TEXT_WRONG = 15,      /* The text leaves the grammar, the place being the first byte that no text could continue with, or the length. */
     HMCS_EMPTY_DOMAIN = 16,    /* A domain has no thread under it, the place being the lowest such domain. Tested straight after 9. */
     HMCS_FILE_SHORT = 17,      /* The file buffer is shorter than the lock file. */
+    HMCS_WAITS_SHORT = 18,     /* The row buffer of waits holds fewer rows than threads plus one. */
     HMCS_CHAIN_SHORT = 20,     /* The chain buffer has fewer elements than there are threads. */
     HMCS_NO_CHAIN = 21,        /* A thread of the chain looks to nobody, to several, or to one that is already on it. */
     HMCS_LENGTHS_WRONG = 22,   /* The schedules' lengths do not add up to the entries given. */
@@ -131,6 +133,7 @@ static inline const char *hmcs_refusal_text(uint32_t number) {
     case HMCS_TEXT_WRONG: return "the text leaves the grammar of trees";
     case HMCS_EMPTY_DOMAIN: return "a domain has no thread under it";
     case HMCS_FILE_SHORT: return "the file buffer is shorter than the lock file";
+    case HMCS_WAITS_SHORT: return "the row buffer holds fewer rows than threads plus one";
     case HMCS_CHAIN_SHORT: return "the chain buffer has fewer elements than there are threads";
     case HMCS_NO_CHAIN: return "a thread of the chain looks to nobody, to several, or to one that is already on it";
     case HMCS_LENGTHS_WRONG: return "the lengths do not add up to the entries given";
@@ -221,6 +224,17 @@ hmcs_step_reply hmcs_step(hmcs_tree tree, hmcs_state state, uint16_t thread);
  * trace are as they came. Accepted, the entering threads are written at the front of the trace, reply.entries of them, and nothing behind them. The trace must
  * have room for as many elements as the schedule has. */
 hmcs_run_reply hmcs_run(hmcs_tree tree, hmcs_state state, const uint16_t *schedule, size_t schedule_length, uint16_t *trace, size_t trace_length);
+
+/* Numbers of a row of waits: attempts finished, total wait, largest wait, and the mean's numerator and denominator, in this order. */
+enum { HMCS_WAIT_NUMBERS = 5 };
+
+/* The steps of a schedule as hmcs_run takes them, and the waits of the attempts that begin and finish within the run. An attempt of a thread begins
+ * with its Swap at home (at a ticket root that is its home, with its draw) and finishes with its next entry, which may be the same step; its wait
+ * is the number of other threads' entries between the two. At the front of the rows stands a row for each thread, in their order, then one for
+ * all threads together; nothing behind them is written. A mean is total over attempts in lowest terms; a row without an attempt is 0
+ * throughout, and a total of 0 over some attempts has the mean 0 over 1. Refused as hmcs_run is, then by 18; then the counts are 0, and state,
+ * trace and rows are as they came. A buffer of k numbers holds k / 5 rows, rounded down. */
+hmcs_run_reply hmcs_run_waits(hmcs_tree tree, hmcs_state state, const uint16_t *schedule, size_t schedule_length, uint16_t *trace, size_t trace_length, uint64_t *rows, size_t rows_length);
 
 /* A fresh lock, written where the host keeps its state, its start as above. Refused by 4 to 9 and 16; then the state is as it was. */
 hmcs_answer hmcs_fresh_in_place(hmcs_tree tree, hmcs_state *state, uint16_t start);

@@ -103,6 +103,22 @@ struct RunResult {
     std::vector<std::uint16_t> trace; // the entering threads
 };
 
+// Waits of attempts that began and finished within a run. Without an attempt all five are 0.
+struct Waits {
+    std::uint64_t attempts = 0;
+    std::uint64_t total = 0;       // other threads' entries, over all attempts
+    std::uint64_t largest = 0;     // of one attempt
+    std::uint64_t numerator = 0;   // of the mean, total over attempts in lowest terms
+    std::uint64_t denominator = 0;
+};
+
+// A run with waits: refused, no rows.
+struct WaitsResult {
+    RunResult run;
+    std::vector<Waits> threads; // one for each thread
+    Waits all;                  // of all threads together
+};
+
 // What a step was.
 enum class Kind : std::uint32_t {
     stay = HMCS_STAY,
@@ -152,14 +168,32 @@ public:
         RunResult result;
         result.trace.resize(std::min<std::size_t>(length, 65536)); // a longer schedule is refused (11) before the trace is looked at
         const hmcs_run_reply reply = hmcs_run(tree_, state_, schedule, length, result.trace.data(), result.trace.size());
-        state_ = reply.state;
-        result.refusal = Refusal{reply.number, reply.place};
-        result.counts = Counts{reply.steps, reply.entries, reply.stays, reply.root, reply.passed, reply.crossed};
-        result.trace.resize(reply.entries);
+        keep(reply, result);
         return result;
     }
 
     RunResult run(const std::vector<std::uint16_t> &schedule) { return run(schedule.data(), schedule.size()); }
+
+    // A schedule, and the waits of its attempts. Refused, the state is as it was and no step is taken.
+    WaitsResult run_waits(const std::uint16_t *schedule, std::size_t length) {
+        WaitsResult result;
+        std::vector<std::uint64_t> numbers((HMCS_THREADS + 1) * HMCS_WAIT_NUMBERS);
+        result.run.trace.resize(std::min<std::size_t>(length, 65536)); // a longer schedule is refused (11) before the trace is looked at
+        const hmcs_run_reply reply =
+            hmcs_run_waits(tree_, state_, schedule, length, result.run.trace.data(), result.run.trace.size(), numbers.data(), numbers.size());
+        keep(reply, result.run);
+        if (!result.run.refusal) {
+            for (std::size_t at = 0; at <= tree_.threads; ++at) {
+                const std::uint64_t *n = numbers.data() + at * HMCS_WAIT_NUMBERS;
+                result.threads.push_back(Waits{n[0], n[1], n[2], n[3], n[4]});
+            }
+            result.all = result.threads.back();
+            result.threads.pop_back();
+        }
+        return result;
+    }
+
+    WaitsResult run_waits(const std::vector<std::uint16_t> &schedule) { return run_waits(schedule.data(), schedule.size()); }
 
     // The chain of threads that a thread waits for. A thread above 65,535 is no thread, as 65,535 is none. A state that was reached by steps and
     // runs has a chain for each of its threads.
@@ -184,6 +218,14 @@ public:
     }
 
 private:
+    // The state after a run, and what the run said.
+    void keep(const hmcs_run_reply &reply, RunResult &result) {
+        state_ = reply.state;
+        result.refusal = Refusal{reply.number, reply.place};
+        result.counts = Counts{reply.steps, reply.entries, reply.stays, reply.root, reply.passed, reply.crossed};
+        result.trace.resize(reply.entries);
+    }
+
     static Refusal of(hmcs_answer a) { return Refusal{a.number, a.place}; }
 
     hmcs_tree tree_;

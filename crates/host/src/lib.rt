@@ -11,6 +11,7 @@ ghost use Rattle.rate.specs.Answers.{rate-answer, reply-of};
 ghost use Rattle.schedules.specs.Answers.{many-answer, rows-answer};
 ghost use Rattle.text_tree.specs.Answers.{text-answer};
 use journal::JournalReply;
+ghost use Rattle.waits.specs.Answers.{waits-answer, waits-trace, waits-rows};
 use model::FreshReply;
 use model::RunReply;
 use model::State;
@@ -188,6 +189,22 @@ pub extern "C" fn hmcs_check_journal(tree: TreeWords, journal: &[u8]) -> Journal
     ensures { λ r. ⌜ r ≡ journal-answer tree (now (journal .entry)) ⌝ }
 {
     lock::check_journal(tree, journal)
+}
+
+// A run, and in a row buffer of its own the waits of each thread's attempts and of all together; refused, trace and rows as they came.
+#[no_mangle]
+pub extern "C" fn hmcs_run_waits(
+    tree: TreeWords,
+    state: State,
+    schedule: &[u16],
+    trace: &mut [u16],
+    rows: &mut [u64],
+) -> RunReply
+    ensures { λ r. ⌜ r ≡ waits-answer tree state (now (schedule .entry)) (now (trace .entry)) (now (rows .entry)) ⌝ }
+    ensures { λ r. ⌜ now (trace .exit) ≡ waits-trace tree state (now (schedule .entry)) (now (trace .entry)) (now (rows .entry)) ⌝ }
+    ensures { λ r. ⌜ now (rows .exit) ≡ waits-rows tree state (now (schedule .entry)) (now (trace .entry)) (now (rows .entry)) ⌝ }
+{
+    lock::run_waits(tree, state, schedule, trace, rows)
 }
 
 // The chain of threads that a thread waits for, itself first, at the front of the chain buffer; refused, that buffer as it came. The number is returned; place and length go where the host says.

@@ -8,6 +8,10 @@ pub mod Typing
 pub mod Turns
 pub mod LastTold
 pub mod Telling
+pub mod Counting
+pub mod Writing
+pub mod Pieces
+pub mod Waited
 pub mod Answering
 pub mod Starting
 pub mod FreshRow

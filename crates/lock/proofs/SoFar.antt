@@ -34,7 +34,7 @@ kind-small passed-entry = omega arith
 kind-small crossed-entry = omega arith
 kind-small leaving = omega arith
 
-entry-number : (k : Kind) → is-entry-number (kind-number k) ≡ is-entry k
+pub entry-number : (k : Kind) → is-entry-number (kind-number k) ≡ is-entry k
 unfolding is-entry
 entry-number stay = refl
 entry-number other = refl
@@ -74,11 +74,11 @@ kinds-next xs x =
     (count-kind (x .kind) (how-many (is-kind stay) xs) (how-many (is-kind other) xs) (how-many (is-kind root-entry) xs) (how-many (is-kind passed-entry) xs) (how-many (is-kind crossed-entry) xs) (how-many (is-kind leaving) xs))
 
 -- no more of a kind than there are steps
-at-most : (b : Bool) → cond b 1 0 ≤ 1
+pub at-most : (b : Bool) → cond b 1 0 ≤ 1
 at-most true = omega arith
 at-most false = omega arith
 
-few-kinds : (f : Kind → Bool) (xs : List Step) → how-many f xs ≤ length xs
+pub few-kinds : (f : Kind → Bool) (xs : List Step) → how-many f xs ≤ length xs
 unfolding how-many
 few-kinds f [] = omega arith
 few-kinds f (x ∷ xs) = omega (arith, few-kinds f xs, at-most (f (x .kind)))

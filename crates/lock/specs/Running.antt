@@ -43,6 +43,12 @@ kinds-of xs =
 abbrev pub counted : (kinds : List ℕ) → (kind : ℕ) → List ℕ
 counted ks k = set ks k (getD ks k 0 + 1)
 
+-- those of one list of steps and of another behind it
+abbrev pub kinds-added : (kinds more : List ℕ) → List ℕ
+kinds-added a b =
+    (getD a 0 0 + getD b 0 0) ∷ (getD a 1 0 + getD b 1 0) ∷ (getD a 2 0 + getD b 2 0) ∷ (getD a 3 0 + getD b 3 0) ∷ (getD a 4 0 + getD b 4 0)
+    ∷ (getD a 5 0 + getD b 5 0) ∷ []
+
 -- what a run counts, by how many of its steps are of each kind
 abbrev pub counts-by : (kinds : List ℕ) → Counts
 counts-by ks =

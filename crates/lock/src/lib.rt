@@ -6,12 +6,14 @@ ghost use Rattle.model.specs.Answers.{fresh-answer, step-answer, run-refused, r
 ghost use Rattle.refusals.specs.Arrays.{told};
 ghost use Rattle.schedules.specs.Answers.{many-answer, rows-answer};
 ghost use Rattle.journal.specs.Answers.{journal-answer};
+ghost use Rattle.waits.specs.Answers.{waits-answer, waits-trace, waits-rows};
 
 mod journals;
 mod many;
 mod places;
 mod rows;
 mod run;
+mod waiting;
 
 use journal::JournalReply;
 use model::Counts;
@@ -211,4 +213,31 @@ pub fn check_journal(tree: TreeWords, journal: &[u8]) -> JournalReply
         &mut trace,
         &mut told,
     )
+}
+
+// A run, and in a row buffer of its own the waits of each thread's attempts and of all together, five numbers a row. Refused, state, trace and rows as they came.
+pub fn run_waits(
+    tree: TreeWords,
+    state: State,
+    schedule: &[u16],
+    trace: &mut [u16],
+    rows: &mut [u64],
+) -> RunReply
+    ensures { λ r. ⌜ r ≡ waits-answer tree state (now (schedule .entry)) (now (trace .entry)) (now (rows .entry)) ⌝ }
+    ensures { λ r. ⌜ now (trace .exit) ≡ waits-trace tree state (now (schedule .entry)) (now (trace .entry)) (now (rows .entry)) ⌝ }
+    ensures { λ r. ⌜ now (rows .exit) ≡ waits-rows tree state (now (schedule .entry)) (now (trace .entry)) (now (rows .entry)) ⌝ }
+{
+    let r = waits::waits_refusal_of(tree, state, schedule, trace.len(), rows.len());
+    if r.number != 0 {
+        return refused(r.number, r.place, state);
+    }
+    let mut kinds = [0u32; 6];
+    let after = waiting::run_counted(tree, state, schedule, trace, &mut kinds, rows);
+    let counts = run::counts_of(&kinds);
+    RunReply {
+        number: 0,
+        place: 0,
+        counts,
+        state: after,
+    }
 }

@@ -86,7 +86,7 @@ pub(crate) fn counts_of(kinds: &[u32; 6]) -> Counts
 }
 
 // An entry arrives Inside.
-fn is_entry(kind: u8) -> bool
+pub(crate) fn is_entry(kind: u8) -> bool
     ensures { λ r. ⌜ r ≡ is-entry-number kind ⌝ }
 {
     if kind == model::ROOT_ENTRY {

@@ -24,7 +24,7 @@ fn number_and_place<T>(outcome: &Outcome<T>) -> (u32, u32) {
 }
 
 /// Words that name no state are refused by 10, once the tree is accepted.
-fn read_state(tree: &Tree, words: &StateWords) -> Outcome<State> {
+pub fn read_state(tree: &Tree, words: &StateWords) -> Outcome<State> {
     accept_tree(tree)?;
     match words.state() {
         Some(state) => Ok(state),
@@ -73,6 +73,11 @@ fn run_words(tree: &TreeWords, words: &StateWords, schedule: &[u16], trace: &mut
         let counts = run_lock(&tree, &mut state, schedule, trace)?;
         Ok((counts, StateWords::of(&state)))
     });
+    run_reply(outcome, words)
+}
+
+/// What a run returns; refused, zero counts and the words as they came.
+pub fn run_reply(outcome: Outcome<(Counts, StateWords)>, words: &StateWords) -> RunReply {
     let (number, place) = number_and_place(&outcome);
     let (counts, state) = outcome.unwrap_or((Counts::default(), *words));
     let Counts { steps, entries, stays, root, passed, crossed } = counts;

@@ -27,4 +27,5 @@ pub mod table;
 pub mod text_tree;
 pub mod ticket_lock;
 pub mod turnstile;
+pub mod waits;
 pub mod words;

@@ -8,6 +8,7 @@ use crate::lock_file::FileAnswer;
 use crate::many::RunMany;
 use crate::rate::RateCall;
 use crate::text_tree::TextAnswer;
+use crate::waits::RunWaits;
 
 /// The form of the file call, the step table's and the library's.
 pub type RunFile = fn(&[u8], &mut [u8]) -> FileAnswer;
@@ -264,5 +265,31 @@ pub fn check_journal() -> Option<CheckJournal> {
 
 #[cfg(not(calls))]
 pub fn check_journal() -> Option<CheckJournal> {
+    None
+}
+
+/// A run with waits, built where the calls on a caller's tree are.
+#[cfg(calls)]
+mod waits_entry {
+    use crate::words::*;
+
+    extern "C" {
+        fn hmcs_run_waits(tree: TreeWords, state: StateWords, schedule: *const u16, schedule_len: usize, trace: *mut u16, trace_len: usize, rows: *mut u64, rows_len: usize) -> RunReply;
+    }
+
+    pub fn run_waits(tree: &TreeWords, state: &StateWords, schedule: &[u16], trace: &mut [u16], rows: &mut [u64]) -> RunReply {
+        // The pointers are valid for their lengths, and nothing else uses what they point to during the call.
+        unsafe { hmcs_run_waits(*tree, *state, schedule.as_ptr(), schedule.len(), trace.as_mut_ptr(), trace.len(), rows.as_mut_ptr(), rows.len()) }
+    }
+}
+
+/// The library's run with waits, if the program was built with the calls.
+#[cfg(calls)]
+pub fn run_waits() -> Option<RunWaits> {
+    Some(waits_entry::run_waits)
+}
+
+#[cfg(not(calls))]
+pub fn run_waits() -> Option<RunWaits> {
     None
 }

@@ -203,7 +203,8 @@ fn accept_step(tree: &Tree, state: &State, thread: u16) -> Outcome<()> {
     accept_entries(tree, std::iter::once(thread))
 }
 
-fn accept_run(tree: &Tree, state: &State, schedule: &[u16], trace: &[u16]) -> Outcome<()> {
+/// 4 to 9, 16 and 10 to 13.
+pub fn accept_run(tree: &Tree, state: &State, schedule: &[u16], trace: &[u16]) -> Outcome<()> {
     accept_tree(tree)?;
     accept_state(tree, state)?;
     refuse_if(11, schedule.len() > LONGEST_SCHEDULE)?;

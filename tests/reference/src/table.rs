@@ -337,7 +337,7 @@ fn raise(tree: &Tree, state: &mut State, thread: usize) -> Kind {
 impl Counts {
     /// Root, passed and crossed entries are each counted from their steps.
     #[inline]
-    fn count(&mut self, kind: Kind) {
+    pub fn count(&mut self, kind: Kind) {
         self.steps += 1;
         self.stays += (kind == Kind::Stay) as u32;
         self.root += (kind == Kind::RootEntry) as u32;

@@ -8,6 +8,7 @@ mod journals;
 mod many;
 mod texts;
 mod writing;
+mod waits;
 
 use reference::draft::Draft;
 use reference::random::Random;
@@ -121,6 +122,7 @@ fn main() {
     calls::print(&mut worst);
     many::print(&mut worst);
     journals::print(&mut worst);
+    waits::print(&mut worst);
     chain::print();
     texts::print();
     writing::print();

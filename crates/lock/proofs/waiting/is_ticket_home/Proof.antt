@@ -1,0 +1,15 @@
+-- `lock::waiting::is_ticket_home` meets its contract. Assumes nothing.
+use borrow.Author.Tests.{eq-eqb, ne-eqb}
+use Rattle.lock.proofs.waiting.is_ticket_home.Statement.{statement}
+use Rattle.lock.proofs.waiting.is_ticket_home.Tie as tie
+use Rattle.lock.proofs.waiting.is_ticket_home.Reads as reads
+use Rattle.lock.proofs.waiting.is_ticket_home.Lts as lts
+
+returns : tie.Need-returns
+returns c = rw (eq-eqb _ 0 (c .if1 .taken))
+
+returns-2 : tie.Need-returns-2
+returns-2 c = rw (ne-eqb _ 0 (c .if1 .left))
+
+pub is-ticket-home-spec : {M : Type 1} → statement M
+is-ticket-home-spec = tie.close (tie.spec returns returns-2)

@@ -1,0 +1,10 @@
+pub mod Cases
+pub mod Divisors
+pub mod Refusing
+pub mod Tallying
+pub mod Tables
+pub mod Buffers
+pub mod Phases
+pub mod Entering
+pub mod Bounds
+pub mod Measuring

@@ -1,0 +1,44 @@
+-- An attempt's wait is the entries between its beginning and its end. Assumes nothing.
+use mathlib.Core.Path.{_≡_, refl, sym, ap, _∙_}
+use mathlib.Core.Bool.{Bool, true, false, cond}
+use mathlib.Core.List.{List, [], _∷_, _++_}
+use Prim.Native.Nat.{ℕ, zero, suc, _+_}
+use native.Mathlib.Omega.{arith}
+use lib.Dec.{eqb}
+use Rattle.model.specs.Trees.{Tree}
+use Rattle.model.specs.Steps.{is-entry, Step}
+use Rattle.model.specs.Runs.{how-many}
+use Rattle.model.proofs.Tests.{and-both}
+use Rattle.waits.specs.Attempts.{begins-from, begins, enters, begun, counted, under-way-after, finished, finished-by, waits-from}
+use Rattle.waits.specs.Meanings.{Between, Wait-law}
+
+module _ (t : Tree) (i : ℕ) (after : List Step) (y : Step) (by : begins t i y ≡ false) (ey : enters i y ≡ true) where
+  -- an attempt is under way with some entries counted
+  counts : (n : ℕ) (xs : List Step) → Between t i xs → waits-from t i (suc n) (xs ++ (y ∷ after)) ≡ (n + how-many is-entry xs) ∷ waits-from t i 0 after
+  unfolding waits-from finished-by under-way-after begun counted finished Between how-many
+  counts n [] B = rw (ey, by) (ap (λ (v : ℕ). v ∷ waits-from t i 0 after) (omega arith))
+  counts n (x ∷ xs) B =
+      let m = n + cond (is-entry (x .kind)) 1 0 in
+      let e : suc n + cond (is-entry (x .kind)) 1 0 ≡ suc m = omega arith in
+      rw (B .0, B .1 .0, e) (counts m xs (B .1 .1) ∙ ap (λ (v : ℕ). v ∷ waits-from t i 0 after) (omega arith))
+
+  none : (xs : List Step) → Between t i xs → waits-from t i 0 (xs ++ (y ∷ after)) ≡ waits-from t i 0 after
+  unfolding waits-from finished-by under-way-after begun counted finished Between
+  none [] B = rw (ey, by)
+  none (x ∷ xs) B = rw (B .0, B .1 .0) (none xs (B .1 .1))
+
+-- a step that begins an attempt without entering is nobody's entry
+no-entry : (t : Tree) (i : ℕ) (x : Step) → begins t i x ≡ true → enters i x ≡ false → is-entry (x .kind) ≡ false
+unfolding begins enters
+no-entry t i x b e = let mine = and-both (eqb (x .thread) i) (begins-from t i (x .place)) b .0 in rw mine at e
+
+pub wait-law : Wait-law
+unfolding Wait-law waits-from finished-by under-way-after begun counted finished how-many
+wait-law t i after =
+    record {
+      attempt = λ a x y between bx ex B by ey.
+          (let z : 0 + how-many is-entry between ≡ how-many is-entry between = omega arith in
+          rw (ex, bx, no-entry t i x bx ex) (counts t i after y by ey 0 between B ∙ ap (λ (v : ℕ). v ∷ waits-from t i 0 after) z));
+      at-once = λ a x bx ex. rw (ex, bx);
+      no-attempt = λ y between B by ey. none t i after y by ey between B;
+    }

@@ -1,0 +1,94 @@
+-- Document 02, (vi): the attempts of a thread and their waits, from the list of a run's steps. Assumes nothing: these are definitions.
+use mathlib.Core.Bool.{Bool, true, false, _&&_, cond}
+use mathlib.Core.List.{List, [], _∷_, _++_}
+use Prim.Native.Nat.{ℕ, zero, suc, _+_}
+use lib.Dec.{eqb}
+use Rattle.model.specs.declared.Place.{Place}
+use Rattle.model.specs.declared.Place.the-variants.{Idle, Prep, Swap, Link, Wait, Inside, Check, Help, Cas, Linger, Grant, Draw, Watch, Raise, Invalid}
+use Rattle.model.specs.Trees.{Tree, is-ticket}
+use Rattle.model.specs.Steps.{is-entry, Step}
+
+-- a place is Swap at a domain
+unfoldable pub swaps-at : (domain : ℕ) → Place → Bool
+swaps-at d Idle = false
+swaps-at d (Prep l) = false
+swaps-at d (Swap l) = eqb l d
+swaps-at d (Link l p) = false
+swaps-at d (Wait l) = false
+swaps-at d Inside = false
+swaps-at d (Check l) = false
+swaps-at d (Help l) = false
+swaps-at d (Cas l) = false
+swaps-at d (Linger l) = false
+swaps-at d (Grant l r w) = false
+swaps-at d Draw = false
+swaps-at d Watch = false
+swaps-at d Raise = false
+swaps-at d Invalid = false
+
+-- a thread whose home is a ticket root draws from this place: Idle's own step, or Draw
+unfoldable pub draws : Place → Bool
+draws Idle = true
+draws (Prep l) = false
+draws (Swap l) = false
+draws (Link l p) = false
+draws (Wait l) = false
+draws Inside = false
+draws (Check l) = false
+draws (Help l) = false
+draws (Cas l) = false
+draws (Linger l) = false
+draws (Grant l r w) = false
+draws Draw = true
+draws Watch = false
+draws Raise = false
+draws Invalid = false
+
+-- from this place a thread begins an attempt: Swap at its home; at a ticket root that is its home, its draw
+unfoldable pub begins-from : Tree → (thread : ℕ) → Place → Bool
+begins-from t i p = cond (is-ticket t (t .home i)) (draws p) (swaps-at (t .home i) p)
+
+-- a step is this thread's, and an attempt begins with it
+unfoldable pub begins : Tree → (thread : ℕ) → Step → Bool
+begins t i x = eqb (x .thread) i && begins-from t i (x .place)
+
+-- a step is this thread's entry
+unfoldable pub enters : (thread : ℕ) → Step → Bool
+enters i x = eqb (x .thread) i && is-entry (x .kind)
+
+-- THE ATTEMPT UNDER WAY, of one thread: none is 0; else one more than the other threads' entries since it began
+-- an attempt begins: none has entered since
+unfoldable pub begun : Tree → (thread : ℕ) → Step → (under-way : ℕ) → ℕ
+begun t i x a = cond (begins t i x) 1 a
+
+-- another thread's entry is counted in an attempt that is under way
+unfoldable pub counted : Step → (under-way : ℕ) → ℕ
+counted x zero = 0
+counted x (suc n) = suc n + cond (is-entry (x .kind)) 1 0
+
+-- the attempt that is under way after a step: the thread's own entry finishes it
+unfoldable pub under-way-after : Tree → (thread : ℕ) → Step → (under-way : ℕ) → ℕ
+under-way-after t i x a = cond (enters i x) 0 (counted x (begun t i x a))
+
+-- the wait of the attempt that an entry finishes; none where none was under way
+unfoldable pub finished : (under-way : ℕ) → List ℕ
+finished zero = []
+finished (suc n) = n ∷ []
+
+-- the waits that a step finishes: the thread's own entry, which may be the step that began the attempt
+unfoldable pub finished-by : Tree → (thread : ℕ) → Step → (under-way : ℕ) → List ℕ
+finished-by t i x a = cond (enters i x) (finished (begun t i x a)) []
+
+-- the waits of a thread's attempts that finish within some steps, in their order
+unfoldable pub waits-from : Tree → (thread under-way : ℕ) → List Step → List ℕ
+waits-from t i a [] = []
+waits-from t i a (x ∷ xs) = finished-by t i x a ++ waits-from t i (under-way-after t i x a) xs
+
+-- those that begin and finish within a run: at its start none is under way
+abbrev pub waits : Tree → (thread : ℕ) → List Step → List ℕ
+waits t i xs = waits-from t i 0 xs
+
+-- the waits of the first threads, in their order
+unfoldable pub waits-below : Tree → (threads : ℕ) → List Step → List ℕ
+waits-below t zero xs = []
+waits-below t (suc n) xs = waits-below t n xs ++ waits t n xs

@@ -1,0 +1,96 @@
+-- Cases of waits, in one list: rows by hand, attempts that begin before the run or end behind it, both kinds of root, means that reduce, refusals and their order. Assumes nothing: these are definitions.
+use mathlib.Core.Bool.{Bool, true, _&&_, _||_}
+use mathlib.Core.List.{List, [], _∷_, _++_}
+use Prim.Native.Nat.{ℕ}
+use lib.Dec.{eqb}
+use lib.ListN.{replicate}
+use Rattle.model.specs.declared.TreeWords.{TreeWords}
+use Rattle.model.specs.declared.State.{State}
+use Rattle.model.specs.Trees.{tree-of}
+use Rattle.model.specs.States.{fresh-words}
+use Rattle.model.specs.Runs.{steps, state-after}
+use Rattle.model.specs.Cases.{tree, at-ticket-root, two-homes, first-entries, two-in-root, three-levels, same-numbers, same-counts, same-state}
+use Rattle.model.specs.Answers.{no-counts}
+use Rattle.waits.specs.Answers.{waits-answer, waits-trace, waits-rows}
+
+-- a call, number and place that it is to answer, and the row buffer after it
+pub record Case : Type 0 where
+  pub words : TreeWords
+  pub state : State
+  pub schedule : List ℕ
+  pub trace : List ℕ
+  pub rows : List ℕ
+  pub number : ℕ
+  pub after : List ℕ
+
+-- accepted from a state, with these rows at the front of a buffer of sevens, and two numbers behind them
+unfoldable pub rows-given : TreeWords → State → (schedule : List ℕ) → (threads : ℕ) → (rows : List ℕ) → Case
+rows-given w s is n xs =
+    record { words = w; state = s; schedule = is; trace = replicate 64 9; rows = replicate 5 7 ++ (replicate n 7 ++ replicate 2 7); number = 0; after = xs ++ replicate 2 7 }
+
+-- refused: both buffers as they came
+unfoldable pub refused-with : (number : ℕ) → TreeWords → (schedule : List ℕ) → (room row-room : ℕ) → Case
+refused-with n w is room m =
+    record { words = w; state = fresh-words; schedule = is; trace = replicate room 9; rows = replicate m 7; number = n; after = replicate m 7 }
+
+-- the state that some entries lead to from fresh
+unfoldable pub reached : TreeWords → (schedule : List ℕ) → State
+reached w is = state-after fresh-words (steps (tree-of w) is fresh-words)
+
+-- rows: no attempt, and so many attempts without any wait
+unfoldable pub no-attempt : List ℕ
+no-attempt = replicate 5 0
+
+unfoldable pub no-wait : (attempts : ℕ) → List ℕ
+no-wait n = n ∷ 0 ∷ 0 ∷ 0 ∷ 1 ∷ []
+
+-- threads 0 and 1 take turns at a ticket root: each draws before the other enters
+unfoldable pub taking-turns : List ℕ
+taking-turns = 1 ∷ 0 ∷ 1 ∷ 1 ∷ 1 ∷ 0 ∷ 0 ∷ 0 ∷ 0 ∷ 1 ∷ 1 ∷ 1 ∷ 1 ∷ 0 ∷ 0 ∷ 0 ∷ 1 ∷ 1 ∷ 1 ∷ 1 ∷ []
+
+unfoldable pub cases : List Case
+cases =
+    -- the 22 entries: one attempt each, and nobody enters between its Swap and its entry
+    rows-given two-homes fresh-words (first-entries ++ 2 ∷ []) 15 (no-wait 1 ++ no-wait 1 ++ no-wait 1 ++ no-wait 3)
+    -- home at the root: the entry is the Swap itself; the other thread has no attempt
+    ∷ rows-given two-in-root fresh-words (0 ∷ 0 ∷ []) 10 (no-wait 1 ++ no-attempt ++ no-wait 1)
+    -- thread 1 has waits 0, 1, 1, 0, which reduce from 2 over 4, thread 0 has 0, 1
+    ∷ rows-given (at-ticket-root two-in-root) fresh-words taking-turns 10 ((2 ∷ 1 ∷ 1 ∷ 1 ∷ 2 ∷ []) ++ (4 ∷ 2 ∷ 1 ∷ 1 ∷ 2 ∷ []) ++ (6 ∷ 3 ∷ 1 ∷ 1 ∷ 2 ∷ []))
+    -- a queue at the root: thread 1 goes behind thread 0, which enters before it; the entry of thread 0 belongs to an attempt from before the run
+    ∷ rows-given two-in-root (reached two-in-root (1 ∷ 1 ∷ 0 ∷ 0 ∷ 0 ∷ [])) (1 ∷ 1 ∷ 1 ∷ 1 ∷ 1 ∷ 1 ∷ 0 ∷ 0 ∷ 0 ∷ 0 ∷ 1 ∷ []) 10 (no-attempt ++ (1 ∷ 1 ∷ 1 ∷ 1 ∷ 1 ∷ []) ++ (1 ∷ 1 ∷ 1 ∷ 1 ∷ 1 ∷ []))
+    -- an attempt that began before the run: its entry is none of its attempts
+    ∷ rows-given two-in-root (reached two-in-root (0 ∷ 0 ∷ 1 ∷ 1 ∷ 1 ∷ [])) (0 ∷ 0 ∷ 0 ∷ 1 ∷ []) 10 (no-attempt ++ no-attempt ++ no-attempt)
+    -- one that the run does not finish
+    ∷ rows-given two-in-root fresh-words (0 ∷ 0 ∷ 1 ∷ 1 ∷ 1 ∷ 0 ∷ []) 10 (no-wait 1 ++ no-attempt ++ no-wait 1)
+    -- an entry of another thread between Prep and Swap is before the attempt
+    ∷ rows-given two-in-root fresh-words (1 ∷ 0 ∷ 0 ∷ 1 ∷ 1 ∷ 0 ∷ 0 ∷ 0 ∷ 1 ∷ []) 10 (no-wait 1 ++ no-wait 1 ++ no-wait 2)
+    -- a ticket root that is home: an attempt begins with the draw, which is Idle's own step; the mean of all, 1 over 3, is not that of the two means
+    ∷ rows-given (at-ticket-root two-in-root) fresh-words (0 ∷ 1 ∷ 0 ∷ 0 ∷ 0 ∷ 1 ∷ 1 ∷ 1 ∷ 0 ∷ []) 10 ((2 ∷ 1 ∷ 1 ∷ 1 ∷ 2 ∷ []) ++ no-wait 1 ++ (3 ∷ 1 ∷ 1 ∷ 1 ∷ 3 ∷ []))
+    -- a ticket root that is not home: it begins with the Swap at home, before the draw
+    ∷ rows-given (at-ticket-root two-homes) fresh-words (0 ∷ 0 ∷ 2 ∷ 2 ∷ 2 ∷ 0 ∷ 2 ∷ 2 ∷ 2 ∷ 0 ∷ []) 15 ((1 ∷ 1 ∷ 1 ∷ 1 ∷ 1 ∷ []) ++ no-attempt ++ no-wait 1 ++ (2 ∷ 1 ∷ 1 ∷ 1 ∷ 2 ∷ []))
+    -- three levels, a crossed entry: the Swap between home and root begins no attempt
+    ∷ rows-given three-levels fresh-words (replicate 6 0 ++ replicate 6 1 ++ replicate 4 0 ++ 1 ∷ []) 10 (no-wait 1 ++ no-wait 1 ++ no-wait 2)
+    -- no entries
+    ∷ rows-given two-in-root fresh-words [] 10 (no-attempt ++ no-attempt ++ no-attempt)
+    -- a part of the last row is missing, and no buffer
+    ∷ refused-with 18 two-in-root (0 ∷ 0 ∷ []) 2 14
+    ∷ refused-with 18 two-in-root [] 0 0
+    -- 12 and 13 before 18, and a thread that is none before the trace buffer
+    ∷ refused-with 13 two-in-root (0 ∷ 0 ∷ []) 1 0
+    ∷ refused-with 12 two-in-root (2 ∷ []) 0 14
+    ∷ refused-with 5 (tree 1 0 (0 ∷ []) (0 ∷ []) []) [] 0 0 ∷ []
+
+-- refused, zero counts, and state and trace as they came
+unfoldable pub nothing-done : Case → Bool
+nothing-done c =
+    let r = waits-answer (c .words) (c .state) (c .schedule) (c .trace) (c .rows) in
+    (same-counts (r .counts) no-counts && same-state (r .state) (c .state)) && same-numbers (waits-trace (c .words) (c .state) (c .schedule) (c .trace) (c .rows)) (c .trace)
+
+unfoldable pub holds : Case → Bool
+holds c =
+    let r = waits-answer (c .words) (c .state) (c .schedule) (c .trace) (c .rows) in
+    (eqb (r .number) (c .number) && (eqb (r .number) 0 || nothing-done c)) && same-numbers (waits-rows (c .words) (c .state) (c .schedule) (c .trace) (c .rows)) (c .after)
+
+unfoldable pub all-hold : List Case → Bool
+all-hold [] = true
+all-hold (c ∷ cs) = holds c && all-hold cs

@@ -1,0 +1,102 @@
+-- THE LAWS OF WAITS. Each is a statement; proofs/ has its proof. Assumes nothing.
+use mathlib.Core.Path.{_≡_}
+use mathlib.Core.List.{List, [], _∷_, _++_}
+use mathlib.Core.Logic.{_≢_, _⊎_}
+use Prim.Native.Nat.{ℕ, zero, suc, _+_, _*_, _≤_, _<_, _∣_}
+use lib.ListN.{length, take, drop, getD}
+use Rattle.model.specs.declared.TreeWords.{TreeWords}
+use Rattle.model.specs.declared.State.{State}
+use Rattle.model.specs.Trees.{Tree, tree-of}
+use Rattle.model.specs.States.{fresh-state}
+use Rattle.model.specs.Runs.{steps, run, occurrences}
+use Rattle.model.specs.Refusals.{refusal, accepted, tree-refusal, run-refusal}
+use Rattle.model.specs.Answers.{run-answer, trace-answer}
+use Rattle.model.specs.Laws.{All-threads, Formed, Refuses-exactly, Sixteen-bit}
+use Rattle.schedules.specs.Rows.{total}
+use Rattle.waits.specs.declared.Fraction.{Fraction}
+use Rattle.waits.specs.Attempts.{waits}
+use Rattle.waits.specs.Rows.{largest, mean, row-with, row-of}
+use Rattle.waits.specs.Refusals.{waits-tests, waits-refusal}
+use Rattle.waits.specs.Answers.{refused-by, waits-answer, waits-trace, waits-rows}
+
+-- 1. REFUSALS. The tests are a list that the one law of refusals covers; in plain numbers, one of these three holds of every call
+pub record Refuses-waits (t : Tree) (s : State) (schedule : List ℕ) (room row-room : ℕ) : Type 0 where
+  pub exactly : Refuses-exactly (waits-tests t s schedule room row-room)
+  pub run-refused : run-refusal t s schedule room .number ≢ 0 → waits-refusal t s schedule room row-room ≡ run-refusal t s schedule room
+  pub room-refused :
+      run-refusal t s schedule room .number ≡ 0 → row-room < 5 * (t .threads + 1) → waits-refusal t s schedule room row-room ≡ refusal 18 0
+  pub accepts : run-refusal t s schedule room .number ≡ 0 → 5 * (t .threads + 1) ≤ row-room → waits-refusal t s schedule room row-room ≡ accepted
+
+unfoldable pub Waits-refusal-law : Type 0
+Waits-refusal-law = (t : Tree) (s : State) (schedule : List ℕ) (room row-room : ℕ) → Refuses-waits t s schedule room row-room
+
+-- 2. THE RUN. Where 18 does not refuse, reply and trace are those of the run itself
+pub record Runs-as (w : TreeWords) (s : State) (schedule trace rows : List ℕ) : Type 0 where
+  pub reply : waits-answer w s schedule trace rows ≡ run-answer w s schedule trace
+  pub traced : waits-trace w s schedule trace rows ≡ trace-answer w s schedule trace
+
+unfoldable pub Waits-run-law : Type 0
+Waits-run-law =
+    (w : TreeWords) (s : State) (schedule trace rows : List ℕ) → refused-by w s schedule trace rows .number ≢ 18 → Runs-as w s schedule trace rows
+
+-- 3. THE MEAN. It is total over attempts, and no number but 1 divides both its parts; without attempts it is 0 over 0, and a total of 0 over some attempts is 0 over 1
+pub record In-lowest-terms (total attempts : ℕ) (f : Fraction) : Type 0 where
+  pub same : f .numerator * attempts ≡ total * f .denominator
+  pub lowest : (d : ℕ) → attempts ≢ 0 → d ∣ f .numerator → d ∣ f .denominator → d ≡ 1
+  pub none : attempts ≡ 0 → (f .numerator ≡ 0) × (f .denominator ≡ 0)
+  pub nothing : attempts ≢ 0 → total ≡ 0 → (f .numerator ≡ 0) × (f .denominator ≡ 1)
+
+unfoldable pub Mean-law : Type 0
+Mean-law = (total attempts : ℕ) → In-lowest-terms total attempts (mean total attempts)
+
+-- 4. ROWS. The row at an index of a buffer
+abbrev pub row-at : (index : ℕ) → (buffer : List ℕ) → List ℕ
+row-at k b = take 5 (drop (5 * k) b)
+
+-- a column of the first rows: its numbers behind one another
+unfoldable pub column : (at rows : ℕ) → (buffer : List ℕ) → List ℕ
+column c zero b = []
+column c (suc n) b = column c n b ++ (getD (row-at n b) c 0 ∷ [])
+
+-- what the row buffer of an accepted call says: each thread's row is that of its waits; attempts and total of the last row are the sums of those above, its largest wait is the largest of them, and its mean that of all attempts
+pub record Says (w : TreeWords) (s : State) (schedule trace rows : List ℕ) : Type 0 where
+  pub of-thread : (i : ℕ) → i < tree-of w .threads → row-at i (waits-rows w s schedule trace rows) ≡ row-of (waits (tree-of w) i (steps (tree-of w) schedule s))
+  pub of-all :
+      (let b = waits-rows w s schedule trace rows in
+      let n = tree-of w .threads in
+      row-at n b ≡ row-with (total (column 0 n b)) (total (column 1 n b)) (largest (column 2 n b)))
+
+unfoldable pub Row-law : Type 0
+Row-law = (w : TreeWords) (s : State) (schedule trace rows : List ℕ) → refused-by w s schedule trace rows .number ≡ 0 → Says w s schedule trace rows
+
+-- 5. THE ROW BUFFER keeps its length and what is behind the rows; refused, all of it
+pub record Keeps-rest (w : TreeWords) (s : State) (schedule trace rows : List ℕ) : Type 0 where
+  pub long : length (waits-rows w s schedule trace rows) ≡ length rows
+  pub behind : drop (5 * (tree-of w .threads + 1)) (waits-rows w s schedule trace rows) ≡ drop (5 * (tree-of w .threads + 1)) rows
+  pub refused : refused-by w s schedule trace rows .number ≢ 0 → waits-rows w s schedule trace rows ≡ rows
+
+unfoldable pub Row-buffer-law : Type 0
+Row-buffer-law = (w : TreeWords) (s : State) (schedule trace rows : List ℕ) → Keeps-rest w s schedule trace rows
+
+-- 6. ENTRIES. In a run from any well-formed state a thread's entries are its attempts, or one more: of an attempt that was under way before; from fresh they are its attempts
+abbrev pub entries-of : (thread : ℕ) → Tree → (schedule : List ℕ) → State → ℕ
+entries-of i t is s = occurrences i (run t is s .trace)
+
+pub record Enters-by-attempts (t : Tree) (schedule : List ℕ) (i : ℕ) : Type 0 where
+  pub of-state :
+      (s : State) → Formed t s →
+      (entries-of i t schedule s ≡ length (waits t i (steps t schedule s))) ⊎ (entries-of i t schedule s ≡ length (waits t i (steps t schedule s)) + 1)
+  pub of-fresh : (start : ℕ) → entries-of i t schedule (fresh-state t start) ≡ length (waits t i (steps t schedule (fresh-state t start)))
+
+unfoldable pub Entry-law : Type 0
+Entry-law =
+    (t : Tree) → Sixteen-bit t → tree-refusal t .number ≡ 0 → (schedule : List ℕ) → All-threads t schedule → (i : ℕ) → i < t .threads →
+    Enters-by-attempts t schedule i
+
+-- 7. BOUNDS. A thread's attempts, total and largest wait are at most the run's entries, so that no number of a row overflows
+pub record Bounded (t : Tree) (schedule : List ℕ) (s : State) (i : ℕ) : Type 0 where
+  pub attempts : length (waits t i (steps t schedule s)) ≤ length schedule
+  pub total : total (waits t i (steps t schedule s)) ≤ length schedule
+
+unfoldable pub Bound-law : Type 0
+Bound-law = (t : Tree) (schedule : List ℕ) (s : State) (i : ℕ) → Bounded t schedule s i

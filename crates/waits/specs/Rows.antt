@@ -1,0 +1,48 @@
+-- Document 02, (vi): the row of some waits, and the mean as a fraction in lowest terms. Assumes nothing: these are definitions.
+use mathlib.Core.Bool.{cond}
+use mathlib.Core.List.{List, [], _∷_, _++_}
+use Prim.Native.Nat.{ℕ, zero, suc, _/_, _%_, max}
+use lib.Dec.{eqb}
+use lib.ListN.{length}
+use Rattle.model.specs.Trees.{Tree}
+use Rattle.model.specs.Steps.{Step}
+use Rattle.schedules.specs.Rows.{total}
+use Rattle.waits.specs.declared.Fraction.{Fraction}
+use Rattle.waits.specs.Attempts.{waits, waits-below}
+
+-- the largest of some waits; 0 where there is none
+unfoldable pub largest : List ℕ → ℕ
+largest [] = 0
+largest (n ∷ ns) = max n (largest ns)
+
+-- the greatest common divisor, by Euclid's algorithm in at most so many divisions
+unfoldable pub divisor-in : (divisions a b : ℕ) → ℕ
+divisor-in zero a b = a
+divisor-in (suc n) a b = cond (eqb b 0) a (divisor-in n b (a % b))
+
+-- each division leaves less than it divided by, so b of them are enough
+abbrev pub greatest-divisor : (a b : ℕ) → ℕ
+greatest-divisor a b = divisor-in b a b
+
+-- a total over a number of attempts in lowest terms; without attempts 0 over 0
+unfoldable pub mean : (total attempts : ℕ) → Fraction
+mean w n =
+    cond (eqb n 0) (record { numerator = 0; denominator = 0 })
+    (record { numerator = w / greatest-divisor w n; denominator = n / greatest-divisor w n })
+
+-- a row by its first three numbers: attempts finished, total wait, largest wait, and the mean's two
+unfoldable pub row-with : (attempts total largest : ℕ) → List ℕ
+row-with n w m = let f = mean w n in n ∷ w ∷ m ∷ f .numerator ∷ f .denominator ∷ []
+
+-- the row of some waits
+unfoldable pub row-of : List ℕ → List ℕ
+row-of ws = row-with (length ws) (total ws) (largest ws)
+
+-- the rows of the first threads, in their order
+unfoldable pub rows-below : Tree → (threads : ℕ) → List Step → List ℕ
+rows-below t zero xs = []
+rows-below t (suc n) xs = rows-below t n xs ++ row-of (waits t n xs)
+
+-- a row for each thread, and the last one for all of them together
+unfoldable pub all-rows : Tree → List Step → List ℕ
+all-rows t xs = rows-below t (t .threads) xs ++ row-of (waits-below t (t .threads) xs)

@@ -1,0 +1,69 @@
+// A run with waits: what refuses it, 4 to 9, 16 and 10 to 13, then 18, and the mean of a row. `lock` runs it and counts.
+ghost use mathlib.Core.Path.{_≡_};
+ghost use Rattle.model.specs.Trees.{tree-of};
+ghost use Rattle.refusals.specs.Arrays.{told};
+ghost use Rattle.waits.specs.Rows.{greatest-divisor, mean};
+ghost use Rattle.waits.specs.Refusals.{waits-refusal};
+use model::State;
+use model::TreeWords;
+use refusals::Refusal;
+
+// A mean in lowest terms.
+pub struct Fraction {
+    pub numerator: u64,
+    pub denominator: u64,
+}
+
+// The greatest common divisor, by Euclid's algorithm.
+fn greatest_divisor(a: u64, b: u64) -> u64
+    ensures { λ r. ⌜ r ≡ greatest-divisor a b ⌝ }
+{
+    let mut x = a;
+    let mut y = b;
+    while y != 0 {
+        let rest = x % y;
+        x = y;
+        y = rest;
+    }
+    x
+}
+
+// A total over a number of attempts in lowest terms; without attempts 0 over 0.
+pub fn mean_of(total: u64, attempts: u64) -> Fraction
+    ensures { λ r. ⌜ r ≡ mean total attempts ⌝ }
+{
+    if attempts == 0 {
+        return Fraction {
+            numerator: 0,
+            denominator: 0,
+        };
+    }
+    let d = greatest_divisor(total, attempts);
+    Fraction {
+        numerator: total / d,
+        denominator: attempts / d,
+    }
+}
+
+// A run with waits meets 4 to 9, 16 and 10 to 13, then 18.
+pub fn waits_refusal_of(
+    tree: TreeWords,
+    state: State,
+    schedule: &[u16],
+    room: usize,
+    row_room: usize,
+) -> Refusal
+    ensures { λ r. ⌜ r ≡ told (waits-refusal (tree-of tree) state (now (schedule .entry)) room «row_room») ⌝ }
+{
+    let r = refusals::run_refusal_of(tree, state, schedule, room);
+    if r.number != 0 {
+        return r;
+    }
+    if row_room / 5 <= tree.threads as usize {
+        return Refusal {
+            number: 18,
+            place: 0,
+        };
+    }
+    r
+}

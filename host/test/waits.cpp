@@ -1,0 +1,91 @@
+// A run with waits, as a host makes it: rows by hand, the run itself as without them, refusals, and that nothing outside the buffers is touched.
+#include "check.hpp"
+#include "guarded.hpp"
+#include "hmcs.hpp"
+#include "same.hpp"
+#include "trees.hpp"
+
+#include <array>
+#include <cstdio>
+#include <cstring>
+#include <vector>
+
+namespace {
+
+using Schedule = std::vector<std::uint16_t>;
+using Numbers = std::array<std::uint64_t, HMCS_WAIT_NUMBERS>;
+
+Numbers numbers_of(const hmcs::Waits &w) { return {w.attempts, w.total, w.largest, w.numerator, w.denominator}; }
+
+// Threads 0 and 1 take turns in one queue, each going behind the other before that one enters.
+Schedule taking_turns() {
+    Schedule schedule;
+    const std::array<std::array<std::uint16_t, 2>, 9> parts = {{{1, 2}, {0, 3}, {1, 6}, {0, 7}, {1, 7}, {0, 7}, {1, 4}, {0, 4}, {1, 2}}};
+    for (const auto &part : parts) {
+        schedule.insert(schedule.end(), part[1], part[0]);
+    }
+    return schedule;
+}
+
+void wrapper() {
+    hmcs::Lock lock(root_alone(hmcs::RootKind::queue, 2)), plain(root_alone(hmcs::RootKind::queue, 2));
+    const hmcs::WaitsResult result = lock.run_waits(taking_turns());
+    const hmcs::RunResult run = plain.run(taking_turns());
+    CHECK(!result.run.refusal && result.threads.size() == 2);
+    CHECK((numbers_of(result.threads[0]) == Numbers{3, 2, 1, 2, 3}));
+    CHECK((numbers_of(result.threads[1]) == Numbers{4, 2, 1, 1, 2}));
+    CHECK((numbers_of(result.all) == Numbers{7, 4, 1, 4, 7}));
+    CHECK(result.run.trace == run.trace && result.run.counts.entries == run.counts.entries && result.run.counts.stays == run.counts.stays);
+    CHECK(same(lock.state(), plain.state()));
+    // the attempt of thread 1 that is under way when a run begins is none of that run's
+    hmcs::Lock second(root_alone(hmcs::RootKind::queue, 2));
+    second.run(Schedule{0, 0, 1, 1, 1});
+    const hmcs::WaitsResult late = second.run_waits(Schedule{0, 0, 0, 1});
+    CHECK(late.run.counts.entries == 1 && (numbers_of(late.threads[1]) == Numbers{}) && (numbers_of(late.all) == Numbers{}));
+    // at a ticket root an attempt begins with the draw
+    hmcs::Lock ticket(root_alone(hmcs::RootKind::ticket, 2), 65535);
+    const hmcs::WaitsResult drawn = ticket.run_waits(Schedule{0, 1, 0, 0, 0, 1, 1, 1, 0});
+    CHECK((numbers_of(drawn.threads[0]) == Numbers{2, 1, 1, 1, 2}) && (numbers_of(drawn.all) == Numbers{3, 1, 1, 1, 3}));
+    CHECK(lock.run_waits(Schedule{2}).run.refusal.number == HMCS_BAD_ENTRY && lock.run_waits(Schedule{2}).threads.empty());
+    CHECK(lock.run_waits(Schedule(65537, 0)).run.refusal.number == HMCS_SCHEDULE_LONG);
+    CHECK(lock.run_waits(Schedule(65536, 0)).run.counts.steps == 65536);
+}
+
+// The example between guard pages, with each room about four rows, and with a trace that is long enough or one too short.
+void buffers() {
+    const hmcs::Tree tree = example_tree();
+    const hmcs_state fresh = hmcs_fresh(tree.words(), 0).state;
+    const std::array<std::uint64_t, 5> one = {1, 0, 0, 0, 1}, all = {3, 0, 0, 0, 1};
+    for (bool at_end : {false, true}) {
+        for (std::size_t room = 0; room <= 23; ++room) {
+            for (std::size_t length : {schedule22.size() - 1, schedule22.size()}) {
+                Guarded schedule(schedule22.size() * 2, at_end), trace(length * 2, at_end), rows(room * 8, at_end);
+                std::memcpy(schedule.as<void>(), schedule22.data(), schedule22.size() * 2);
+                std::memset(trace.as<void>(), 0x33, length * 2);
+                std::memset(rows.as<void>(), 0x33, room * 8);
+                const hmcs_run_reply r = hmcs_run_waits(tree.words(), fresh, schedule.as<std::uint16_t>(), schedule22.size(), trace.as<std::uint16_t>(), length,
+                                                        rows.as<std::uint64_t>(), room);
+                const std::uint32_t number = length < schedule22.size() ? HMCS_TRACE_SHORT : room < 20 ? HMCS_WAITS_SHORT : HMCS_ACCEPTED;
+                CHECK(r.number == number && r.place == 0 && r.entries == (number == 0 ? 3U : 0U));
+                CHECK(number == 0 || same(r.state, fresh));
+                for (std::size_t k = 0; k < length; ++k) {
+                    CHECK(trace.as<std::uint16_t>()[k] == (number == 0 && k < 3 ? k : 0x3333));
+                }
+                for (std::size_t k = 0; k < room; ++k) {
+                    const std::uint64_t wanted = k < 15 ? one[k % 5] : all[k % 5];
+                    CHECK(rows.as<std::uint64_t>()[k] == (number == 0 && k < 20 ? wanted : UINT64_C(0x3333333333333333)));
+                }
+            }
+        }
+    }
+    CHECK(hmcs_run_waits(tree.words(), fresh, nullptr, 0, nullptr, 0, nullptr, 0).number == HMCS_WAITS_SHORT);
+}
+
+} // namespace
+
+int main() {
+    wrapper();
+    buffers();
+    std::printf("waits: %d checks, %d failures\n", checks, failures);
+    return failures == 0 ? 0 : 1;
+}
