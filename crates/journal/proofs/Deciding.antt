@@ -1,23 +1,21 @@
 -- THE CHECK, exactly: accepted where all entries are steps of the table, refused at the first that is not. Assumes nothing.
 use mathlib.Core.Path.{_≡_, refl, sym, ap, _∙_}
-use mathlib.Core.List.{List, [], _∷_, _++_, append-nil}
+use mathlib.Core.List.{List, [], _++_, append-nil}
 use mathlib.Core.Logic.{_≢_}
-use Prim.Native.Nat.{ℕ, suc, _+_, _≤_, _<_}
+use Prim.Native.Nat.{ℕ, suc, _+_, _≤_}
 use native.Mathlib.Omega.{arith}
-use native.Mathlib.Numerals.{add-one}
-use lib.Dec.{eqb}
-use lib.ListN.{length, length-append}
+use lib.ListN.{length}
 use borrow.Author.Tests.{eq-eqb, ne-eqb}
 use Rattle.model.specs.declared.TreeWords.{TreeWords}
 use Rattle.model.specs.declared.State.{State}
 use Rattle.model.specs.Trees.{Tree, tree-of}
 use Rattle.model.specs.Refusals.{Refusal, refusal, accepted, tree-refusal}
 use Rattle.journal.specs.declared.Entry.the-variants.{Named, Broken}
-use Rattle.journal.specs.Entries.{Named-step, Entries, last-thread}
+use Rattle.journal.specs.Entries.{Named-step, last-thread}
 use Rattle.journal.specs.Reading.{entry-at}
 use Rattle.journal.specs.Answers.{fresh-lock, checked, journal-refusal}
 use Rattle.journal.specs.Laws.{Steps-of, Begins-with, after-entries, Refused-entry, no-entry, no-thread, other-kind, Refused-by, Check-law}
-use Rattle.journal.proofs.Fronts.{front-of, entry-there, broken-there, Front, nothing-left, whole, broken}
+use Rattle.journal.proofs.Fronts.{front-of, entry-there, broken-there, nothing-left, whole, broken}
 use Rattle.journal.proofs.Checking as check
 use Rattle.journal.proofs.Walking.{passes-over, Outcome, all-taken, stopped, comes-to}
 

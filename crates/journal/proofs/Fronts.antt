@@ -1,5 +1,5 @@
 -- An entry at the front of some bytes, by the relation and by reading. Assumes nothing.
-use mathlib.Core.Path.{_≡_, refl, sym, ap, _∙_, subst}
+use mathlib.Core.Path.{_≡_, refl, ap, _∙_}
 use mathlib.Core.Bool.{Bool, true, false, cond}
 use mathlib.Core.List.{List, [], _∷_, _++_}
 use mathlib.Core.Logic.{_≢_, _⊎_, inl, inr}
@@ -8,10 +8,9 @@ use native.Mathlib.Omega.{arith}
 use lib.Dec.{ltb, lit≤}
 use lib.ListN.{length, getD, length-append}
 use borrow.Author.Tests.{lt-ltb, le-ltb}
-use Rattle.journal.specs.declared.Entry.{Entry}
 use Rattle.journal.specs.declared.Entry.the-variants.{Named, Broken, End}
 use Rattle.journal.specs.Entries.{Named-step, named, Entry-bytes, neither, thread-given, kind-given, both-given}
-use Rattle.journal.specs.Reading.{entry-size, entry-thread, entry-kind, entry-by, entry-at}
+use Rattle.journal.specs.Reading.{entry-size, entry-by, entry-at}
 use Rattle.journal.specs.Laws.{Begins-with}
 use Rattle.journal.proofs.Facts.{whole-entry}
 

@@ -1,11 +1,10 @@
 -- A piece of the journal, one entry after another. Assumes nothing.
-use mathlib.Core.Path.{_≡_, refl, sym, ap, _∙_, subst}
+use mathlib.Core.Path.{_≡_, refl, ap, _∙_}
 use mathlib.Core.List.{List, [], _∷_, _++_}
 use Prim.Native.Nat.{ℕ, zero, suc, _+_, _-_, _≤_, _<_}
 use native.Mathlib.Omega.{arith}
 use native.Mathlib.Numerals.{add-one}
 use lib.ListN.{length, take, set, length-set}
-use Rattle.journal.specs.declared.Entry.{Entry}
 use Rattle.journal.specs.declared.Entry.the-variants.{Named, Broken, End}
 use Rattle.journal.specs.Reading.{entry-at, position-by, position-after, Stretch, none-read, one-read, Stops, for-room, for-broken, for-thread, piece-of, Piece-read}
 use Rattle.journal.proofs.Facts.{at-end}

@@ -1,6 +1,6 @@
 -- A piece of the journal against the steps of its threads: the check goes on behind it, or 26 stands at the first entry whose kind is not the step's. Assumes nothing.
 use mathlib.Core.Path.{_≡_, refl, sym, ap, _∙_}
-use mathlib.Core.List.{List, [], _∷_, _++_}
+use mathlib.Core.List.{List}
 use mathlib.Core.Logic.{_≢_}
 use Prim.Native.Nat.{ℕ, zero, suc, _+_, _≤_, _<_}
 use native.Mathlib.Omega.{arith}
@@ -11,8 +11,7 @@ use Rattle.model.specs.Steps.{step}
 use Rattle.model.specs.Runs.{steps, state-after}
 use Rattle.model.specs.Refusals.{refusal, accepted}
 use Rattle.model.specs.Laws.{All-threads}
-use Rattle.journal.specs.declared.Entry.the-variants.{Named, Broken}
-use Rattle.journal.specs.Reading.{entry-at, position-after, Stretch, none-read, one-read, Stops, for-room, for-broken, for-thread}
+use Rattle.journal.specs.Reading.{position-after, Stretch, none-read, one-read, Stops, for-room, for-broken, for-thread}
 use Rattle.journal.specs.Answers.{checked}
 use Rattle.journal.specs.Laws.{kind-numbers}
 use Rattle.journal.proofs.Facts.{moves-on}

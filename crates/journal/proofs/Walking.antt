@@ -1,13 +1,10 @@
 -- Entries that are steps of the table, read one behind another by the check; and what the check of some bytes comes to. Assumes nothing.
 use mathlib.Core.Path.{_≡_, refl, sym, ap, _∙_, subst}
-use mathlib.Core.Bool.{Bool, true, false}
 use mathlib.Core.List.{List, [], _∷_, _++_, append-assoc}
 use mathlib.Core.Logic.{_≢_}
 use Prim.Native.Nat.{ℕ, zero, suc, _+_, _≤_, _<_}
 use native.Mathlib.Omega.{arith}
-use lib.Dec.{eqb, ltb}
 use lib.ListN.{length, getD, drop, length-append}
-use borrow.Author.Tests.{eqb-true, eqb-false, ltb-true, ltb-false}
 use Rattle.model.specs.declared.State.{State}
 use Rattle.model.specs.Trees.{Tree}
 use Rattle.model.specs.Steps.{kind-number, step}
@@ -15,13 +12,13 @@ use Rattle.model.specs.Runs.{steps, state-after}
 use Rattle.model.specs.Refusals.{Refusal, refusal, accepted}
 use Rattle.model.specs.Laws.{All-threads}
 use Rattle.model.proofs.Lists.{same-or, less-or}
-use Rattle.journal.specs.Entries.{Named-step, Entry-bytes, Entries, no-entry, next-entry, threads-of, kinds-of, last-thread}
+use Rattle.journal.specs.Entries.{Named-step, Entries, no-entry, next-entry, threads-of, kinds-of, last-thread}
 use Rattle.journal.specs.declared.Entry.the-variants.{Named}
 use Rattle.journal.specs.Reading.{entry-at}
 use Rattle.journal.specs.Answers.{checked}
 use Rattle.journal.specs.Laws as laws
 use Rattle.journal.specs.Laws.{kind-numbers, Of-the-table, Begins-with, Refused-entry}
-use Rattle.journal.proofs.Fronts.{end-there, broken-there, entry-there, entry-long, Front, nothing-left, whole, broken, front-of}
+use Rattle.journal.proofs.Fronts.{end-there, broken-there, entry-there, entry-long, nothing-left, whole, broken, front-of}
 use Rattle.journal.proofs.Checking.{unknown-thread, same-kind, other-kind, broken-entry, journal-end}
 
 -- STEPS OF THE TABLE: the first, and those behind it

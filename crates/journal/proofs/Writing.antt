@@ -1,19 +1,17 @@
 -- Bytes are the entries of at most one list, and every schedule has a journal. Assumes nothing.
 use mathlib.Core.Path.{_≡_, refl, sym, ap, _∙_, subst}
 use mathlib.Core.List.{List, [], _∷_, _++_}
-use Prim.Native.Nat.{ℕ, suc, _+_, _*_, _%_, _/_, _<_}
+use Prim.Native.Nat.{ℕ, _+_, _*_, _%_, _/_}
 use native.Mathlib.Omega.{arith}
 use lib.ListN.{length, drop, length-append}
-use Rattle.model.specs.declared.TreeWords.{TreeWords}
 use Rattle.model.specs.declared.State.{State}
 use Rattle.model.specs.Trees.{Tree, tree-of}
 use Rattle.model.specs.Steps.{kind-number, step}
 use Rattle.model.specs.Runs.{steps}
-use Rattle.model.specs.Refusals.{tree-refusal}
 use Rattle.model.specs.Laws.{All-threads}
 use Rattle.journal.specs.declared.Entry.{Entry}
 use Rattle.journal.specs.declared.Entry.the-variants.{Named, Broken, End}
-use Rattle.journal.specs.Entries.{Named-step, named, Entry-bytes, both-given, Entries, no-entry, next-entry, threads-of, kinds-of}
+use Rattle.journal.specs.Entries.{Named-step, named, Entry-bytes, both-given, Entries, no-entry, next-entry}
 use Rattle.journal.specs.Answers.{fresh-lock}
 use Rattle.journal.specs.Laws.{kind-numbers, Of-the-table, One-reading-law, written-out, Written-law, Check-law}
 use Rattle.journal.proofs.Fronts.{entry-there, entry-long}

@@ -1,6 +1,6 @@
 -- The journal read by positions, as the reader reads it; proofs/ shows that this is the relation of Entries. Assumes nothing: these are definitions.
 use mathlib.Core.Path.{_≡_}
-use mathlib.Core.Bool.{Bool, cond}
+use mathlib.Core.Bool.{cond}
 use mathlib.Core.List.{List, [], _∷_}
 use Prim.Native.Nat.{ℕ, zero, suc, _+_, _-_, _*_, _%_, _/_, _≤_, _<_}
 use lib.Dec.{eqb, ltb}

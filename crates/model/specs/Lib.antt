@@ -5,6 +5,7 @@ pub mod Places
 pub mod States
 pub mod Steps
 pub mod Runs
+pub mod Tenures
 pub mod Acts
 pub mod WellFormed
 pub mod Refusals

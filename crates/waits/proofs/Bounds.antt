@@ -1,17 +1,16 @@
 -- A thread's attempts and their total are no more than the steps, since no two of its attempts overlap. Assumes nothing.
-use mathlib.Core.Path.{_≡_, refl, sym, ap, _∙_}
+use mathlib.Core.Path.{_≡_, refl}
 use mathlib.Core.Bool.{Bool, true, false, cond}
 use mathlib.Core.List.{List, [], _∷_, _++_}
 use Prim.Native.Nat.{ℕ, zero, suc, _+_, _-_, _≤_}
 use native.Mathlib.Omega.{arith}
 use lib.ListN.{length, length-append}
-use Rattle.model.specs.declared.State.{State}
 use Rattle.model.specs.Trees.{Tree}
 use Rattle.model.specs.Steps.{is-entry, Step}
 use Rattle.model.specs.Runs.{steps}
 use Rattle.model.proofs.Laws.Runs.{steps-length}
 use Rattle.schedules.specs.Rows.{total}
-use Rattle.waits.specs.Attempts.{begins, enters, begun, counted, under-way-after, finished, finished-by, waits-from, waits}
+use Rattle.waits.specs.Attempts.{begins, enters, begun, counted, under-way-after, finished, finished-by, waits-from}
 use Rattle.waits.specs.Laws.{Bound-law}
 use Rattle.waits.proofs.Tallying.{total-join}
 

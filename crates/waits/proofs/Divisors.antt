@@ -1,15 +1,13 @@
 -- The greatest common divisor and the mean, by divisibility. Assumes nothing.
 use mathlib.Core.Path.{_≡_, refl, sym, ap, subst, _∙_}
-use mathlib.Core.Bool.{Bool, true, false, cond}
 use mathlib.Core.Logic.{_≢_}
 use Prim.Native.Nat.{ℕ, zero, suc, one, _*_, _/_, _%_, _≤_, _<_, _∣_}
 use native.Mathlib.Omega.{arith}
 use native.Mathlib.Decide.{ℕ-discrete}
-use native.Mathlib.Nat.{mod-lt, dvd-refl, dvd-zero, dvd-mod-iff, pos-of-dvd-of-pos, div-mul-cancel, mul-dvd-mul-right, dvd-of-mul-dvd-mul-right, eq-one-of-dvd-one, mul-comm, mul-assoc, one-mul, mul-zero, zero-mul, zero-div}
-use lib.Dec.{eqb}
-use borrow.Author.Tests.{eq-eqb, ne-eqb, eqb-true, eqb-false}
+use native.Mathlib.Nat.{mod-lt, dvd-refl, dvd-zero, dvd-mod-iff, pos-of-dvd-of-pos, div-mul-cancel, mul-dvd-mul-right, dvd-of-mul-dvd-mul-right, eq-one-of-dvd-one, mul-comm, mul-assoc, one-mul, mul-zero, zero-div}
+use borrow.Author.Tests.{eq-eqb, ne-eqb}
 use Rattle.waits.specs.Rows.{divisor-in, greatest-divisor, mean}
-use Rattle.waits.specs.Laws.{In-lowest-terms, Mean-law}
+use Rattle.waits.specs.Laws.{Mean-law}
 
 -- where the second number is 0 the first is the answer, else the division goes on
 divisor-ends : (n a b : ℕ) → b ≡ 0 → divisor-in n a b ≡ a

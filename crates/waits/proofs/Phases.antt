@@ -1,22 +1,21 @@
 -- A thread is on its way from the beginning of an attempt to its entry, and no step begins another one there. Assumes nothing.
-use mathlib.Core.Path.{_≡_, refl, sym, ap, _∙_}
+use mathlib.Core.Path.{_≡_, refl, sym, _∙_}
 use mathlib.Core.Bool.{Bool, true, false, _&&_, not, cond, true≢false}
 use mathlib.Core.Logic.{_≢_}
-use Prim.Native.Nat.{ℕ, _-_, _+_, _≤_, _<_}
+use Prim.Native.Nat.{ℕ, _-_, _+_, _<_}
 use native.Mathlib.Omega.{arith}
-use native.Mathlib.Decide.{ℕ-discrete}
 use lib.Dec.{eqb, ltb}
 use lib.ListN.{set}
-use borrow.Author.Tests.{eq-eqb, ne-eqb, eqb-true, eqb-false, not-true, not-false}
+use borrow.Author.Tests.{eq-eqb, ne-eqb, eqb-true, eqb-false, not-true}
 use Rattle.model.specs.declared.Place.{Place}
 use Rattle.model.specs.declared.Place.the-variants.{Idle, Prep, Swap, Link, Wait, Inside, Check, Help, Cas, Linger, Grant, Draw, Watch, Raise, Invalid}
 use Rattle.model.specs.declared.State.{State}
 use Rattle.model.specs.Trees.{Tree, is-ticket, is-child, is-leaf, child, own-record}
 use Rattle.model.specs.Places.{words-of}
 use Rattle.model.specs.States.{none, locked, wait-word, acquire-parent, tail, next, status}
-use Rattle.model.specs.Steps.{stay, is-entry, Row-result, acquire-place, acquired-place, release-place, done-place, release-word, passing-kind, passed-entry, crossed-entry, enters, prep-row, swap-row, link-row, wait-row, leave-row, check-row, help-row, cas-row, linger-row, grant-row, draw-row, watch-row, raise-row, row}
+use Rattle.model.specs.Steps.{is-entry, Row-result, acquired-place, release-place, done-place, release-word, passed-entry, crossed-entry, enters, prep-row, swap-row, link-row, wait-row, leave-row, check-row, help-row, cas-row, linger-row, grant-row, draw-row, watch-row, raise-row, row}
 use Rattle.model.specs.WellFormed.{good-place}
-use Rattle.model.proofs.Tests.{by-test, any-none, and-both}
+use Rattle.model.proofs.Tests.{by-test, any-none}
 use Rattle.model.proofs.Trees.Accepted.{Accepted}
 use Rattle.model.proofs.Trees.Paths.{path-real}
 use Rattle.model.proofs.Trees.Tickets.{queue-facts}

@@ -1,5 +1,5 @@
 -- The tables of all threads, one step after another, and the rows that they give. Assumes nothing.
-use mathlib.Core.Path.{_≡_, refl, sym, ap, subst, _∙_}
+use mathlib.Core.Path.{_≡_, refl, sym, ap, _∙_}
 use mathlib.Core.Bool.{Bool, true, false, cond}
 use mathlib.Core.List.{List, [], _∷_, _++_}
 use mathlib.Core.Logic.{_≢_, inl, ⊎-elim}
@@ -14,7 +14,7 @@ use Rattle.model.specs.Steps.{is-entry, Step}
 use Rattle.model.specs.Runs.{how-many}
 use Rattle.schedules.specs.Rows.{total}
 use Rattle.waits.specs.Attempts.{begins-from, waits-from, waits, waits-below}
-use Rattle.waits.specs.Rows.{largest, row-with, row-of, rows-below, all-rows}
+use Rattle.waits.specs.Rows.{largest, row-of, rows-below, all-rows}
 use Rattle.waits.specs.Tallies.{mark-with, finishes, wait-of, noted, way, Tallied, Tallies, table-rows, sum-below, rows-by}
 use Rattle.waits.proofs.Tallying.{total-join, largest-join, entries-next, other-turn, own-turn}
 

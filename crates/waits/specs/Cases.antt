@@ -6,6 +6,7 @@ use lib.Dec.{eqb}
 use lib.ListN.{replicate}
 use Rattle.model.specs.declared.TreeWords.{TreeWords}
 use Rattle.model.specs.declared.State.{State}
+use Rattle.model.specs.declared.RunReply.{RunReply}
 use Rattle.model.specs.Trees.{tree-of}
 use Rattle.model.specs.States.{fresh-words}
 use Rattle.model.specs.Runs.{steps, state-after}
@@ -80,16 +81,17 @@ cases =
     ∷ refused-with 12 two-in-root (2 ∷ []) 0 14
     ∷ refused-with 5 (tree 1 0 (0 ∷ []) (0 ∷ []) []) [] 0 0 ∷ []
 
--- refused, zero counts, and state and trace as they came
-unfoldable pub nothing-done : Case → Bool
-nothing-done c =
-    let r = waits-answer (c .words) (c .state) (c .schedule) (c .trace) (c .rows) in
-    (same-counts (r .counts) no-counts && same-state (r .state) (c .state)) && same-numbers (waits-trace (c .words) (c .state) (c .schedule) (c .trace) (c .rows)) (c .trace)
+-- WHEN A LINE HOLDS, of the run's reply and of both buffers after it. Refused, zero counts, and state and trace as they came
+abbrev pub nothing-done : RunReply → (traced : List ℕ) → Case → Bool
+nothing-done r tr c = (same-counts (r .counts) no-counts && same-state (r .state) (c .state)) && same-numbers tr (c .trace)
+
+abbrev pub answered : RunReply → (traced rows : List ℕ) → Case → Bool
+answered r tr xs c = (eqb (r .number) (c .number) && (eqb (r .number) 0 || nothing-done r tr c)) && same-numbers xs (c .after)
 
 unfoldable pub holds : Case → Bool
 holds c =
-    let r = waits-answer (c .words) (c .state) (c .schedule) (c .trace) (c .rows) in
-    (eqb (r .number) (c .number) && (eqb (r .number) 0 || nothing-done c)) && same-numbers (waits-rows (c .words) (c .state) (c .schedule) (c .trace) (c .rows)) (c .after)
+    answered (waits-answer (c .words) (c .state) (c .schedule) (c .trace) (c .rows)) (waits-trace (c .words) (c .state) (c .schedule) (c .trace) (c .rows))
+    (waits-rows (c .words) (c .state) (c .schedule) (c .trace) (c .rows)) c
 
 unfoldable pub all-hold : List Case → Bool
 all-hold [] = true

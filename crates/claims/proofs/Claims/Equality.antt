@@ -24,14 +24,14 @@ use Rattle.claims.proofs.Words.Represents.{Fits, at-idle, at-prep, at-s
 use Rattle.claims.proofs.Claims.Reached.{Queued, from-fresh}
 
 -- what the place Check says
-record Checking (t : Tree) (w : Words) (g : State) (i l : ℕ) (x : Stage) : Type 0 where
-  index : ℕ
-  below : index < height t i
-  there : l ≡ ancestor t i index
-  stage : x ≡ holding
-  count : w .statuses (record-at t i index) ≡ g .tally (record-at t i index)
+pub record Checking (t : Tree) (w : Words) (g : State) (i l : ℕ) (x : Stage) : Type 0 where
+  pub index : ℕ
+  pub below : index < height t i
+  pub there : l ≡ ancestor t i index
+  pub stage : x ≡ holding
+  pub count : w .statuses (record-at t i index) ≡ g .tally (record-at t i index)
 
-checking : {t : Tree} {w : Words} {g : State} {i : ℕ} (l : ℕ) {p : Place} {x : Stage} → p ≡ Check l → Fits t w g i p x → Checking t w g i l x
+pub checking : {t : Tree} {w : Words} {g : State} {i : ℕ} (l : ℕ) {p : Place} {x : Stage} → p ≡ Check l → Fits t w g i p x → Checking t w g i l x
 checking l e (at-check k b c) = record { index = k; below = b; there = cc; stage = refl; count = c k b b }
 checking l e at-idle = absurd (let z : _≡_ {A = ℕ} 0 1 = cc in omega arith)
 checking l e (at-prep k b c) = absurd (let z : _≡_ {A = ℕ} 0 1 = cc in omega arith)

@@ -40,7 +40,7 @@ unfoldable pub left : Tree → (tally : ℕ → ℕ) (x : Stage) (i k : ℕ) →
 left T t x i zero = pending x
 left T t x i (suc k) = (T .threshold (ancestor T i k) - t (record-at T i k)) * member-allowance T (ancestor T i k) + left T t x i k
 
-pending-one : (x : Stage) → pending x ≤ 1
+pub pending-one : (x : Stage) → pending x ≤ 1
 unfolding pending
 pending-one out = omega arith
 pending-one (climb j) = omega arith
@@ -50,7 +50,7 @@ pending-one inside = omega arith
 pending-one holding = omega arith
 pending-one (releasing j) = omega arith
 
-pending-down : (j : ℕ) → 0 < j → pending (down j) ≡ 0
+pub pending-down : (j : ℕ) → 0 < j → pending (down j) ≡ 0
 unfolding pending down
 pending-down zero h = absurd (omega arith)
 pending-down (suc j) h = refl

@@ -27,7 +27,7 @@ use Rattle.claims.proofs.Words.Joining.{prepare, empty-there, take-root
 use Rattle.claims.proofs.Words.Outcome.{standing-shown, entry-shown, row-shown, Outcome, outcome, placed, status-placed, next-placed, tail-placed, prep-placed, swap-placed, member-small}
 
 -- a passed and a crossed entry are entries
-passing-entry : (t : Tree) (i l : ℕ) → is-entry (passing-kind t i l) ≡ true
+pub passing-entry : (t : Tree) (i l : ℕ) → is-entry (passing-kind t i l) ≡ true
 unfolding is-entry
 passing-entry t i l = by (eqb l (t .home i))
   where

@@ -37,7 +37,7 @@ some-first : (q : List ℕ) → q ≢ [] → (a : ℕ) × (first q ≡ suc a)
 some-first [] n = absurd (n refl)
 some-first (x ∷ xs) n = (x, first-cons x xs)
 
-begins-at : (t : Tree) (g g′ : State) (d e m : ℕ) → d ≡ e → Move t g (begins d m) g′ → Move t g (begins e m) g′
+pub begins-at : (t : Tree) (g g′ : State) (d e m : ℕ) → d ≡ e → Move t g (begins d m) g′ → Move t g (begins e m) g′
 begins-at t g g′ d e m z mv = rw z at mv
 
 -- the members at a ticket root, few enough for the counters
@@ -66,13 +66,13 @@ module _ (t : Tree) (𝓐 : Accepted t) (s : WordState) (room : Room s) (g : Sta
     there : L ≡ 0
     there = ap (ancestor t i) top ∙ ancestor-root t 𝓐 i h
 
-    within : k ≤ height t i
+    pub within : k ≤ height t i
     within = omega arith
 
     queue-there : g .queue L ≡ g .queue 0
     queue-there = ap (g .queue) there
 
-    abbrev drawn : Place → Words
+    abbrev pub drawn : Place → Words
     drawn p = place-to i p (ticket-to (wrap (w .ticket + 1)) (status-to R (w .ticket) w))
 
     others-kept : (r : ℕ) → r ≢ R → put (w .statuses) R (w .ticket) r ≡ w .statuses r
@@ -96,7 +96,7 @@ module _ (t : Tree) (𝓐 : Accepted t) (s : WordState) (room : Room s) (g : Sta
           })
 
     -- the ticket equals the grant exactly where nobody is there
-    nobody-there : w .ticket ≡ w .grant → g .queue L ≡ []
+    pub nobody-there : w .ticket ≡ w .grant → g .queue L ≡ []
     nobody-there z =
         let old = o .numbered root in
         let b = tickets-behind (w .statuses) (w .grant) (w .ticket) (g .queue 0) (old .small) (old .held) in
@@ -104,7 +104,7 @@ module _ (t : Tree) (𝓐 : Accepted t) (s : WordState) (room : Room s) (g : Sta
         let small = old .small in
         queue-there ∙ length-none (g .queue 0) (omega arith)
 
-    somebody-there : w .ticket ≢ w .grant → (a : ℕ) × (first (g .queue L) ≡ suc a)
+    pub somebody-there : w .ticket ≢ w .grant → (a : ℕ) × (first (g .queue L) ≡ suc a)
     unfolding Tickets
     somebody-there n =
         let old = o .numbered root in
@@ -112,7 +112,7 @@ module _ (t : Tree) (𝓐 : Accepted t) (s : WordState) (room : Room s) (g : Sta
         let empty : Tickets (w .statuses) (w .grant) (w .ticket) [] = rw (sym queue-there ∙ z) at (old .held) in
         n empty)
 
-    draw-enters : g .stage i ≡ climb k → Counted t w g i k → w .ticket ≡ w .grant → Represents t (drawn Inside) (took-root-state t 𝓐 w g i h o k within)
+    pub draw-enters : g .stage i ≡ climb k → Counted t w g i k → w .ticket ≡ w .grant → Represents t (drawn Inside) (took-root-state t 𝓐 w g i h o k within)
     draw-enters e c z =
         let g′ = took-root-state t 𝓐 w g i h o k within in
         assembled t 𝓐 w g i h o (drawn Inside) g′ Inside inside (keeps t (laws t 𝓐) g inv (join-root i k e there (nobody-there z)))
@@ -122,7 +122,7 @@ module _ (t : Tree) (𝓐 : Accepted t) (s : WordState) (room : Room s) (g : Sta
         (λ j hj n. join-apart t 𝓐 w g i h o k within (drawn Inside) g′ refl refl e j hj n (put-other (w .places) i Inside j n)
         (put-other (g .stage) i inside j n) others-kept (λ r q. refl) (λ d r q z. z))
 
-    draw-watches : g .stage i ≡ climb k → Counted t w g i k → w .ticket ≢ w .grant → Represents t (drawn Watch) (stood-state t 𝓐 w g i h o k within)
+    pub draw-watches : g .stage i ≡ climb k → Counted t w g i k → w .ticket ≢ w .grant → Represents t (drawn Watch) (stood-state t 𝓐 w g i h o k within)
     draw-watches e c z =
         let g′ = stood-state t 𝓐 w g i h o k within in
         let f = somebody-there z in

@@ -35,11 +35,11 @@ module _ (t : Tree) (𝓐 : Accepted t) (s : WordState) (room : Room s) (g : Sta
   few = omega (arith, 𝓐 .few-threads)
 
   -- only the place changes, and no queue moves
-  stands-still : (p : Place) (x : Stage) → g .stage i ≡ x → Fits t (place-to i p w) g i p x → Represents t (place-to i p w) g
+  pub stands-still : (p : Place) (x : Stage) → g .stage i ≡ x → Fits t (place-to i p w) g i p x → Represents t (place-to i p w) g
   stands-still p x e f = replaced t 𝓐 w g i h o g p x (o .invariant) refl refl e (λ j n. refl) f
 
   -- the place from which the domain at an index is released
-  release-fits :
+  pub release-fits :
       (w′ : Words) (g′ : State) (k : ℕ) → k ≤ height t i → Counted t w′ g′ i (height t i) → (r b : Bool) → is-ticket t (ancestor t i k) ≡ r →
       eqb (ancestor t i k) 0 ≡ b → Fits t w′ g′ i (cond r Raise (cond b (Help (ancestor t i k)) (Check (ancestor t i k)))) holding
   release-fits w′ g′ k l c true b q e = at-raise (ticket-facts t (ancestor t i k) q .0) c
@@ -51,7 +51,7 @@ module _ (t : Tree) (𝓐 : Accepted t) (s : WordState) (room : Room s) (g : Sta
       at-check k (omega arith) c
 
   -- INSIDE
-  abbrev left-state : State
+  abbrev pub left-state : State
   left-state = record { queue = g .queue; stage = put (g .stage) i holding; tally = g .tally }
 
   pub leave-outcome : g .stage i ≡ inside → Counted t w g i (height t i) → Outcome t g i (t .home i) (leave-row t i s)
@@ -93,10 +93,10 @@ module _ (t : Tree) (𝓐 : Accepted t) (s : WordState) (room : Room s) (g : Sta
 
   -- at the places where a domain is let go last
   module _ (k : ℕ) (l : k ≤ height t i) (nt : is-ticket t (ancestor t i k) ≡ false) (e : g .stage i ≡ letting-go (height t i) k) (c : Counted t w g i (suc k)) where
-    first-there : k < low (height t i) (g .stage i)
+    pub first-there : k < low (height t i) (g .stage i)
     first-there = rw e (omega (arith, letting-go-low (height t i) k))
 
-    to-grant : eqb (next s (record-at t i k)) 0 ≡ false →
+    pub to-grant : eqb (next s (record-at t i k)) 0 ≡ false →
         Represents t (place-to i (Grant (ancestor t i k) (next s (record-at t i k) - 1) (release-word (ancestor t i k))) w) g
     unfolding words-in
     to-grant z =
@@ -147,7 +147,7 @@ module _ (t : Tree) (𝓐 : Accepted t) (s : WordState) (room : Room s) (g : Sta
     linger-outcome rep = linger-by rep _ refl
 
     -- GRANT of the domain, or of the lock at the root
-    successor-small : (r : ℕ) → w .nexts (record-at t i k) ≡ suc r → r < 320
+    pub successor-small : (r : ℕ) → w .nexts (record-at t i k) ≡ suc r → r < 320
     successor-small r own =
         let x = successor t 𝓐 w g i h o k l first-there nt r own in
         rw (x .mine) at (record-small t 𝓐 (x .thread) (successor-real t 𝓐 w g i h o k l first-there nt r own) (x .index) (successor-within t 𝓐 w g i h o k l first-there nt r own))

@@ -60,7 +60,7 @@ watcher (at-grant k r l c n) e = absurd (false≢true e)
 watcher (at-draw k l r c) e = absurd (false≢true e)
 watcher (at-raise r c) e = absurd (false≢true e)
 
-ends-at : (t : Tree) (g g′ : State) (d e m : ℕ) → d ≡ e → Move t g (moves.ends d m) g′ → Move t g (moves.ends e m) g′
+pub ends-at : (t : Tree) (g g′ : State) (d e m : ℕ) → d ≡ e → Move t g (moves.ends d m) g′ → Move t g (moves.ends e m) g′
 ends-at t g g′ d e m z mv = rw z at mv
 
 module _ (t : Tree) (𝓐 : Accepted t) (s : WordState) (room : Room s) (g : State) (i : ℕ) (h : i < t .threads) (o : Others t (words-in s) g i)
@@ -87,7 +87,7 @@ module _ (t : Tree) (𝓐 : Accepted t) (s : WordState) (room : Room s) (g : Sta
   there : L ≡ 0
   there = ancestor-root t 𝓐 i h
 
-  abbrev raised : ℕ
+  abbrev pub raised : ℕ
   raised = wrap (w .grant + 1)
 
   low-i : low (height t i) (g .stage i) ≡ suc (height t i)
@@ -98,10 +98,10 @@ module _ (t : Tree) (𝓐 : Accepted t) (s : WordState) (room : Room s) (g : Sta
   head = inv .threads i .heads k (omega (arith, low-i))
 
   -- the row's place
-  done-root : done-place t i 0 ≡ done-at t i k
+  pub done-root : done-place t i 0 ≡ done-at t i k
   done-root = rw there at (done-place-at t 𝓐 i h k (omega arith))
 
-  abbrev raised-words : Words
+  abbrev pub raised-words : Words
   raised-words = place-to i (done-at t i k) (grant-to raised w)
 
   -- domains with a queue are others
@@ -133,11 +133,11 @@ module _ (t : Tree) (𝓐 : Accepted t) (s : WordState) (room : Room s) (g : Sta
   is-shown x = eqb (status s x) raised && is-watched t s x
 
   -- NOBODY BEHIND
-  abbrev empty-state : State
+  abbrev pub empty-state : State
   empty-state = record { queue = put (g .queue) L []; stage = put (g .stage) i (down k); tally = g .tally }
 
   module _ (shape : g .queue L ≡ R ∷ []) where
-    nobody-shown : shown-members t s raised ≡ []
+    pub nobody-shown : shown-members t s raised ≡ []
     unfolding shown-members
     nobody-shown =
         filter-none 320 is-shown (λ x b. by x (is-shown x) refl)
@@ -156,7 +156,7 @@ module _ (t : Tree) (𝓐 : Accepted t) (s : WordState) (room : Room s) (g : Sta
         let all : Tickets (w .statuses) (w .grant) (w .ticket) (R ∷ []) = rw (ap (g .queue) (sym there) ∙ shape) at (old .held) in
         rw (put-same (g .queue) L [] 0 (sym there)) (record { small = wrap-small (w .grant + 1); held = all .1 })
 
-    emptied : Represents t raised-words empty-state
+    pub emptied : Represents t raised-words empty-state
     emptied =
         assembled t 𝓐 w g i h o raised-words empty-state (done-at t i k) (down k)
         (keeps t (laws t 𝓐) g inv (let-go i k (root e refl) shape)) (kept-linked empty-state [] refl) emptied-numbered
@@ -174,13 +174,13 @@ module _ (t : Tree) (𝓐 : Accepted t) (s : WordState) (room : Room s) (g : Sta
 
   -- SOMEBODY BEHIND: the second becomes the first
   module _ (r : ℕ) (ys : List ℕ) (shape : g .queue L ≡ R ∷ r ∷ ys) where
-    behind : Second t g L r
+    pub behind : Second t g L r
     behind = second t g inv L R r ys shape
 
-    abbrev S : ℕ
+    abbrev pub S : ℕ
     S = behind .thread
 
-    abbrev N : ℕ
+    abbrev pub N : ℕ
     N = behind .index
 
     S-real : S < t .threads
@@ -249,7 +249,7 @@ module _ (t : Tree) (𝓐 : Accepted t) (s : WordState) (room : Room s) (g : Sta
         absurd (tickets-rest (w .statuses) raised (w .ticket) x (r ∷ ys) (wrap-small (w .grant + 1)) (omega arith) (all-held .1)
         (rw (rest-cons r ys) in-ys) same)
 
-    r-shown : shown-members t s raised ≡ r ∷ []
+    pub r-shown : shown-members t s raised ≡ r ∷ []
     unfolding shown-members
     r-shown = filter-one 320 is-shown r r-small (rw (eq-eqb (status s r) raised shown-ticket, r-watched)) (λ x b n. by x n (is-shown x) refl)
       where
@@ -257,7 +257,7 @@ module _ (t : Tree) (𝓐 : Accepted t) (s : WordState) (room : Room s) (g : Sta
         by x n true y = absurd (let z = only-r x n y in omega arith)
         by x n false y = y
 
-    abbrev handed-state : State
+    abbrev pub handed-state : State
     handed-state =
         record {
           queue = put (g .queue) L (r ∷ ys);
@@ -265,7 +265,7 @@ module _ (t : Tree) (𝓐 : Accepted t) (s : WordState) (room : Room s) (g : Sta
           tally = put (g .tally) r (suc (g .tally R));
         }
 
-    handed : Move t g (moves.ends L r) handed-state
+    pub handed : Move t g (moves.ends L r) handed-state
     handed = hands-on t g i k S N r ys (behind .waits) (behind .place) (behind .mine) shape e (omega arith) (λ n. absurd (n there))
 
     handed-numbered : t .ticket-root ≡ true → Numbered raised-words (handed-state .queue 0)
@@ -305,7 +305,7 @@ module _ (t : Tree) (𝓐 : Accepted t) (s : WordState) (room : Room s) (g : Sta
           not-last = λ m b z. z;
         }
 
-    handed-over : Represents t raised-words handed-state
+    pub handed-over : Represents t raised-words handed-state
     unfolding words-in
     handed-over =
         record {

@@ -1,8 +1,7 @@
 -- `journal::position_after` meets its contract: the position behind the entries that are left is the same in every turn. Assumes nothing.
-use mathlib.Core.Path.{_≡_, refl, sym, ap, _∙_}
-use Prim.Native.Nat.{ℕ, suc, _+_, _-_, _≤_}
+use mathlib.Core.Path.{_≡_, sym, ap, _∙_}
+use Prim.Native.Nat.{suc, _+_, _-_, _≤_}
 use native.Mathlib.Omega.{arith}
-use lib.ListN.{length}
 use borrow.Author.Needs.{needs}
 use Rattle.journal.specs.Reading.{position-after}
 use Rattle.journal.proofs.Pieces.{position-next, position-broken, position-end, position-none}

@@ -1,0 +1,3 @@
+-- What holds of entries, tenures and the longest tenure of each domain.
+pub mod Laws
+pub mod Cases
