@@ -1,11 +1,12 @@
-/* Lyumadeon: a proved step model of the hierarchical MCS lock, for C and C++.
+/* Lyumadeon: a proved step model of the hierarchical MCS lock, for C (99 and later) and C++.
  *
- * Link with libhost.a (`rt staticlib host` writes target/staticlib/libhost.a, for x86-64 Linux). Every function returns for every input,
- * writes only what its description names, and keeps nothing: no allocation, no globals, no locks.
+ * The library is for x86-64 Linux, and its code has no unwind tables: no exception goes through it, and a debugger or profiler that walks the
+ * stack may stop in it. Every function returns for every input, writes only what its description names, and keeps nothing: no allocation, no
+ * globals, no locks. Link it so that a plugin does not export it: the CMake target hmcs::hmcs and the flags of pkg-config do.
  *
  * Pointers are the one thing that no function can test. A buffer must be valid for its length, and may be null where the length is 0; the
- * pointers to a state, a place or a length must be valid, aligned and not null. The buffers of one call must not overlap, and two threads
- * that call at the same time must write to different ones. hmcs_run_file and hmcs_run_many need 160 KB of stack,
+ * pointers to a state, a place or a length must be valid, aligned and not null. The buffers of one call must not overlap. Two calls may run at
+ * once unless one writes what the other reads or writes. hmcs_run_file and hmcs_run_many need 160 KB of stack,
  * hmcs_check_journal 50 KB, hmcs_run_waits 32 KB, every other function at most 26 KB beside its arguments and its result, which are up to
  * 16 KB in the caller.
  *
@@ -17,6 +18,14 @@
 
 #include <stddef.h>
 #include <stdint.h>
+
+/* The version, here and nowhere else; HMCS_VERSION is it as a text, "1.0.0" or the like. */
+#define HMCS_VERSION_MAJOR 1
+#define HMCS_VERSION_MINOR 0
+#define HMCS_VERSION_PATCH 0
+#define HMCS_VERSION_TEXT(major, minor, patch) #major "." #minor "." #patch
+#define HMCS_VERSION_OF(major, minor, patch) HMCS_VERSION_TEXT(major, minor, patch)
+#define HMCS_VERSION HMCS_VERSION_OF(HMCS_VERSION_MAJOR, HMCS_VERSION_MINOR, HMCS_VERSION_PATCH)
 
 #ifdef __cplusplus
 extern "C" {
@@ -38,7 +47,7 @@ typedef struct hmcs_tree {
     uint32_t ticket_root;              /* the root is a queue where this is 0, a ticket lock where it is any other number */
 } hmcs_tree;
 
-/* Rows of the step table (crates/model/specs/Steps.antt), as a thread's place names them. */
+/* Rows of the step table (SPECIFICATION.md), as a thread's place names them. */
 enum hmcs_row {
     HMCS_IDLE = 0,
     HMCS_PREP = 1,
@@ -94,7 +103,7 @@ enum hmcs_refusal {
     HMCS_TOO_DEEP = 7,         /* A domain lies deeper than level 6, the root being level 1, the place being the domain. */
     HMCS_NO_THRESHOLD = 8,     /* A domain other than 0 has threshold 0, the place being the domain. Of a rate: a threshold is 0, place 1 or 2. */
     HMCS_BAD_HOME = 9,         /* A home is no domain of the tree or has child domains, the place being the thread. */
-    HMCS_BAD_STATE = 10,       /* The state handed in is not well formed (crates/model/specs/WellFormed.antt). */
+    HMCS_BAD_STATE = 10,       /* The state handed in is not well formed (SPECIFICATION.md). */
     HMCS_SCHEDULE_LONG = 11,   /* The schedule has more than 65,536 entries. */
     HMCS_BAD_ENTRY = 12,       /* A schedule entry is not below the number of threads, the place being its position from 0. */
     HMCS_TRACE_SHORT = 13,     /* The trace buffer has fewer elements than the schedule. */
@@ -244,7 +253,7 @@ hmcs_step_answer hmcs_step_in_place(hmcs_tree tree, hmcs_state *state, uint16_t 
 
 /* Why a thread waits: the chain of threads that it waits for, itself first, at the front of the chain buffer, and nothing behind it. Waiting in a
  * queue, a thread looks to whoever acts for the record ahead of its own; lingering, to whoever is in Link with its record; watching, to whoever
- * acts at the root with the ticket one lower (docs/SPECIFICATION.md, "Why a thread waits"). The chain ends at a thread whose next step is not a
+ * acts at the root with the ticket one lower (SPECIFICATION.md, "Why a thread waits"). The chain ends at a thread whose next step is not a
  * stay, so of a thread that can move it is that thread alone. The buffer must have room for as many elements as there are threads. Returns the
  * number; *place is its place, *length the chain's length, 0 where it is refused. Refused by 4 to 9, 16, 10, 12, 20 and 21; then the buffer is
  * as it came. No state that is reached from a fresh one is refused by 21, and from such a state each thread of the chain can only stay while
@@ -321,13 +330,63 @@ typedef struct hmcs_rate_reply {
 } hmcs_rate_reply;
 
 /* The rate of a busy three-level lock: h1 * h2 / (p3 + (h2 - 1) * p2 + h2 * (h1 - 1) * p1), the whole-number parts exact, then each operation
- * rounded once, from left to right (docs/RATE.md). h1 is the threshold of the threads' homes, h2 that of the domains between them and the
+ * rounded once, from left to right (RATE.md). h1 is the threshold of the threads' homes, h2 that of the domains between them and the
  * root. Every bit of the rate is fixed, given that the calling thread rounds to nearest, as threads do unless told otherwise; whether it flushes
  * subnormals to zero changes nothing. Refused by 8 (place 1 for h1, 2 for h2), then 24 (place 1 to 3 for p1 to p3). */
 hmcs_rate_reply hmcs_rate(uint16_t h1, uint16_t h2, hmcs_passing_times times);
 
 #ifdef __cplusplus
 }
+#endif
+
+/* The layout that the library was compiled for, tested wherever this header is compiled as C11 or later or as C++11 or later. */
+#if defined(__cplusplus) && __cplusplus >= 201103L
+#define HMCS_LAYOUT(type, size, alignment) static_assert(sizeof(type) == (size) && alignof(type) == (alignment), "layout of " #type)
+#define HMCS_OFFSET(type, member, offset) static_assert(offsetof(type, member) == (offset), "layout of " #type)
+#elif !defined(__cplusplus) && defined(__STDC_VERSION__) && __STDC_VERSION__ >= 201112L
+#define HMCS_LAYOUT(type, size, alignment) _Static_assert(sizeof(type) == (size) && _Alignof(type) == (alignment), "layout of " #type)
+#define HMCS_OFFSET(type, member, offset) _Static_assert(offsetof(type, member) == (offset), "layout of " #type)
+#endif
+#ifdef HMCS_LAYOUT
+HMCS_LAYOUT(hmcs_tree, 460, 4);
+HMCS_OFFSET(hmcs_tree, parents, 8);
+HMCS_OFFSET(hmcs_tree, thresholds, 72);
+HMCS_OFFSET(hmcs_tree, homes, 200);
+HMCS_OFFSET(hmcs_tree, ticket_root, 456);
+HMCS_LAYOUT(hmcs_place, 16, 8);
+HMCS_OFFSET(hmcs_place, domain, 1);
+HMCS_OFFSET(hmcs_place, peer, 2);
+HMCS_OFFSET(hmcs_place, word, 8);
+HMCS_LAYOUT(hmcs_state, 7432, 8);
+HMCS_OFFSET(hmcs_state, nexts, 128);
+HMCS_OFFSET(hmcs_state, statuses, 768);
+HMCS_OFFSET(hmcs_state, places, 3328);
+HMCS_OFFSET(hmcs_state, ticket, 7424);
+HMCS_OFFSET(hmcs_state, grant, 7426);
+HMCS_LAYOUT(hmcs_answer, 8, 4);
+HMCS_OFFSET(hmcs_answer, place, 4);
+HMCS_LAYOUT(hmcs_step_answer, 16, 4);
+HMCS_OFFSET(hmcs_step_answer, domain, 12);
+HMCS_LAYOUT(hmcs_fresh_reply, 7440, 8);
+HMCS_OFFSET(hmcs_fresh_reply, state, 8);
+HMCS_LAYOUT(hmcs_step_reply, 7448, 8);
+HMCS_OFFSET(hmcs_step_reply, domain, 12);
+HMCS_OFFSET(hmcs_step_reply, state, 16);
+HMCS_LAYOUT(hmcs_run_reply, 7464, 8);
+HMCS_OFFSET(hmcs_run_reply, crossed, 28);
+HMCS_OFFSET(hmcs_run_reply, state, 32);
+HMCS_LAYOUT(hmcs_journal_answer, 16, 8);
+HMCS_OFFSET(hmcs_journal_answer, place, 8);
+HMCS_LAYOUT(hmcs_text_reply, 480, 8);
+HMCS_OFFSET(hmcs_text_reply, place, 8);
+HMCS_OFFSET(hmcs_text_reply, tree, 16);
+HMCS_LAYOUT(hmcs_passing_times, 24, 8);
+HMCS_OFFSET(hmcs_passing_times, p3, 16);
+HMCS_LAYOUT(hmcs_rate_reply, 16, 8);
+HMCS_OFFSET(hmcs_rate_reply, place, 4);
+HMCS_OFFSET(hmcs_rate_reply, rate, 8);
+#undef HMCS_LAYOUT
+#undef HMCS_OFFSET
 #endif
 
 #endif

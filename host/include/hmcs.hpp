@@ -14,23 +14,6 @@
 
 namespace hmcs {
 
-static_assert(sizeof(hmcs_tree) == 460 && alignof(hmcs_tree) == 4, "layout of hmcs_tree");
-static_assert(offsetof(hmcs_tree, parents) == 8 && offsetof(hmcs_tree, thresholds) == 72 && offsetof(hmcs_tree, homes) == 200, "layout of hmcs_tree");
-static_assert(offsetof(hmcs_tree, ticket_root) == 456, "layout of hmcs_tree");
-static_assert(sizeof(hmcs_place) == 16 && offsetof(hmcs_place, peer) == 2 && offsetof(hmcs_place, word) == 8, "layout of hmcs_place");
-static_assert(sizeof(hmcs_state) == 7432 && offsetof(hmcs_state, nexts) == 128, "layout of hmcs_state");
-static_assert(offsetof(hmcs_state, statuses) == 768 && offsetof(hmcs_state, places) == 3328, "layout of hmcs_state");
-static_assert(offsetof(hmcs_state, ticket) == 7424 && offsetof(hmcs_state, grant) == 7426, "layout of hmcs_state");
-static_assert(sizeof(hmcs_step_reply) == 7448 && offsetof(hmcs_step_reply, domain) == 12 && offsetof(hmcs_step_reply, state) == 16, "layout of hmcs_step_reply");
-static_assert(sizeof(hmcs_step_answer) == 16 && offsetof(hmcs_step_answer, domain) == 12, "layout of hmcs_step_answer");
-static_assert(sizeof(hmcs_fresh_reply) == 7440 && offsetof(hmcs_fresh_reply, state) == 8, "layout of hmcs_fresh_reply");
-static_assert(sizeof(hmcs_run_reply) == 7464 && offsetof(hmcs_run_reply, crossed) == 28 && offsetof(hmcs_run_reply, state) == 32, "layout of hmcs_run_reply");
-static_assert(sizeof(hmcs_passing_times) == 24 && offsetof(hmcs_passing_times, p3) == 16, "layout of hmcs_passing_times");
-static_assert(sizeof(hmcs_rate_reply) == 16 && offsetof(hmcs_rate_reply, rate) == 8, "layout of hmcs_rate_reply");
-static_assert(sizeof(hmcs_text_reply) == 480 && offsetof(hmcs_text_reply, place) == 8 && offsetof(hmcs_text_reply, tree) == 16, "layout of hmcs_text_reply");
-
-static_assert(sizeof(hmcs_journal_answer) == 16 && offsetof(hmcs_journal_answer, place) == 8, "layout of hmcs_journal_answer");
-
 // Number and place of an answer.
 struct Refusal {
     std::uint32_t number = 0;

@@ -1,0 +1,22 @@
+# What `cmake --install BUILD --prefix PREFIX` writes: headers, archive, documents, and the files by which CMake and pkg-config find them.
+# These files find each other from where they stand, so the prefix may be chosen, or the whole moved, after the build.
+include(CMakePackageConfigHelpers)
+
+# From the folder of the pkg-config file to the headers; a folder that was given as an absolute path stays one.
+if(IS_ABSOLUTE "${CMAKE_INSTALL_LIBDIR}" OR IS_ABSOLUTE "${CMAKE_INSTALL_INCLUDEDIR}")
+  set(pc_includedir "${CMAKE_INSTALL_FULL_INCLUDEDIR}")
+else()
+  file(RELATIVE_PATH pc_includedir "/${CMAKE_INSTALL_LIBDIR}/pkgconfig" "/${CMAKE_INSTALL_INCLUDEDIR}")
+  set(pc_includedir "\${pcfiledir}/${pc_includedir}")
+endif()
+configure_file(hmcs.pc.in hmcs.pc @ONLY)
+write_basic_package_version_file(hmcsConfigVersion.cmake COMPATIBILITY SameMajorVersion)
+
+set(package "${CMAKE_INSTALL_LIBDIR}/cmake/hmcs")
+install(FILES include/hmcs.h include/hmcs.hpp DESTINATION "${CMAKE_INSTALL_INCLUDEDIR}")
+install(FILES "${HMCS_ARCHIVE}" DESTINATION "${CMAKE_INSTALL_LIBDIR}" RENAME libhmcs.a)
+install(FILES ../docs/SPECIFICATION.md ../docs/RATE.md DESTINATION "${CMAKE_INSTALL_DOCDIR}")
+install(FILES "${CMAKE_CURRENT_BINARY_DIR}/hmcs.pc" DESTINATION "${CMAKE_INSTALL_LIBDIR}/pkgconfig")
+install(FILES "${CMAKE_CURRENT_BINARY_DIR}/hmcsConfigVersion.cmake" DESTINATION "${package}")
+install(TARGETS hmcs EXPORT hmcs)
+install(EXPORT hmcs NAMESPACE hmcs:: FILE hmcsConfig.cmake DESTINATION "${package}")

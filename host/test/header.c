@@ -1,0 +1,23 @@
+/* The header in C: the version's parts and its text say the same, and a call by value comes back whole. */
+#include "hmcs.h"
+
+#include <stdio.h>
+#include <string.h>
+
+int main(void) {
+    char version[32];
+    const uint8_t text[] = "(2(#2) 16(#1))";
+    hmcs_text_reply read = hmcs_read_text(text, sizeof text - 1);
+    hmcs_fresh_reply fresh = hmcs_fresh(read.tree, 0);
+    hmcs_step_reply step = hmcs_step(read.tree, fresh.state, 2);
+    snprintf(version, sizeof version, "%d.%d.%d", HMCS_VERSION_MAJOR, HMCS_VERSION_MINOR, HMCS_VERSION_PATCH);
+    if (strcmp(version, HMCS_VERSION) != 0) {
+        fprintf(stderr, "the version is %s in parts and %s as a text\n", version, HMCS_VERSION);
+        return 1;
+    }
+    if (read.number != HMCS_ACCEPTED || fresh.number != HMCS_ACCEPTED || step.number != HMCS_ACCEPTED || step.domain != 2 || step.state.places[2].row != HMCS_SWAP) {
+        fprintf(stderr, "%s, %s\n", hmcs_refusal_text(step.number), hmcs_kind_text(step.kind));
+        return 1;
+    }
+    return 0;
+}
