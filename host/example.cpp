@@ -6,14 +6,14 @@
 #include <vector>
 
 static bool play(hmcs::Lock &lock, const std::vector<std::uint16_t> &schedule) {
-    if (lock.refusal()) {
-        std::printf("refused %u at %u: %s\n", lock.refusal().number, lock.refusal().place, lock.refusal().text());
+    if (lock.refused()) {
+        std::printf("refused %u at %zu: %s\n", lock.refusal().number, lock.refusal().place, lock.refusal().text());
         return false;
     }
     for (std::size_t k = 0; k < schedule.size(); ++k) {
         const hmcs::StepResult step = lock.step(schedule[k]);
-        if (step.refusal) {
-            std::printf("refused %u at %u: %s\n", step.refusal.number, step.refusal.place, step.refusal.text());
+        if (step.refused()) {
+            std::printf("refused %u at %zu: %s\n", step.refusal.number, step.refusal.place, step.refusal.text());
             return false;
         }
         const auto holder = lock.holder();
@@ -38,8 +38,8 @@ static const char *standing(const hmcs::Lock &lock, std::uint16_t thread) {
 // The chain of a thread in words.
 static bool explain(const hmcs::Lock &lock, std::uint32_t thread) {
     const hmcs::ChainResult chain = lock.chain(thread);
-    if (chain.refusal) {
-        std::printf("refused %u at %u: %s\n", chain.refusal.number, chain.refusal.place, chain.refusal.text());
+    if (chain.refused()) {
+        std::printf("refused %u at %zu: %s\n", chain.refusal.number, chain.refusal.place, chain.refusal.text());
         return false;
     }
     std::printf("thread %u", chain.threads.front());
@@ -68,10 +68,10 @@ int main() {
     std::printf("the next ticket is %u, the grant is %u\n", ticket_lock.state().ticket, ticket_lock.state().grant);
 
     hmcs::Lock busy(tree);
-    busy.run({0, 0, 0, 0, 1, 1, 1});
+    if (busy.run({0, 0, 0, 0, 1, 1, 1}).refused()) return 1;
     if (!explain(busy, 1) || !explain(busy, 0) || !explain(busy, 2)) return 1;
     hmcs::Lock busier(tree);
-    busier.run({2, 2, 2, 2, 0, 0, 0, 0, 0, 1, 1, 1});
+    if (busier.run({2, 2, 2, 2, 0, 0, 0, 0, 0, 1, 1, 1}).refused()) return 1;
     if (!explain(busier, 1)) return 1;
     return 0;
 }

@@ -7,6 +7,7 @@
 #include <algorithm>
 #include <cstddef>
 #include <cstdint>
+#include <iterator>
 #include <optional>
 #include <string>
 #include <string_view>
@@ -14,14 +15,34 @@
 
 namespace hmcs {
 
-// Number and place of an answer.
-struct Refusal {
+// Number and place of an answer; 0 and 0 for accepted. It is no bool, so that nobody reads it the wrong way round.
+struct [[nodiscard]] Refusal {
     std::uint32_t number = 0;
-    std::uint32_t place = 0;
+    std::size_t place = 0; // of 15, 25 and 26 a position in a text or a journal of any length
 
-    explicit operator bool() const { return number != 0; }
+    bool accepted() const { return number == 0; }
+    bool refused() const { return number != 0; }
     const char *text() const { return hmcs_refusal_text(number); }
 };
+
+// What every result begins with.
+struct [[nodiscard]] Result {
+    Refusal refusal;
+
+    bool accepted() const { return refusal.accepted(); }
+    bool refused() const { return refusal.refused(); }
+};
+
+// Whether two states are the same, field by field: their padding may differ.
+inline bool same(const hmcs_state &a, const hmcs_state &b) {
+    const auto same_place = [](const hmcs_place &p, const hmcs_place &q) {
+        return p.row == q.row && p.domain == q.domain && p.peer == q.peer && p.word == q.word;
+    };
+    return std::equal(std::begin(a.tails), std::end(a.tails), std::begin(b.tails)) &&
+           std::equal(std::begin(a.nexts), std::end(a.nexts), std::begin(b.nexts)) &&
+           std::equal(std::begin(a.statuses), std::end(a.statuses), std::begin(b.statuses)) &&
+           std::equal(std::begin(a.places), std::end(a.places), std::begin(b.places), same_place) && a.ticket == b.ticket && a.grant == b.grant;
+}
 
 // What stands at the root of a tree.
 enum class RootKind { queue, ticket };
@@ -80,8 +101,7 @@ struct Counts {
     std::uint32_t steps = 0, entries = 0, stays = 0, root = 0, passed = 0, crossed = 0;
 };
 
-struct RunResult {
-    Refusal refusal;
+struct [[nodiscard]] RunResult : Result {
     Counts counts;
     std::vector<std::uint16_t> trace; // the entering threads
 };
@@ -96,10 +116,13 @@ struct Waits {
 };
 
 // A run with waits: refused, no rows.
-struct WaitsResult {
+struct [[nodiscard]] WaitsResult {
     RunResult run;
     std::vector<Waits> threads; // one for each thread
     Waits all;                  // of all threads together
+
+    bool accepted() const { return run.accepted(); }
+    bool refused() const { return run.refused(); }
 };
 
 // What a step was.
@@ -115,15 +138,13 @@ enum class Kind : std::uint32_t {
 inline const char *text(Kind kind) { return hmcs_kind_text(static_cast<std::uint32_t>(kind)); }
 
 // What a step said: refused, kind stay and domain 0.
-struct StepResult {
-    Refusal refusal;
+struct [[nodiscard]] StepResult : Result {
     Kind kind = Kind::stay;
     std::uint32_t domain = 0; // where it was; the thread's home where it was idle or inside
 };
 
 // Why a thread waits: refused, no threads.
-struct ChainResult {
-    Refusal refusal;
+struct [[nodiscard]] ChainResult : Result {
     std::vector<std::uint16_t> threads; // the thread itself first; each waits for the next, and the last can move
 };
 
@@ -136,14 +157,26 @@ public:
         refusal_ = of(hmcs_fresh_in_place(tree_, &state_, start));
     }
 
+    // A lock whose state was kept. It is tested by a run without entries: a state that is not well formed is refused by 10, and then every
+    // step is refused as well.
+    static Lock saved(const Tree &tree, const hmcs_state &state) {
+        Lock lock(tree);
+        lock.state_ = state;
+        const hmcs_run_reply reply = hmcs_run(lock.tree_, state, nullptr, 0, nullptr, 0);
+        lock.refusal_ = Refusal{reply.number, reply.place};
+        return lock;
+    }
+
     const Refusal &refusal() const { return refusal_; }
+    bool accepted() const { return refusal_.accepted(); }
+    bool refused() const { return refusal_.refused(); }
     const hmcs_state &state() const { return state_; }
     const hmcs_tree &tree() const { return tree_; }
 
     // One step of a thread. Refused, the state is as it was. A thread above 65,535 is no thread, as 65,535 is none.
     StepResult step(std::uint32_t thread) {
         const hmcs_step_answer a = hmcs_step_in_place(tree_, &state_, static_cast<std::uint16_t>(std::min<std::uint32_t>(thread, 65535)));
-        return StepResult{Refusal{a.number, a.place}, static_cast<Kind>(a.kind), a.domain};
+        return StepResult{{Refusal{a.number, a.place}}, static_cast<Kind>(a.kind), a.domain};
     }
 
     // A schedule. Refused, the state is as it was and no step is taken.
@@ -165,7 +198,7 @@ public:
         const hmcs_run_reply reply =
             hmcs_run_waits(tree_, state_, schedule, length, result.run.trace.data(), result.run.trace.size(), numbers.data(), numbers.size());
         keep(reply, result.run);
-        if (!result.run.refusal) {
+        if (result.accepted()) {
             for (std::size_t at = 0; at <= tree_.threads; ++at) {
                 const std::uint64_t *n = numbers.data() + at * HMCS_WAIT_NUMBERS;
                 result.threads.push_back(Waits{n[0], n[1], n[2], n[3], n[4]});
@@ -183,9 +216,11 @@ public:
     ChainResult chain(std::uint32_t thread) const {
         ChainResult result;
         result.threads.resize(HMCS_THREADS);
+        std::uint32_t place = 0;
         std::uint32_t length = 0;
         const std::uint16_t number = static_cast<std::uint16_t>(std::min<std::uint32_t>(thread, 65535));
-        result.refusal.number = hmcs_chain(tree_, state_, number, result.threads.data(), result.threads.size(), &result.refusal.place, &length);
+        result.refusal.number = hmcs_chain(tree_, state_, number, result.threads.data(), result.threads.size(), &place, &length);
+        result.refusal.place = place;
         result.threads.resize(length);
         return result;
     }
@@ -217,13 +252,12 @@ private:
 };
 
 // Of one of many schedules: refused (11, 12), the counts are 0.
-struct Row {
-    Refusal refusal;
+struct [[nodiscard]] Row : Result {
     Counts counts;
 };
 
-struct ManyResult {
-    Refusal refusal;       // of the whole call, by the tree; then there are no rows
+// Of the whole call, which the tree refuses: then there are no rows.
+struct [[nodiscard]] ManyResult : Result {
     std::vector<Row> rows; // one for each schedule, in their order
 };
 
@@ -241,32 +275,23 @@ inline ManyResult run_many(const Tree &tree, const std::vector<std::vector<std::
     const hmcs_answer answer = hmcs_run_many(tree.words(), lengths.data(), lengths.size(), entries.data(), entries.size(), numbers.data(), numbers.size());
     ManyResult result;
     result.refusal = Refusal{answer.number, answer.place};
-    if (result.refusal) {
+    if (result.refused()) {
         return result;
     }
     for (std::size_t at = 0; at < numbers.size(); at += HMCS_ROW_NUMBERS) {
         const std::uint32_t *n = numbers.data() + at;
-        result.rows.push_back(Row{Refusal{n[0], n[1]}, Counts{n[2], n[3], n[4], n[5], n[6], n[7]}});
+        result.rows.push_back(Row{{Refusal{n[0], n[1]}}, Counts{n[2], n[3], n[4], n[5], n[6], n[7]}});
     }
     return result;
 }
 
-// Why a journal is refused; the place is a position in it, or 4 to 9 and 16 of the tree.
-struct JournalRefusal {
-    std::uint32_t number = 0;
-    std::size_t place = 0;
-
-    explicit operator bool() const { return number != 0; }
-    const char *text() const { return hmcs_refusal_text(number); }
-};
-
-// Checks a journal against steps from a fresh lock.
-inline JournalRefusal check_journal(const Tree &tree, const std::uint8_t *journal, std::size_t length) {
+// Checks a journal against steps from a fresh lock. The place is a position in it, or that of 4 to 9 and 16 in the tree.
+inline Refusal check_journal(const Tree &tree, const std::uint8_t *journal, std::size_t length) {
     const hmcs_journal_answer answer = hmcs_check_journal(tree.words(), journal, length);
-    return JournalRefusal{answer.number, answer.place};
+    return Refusal{answer.number, answer.place};
 }
 
-inline JournalRefusal check_journal(const Tree &tree, const std::vector<std::uint8_t> &journal) {
+inline Refusal check_journal(const Tree &tree, const std::vector<std::uint8_t> &journal) {
     return check_journal(tree, journal.data(), journal.size());
 }
 
@@ -294,8 +319,7 @@ private:
     std::uint16_t thread_ = 0; // of the entry before
 };
 
-struct FileResult {
-    Refusal refusal;
+struct [[nodiscard]] FileResult : Result {
     std::string listing;
 };
 
@@ -314,8 +338,7 @@ inline FileResult run_file(const std::uint8_t *file, std::size_t length) {
 
 inline FileResult run_file(const std::vector<std::uint8_t> &file) { return run_file(file.data(), file.size()); }
 
-struct WriteResult {
-    Refusal refusal;
+struct [[nodiscard]] WriteResult : Result {
     std::vector<std::uint8_t> file; // refused, empty
 };
 
@@ -323,8 +346,10 @@ struct WriteResult {
 inline WriteResult write_file(const Tree &tree, const std::vector<std::uint16_t> &schedule) {
     WriteResult result;
     result.file.resize(65536); // a longer file is refused (1)
+    std::uint32_t place = 0;
     std::uint32_t written = 0;
-    result.refusal.number = hmcs_write_file(tree.words(), schedule.data(), schedule.size(), result.file.data(), result.file.size(), &result.refusal.place, &written);
+    const std::uint32_t number = hmcs_write_file(tree.words(), schedule.data(), schedule.size(), result.file.data(), result.file.size(), &place, &written);
+    result.refusal = Refusal{number, place};
     result.file.resize(written);
     return result;
 }
@@ -332,28 +357,18 @@ inline WriteResult write_file(const Tree &tree, const std::vector<std::uint16_t>
 // How long it takes to pass the lock on: p1 within a home, p2 between homes below one domain, p3 across the root; all in one unit.
 using PassingTimes = hmcs_passing_times;
 
-struct RateResult {
-    Refusal refusal;
+struct [[nodiscard]] RateResult : Result {
     double rate = 0; // entries for one unit of the times; 0 where it is refused
 };
 
 // The rate of a busy three-level lock whose threads' homes have threshold h1 and the domains between them and the root h2.
 inline RateResult rate(std::uint16_t h1, std::uint16_t h2, const PassingTimes &times) {
     const hmcs_rate_reply reply = hmcs_rate(h1, h2, times);
-    return RateResult{Refusal{reply.number, reply.place}, reply.rate};
+    return RateResult{{Refusal{reply.number, reply.place}}, reply.rate};
 }
 
-// Why a text is no tree.
-struct TextRefusal {
-    std::uint32_t number = 0;
-    std::size_t place = 0; // of 15, a position in the text; else 0
-
-    explicit operator bool() const { return number != 0; }
-    const char *text() const { return hmcs_refusal_text(number); }
-};
-
-struct TextResult {
-    TextRefusal refusal;
+// A tree from its text. Of 15 the place is a position in the text.
+struct [[nodiscard]] TextResult : Result {
     Tree tree;           // refused, a tree without domains and threads
     std::string message; // refused, for people: what is wrong and, of 15, the text with a mark below the byte
 };
@@ -376,7 +391,7 @@ inline std::string marked(std::string_view text, std::size_t place) {
     return line + "\n" + std::string(mark, ' ') + "^\n";
 }
 
-inline std::string text_message(const TextRefusal &refusal, std::string_view text) {
+inline std::string text_message(const Refusal &refusal, std::string_view text) {
     std::string message = hmcs_refusal_text(refusal.number);
     if (refusal.number != HMCS_TEXT_WRONG) {
         return message + "\n";
@@ -391,9 +406,9 @@ inline std::string text_message(const TextRefusal &refusal, std::string_view tex
 inline TextResult read_tree(std::string_view text) {
     const hmcs_text_reply reply = hmcs_read_text(reinterpret_cast<const std::uint8_t *>(text.data()), text.size());
     TextResult result;
-    result.refusal = TextRefusal{reply.number, reply.place};
+    result.refusal = Refusal{reply.number, reply.place};
     result.tree = Tree::of(reply.tree);
-    if (result.refusal) {
+    if (result.refused()) {
         result.message = detail::text_message(result.refusal, text);
     }
     return result;

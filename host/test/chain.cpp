@@ -2,13 +2,14 @@
 #include "check.hpp"
 #include "guarded.hpp"
 #include "hmcs.hpp"
-#include "same.hpp"
 #include "trees.hpp"
 
 #include <cstdio>
 #include <cstring>
 #include <string>
 #include <vector>
+
+using hmcs::same;
 
 namespace {
 
@@ -63,14 +64,14 @@ bool breaks(const hmcs::Tree &tree, const hmcs_state &state, std::uint16_t threa
 
 hmcs::Lock after(const hmcs::Tree &tree, const Threads &schedule, std::uint16_t start = 0) {
     hmcs::Lock lock(tree, start);
-    CHECK(!lock.run(schedule).refusal);
+    CHECK(lock.run(schedule).accepted());
     return lock;
 }
 
 // A lock's chain by the wrapper, and by the call.
 bool explains(const hmcs::Lock &lock, std::uint16_t thread, const Threads &chain) {
     const hmcs::ChainResult result = lock.chain(thread);
-    return !result.refusal && result.threads == chain && gives(hmcs::Tree::of(lock.tree()), lock.state(), thread, chain);
+    return result.accepted() && result.threads == chain && gives(hmcs::Tree::of(lock.tree()), lock.state(), thread, chain);
 }
 
 void queue_root() {
@@ -83,7 +84,7 @@ void queue_root() {
     CHECK(explains(after(root_alone(RootKind::queue, 3), {0, 0, 1, 1, 1, 2, 2, 2}), 2, {2, 1, 0}));
     hmcs::Lock across = after(two_domains(RootKind::queue), {2, 2, 2, 2, 0, 0, 0, 0, 0, 1, 1, 1});
     CHECK(explains(across, 1, {1, 0, 2}) && across.holder() == std::optional<std::uint16_t>(2));
-    across.step(2); // in Check, lower than the root
+    CHECK(across.step(2).accepted()); // in Check, lower than the root
     CHECK(across.state().places[2].row == HMCS_CHECK && explains(across, 1, {1, 0, 2}));
 }
 
@@ -92,9 +93,9 @@ void ticket_root() {
     for (const std::uint16_t start : {0, 7, 65533, 65534, 65535}) {
         hmcs::Lock lock = after(three, {0, 1, 2}, start);
         CHECK(explains(lock, 2, {2, 1, 0}) && explains(lock, 1, {1, 0}) && explains(lock, 0, {0}));
-        lock.step(0);
+        CHECK(lock.step(0).accepted());
         CHECK(lock.state().places[0].row == HMCS_RAISE && explains(lock, 2, {2, 1, 0}));
-        lock.step(0);
+        CHECK(lock.step(0).accepted());
         CHECK(explains(lock, 2, {2, 1}) && explains(lock, 1, {1}) && explains(lock, 0, {0}));
     }
     CHECK(explains(after(two_domains(RootKind::ticket), {2, 2, 2, 0, 0, 0, 1, 1, 1}, 65535), 1, {1, 0, 2}));
@@ -107,9 +108,9 @@ void longest() {
         hmcs::Lock lock(tree);
         Threads chain;
         for (std::uint16_t i = 0; i < 256; ++i) {
-            lock.run({i, i, i});
+            CHECK(lock.run({i, i, i}).accepted());
             if (i == 0) {
-                lock.run(root == RootKind::queue ? Threads{0, 0, 0, 0} : Threads{0}); // Inside again
+                CHECK(lock.run(root == RootKind::queue ? Threads{0, 0, 0, 0} : Threads{0}).accepted()); // Inside again
             }
             chain.insert(chain.begin(), i);
         }

@@ -22,14 +22,14 @@ Bytes journal_of(const hmcs::Tree &tree, std::size_t steps, std::uint32_t seed) 
     for (std::size_t k = 0; k < steps; ++k) {
         const std::uint16_t thread = static_cast<std::uint16_t>(random() % tree.words().threads);
         const hmcs::StepResult step = lock.step(thread);
-        CHECK(!step.refusal);
+        CHECK(step.accepted());
         writer.add(thread, step.kind);
     }
     return writer.bytes();
 }
 
 // What the check is to answer, entry by entry, by steps of a lock in place.
-hmcs::JournalRefusal expected(const hmcs::Tree &tree, const Bytes &journal) {
+hmcs::Refusal expected(const hmcs::Tree &tree, const Bytes &journal) {
     hmcs::Lock lock(tree);
     std::uint32_t thread = 0;
     for (std::size_t at = 0; at < journal.size();) {
@@ -45,7 +45,7 @@ hmcs::JournalRefusal expected(const hmcs::Tree &tree, const Bytes &journal) {
         }
         const std::uint32_t kind = map & 2 ? journal[at++] : 0;
         const hmcs::StepResult step = lock.step(thread);
-        if (step.refusal) {
+        if (step.refused()) {
             return {step.refusal.number, begin};
         }
         if (static_cast<std::uint32_t>(step.kind) != kind) {
@@ -55,7 +55,7 @@ hmcs::JournalRefusal expected(const hmcs::Tree &tree, const Bytes &journal) {
     return {};
 }
 
-bool same(const hmcs::JournalRefusal &a, const hmcs::JournalRefusal &b) {
+bool same(const hmcs::Refusal &a, const hmcs::Refusal &b) {
     return a.number == b.number && a.place == b.place;
 }
 
@@ -64,9 +64,9 @@ void real_steps() {
     for (const hmcs::RootKind root : {hmcs::RootKind::queue, hmcs::RootKind::ticket}) {
         for (const hmcs::Tree &tree : {root_alone(root, 1), root_alone(root, 5), two_domains(root)}) {
             const Bytes journal = journal_of(tree, 10000, 1);
-            CHECK(!hmcs::check_journal(tree, journal));
+            CHECK(hmcs::check_journal(tree, journal).accepted());
             Bytes few = journal_of(tree, 200, 2);
-            CHECK(!hmcs::check_journal(tree, few));
+            CHECK(hmcs::check_journal(tree, few).accepted());
             for (std::size_t at = 0; at < few.size(); ++at) {
                 for (int bit = 0; bit < 8; ++bit) {
                     few[at] = static_cast<std::uint8_t>(few[at] ^ (1 << bit));
@@ -85,12 +85,12 @@ void pieces() {
     const hmcs::Tree tree = example_tree();
     for (const std::size_t steps : {1023, 1024, 1025, 2047, 2048, 2049}) {
         const Bytes journal = journal_of(tree, steps, 3);
-        CHECK(!hmcs::check_journal(tree, journal));
+        CHECK(hmcs::check_journal(tree, journal).accepted());
         for (const Bytes &more : {Bytes{2, 9}, Bytes{1, 0}, Bytes{4}, Bytes{3, 3, 0, 1}, Bytes{3, 0, 1, 7}}) {
             Bytes longer = journal;
             longer.insert(longer.end(), more.begin(), more.end());
-            const hmcs::JournalRefusal refusal = hmcs::check_journal(tree, longer);
-            CHECK(refusal && refusal.place == journal.size() && same(refusal, expected(tree, longer)));
+            const hmcs::Refusal refusal = hmcs::check_journal(tree, longer);
+            CHECK(refusal.refused() && refusal.place == journal.size() && same(refusal, expected(tree, longer)));
         }
     }
 }
@@ -98,7 +98,7 @@ void pieces() {
 // The writer leaves out the thread of the entry before, 0 at first, and a stay.
 void writer() {
     hmcs::JournalWriter writer;
-    CHECK(writer.bytes().empty() && !hmcs::check_journal(example_tree(), writer.bytes()));
+    CHECK(writer.bytes().empty() && hmcs::check_journal(example_tree(), writer.bytes()).accepted());
     writer.add(0, hmcs::Kind::other_move);
     writer.add(258, hmcs::Kind::stay);
     writer.add(258, hmcs::Kind::stay);
@@ -118,10 +118,10 @@ void buffers() {
             CHECK(same(hmcs::check_journal(tree, bytes.as<std::uint8_t>(), length), expected(tree, front)));
         }
     }
-    CHECK(!hmcs::check_journal(tree, nullptr, 0));
+    CHECK(hmcs::check_journal(tree, nullptr, 0).accepted());
     hmcs_tree bad = tree.words();
     bad.homes[2] = 1;
-    const hmcs::JournalRefusal refusal = hmcs::check_journal(hmcs::Tree::of(bad), Bytes{255});
+    const hmcs::Refusal refusal = hmcs::check_journal(hmcs::Tree::of(bad), Bytes{255});
     CHECK(refusal.number == HMCS_EMPTY_DOMAIN && refusal.place == 2);
     CHECK(std::string(hmcs_refusal_text(HMCS_JOURNAL_BROKEN)) != hmcs_refusal_text(HMCS_OTHER_KIND));
     CHECK(std::string(hmcs_refusal_text(HMCS_OTHER_KIND)) == "the kind that a journal's entry names is not the step's");

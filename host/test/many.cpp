@@ -24,7 +24,7 @@ Numbers alone(const hmcs::Tree &tree, const Schedule &schedule) {
 
 Numbers numbers_of(const hmcs::Row &row) {
     const hmcs::Counts &c = row.counts;
-    return {row.refusal.number, row.refusal.place, c.steps, c.entries, c.stays, c.root, c.passed, c.crossed};
+    return {row.refusal.number, static_cast<std::uint32_t>(row.refusal.place), c.steps, c.entries, c.stays, c.root, c.passed, c.crossed};
 }
 
 // The example, an empty schedule, one that is too long, the longest, one with an entry that is no thread, and the example again: each as it is alone.
@@ -34,7 +34,7 @@ void wrapper() {
     late.push_back(3);
     const std::vector<Schedule> schedules = {schedule22, {}, Schedule(65537, 0), Schedule(65536, 1), late, Schedule(70000, 3), schedule22};
     const hmcs::ManyResult result = hmcs::run_many(tree, schedules);
-    CHECK(!result.refusal && result.rows.size() == schedules.size());
+    CHECK(result.accepted() && result.rows.size() == schedules.size());
     for (std::size_t k = 0; k < result.rows.size(); ++k) {
         CHECK(numbers_of(result.rows[k]) == alone(tree, schedules[k]));
     }
@@ -49,7 +49,7 @@ void wrapper() {
     hmcs::Tree empty;
     const hmcs::ManyResult refused = hmcs::run_many(empty, schedules);
     CHECK(refused.refusal.number == HMCS_BAD_THREADS && refused.rows.empty());
-    CHECK(!hmcs::run_many(tree, {}).refusal && hmcs::run_many(tree, {}).rows.empty());
+    CHECK(hmcs::run_many(tree, {}).accepted() && hmcs::run_many(tree, {}).rows.empty());
 }
 
 // With a ticket lock at the root each schedule starts with both counters at 0, whatever the one before it drew.
@@ -57,7 +57,7 @@ void ticket_root() {
     const hmcs::Tree tree = root_alone(hmcs::RootKind::ticket, 2);
     const std::vector<Schedule> schedules = {{0, 1, 1, 0, 0, 1}, {1}, Schedule(3, 0)};
     const hmcs::ManyResult result = hmcs::run_many(tree, schedules);
-    CHECK(!result.refusal && result.rows.size() == schedules.size());
+    CHECK(result.accepted() && result.rows.size() == schedules.size());
     for (std::size_t k = 0; k < result.rows.size(); ++k) {
         CHECK(numbers_of(result.rows[k]) == alone(tree, schedules[k]));
     }

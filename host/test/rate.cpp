@@ -148,17 +148,17 @@ void flushing() {
 // What a host calls, with the example of docs/RATE.md.
 void wrapper() {
     const hmcs::RateResult example = hmcs::rate(16, 4, {0.05, 0.2, 1.0});
-    CHECK(!example.refusal && bits(example.rate) == 0x402BD37A6F4DE9BE);
+    CHECK(example.accepted() && bits(example.rate) == 0x402BD37A6F4DE9BE);
     CHECK(hmcs::rate(1, 1, {0.05, 0.2, 1.0}).rate == 1.0);
     CHECK(bits(hmcs::rate(4, 19, {0.05, 0.2, 1.0}).rate) == 0x4024671655E7F242);
     const hmcs::PassingTimes times = {1, 1, 1};
     CHECK(hmcs::rate(0, 1, times).refusal.number == HMCS_NO_THRESHOLD && hmcs::rate(0, 1, times).refusal.place == 1);
     CHECK(hmcs::rate(1, 0, times).refusal.place == 2 && hmcs::rate(0, 0, times).refusal.place == 1);
-    CHECK(!hmcs::rate(65535, 65535, times).refusal && hmcs::rate(65535, 65535, times).rate == 1.0);
+    CHECK(hmcs::rate(65535, 65535, times).accepted() && hmcs::rate(65535, 65535, times).rate == 1.0);
     const hmcs::RateResult bad = hmcs::rate(1, 1, {1, 0, std::nan("")});
     CHECK(bad.refusal.number == HMCS_BAD_TIME && bad.refusal.place == 2 && bits(bad.rate) == 0);
     CHECK(hmcs::rate(1, 0, {0, 0, 0}).refusal.number == HMCS_NO_THRESHOLD);
-    CHECK(!hmcs::rate(1, 1, {least, most, least}).refusal && hmcs::rate(1, 1, {least, most, least}).rate == 1024.0);
+    CHECK(hmcs::rate(1, 1, {least, most, least}).accepted() && hmcs::rate(1, 1, {least, most, least}).rate == 1024.0);
     CHECK(std::string(bad.refusal.text()).find("passing time") != std::string::npos);
 }
 

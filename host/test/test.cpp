@@ -2,7 +2,6 @@
 #include "check.hpp"
 #include "guarded.hpp"
 #include "hmcs.hpp"
-#include "same.hpp"
 #include "trees.hpp"
 
 #include <cstdio>
@@ -11,6 +10,8 @@
 #include <string>
 #include <type_traits>
 #include <vector>
+
+using hmcs::same;
 
 namespace {
 
@@ -133,9 +134,9 @@ void example() {
 // The wrapper's run and a refused one.
 void wrapper() {
     hmcs::Lock lock(example_tree());
-    CHECK(!lock.refusal() && !lock.holder());
+    CHECK(lock.accepted() && !lock.holder());
     const hmcs::RunResult run = lock.run(schedule22);
-    CHECK(!run.refusal && run.counts.steps == 22 && run.trace == (std::vector<std::uint16_t>{0, 1, 2}));
+    CHECK(run.accepted() && run.counts.steps == 22 && run.trace == (std::vector<std::uint16_t>{0, 1, 2}));
     CHECK(lock.holder() == std::optional<std::uint16_t>(2));
     const hmcs_state before = lock.state();
     std::vector<std::uint16_t> late = schedule22;
@@ -144,8 +145,45 @@ void wrapper() {
     CHECK(refused.refusal.number == 12 && refused.refusal.place == 22 && refused.trace.empty() && same(lock.state(), before));
     CHECK(std::string(refused.refusal.text()) == "a schedule entry is not below the number of threads");
     const hmcs::FileResult file = hmcs::run_file(example_file());
-    CHECK(!file.refusal && file.listing == "ok 22 3 1 2 1 0\n0\n1\n2\n");
+    CHECK(file.accepted() && file.listing == "ok 22 3 1 2 1 0\n0\n1\n2\n");
 }
+
+// A state that was kept: taken up where it is well formed, refused by 10 where it is not, and by the tree before that.
+void saved_states() {
+    hmcs::Lock lock(example_tree());
+    CHECK(lock.run({0, 0, 0, 0, 1, 1, 1}).accepted());
+    hmcs_state kept;
+    std::memset(&kept, 0x5A, sizeof kept); // padding that is not the lock's
+    const hmcs_state now = lock.state();
+    std::memcpy(kept.tails, now.tails, sizeof kept.tails);
+    std::memcpy(kept.nexts, now.nexts, sizeof kept.nexts);
+    std::memcpy(kept.statuses, now.statuses, sizeof kept.statuses);
+    for (int i = 0; i < HMCS_THREADS; ++i) {
+        kept.places[i].row = now.places[i].row;
+        kept.places[i].domain = now.places[i].domain;
+        kept.places[i].peer = now.places[i].peer;
+        kept.places[i].word = now.places[i].word;
+    }
+    kept.ticket = now.ticket;
+    kept.grant = now.grant;
+    CHECK(same(kept, now));
+    hmcs::Lock again = hmcs::Lock::saved(example_tree(), kept);
+    CHECK(again.accepted() && same(again.state(), lock.state()));
+    CHECK(again.step(1).kind == lock.step(1).kind && same(again.state(), lock.state()));
+
+    hmcs_state spoilt = kept;
+    spoilt.places[0].row = HMCS_CHECK;
+    spoilt.places[0].domain = 0;
+    CHECK(!same(spoilt, kept));
+    hmcs::Lock refused = hmcs::Lock::saved(example_tree(), spoilt);
+    CHECK(refused.refused() && refused.refusal().number == HMCS_BAD_STATE && same(refused.state(), spoilt));
+    CHECK(refused.step(1).refusal.number == HMCS_BAD_STATE && same(refused.state(), spoilt));
+    CHECK(hmcs::Lock::saved(hmcs::Tree(), kept).refusal().number == HMCS_BAD_THREADS);
+}
+
+// A result says accepted or refused and is no bool, so that nobody reads it the wrong way round.
+static_assert(!std::is_convertible_v<hmcs::StepResult, bool> && !std::is_constructible_v<bool, hmcs::StepResult>);
+static_assert(!std::is_constructible_v<bool, hmcs::Refusal> && !std::is_constructible_v<bool, hmcs::Lock>);
 
 // The file call between guard pages, with each length of output about the listing's.
 void files() {
@@ -197,7 +235,7 @@ void wide_numbers() {
     hmcs::Lock lock(example_tree());
     CHECK(lock.step(65536).refusal.number == HMCS_BAD_ENTRY);
     CHECK(lock.run(std::vector<std::uint16_t>(65537, 0)).refusal.number == HMCS_SCHEDULE_LONG);
-    CHECK(!lock.run(std::vector<std::uint16_t>(65536, 0)).refusal);
+    CHECK(lock.run(std::vector<std::uint16_t>(65536, 0)).accepted());
 }
 
 // A null pointer with length 0 is an empty slice.
@@ -248,7 +286,7 @@ void kinds(hmcs::RootKind root) {
             const bool at_home = place.row == HMCS_IDLE || place.row == HMCS_INSIDE;
             const hmcs_step_reply step = hmcs_step(tree.words(), by_value, thread);
             const hmcs::StepResult kept = lock.step(thread);
-            CHECK(step.number == 0 && !kept.refusal && step.kind < 6 && same(lock.state(), step.state));
+            CHECK(step.number == 0 && kept.accepted() && step.kind < 6 && same(lock.state(), step.state));
             CHECK(static_cast<std::uint32_t>(kept.kind) == step.kind && kept.domain == step.domain);
             CHECK(step.domain == (at_home ? tree.words().homes[thread] : place.domain));
             CHECK((step.kind == HMCS_LEAVING) == (place.row == HMCS_INSIDE));
@@ -273,6 +311,7 @@ int main() {
     tree_layout();
     example();
     wrapper();
+    saved_states();
     files();
     wide_numbers();
     null_pointers();

@@ -23,7 +23,7 @@ bool refused(const std::string &text, std::uint32_t number, std::size_t place) {
 
 bool accepted(const std::string &text, const hmcs::Tree &tree) {
     const hmcs::TextResult result = hmcs::read_tree(text);
-    return !result.refusal && result.refusal.place == 0 && result.message.empty() &&
+    return result.accepted() && result.refusal.place == 0 && result.message.empty() &&
            std::memcmp(&result.tree.words(), &tree.words(), sizeof no_tree) == 0;
 }
 
@@ -53,7 +53,7 @@ void printed_example() {
     CHECK(refused(example + "\n", HMCS_TEXT_WRONG, 14));
     // The tree that was read is a lock's, and runs as document 01 prints it.
     hmcs::Lock lock(hmcs::read_tree(example).tree);
-    CHECK(!lock.refusal());
+    CHECK(lock.accepted());
     const hmcs::RunResult run = lock.run({0, 0, 0, 0, 1, 1, 1, 1, 0, 0, 0, 1, 2, 2, 2, 2, 2, 1, 1, 1, 1, 2});
     CHECK(run.counts.steps == 22 && run.counts.entries == 3 && run.counts.stays == 1 && run.counts.root == 2);
 }

@@ -1,14 +1,16 @@
 // A ticket lock at the root, as a host uses it: the kind of root, the start, its three places, what 10 refuses, and the lock file.
 #include "check.hpp"
 #include "hmcs.hpp"
-#include "same.hpp"
 #include "trees.hpp"
 
 #include <cstdio>
+#include <cstring>
 #include <memory>
 #include <string>
 #include <type_traits>
 #include <vector>
+
+using hmcs::same;
 
 namespace {
 
@@ -26,7 +28,7 @@ void kinds_of_root() {
         words.ticket_root = number;
         CHECK(hmcs::Tree::of(words).root() == hmcs::RootKind::ticket);
         hmcs::Lock lock(hmcs::Tree::of(words));
-        CHECK(!lock.refusal() && lock.step(0).kind == hmcs::Kind::root_entry && lock.state().ticket == 1);
+        CHECK(lock.accepted() && lock.step(0).kind == hmcs::Kind::root_entry && lock.state().ticket == 1);
     }
 }
 
@@ -57,7 +59,7 @@ void starts() {
 void three_draws() {
     hmcs::Lock lock(root_alone(hmcs::RootKind::ticket, 3), 65535);
     hmcs::StepResult step = lock.step(0);
-    CHECK(!step.refusal && step.kind == hmcs::Kind::root_entry && step.domain == 0);
+    CHECK(step.accepted() && step.kind == hmcs::Kind::root_entry && step.domain == 0);
     CHECK(lock.step(1).kind == hmcs::Kind::other_move && lock.step(2).kind == hmcs::Kind::other_move);
     CHECK(lock.state().ticket == 2 && lock.state().grant == 65535);
     CHECK(lock.state().statuses[0] == 65535 && lock.state().statuses[1] == 0 && lock.state().statuses[2] == 1);
@@ -70,7 +72,7 @@ void three_draws() {
     CHECK(lock.step(0).kind == hmcs::Kind::other_move && lock.state().grant == 0 && lock.state().places[0].row == HMCS_IDLE);
     CHECK(lock.step(2).kind == hmcs::Kind::stay && lock.step(1).kind == hmcs::Kind::root_entry);
     const hmcs::RunResult run = lock.run({1, 1, 2});
-    CHECK(!run.refusal && run.counts.root == 1 && run.trace == (std::vector<std::uint16_t>{2}));
+    CHECK(run.accepted() && run.counts.root == 1 && run.trace == (std::vector<std::uint16_t>{2}));
     CHECK(lock.state().ticket == 2 && lock.state().grant == 1 && lock.holder() == std::optional<std::uint16_t>(2));
 }
 
@@ -79,7 +81,7 @@ void two_levels() {
     hmcs::Lock lock(two_domains(hmcs::RootKind::ticket), 7);
     const std::vector<std::uint16_t> schedule = {0, 0, 0, 1, 1, 1, 1, 0, 0, 0, 1, 1, 1, 1, 1, 1};
     const hmcs::RunResult run = lock.run(schedule);
-    CHECK(!run.refusal && run.counts.steps == 16 && run.counts.entries == 2 && run.counts.stays == 1);
+    CHECK(run.accepted() && run.counts.steps == 16 && run.counts.entries == 2 && run.counts.stays == 1);
     CHECK(run.counts.root == 1 && run.counts.passed == 1 && run.counts.crossed == 0);
     CHECK(lock.state().ticket == 8 && lock.state().grant == 8 && lock.state().statuses[257] == 7 && lock.state().tails[0] == 0);
     hmcs::Lock other(two_domains(hmcs::RootKind::ticket), 7);
@@ -87,7 +89,7 @@ void two_levels() {
         const hmcs_place before = other.state().places[i];
         const hmcs::StepResult step = other.step(i);
         const bool at_home = before.row == HMCS_IDLE || before.row == HMCS_INSIDE;
-        CHECK(!step.refusal && step.domain == (at_home ? 1u : before.domain));
+        CHECK(step.accepted() && step.domain == (at_home ? 1u : before.domain));
     }
     CHECK(same(lock.state(), other.state()));
 }
@@ -159,7 +161,7 @@ void one_ticket_for_two() {
 // 128 in the first byte of a lock file, the rest being the number of domains.
 void files() {
     const hmcs::FileResult file = hmcs::run_file({129, 2, 0, 0, 0, 0, 0, 1, 0, 1, 0, 1, 0, 1, 0, 0, 0, 0, 0, 1, 0});
-    CHECK(!file.refusal && file.listing == "ok 8 2 3 2 0 0\n0\n1\n");
+    CHECK(file.accepted() && file.listing == "ok 8 2 3 2 0 0\n0\n1\n");
     CHECK(hmcs::run_file({128, 1, 0, 0}).refusal.number == HMCS_BAD_DOMAINS);
     std::vector<std::uint8_t> large(65, 0);
     large[0] = 193;

@@ -2,13 +2,14 @@
 #include "check.hpp"
 #include "guarded.hpp"
 #include "hmcs.hpp"
-#include "same.hpp"
 #include "trees.hpp"
 
 #include <array>
 #include <cstdio>
 #include <cstring>
 #include <vector>
+
+using hmcs::same;
 
 namespace {
 
@@ -31,7 +32,7 @@ void wrapper() {
     hmcs::Lock lock(root_alone(hmcs::RootKind::queue, 2)), plain(root_alone(hmcs::RootKind::queue, 2));
     const hmcs::WaitsResult result = lock.run_waits(taking_turns());
     const hmcs::RunResult run = plain.run(taking_turns());
-    CHECK(!result.run.refusal && result.threads.size() == 2);
+    CHECK(result.run.accepted() && result.threads.size() == 2);
     CHECK((numbers_of(result.threads[0]) == Numbers{3, 2, 1, 2, 3}));
     CHECK((numbers_of(result.threads[1]) == Numbers{4, 2, 1, 1, 2}));
     CHECK((numbers_of(result.all) == Numbers{7, 4, 1, 4, 7}));
@@ -39,7 +40,7 @@ void wrapper() {
     CHECK(same(lock.state(), plain.state()));
     // the attempt of thread 1 that is under way when a run begins is none of that run's
     hmcs::Lock second(root_alone(hmcs::RootKind::queue, 2));
-    second.run(Schedule{0, 0, 1, 1, 1});
+    CHECK(second.run(Schedule{0, 0, 1, 1, 1}).accepted());
     const hmcs::WaitsResult late = second.run_waits(Schedule{0, 0, 0, 1});
     CHECK(late.run.counts.entries == 1 && (numbers_of(late.threads[1]) == Numbers{}) && (numbers_of(late.all) == Numbers{}));
     // at a ticket root an attempt begins with the draw

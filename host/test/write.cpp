@@ -27,7 +27,7 @@ Bytes example_file(std::uint8_t first) {
 // Written, and run as a file: the listing that the specification prints; with a ticket root 128 more in the first byte.
 void example() {
     const hmcs::WriteResult written = hmcs::write_file(example_tree(), schedule22);
-    CHECK(!written.refusal && written.file == example_file(3));
+    CHECK(written.accepted() && written.file == example_file(3));
     CHECK(hmcs::run_file(written.file).listing == "ok 22 3 1 2 1 0\n0\n1\n2\n");
     CHECK(hmcs::write_file(two_domains(hmcs::RootKind::ticket), schedule22).file == example_file(131));
     hmcs_tree words = example_tree().words();
@@ -55,7 +55,7 @@ void edges() {
 void longest() {
     const hmcs::Tree tree = root_alone(hmcs::RootKind::queue, 1);
     const hmcs::WriteResult full = hmcs::write_file(tree, Schedule(32766, 0));
-    CHECK(!full.refusal && full.file.size() == 65536 && !hmcs::run_file(full.file).refusal);
+    CHECK(full.accepted() && full.file.size() == 65536 && hmcs::run_file(full.file).accepted());
     const hmcs::WriteResult more = hmcs::write_file(tree, Schedule(32767, 0));
     CHECK(more.refusal.number == HMCS_FILE_TOO_LONG && more.refusal.place == 0 && more.file.empty());
     CHECK(hmcs::write_file(tree, Schedule(65537, 0)).refusal.number == HMCS_SCHEDULE_LONG);
