@@ -34,7 +34,8 @@ extern "C" {
 enum {
     HMCS_DOMAINS = 64,  /* room for domains; domain 0 is the root */
     HMCS_THREADS = 256, /* room for threads */
-    HMCS_RECORDS = 320  /* a thread's record has the thread's number, domain d's is 256 + d */
+    HMCS_RECORDS = 320, /* a thread's record has the thread's number, domain d's is 256 + d */
+    HMCS_LISTING_ROOM = 131111 /* bytes of output in which every lock file's listing fits, so that 14 is never met: this is proved */
 };
 
 /* A tree with its threads. Room that the tree lacks, and the root's parent and threshold, are not read. */
@@ -291,7 +292,7 @@ hmcs_journal_answer hmcs_check_journal(hmcs_tree tree, const uint8_t *journal, s
 
 /* The file call: reads a lock file, runs its schedule from a fresh lock (of start 0), and writes the listing at the front of the output. Returns the
  * number; *place is its place, *length the listing's length, 0 where it is refused. Refused by 1 to 9, 16, 12 and 14; then the output is as
- * it came. */
+ * it came. With HMCS_LISTING_ROOM bytes of output 14 does not occur. */
 uint32_t hmcs_run_file(const uint8_t *file, size_t file_length, uint8_t *output, size_t output_length, uint32_t *place, uint32_t *length);
 
 /* Writes the lock file of a tree and a schedule at the front of the file buffer, and nothing behind it: a field is there only where its value is

@@ -326,7 +326,7 @@ struct [[nodiscard]] FileResult : Result {
 // The file call, with as much room for the listing as it can need.
 inline FileResult run_file(const std::uint8_t *file, std::size_t length) {
     FileResult result;
-    result.listing.resize(262144);
+    result.listing.resize(HMCS_LISTING_ROOM);
     std::uint32_t place = 0;
     std::uint32_t written = 0;
     const std::uint32_t number =

@@ -144,6 +144,11 @@ void wrapper() {
     const hmcs::RunResult refused = lock.run(late);
     CHECK(refused.refusal.number == 12 && refused.refusal.place == 22 && refused.trace.empty() && same(lock.state(), before));
     CHECK(std::string(refused.refusal.text()) == "a schedule entry is not below the number of threads");
+    // as long a file as may be, of the lock that enters most often: one thread at a ticket root, every third step an entry
+    std::vector<std::uint8_t> longest = {129, 1, 0, 0};
+    longest.resize(65536, 0);
+    const hmcs::FileResult most = hmcs::run_file(longest);
+    CHECK(most.accepted() && most.listing.substr(0, 15) == "ok 32766 10922 " && most.listing.size() < HMCS_LISTING_ROOM);
     const hmcs::FileResult file = hmcs::run_file(example_file());
     CHECK(file.accepted() && file.listing == "ok 22 3 1 2 1 0\n0\n1\n2\n");
 }

@@ -4,3 +4,4 @@ pub mod FileRunLaw
 pub mod FileRefusalLaw
 pub mod FileRun
 pub mod FileClaim
+pub mod RoomLaw

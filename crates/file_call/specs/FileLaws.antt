@@ -2,7 +2,7 @@
 use mathlib.Core.Path.{_≡_}
 use mathlib.Core.Bool.{true}
 use mathlib.Core.List.{List, [], _∷_}
-use mathlib.Core.Logic.{_⊎_}
+use mathlib.Core.Logic.{_⊎_, _≢_}
 use Prim.Native.Nat.{ℕ, _≤_}
 use lib.ListN.{length, take, replicate}
 use Rattle.model.specs.declared.TreeWords.{TreeWords}
@@ -44,3 +44,10 @@ pub record One-call (w : TreeWords) (schedule : List ℕ) : Type 0 where
 
 unfoldable pub File-claim-law : Type 0
 File-claim-law = (w : TreeWords) (schedule : List ℕ) → fresh-answer w 0 .number ≡ 0 → One-call w schedule
+
+-- 4. ROOM. With an output buffer of this many bytes 14 is never met: a file has at most 32,768 entries, whose threads have at most three digits
+abbrev pub listing-room : ℕ
+listing-room = 131111
+
+unfoldable pub Room-law : Type 0
+Room-law = (bytes output : List ℕ) → listing-room ≤ length output → file-answer bytes output .number ≢ 14

@@ -3,3 +3,4 @@ pub mod Numerals
 pub mod Writing
 pub mod Printing
 pub mod NumeralLaw
+pub mod Lengths

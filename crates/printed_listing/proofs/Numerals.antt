@@ -44,12 +44,12 @@ length-small v h = rw (numeral-small v h)
 pub length-large : (v : ℕ) → 10 ≤ v → length (numeral v) ≡ length (numeral (v / 10)) + 1
 length-large v h = rw (numeral-large v h, length-append)
 
-abbrev power-of-ten : ℕ → ℕ
+abbrev pub power-of-ten : ℕ → ℕ
 power-of-ten zero = 1
 power-of-ten (suc k) = 10 * power-of-ten k
 
 -- a value below a power of ten has at most as many digits
-length-below : (k v : ℕ) → v < power-of-ten (suc k) → length (numeral v) ≤ suc k
+pub length-below : (k v : ℕ) → v < power-of-ten (suc k) → length (numeral v) ≤ suc k
 length-below zero v h = omega (arith, length-small v (omega arith))
 length-below (suc k) v h = by (ltb v 10) refl (length-below k (v / 10) (omega arith))
   where

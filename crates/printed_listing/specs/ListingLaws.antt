@@ -1,10 +1,11 @@
--- THE LAW OF NUMERALS; proofs/ has its proof. Assumes nothing.
+-- THE LAWS OF NUMERALS AND OF A LISTING'S LENGTH; proofs/ has their proofs. Assumes nothing.
 use mathlib.Core.Path.{_≡_}
 use mathlib.Core.List.{List, [], _∷_}
 use mathlib.Core.Logic.{_≢_}
 use Prim.Native.Nat.{ℕ, _+_, _*_, _-_, _≤_, _<_}
 use lib.ListN.{length, getD}
-use Rattle.printed_listing.specs.Listing.{numeral}
+use Rattle.model.specs.declared.Counts.{Counts}
+use Rattle.printed_listing.specs.Listing.{numeral, listing}
 
 -- the value that decimal digits have, behind those that were read
 unfoldable pub value-from : (value : ℕ) → (digits : List ℕ) → ℕ
@@ -20,3 +21,16 @@ pub record Decimal (v : ℕ) (bytes : List ℕ) : Type 0 where
 
 unfoldable pub Numeral-law : Type 0
 Numeral-law = (v : ℕ) → Decimal v (numeral v)
+
+-- counts of at most five digits
+pub record Five-digits (c : Counts) : Type 0 where
+  pub steps : c .steps < 100000
+  pub entries : c .entries < 100000
+  pub stays : c .stays < 100000
+  pub root : c .root < 100000
+  pub passed : c .passed < 100000
+  pub crossed : c .crossed < 100000
+
+-- a listing with such counts and threads of at most three digits: 39 bytes for the first line, 4 for each entering thread
+unfoldable pub Length-law : Type 0
+Length-law = (c : Counts) (trace : List ℕ) → Five-digits c → ((k : ℕ) → getD trace k 0 < 1000) → length (listing c trace) ≤ 39 + 4 * length trace
