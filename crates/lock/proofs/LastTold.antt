@@ -9,6 +9,8 @@ use lib.ListN.{length, getD}
 use borrow.Author.Tests.{lt-ltb, le-leb}
 use Rattle.model.specs.declared.TreeWords.{TreeWords}
 use Rattle.model.specs.declared.State.{State}
+use Rattle.model.specs.declared.Counters.{Counters}
+use Rattle.model.specs.Counters.{lock-state}
 use Rattle.model.specs.declared.PlaceWords.{PlaceWords}
 use Rattle.model.specs.declared.Place.{Place}
 use Rattle.model.specs.declared.Place.the-variants.{Idle, Prep, Swap, Link, Wait, Inside, Check, Help, Cas, Linger, Grant, Draw, Watch, Raise, Invalid}
@@ -71,7 +73,7 @@ module _ (w : TreeWords) (s : State) (i : ℕ) (form : well-formed (tree-of w) s
       let q = getD (s .places) i (place-words 0 0 0 0) in
       ap (λ v. row-domain v (q .row) (q .domain)) home-read ∙ by-row (t .home i) q place-valid
 
-module _ (w : TreeWords) (is b₀ : List ℕ) (s₀ : State) (room : ℕ) (R : Good-run (tree-of w) s₀ is room) where
+module _ (w : TreeWords) (is b₀ : List ℕ) (s₀ : State) (c₀ : Counters) (room : ℕ) (R : Good-run (tree-of w) (lock-state s₀ c₀) is room) where
   pub last-told :
       (b : List ℕ) (s : State) (kinds : List ℕ) (entries row domain kind thread k : ℕ) → So-far (tree-of w) is b₀ s₀ b s kinds entries row domain kind thread k → length is ≤ k →
       (kind′ domain′ : ℕ) → kind′ ≡ kind → domain′ ≡ row-domain (getD (w .homes) thread 0) row domain → Last-told (tree-of w) is s₀ (kind′ ∷ domain′ ∷ [])

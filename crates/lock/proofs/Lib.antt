@@ -11,3 +11,11 @@ pub mod Telling
 pub mod Answering
 pub mod Starting
 pub mod FreshRow
+pub mod Counts
+pub mod Above
+pub mod StepEntries
+pub mod StepTenures
+pub mod StepCounts
+pub mod Tallying
+pub mod Looking
+pub mod Trying

@@ -34,7 +34,7 @@ kind-small passed-entry = omega arith
 kind-small crossed-entry = omega arith
 kind-small leaving = omega arith
 
-entry-number : (k : Kind) → is-entry-number (kind-number k) ≡ is-entry k
+pub entry-number : (k : Kind) → is-entry-number (kind-number k) ≡ is-entry k
 unfolding is-entry
 entry-number stay = refl
 entry-number other = refl

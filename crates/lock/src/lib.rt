@@ -1,18 +1,23 @@
 // The three calls on a lock, by value: each answers as the model says, for every input.
 ghost use mathlib.Core.Path.{_≡_};
 ghost use Rattle.lock.specs.Running.{fresh-from, first-number};
+ghost use Rattle.model.specs.Counters.{fresh-counters};
 ghost use Rattle.model.specs.Refusals.{refusal};
 ghost use Rattle.model.specs.Answers.{fresh-answer, step-answer, run-refused, run-answer, trace-answer};
 ghost use Rattle.refusals.specs.Arrays.{told};
 ghost use Rattle.schedules.specs.Answers.{many-answer, rows-answer};
 
+mod counting;
+mod limits;
 mod many;
 mod places;
 mod rows;
 mod run;
 
+use model::Counters;
 use model::Counts;
 use model::FreshReply;
+use model::LockState;
 use model::PlaceWords;
 use model::RunReply;
 use model::State;
@@ -57,6 +62,20 @@ fn first_of(number: u32, ticket_root: u32, start: u16) -> u16
     start
 }
 
+// Counters that are 0 throughout.
+fn fresh_counters() -> Counters
+    ensures { λ r. ⌜ r ≡ fresh-counters ⌝ }
+{
+    let entries = [0u64; 64];
+    let tenures = [0u64; 64];
+    let longest = [0u64; 64];
+    Counters {
+        entries,
+        tenures,
+        longest,
+    }
+}
+
 // A fresh lock: a fresh state, accepted or refused.
 pub fn fresh_lock(tree: TreeWords, start: u16) -> FreshReply
     ensures { λ r. ⌜ r ≡ fresh-answer tree start ⌝ }
@@ -69,7 +88,9 @@ pub fn fresh_lock(tree: TreeWords, start: u16) -> FreshReply
         tree.threads,
     );
     let first = first_of(r.number, tree.ticket_root, start);
-    let state = fresh_state(first);
+    let words = fresh_state(first);
+    let counters = fresh_counters();
+    let state = LockState { words, counters };
     FreshReply {
         number: r.number,
         place: r.place,
@@ -78,11 +99,16 @@ pub fn fresh_lock(tree: TreeWords, start: u16) -> FreshReply
 }
 
 // One step of a thread: its kind, the domain it was at and the state after it; refused, kind 0, domain 0 and the state as it came.
-pub fn step_lock(tree: TreeWords, state: State, thread: u16) -> StepReply
+pub fn step_lock(tree: TreeWords, state: LockState, thread: u16) -> StepReply
     ensures { λ r. ⌜ r ≡ step-answer tree state thread ⌝ }
 {
     let schedule = [thread];
-    let r = refusals::run_refusal_of(tree, state, &schedule, 1);
+    let words = state.words;
+    let counters = state.counters;
+    let mut entries = counters.entries;
+    let mut tenures = counters.tenures;
+    let mut longest = counters.longest;
+    let r = limits::refusal_of(tree, words, &entries, &tenures, &longest, &schedule, 1);
     if r.number != 0 {
         return StepReply {
             number: r.number,
@@ -98,25 +124,37 @@ pub fn step_lock(tree: TreeWords, state: State, thread: u16) -> StepReply
     let mut told = [0u16; 0];
     let after = run::run_steps(
         tree,
-        state,
+        words,
         &schedule,
         &mut trace,
         &mut kinds,
         &mut last,
         &mut told,
+        &mut entries,
+        &mut tenures,
+        &mut longest,
     );
     let kind = last[0];
     let domain = last[1];
+    let counted = Counters {
+        entries,
+        tenures,
+        longest,
+    };
+    let left = LockState {
+        words: after,
+        counters: counted,
+    };
     StepReply {
         number: 0,
         place: 0,
         kind,
         domain,
-        state: after,
+        state: left,
     }
 }
 
-fn refused(number: u32, place: u32, state: State) -> RunReply
+fn refused(number: u32, place: u32, state: LockState) -> RunReply
     ensures { λ r. ⌜ r ≡ run-refused (refusal number place) state ⌝ }
 {
     let counts = Counts {
@@ -136,11 +174,24 @@ fn refused(number: u32, place: u32, state: State) -> RunReply
 }
 
 // The steps of a schedule: the state after the last of them and the counts, the entering threads at the front of the trace; refused, the state and the trace as they came.
-pub fn run_lock(tree: TreeWords, state: State, schedule: &[u16], trace: &mut [u16]) -> RunReply
+pub fn run_lock(tree: TreeWords, state: LockState, schedule: &[u16], trace: &mut [u16]) -> RunReply
     ensures { λ r. ⌜ r ≡ run-answer tree state (now (schedule .entry)) (now (trace .entry)) ⌝ }
     ensures { λ r. ⌜ now (trace .exit) ≡ trace-answer tree state (now (schedule .entry)) (now (trace .entry)) ⌝ }
 {
-    let r = refusals::run_refusal_of(tree, state, schedule, trace.len());
+    let words = state.words;
+    let counters = state.counters;
+    let mut entries = counters.entries;
+    let mut tenures = counters.tenures;
+    let mut longest = counters.longest;
+    let r = limits::refusal_of(
+        tree,
+        words,
+        &entries,
+        &tenures,
+        &longest,
+        schedule,
+        trace.len(),
+    );
     if r.number != 0 {
         return refused(r.number, r.place, state);
     }
@@ -149,19 +200,31 @@ pub fn run_lock(tree: TreeWords, state: State, schedule: &[u16], trace: &mut [u1
     let mut told = [0u16; 0];
     let after = run::run_steps(
         tree,
-        state,
+        words,
         schedule,
         trace,
         &mut kinds,
         &mut last,
         &mut told,
+        &mut entries,
+        &mut tenures,
+        &mut longest,
     );
     let counts = run::counts_of(&kinds);
+    let counted = Counters {
+        entries,
+        tenures,
+        longest,
+    };
+    let left = LockState {
+        words: after,
+        counters: counted,
+    };
     RunReply {
         number: 0,
         place: 0,
         counts,
-        state: after,
+        state: left,
     }
 }
 

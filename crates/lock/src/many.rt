@@ -57,6 +57,9 @@ fn run_row(
     }
     let mut last = [0u32; 2];
     let mut told = [0u16; 0];
+    let mut entries = [0u64; 64];
+    let mut tenures = [0u64; 64];
+    let mut longest = [0u64; 64];
     let after = run::run_steps(
         tree,
         fresh,
@@ -65,6 +68,9 @@ fn run_row(
         &mut kinds,
         &mut last,
         &mut told,
+        &mut entries,
+        &mut tenures,
+        &mut longest,
     );
     put_row(rows, at, 0, 0, run::counts_of(&kinds));
 }

@@ -6,6 +6,7 @@ pub mod Places
 pub mod Storing
 pub mod Trees
 pub mod Laws
+pub mod Counted
 pub mod Meanings
 pub mod Counting
 pub mod Computing

@@ -5,12 +5,15 @@ pub mod Places
 pub mod States
 pub mod Steps
 pub mod Runs
+pub mod Tenures
+pub mod Counters
 pub mod Acts
 pub mod WellFormed
 pub mod Refusals
 pub mod Answers
 pub mod Calls
 pub mod Laws
+pub mod CounterLaws
 pub mod Meanings
 pub mod Cases
 pub mod ClaimCases
