@@ -176,7 +176,7 @@ pub extern "C" fn hmcs_run_many(
     ensures { λ r. ⌜ r ≡ answer-of (many-answer tree (now (lengths .entry)) (now (entries .entry)) (now (rows .entry))) ⌝ }
     ensures { λ r. ⌜ now (rows .exit) ≡ rows-answer tree (now (lengths .entry)) (now (entries .entry)) (now (rows .entry)) ⌝ }
 {
-    let r = lock::run_many(tree, lengths, entries, rows);
+    let r = schedules::run_many(tree, lengths, entries, rows);
     Answer {
         number: r.number,
         place: r.place,
@@ -188,7 +188,7 @@ pub extern "C" fn hmcs_run_many(
 pub extern "C" fn hmcs_check_journal(tree: TreeWords, journal: &[u8]) -> JournalReply
     ensures { λ r. ⌜ r ≡ journal-answer tree (now (journal .entry)) ⌝ }
 {
-    lock::check_journal(tree, journal)
+    journal::check_journal(tree, journal)
 }
 
 // A run, and in a row buffer of its own the waits of each thread's attempts and of all together; refused, trace and rows as they came.
@@ -204,7 +204,7 @@ pub extern "C" fn hmcs_run_waits(
     ensures { λ r. ⌜ now (trace .exit) ≡ waits-trace tree state (now (schedule .entry)) (now (trace .entry)) (now (rows .entry)) ⌝ }
     ensures { λ r. ⌜ now (rows .exit) ≡ waits-rows tree state (now (schedule .entry)) (now (trace .entry)) (now (rows .entry)) ⌝ }
 {
-    lock::run_waits(tree, state, schedule, trace, rows)
+    waits::run_waits(tree, state, schedule, trace, rows)
 }
 
 // The chain of threads that a thread waits for, itself first, at the front of the chain buffer; refused, that buffer as it came. The number is returned; place and length go where the host says.

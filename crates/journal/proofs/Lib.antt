@@ -8,3 +8,4 @@ pub mod Deciding
 pub mod Writing
 pub mod Stepping
 pub mod Cases
+pub mod Journaling

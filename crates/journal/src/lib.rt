@@ -1,8 +1,13 @@
-// The journal of document 02, (xiv): a reader that holds the lent bytes and a position in them, and what the call reads with it. `lock` takes the steps.
+// The journal of document 02, (xiv): a reader that holds the lent bytes and a position in them, what is read with it, and the steps that it names.
 ghost use mathlib.Core.Path.{_≡_};
 ghost use Prim.Native.Nat.{_+_, _*_, _≤_};
 ghost use lib.ListN.{length};
 ghost use Rattle.journal.specs.Reading.{entry-size, entry-at, position-after, piece-of, Piece-read};
+ghost use Rattle.journal.specs.Answers.{journal-answer};
+
+mod journals;
+
+use model::TreeWords;
 
 // A lent journal and a position in it.
 pub struct Reader<'a> {
@@ -193,4 +198,35 @@ pub fn position_after(journal: &[u8], position: usize, before: u16, count: usize
         }
     }
     at
+}
+
+// The check of a journal: its threads, stepped one after another from a fresh lock, give its kinds; else the number and the first byte of the first entry that is refused.
+pub fn check_journal(tree: TreeWords, journal: &[u8]) -> JournalReply
+    ensures { λ r. ⌜ r ≡ journal-answer tree (now (journal .entry)) ⌝ }
+{
+    let r = refusals::tree_refusal_of(
+        &tree.parents,
+        &tree.thresholds,
+        &tree.homes,
+        tree.domains,
+        tree.threads,
+    );
+    if r.number != 0 {
+        return JournalReply {
+            number: r.number,
+            place: r.place as usize,
+        };
+    }
+    let mut threads = [0u16; 1024];
+    let mut kinds = [0u8; 1024];
+    let mut trace = [0u16; 1024];
+    let mut told = [0u16; 1024];
+    journals::check_entries(
+        tree,
+        journal,
+        &mut threads,
+        &mut kinds,
+        &mut trace,
+        &mut told,
+    )
 }

@@ -1,53 +1,12 @@
-// The calls on a lock, by value: each answers as the model says, for every input.
+// The three calls on a lock, by value: each answers as the model says, for every input.
 ghost use mathlib.Core.Path.{_≡_};
-ghost use Rattle.lock.specs.Running.{fresh-from, first-number};
-ghost use Rattle.model.specs.Refusals.{refusal};
-ghost use Rattle.model.specs.Answers.{fresh-answer, step-answer, run-refused, run-answer, trace-answer};
-ghost use Rattle.refusals.specs.Arrays.{told};
-ghost use Rattle.schedules.specs.Answers.{many-answer, rows-answer};
-ghost use Rattle.journal.specs.Answers.{journal-answer};
-ghost use Rattle.waits.specs.Answers.{waits-answer, waits-trace, waits-rows};
-
-mod journals;
-mod many;
-mod places;
-mod rows;
-mod run;
-mod waiting;
-
-use journal::JournalReply;
-use model::Counts;
+ghost use Rattle.steps.specs.Running.{first-number};
+ghost use Rattle.model.specs.Answers.{fresh-answer, step-answer, run-answer, trace-answer};
 use model::FreshReply;
-use model::PlaceWords;
 use model::RunReply;
 use model::State;
 use model::StepReply;
 use model::TreeWords;
-use refusals::Refusal;
-
-// The state of a fresh lock, by the number at which its counters start.
-fn fresh_state(first: u16) -> State
-    ensures { λ r. ⌜ r ≡ fresh-from first ⌝ }
-{
-    let place = PlaceWords {
-        row: 0,
-        domain: 0,
-        peer: 0,
-        word: 0,
-    };
-    let tails = [0u16; 64];
-    let nexts = [0u16; 320];
-    let statuses = [0u64; 320];
-    let places = [place; 256];
-    State {
-        tails,
-        nexts,
-        statuses,
-        places,
-        ticket: first,
-        grant: first,
-    }
-}
 
 // The number at which the counters start: the one given at a ticket root that is not refused.
 fn first_of(number: u32, ticket_root: u32, start: u16) -> u16
@@ -74,7 +33,7 @@ pub fn fresh_lock(tree: TreeWords, start: u16) -> FreshReply
         tree.threads,
     );
     let first = first_of(r.number, tree.ticket_root, start);
-    let state = fresh_state(first);
+    let state = steps::fresh_state(first);
     FreshReply {
         number: r.number,
         place: r.place,
@@ -101,7 +60,7 @@ pub fn step_lock(tree: TreeWords, state: State, thread: u16) -> StepReply
     let mut kinds = [0u32; 6];
     let mut last = [0u32; 2];
     let mut told = [0u16; 0];
-    let after = run::run_steps(
+    let after = steps::run::run_steps(
         tree,
         state,
         &schedule,
@@ -121,25 +80,6 @@ pub fn step_lock(tree: TreeWords, state: State, thread: u16) -> StepReply
     }
 }
 
-fn refused(number: u32, place: u32, state: State) -> RunReply
-    ensures { λ r. ⌜ r ≡ run-refused (refusal number place) state ⌝ }
-{
-    let counts = Counts {
-        steps: 0,
-        entries: 0,
-        stays: 0,
-        root: 0,
-        passed: 0,
-        crossed: 0,
-    };
-    RunReply {
-        number,
-        place,
-        counts,
-        state,
-    }
-}
-
 // The steps of a schedule: the state after the last of them and the counts, the entering threads at the front of the trace; refused, the state and the trace as they came.
 pub fn run_lock(tree: TreeWords, state: State, schedule: &[u16], trace: &mut [u16]) -> RunReply
     ensures { λ r. ⌜ r ≡ run-answer tree state (now (schedule .entry)) (now (trace .entry)) ⌝ }
@@ -147,12 +87,12 @@ pub fn run_lock(tree: TreeWords, state: State, schedule: &[u16], trace: &mut [u1
 {
     let r = refusals::run_refusal_of(tree, state, schedule, trace.len());
     if r.number != 0 {
-        return refused(r.number, r.place, state);
+        return steps::refused(r.number, r.place, state);
     }
     let mut kinds = [0u32; 6];
     let mut last = [0u32; 2];
     let mut told = [0u16; 0];
-    let after = run::run_steps(
+    let after = steps::run::run_steps(
         tree,
         state,
         schedule,
@@ -161,79 +101,7 @@ pub fn run_lock(tree: TreeWords, state: State, schedule: &[u16], trace: &mut [u1
         &mut last,
         &mut told,
     );
-    let counts = run::counts_of(&kinds);
-    RunReply {
-        number: 0,
-        place: 0,
-        counts,
-        state: after,
-    }
-}
-
-// Many schedules, the entries of all of them behind one another: of each, run from its own fresh lock, one row of eight numbers at the front of the rows. Refused as a whole, the rows as they came.
-pub fn run_many(tree: TreeWords, lengths: &[u32], entries: &[u16], rows: &mut [u32]) -> Refusal
-    ensures { λ r. ⌜ r ≡ told (many-answer tree (now (lengths .entry)) (now (entries .entry)) (now (rows .entry))) ⌝ }
-    ensures { λ r. ⌜ now (rows .exit) ≡ rows-answer tree (now (lengths .entry)) (now (entries .entry)) (now (rows .entry)) ⌝ }
-{
-    let r = schedules::many_refusal_of(tree, lengths, entries.len(), rows.len());
-    if r.number != 0 {
-        return r;
-    }
-    let mut trace = [0u16; 65536];
-    many::run_rows(tree, lengths, entries, &mut trace, rows);
-    r
-}
-
-// The check of a journal: its threads, stepped one after another from a fresh lock, give its kinds; else the number and the first byte of the first entry that is refused.
-pub fn check_journal(tree: TreeWords, journal: &[u8]) -> JournalReply
-    ensures { λ r. ⌜ r ≡ journal-answer tree (now (journal .entry)) ⌝ }
-{
-    let r = refusals::tree_refusal_of(
-        &tree.parents,
-        &tree.thresholds,
-        &tree.homes,
-        tree.domains,
-        tree.threads,
-    );
-    if r.number != 0 {
-        return JournalReply {
-            number: r.number,
-            place: r.place as usize,
-        };
-    }
-    let mut threads = [0u16; 1024];
-    let mut kinds = [0u8; 1024];
-    let mut trace = [0u16; 1024];
-    let mut told = [0u16; 1024];
-    journals::check_entries(
-        tree,
-        journal,
-        &mut threads,
-        &mut kinds,
-        &mut trace,
-        &mut told,
-    )
-}
-
-// A run, and in a row buffer of its own the waits of each thread's attempts and of all together, five numbers a row. Refused, state, trace and rows as they came.
-pub fn run_waits(
-    tree: TreeWords,
-    state: State,
-    schedule: &[u16],
-    trace: &mut [u16],
-    rows: &mut [u64],
-) -> RunReply
-    ensures { λ r. ⌜ r ≡ waits-answer tree state (now (schedule .entry)) (now (trace .entry)) (now (rows .entry)) ⌝ }
-    ensures { λ r. ⌜ now (trace .exit) ≡ waits-trace tree state (now (schedule .entry)) (now (trace .entry)) (now (rows .entry)) ⌝ }
-    ensures { λ r. ⌜ now (rows .exit) ≡ waits-rows tree state (now (schedule .entry)) (now (trace .entry)) (now (rows .entry)) ⌝ }
-{
-    let r = waits::waits_refusal_of(tree, state, schedule, trace.len(), rows.len());
-    if r.number != 0 {
-        return refused(r.number, r.place, state);
-    }
-    let mut kinds = [0u32; 6];
-    let after = waiting::run_counted(tree, state, schedule, trace, &mut kinds, rows);
-    let counts = run::counts_of(&kinds);
+    let counts = steps::run::counts_of(&kinds);
     RunReply {
         number: 0,
         place: 0,

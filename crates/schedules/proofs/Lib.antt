@@ -6,3 +6,4 @@ pub mod Alone
 pub mod Answering
 pub mod Storing
 pub mod Cases
+pub mod FreshRow

@@ -1,4 +1,4 @@
-// Many schedules in one call: what refuses the whole call, 4 to 9 and 16, then 22 and 23. `lock` runs them.
+// Many schedules in one call: what refuses the whole call, 4 to 9 and 16, then 22 and 23, and the rows.
 ghost use mathlib.Core.Path.{_≡_};
 ghost use Prim.Native.Nat.{ℕ};
 ghost use lib.Dec.{eqb};
@@ -7,6 +7,10 @@ ghost use Rattle.model.specs.Trees.{tree-of};
 ghost use Rattle.refusals.specs.Arrays.{told};
 ghost use Rattle.schedules.specs.Rows.{total};
 ghost use Rattle.schedules.specs.Refusals.{many-refusal};
+ghost use Rattle.schedules.specs.Answers.{many-answer, rows-answer};
+
+mod many;
+
 use model::TreeWords;
 use refusals::Refusal;
 
@@ -63,4 +67,18 @@ pub fn many_refusal_of(tree: TreeWords, lengths: &[u32], entries: usize, room: u
         number: 0,
         place: 0,
     }
+}
+
+// Many schedules, the entries of all of them behind one another: of each, run from its own fresh lock, one row of eight numbers at the front of the rows. Refused as a whole, the rows as they came.
+pub fn run_many(tree: TreeWords, lengths: &[u32], entries: &[u16], rows: &mut [u32]) -> Refusal
+    ensures { λ r. ⌜ r ≡ told (many-answer tree (now (lengths .entry)) (now (entries .entry)) (now (rows .entry))) ⌝ }
+    ensures { λ r. ⌜ now (rows .exit) ≡ rows-answer tree (now (lengths .entry)) (now (entries .entry)) (now (rows .entry)) ⌝ }
+{
+    let r = many_refusal_of(tree, lengths, entries.len(), rows.len());
+    if r.number != 0 {
+        return r;
+    }
+    let mut trace = [0u16; 65536];
+    many::run_rows(tree, lengths, entries, &mut trace, rows);
+    r
 }

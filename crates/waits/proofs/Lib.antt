@@ -8,3 +8,7 @@ pub mod Phases
 pub mod Entering
 pub mod Bounds
 pub mod Measuring
+pub mod Counting
+pub mod Writing
+pub mod Pieces
+pub mod Waited

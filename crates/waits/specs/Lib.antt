@@ -7,3 +7,4 @@ pub mod Answers
 pub mod Laws
 pub mod Meanings
 pub mod Cases
+pub mod Waiting

@@ -1,9 +1,14 @@
-// A run with waits: what refuses it, 4 to 9, 16 and 10 to 13, then 18, and the mean of a row. `lock` runs it and counts.
+// A run with waits: what refuses it, 4 to 9, 16 and 10 to 13, then 18, the mean of a row, and the run itself.
 ghost use mathlib.Core.Path.{_≡_};
 ghost use Rattle.model.specs.Trees.{tree-of};
 ghost use Rattle.refusals.specs.Arrays.{told};
 ghost use Rattle.waits.specs.Rows.{greatest-divisor, mean};
 ghost use Rattle.waits.specs.Refusals.{waits-refusal};
+ghost use Rattle.waits.specs.Answers.{waits-answer, waits-trace, waits-rows};
+
+mod waiting;
+
+use model::RunReply;
 use model::State;
 use model::TreeWords;
 use refusals::Refusal;
@@ -66,4 +71,31 @@ pub fn waits_refusal_of(
         };
     }
     r
+}
+
+// A run, and in a row buffer of its own the waits of each thread's attempts and of all together, five numbers a row. Refused, state, trace and rows as they came.
+pub fn run_waits(
+    tree: TreeWords,
+    state: State,
+    schedule: &[u16],
+    trace: &mut [u16],
+    rows: &mut [u64],
+) -> RunReply
+    ensures { λ r. ⌜ r ≡ waits-answer tree state (now (schedule .entry)) (now (trace .entry)) (now (rows .entry)) ⌝ }
+    ensures { λ r. ⌜ now (trace .exit) ≡ waits-trace tree state (now (schedule .entry)) (now (trace .entry)) (now (rows .entry)) ⌝ }
+    ensures { λ r. ⌜ now (rows .exit) ≡ waits-rows tree state (now (schedule .entry)) (now (trace .entry)) (now (rows .entry)) ⌝ }
+{
+    let r = waits_refusal_of(tree, state, schedule, trace.len(), rows.len());
+    if r.number != 0 {
+        return steps::refused(r.number, r.place, state);
+    }
+    let mut kinds = [0u32; 6];
+    let after = waiting::run_counted(tree, state, schedule, trace, &mut kinds, rows);
+    let counts = steps::run::counts_of(&kinds);
+    RunReply {
+        number: 0,
+        place: 0,
+        counts,
+        state: after,
+    }
 }

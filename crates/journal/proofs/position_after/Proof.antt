@@ -7,9 +7,6 @@ use Rattle.journal.specs.Reading.{position-after}
 use Rattle.journal.proofs.Pieces.{position-next, position-broken, position-end, position-none}
 use Rattle.journal.proofs.position_after.Statement.{statement}
 use Rattle.journal.proofs.position_after.Tie as tie
-use Rattle.journal.proofs.position_after.Reads as reads
-use Rattle.journal.proofs.position_after.Lts as lts
-use Rattle.journal.proofs.entry_at.Reads as entry-at-reads
 
 abbrev Inv-loop : tie.InvT-loop
 Inv-loop journal position before count at₀ last₀ k₀ at last k = (k ≤ count) × (position-after (count - k) journal at last ≡ position-after count journal position before)

@@ -11,10 +11,6 @@ use Rattle.journal.proofs.Facts.{whole-entry}
 use borrow.Author.Needs.{needs}
 use Rattle.journal.proofs.read_entry.Statement.{statement}
 use Rattle.journal.proofs.read_entry.Tie as tie
-use Rattle.journal.proofs.read_entry.Reads as reads
-use Rattle.journal.proofs.read_entry.Lts as lts
-use Rattle.journal.proofs.size_of.Reads as size-of-reads
-use Rattle.journal.proofs.two_bytes.Reads as two-bytes-reads
 
 three : (m : ℕ) → m ≤ 3 → (m ≡ 0 → ⊥) → (m ≡ 1 → ⊥) → (m ≡ 2 → ⊥) → m ≡ 3
 three m h a b c = omega (arith, a, b, c)

@@ -7,10 +7,6 @@ use borrow.Author.Needs.{needs}
 use Rattle.journal.proofs.Pieces.{So-far, start, turn, threads-full, kinds-full, ended, broken, unknown}
 use Rattle.journal.proofs.read_piece.Statement.{statement}
 use Rattle.journal.proofs.read_piece.Tie as tie
-use Rattle.journal.proofs.read_piece.Reads as reads
-use Rattle.journal.proofs.read_piece.Lts as lts
-use Rattle.journal.proofs.entry_at.Reads as entry-at-reads
-use Rattle.journal.proofs.stopped.Reads as stopped-reads
 
 abbrev Inv-loop : tie.InvT-loop
 Inv-loop journal position before known threads₀ kinds₀ count₀ at₀ last₀ threads kinds count at last =

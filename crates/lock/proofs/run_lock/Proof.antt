@@ -1,5 +1,5 @@
 -- `lock::run_lock` meets its contract: refused, or run. Assumes nothing.
-use Rattle.lock.proofs.Answering.{run-refuses, run-passes, kinds-few, run-answered}
+use Rattle.steps.proofs.Answering.{run-refuses, run-passes, kinds-few, run-answered}
 use borrow.Author.Needs.{needs}
 use Rattle.lock.proofs.run_lock.Statement.{statement}
 use Rattle.lock.proofs.run_lock.Tie as tie

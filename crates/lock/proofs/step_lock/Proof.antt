@@ -1,5 +1,5 @@
 -- Refused as a run of its one entry, or that run, with the one step's kind and the domain of the place it came from. Assumes nothing.
-use Rattle.lock.proofs.Answering.{step-refuses, one-runs, step-answered}
+use Rattle.steps.proofs.Answering.{step-refuses, one-runs, step-answered}
 use borrow.Author.Needs.{needs}
 use Rattle.lock.proofs.step_lock.Statement.{statement}
 use Rattle.lock.proofs.step_lock.Tie as tie

@@ -8,9 +8,6 @@ use Rattle.schedules.specs.Rows.{total}
 use Rattle.schedules.proofs.Adding.{too-long, one-less, none-left}
 use Rattle.schedules.proofs.adds_up.Statement.{statement}
 use Rattle.schedules.proofs.adds_up.Tie as tie
-use Rattle.schedules.proofs.adds_up.Reads as reads
-use Rattle.schedules.proofs.adds_up.Lts as lts
-use Rattle.schedules.proofs.wide.Reads as wide-reads
 
 abbrev Inv-loop : tie.InvT-loop
 Inv-loop lengths entries left₀ k₀ left k = total lengths + left ≡ entries + total (drop k lengths)

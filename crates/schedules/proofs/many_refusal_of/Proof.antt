@@ -10,10 +10,6 @@ use borrow.Author.Tests.{not-true, not-false}
 use borrow.Author.Needs.{needs}
 use Rattle.schedules.proofs.many_refusal_of.Statement.{statement}
 use Rattle.schedules.proofs.many_refusal_of.Tie as tie
-use Rattle.schedules.proofs.many_refusal_of.Reads as reads
-use Rattle.schedules.proofs.many_refusal_of.Lts as lts
-use Rattle.refusals.proofs.tree_refusal_of.Reads as tree-refusal-of-reads
-use Rattle.schedules.proofs.adds_up.Reads as adds-up-reads
 
 tree-refusal-of-requires : tie.Need-tree-refusal-of-requires
 tree-refusal-of-requires c κs = search needs

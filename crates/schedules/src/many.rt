@@ -1,0 +1,96 @@
+// Many schedules on one tree, each run from its own fresh lock; of each, one row.
+ghost use mathlib.Core.Path.{_≡_};
+ghost use Prim.Native.Nat.{_+_, _*_, _≤_};
+ghost use lib.ListN.{length};
+ghost use lib.Seq.{sets};
+ghost use Rattle.model.specs.Trees.{tree-of};
+ghost use Rattle.model.specs.States.{fresh-words};
+ghost use Rattle.model.specs.Refusals.{tree-refusal};
+ghost use Rattle.steps.specs.Running.{row-numbers};
+ghost use Rattle.schedules.specs.Rows.{total, cut, alone, row-of, all-rows};
+use model::Counts;
+use model::State;
+use model::TreeWords;
+
+fn wide(x: u32) -> usize
+    ensures { λ r. ⌜ r ≡ x ⌝ }
+{
+    x as usize
+}
+
+// Writes a row's eight numbers from a position on.
+fn put_row(rows: &mut [u32], at: usize, number: u32, place: u32, counts: Counts)
+    requires { ⌜ at + 8 ≤ length (now rows) ⌝ }
+    ensures { λ r. ⌜ now (rows .exit) ≡ sets (now (rows .entry)) at (row-numbers number place counts) ⌝ }
+{
+    rows[at] = number;
+    rows[at + 1] = place;
+    rows[at + 2] = counts.steps;
+    rows[at + 3] = counts.entries;
+    rows[at + 4] = counts.stays;
+    rows[at + 5] = counts.root;
+    rows[at + 6] = counts.passed;
+    rows[at + 7] = counts.crossed;
+}
+
+// The row of one schedule, run from a fresh lock. The tree and the fresh words pass their tests, so the schedule alone is tested; neither the state after it nor the trace is kept.
+fn run_row(
+    tree: TreeWords,
+    fresh: State,
+    schedule: &[u16],
+    trace: &mut [u16],
+    rows: &mut [u32],
+    at: usize,
+)
+    requires { ⌜ tree-refusal (tree-of tree) .number ≡ 0 ⌝ }
+    requires { ⌜ fresh ≡ fresh-words ⌝ }
+    requires { ⌜ length (now trace) ≡ 65536 ⌝ }
+    requires { ⌜ at + 8 ≤ length (now rows) ⌝ }
+    ensures { λ r. ⌜ now (rows .exit) ≡ sets (now (rows .entry)) at (row-of (alone tree (now (schedule .entry)))) ⌝ }
+{
+    let r = refusals::schedule_refusal_of(tree.threads, schedule, schedule.len());
+    let mut kinds = [0u32; 6];
+    if r.number != 0 {
+        put_row(rows, at, r.number, r.place, steps::run::counts_of(&kinds));
+        return;
+    }
+    let mut last = [0u32; 2];
+    let mut told = [0u16; 0];
+    let after = steps::run::run_steps(
+        tree,
+        fresh,
+        schedule,
+        trace,
+        &mut kinds,
+        &mut last,
+        &mut told,
+    );
+    put_row(rows, at, 0, 0, steps::run::counts_of(&kinds));
+}
+
+// The rows of all schedules, one behind another, with one lent trace buffer and one fresh state for all of them: each run copies it.
+pub(crate) fn run_rows(
+    tree: TreeWords,
+    lengths: &[u32],
+    entries: &[u16],
+    trace: &mut [u16],
+    rows: &mut [u32],
+)
+    requires { ⌜ tree-refusal (tree-of tree) .number ≡ 0 ⌝ }
+    requires { ⌜ total (now lengths) ≡ length (now entries) ⌝ }
+    requires { ⌜ 8 * length (now lengths) ≤ length (now rows) ⌝ }
+    requires { ⌜ length (now trace) ≡ 65536 ⌝ }
+    ensures { λ r. ⌜ now (rows .exit) ≡ sets (now (rows .entry)) 0 (all-rows tree (cut (now (lengths .entry)) (now (entries .entry)))) ⌝ }
+{
+    let fresh = steps::fresh_state(0);
+    let mut k: usize = 0;
+    let mut from: usize = 0;
+    let mut at: usize = 0;
+    while k < lengths.len() {
+        let end = from + wide(lengths[k]);
+        run_row(tree, fresh, &entries[from..end], trace, rows, at);
+        from = end;
+        at += 8;
+        k += 1;
+    }
+}

@@ -1,0 +1,12 @@
+pub mod Children
+pub mod Leaving
+pub mod RowPlaces
+pub mod WordsRead
+pub mod Deciding
+pub mod SoFar
+pub mod Typing
+pub mod Turns
+pub mod LastTold
+pub mod Telling
+pub mod Answering
+pub mod Starting

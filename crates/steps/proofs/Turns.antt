@@ -1,0 +1,38 @@
+-- What each turn of the run's loop needs. Assumes nothing.
+use mathlib.Core.Path.{_≡_}
+use mathlib.Core.List.{List}
+use Prim.Native.Nat.{ℕ, _<_}
+use native.Mathlib.Omega.{arith}
+use native.Mathlib.Nat.{mod-lt}
+use lib.ListN.{getD, length, set}
+use Rattle.model.specs.declared.TreeWords.{TreeWords}
+use Rattle.model.specs.declared.State.{State}
+use Rattle.model.specs.Places.{place-words}
+use Rattle.model.specs.Trees.{Tree, tree-of, read-word}
+use Rattle.model.specs.Laws.{Sixteen-bit, Formed}
+use Rattle.model.proofs.Laws.Facts.{well-formed-facts}
+use Rattle.model.proofs.Laws.Calls.{Good-run}
+use Rattle.steps.specs.declared.rows.Effect.{Effect}
+use Rattle.steps.specs.Effects.{stored, counter-stored, apply, state-in}
+use Rattle.steps.specs.Running.{Ready}
+use Rattle.steps.proofs.SoFar.{thread-at, below}
+
+pub sixteen : (w : TreeWords) → Sixteen-bit (tree-of w)
+unfolding tree-of
+sixteen w d = let h = mod-lt (read-word 1 (w .domains) (w .thresholds) d) {m = 65536} (omega arith) in omega arith
+
+-- an entry of an accepted schedule
+pub thread-small : (t : Tree) (s : State) (is : List ℕ) (room k : ℕ) → Good-run t s is room → k < length is → getD is k 0 < 256
+thread-small t s is room k R h = below t is (R .tree) (R .threads) k h
+
+pub ready : (t : Tree) (s₀ s : State) (is : List ℕ) (room k : ℕ) → Good-run t s₀ is room → Formed t s → k < length is → Ready t (getD is k 0) (getD (s .places) (getD is k 0) (place-words 0 0 0 0))
+ready t s₀ s is room k R f h =
+    let i = thread-at t is (R .threads) k h in
+    record { tree = R .tree; thread = i; place = well-formed-facts t s f .places (getD is k 0) .used i }
+
+-- three stores and a place are an effect
+pub all-stored :
+    (i : ℕ) (e : Effect) (s : State) (ts ns vs : List ℕ) (v g : ℕ) → ts ≡ stored 64 (s .tails) (e .domain) (e .tail) →
+    ns ≡ stored 320 (s .nexts) (e .linked) (e .next) → vs ≡ stored 320 (s .statuses) (e .marked) (e .status) →
+    v ≡ counter-stored (s .ticket) (e .ticket) → g ≡ counter-stored (s .grant) (e .grant) → state-in ts ns vs v g (set (s .places) i (e .place)) ≡ apply i e s
+all-stored i e s ts ns vs v g a b c d f = rw (a, b, c, d, f)

@@ -1,0 +1,40 @@
+-- `steps::rows::help` meets its contract. Assumes nothing.
+use mathlib.Core.Path.{refl}
+use borrow.Author.Tests.{eq-eqb, ne-eqb}
+use Rattle.model.specs.Steps.{help-row}
+use borrow.Author.Needs.{needs}
+use Rattle.steps.proofs.rows.help.Statement.{statement}
+use Rattle.steps.proofs.rows.help.Tie as tie
+
+moves-requires : tie.Need-moves-requires
+moves-requires c κs = search needs
+
+returns : tie.Need-returns
+unfolding help-row
+returns c =
+    record {
+      does = λ t i s R.
+          rw (c .moves .ensures, ← R .own-is, ← R .next-is, eq-eqb _ _ (c .before .if1 .taken)) (record { kind-told = refl; state-left = refl });
+    }
+
+root-word-at-requires : tie.Need-root-word-at-requires
+root-word-at-requires c κs = search needs
+
+sub-t7 : tie.Need-sub-t7
+sub-t7 c = search needs
+
+moves-requires-2 : tie.Need-moves-requires-2
+moves-requires-2 c κs = search needs
+
+returns-2 : tie.Need-returns-2
+unfolding help-row
+returns-2 c =
+    record {
+      does = λ t i s R.
+          rw (c .moves2 .ensures, c .before .root-word-at .ensures, ← R .own-is, ← R .next-is, ne-eqb _ _ (c .before .before .if1 .left)) (record { kind-told = refl; state-left = refl });
+    }
+
+pub help-spec : {M : Type 1} → statement M
+help-spec =
+    tie.close
+    (tie.spec moves-requires returns root-word-at-requires sub-t7 moves-requires-2 returns-2)

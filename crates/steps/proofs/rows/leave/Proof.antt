@@ -1,0 +1,24 @@
+-- `steps::rows::leave` meets its contract. Assumes nothing.
+use mathlib.Core.Path.{refl}
+use Rattle.model.specs.Steps.{leave-row}
+use borrow.Author.Needs.{needs}
+use Rattle.steps.proofs.Leaving.{release-is}
+use Rattle.steps.proofs.rows.leave.Statement.{statement}
+use Rattle.steps.proofs.rows.leave.Tie as tie
+
+release-place-at-requires : tie.Need-release-place-at-requires
+release-place-at-requires c κs = search needs
+
+moves-requires : tie.Need-moves-requires
+moves-requires c κs = search needs
+
+returns : tie.Need-returns
+unfolding leave-row
+returns c =
+    record {
+      does = λ t i s R.
+          rw (c .moves .ensures, c .before .release-place-at .ensures, release-is t i s _ R _, ← R .home-is) (record { kind-told = refl; state-left = refl });
+    }
+
+pub leave-spec : {M : Type 1} → statement M
+leave-spec = tie.close (tie.spec release-place-at-requires moves-requires returns)

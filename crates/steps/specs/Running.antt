@@ -1,0 +1,107 @@
+-- A run by its effects: what is decided, stored, counted and traced. Assumes nothing: these are definitions.
+use mathlib.Core.Path.{_≡_}
+use mathlib.Core.Bool.{Bool, true, _||_, not, cond}
+use mathlib.Core.List.{List, [], _∷_, _++_}
+use Prim.Native.Nat.{ℕ, _+_, _*_, _%_, _<_}
+use lib.Dec.{eqb, ltb}
+use lib.ListN.{getD, set, length, drop}
+use Rattle.model.specs.declared.PlaceWords.{PlaceWords}
+use Rattle.model.specs.declared.State.{State}
+use Rattle.model.specs.Places.{place-words, words-of, place-of}
+use Rattle.model.specs.States.{fresh-words, with-ticket, with-grant}
+use Rattle.model.specs.Trees.{Tree}
+use Rattle.model.specs.Refusals.{tree-refusal}
+use Rattle.model.specs.declared.Counts.{Counts}
+use Rattle.model.specs.Steps.{stay, other, root-entry, passed-entry, crossed-entry, leaving, kind-number, is-kind, Step, row, step}
+use Rattle.model.specs.Runs.{how-many, Run}
+use Rattle.model.specs.WellFormed.{good-place}
+use Rattle.steps.specs.declared.rows.Effect.{Effect}
+use Rattle.steps.specs.Effects.{Does, state-in}
+
+-- an accepted tree, a thread of it, and a good place of that thread
+pub record Ready (t : Tree) (i : ℕ) (q : PlaceWords) : Type 0 where
+  pub tree : tree-refusal t .number ≡ 0
+  pub thread : i < t .threads
+  pub place : good-place t i (place-of q) ≡ true
+
+-- the effect of the row of a place, whatever the places of the other threads are
+pub record Decided (t : Tree) (i : ℕ) (q : PlaceWords) (tails nexts statuses : List ℕ) (ticket grant : ℕ) (e : Effect) : Type 0 where
+  pub does : (ps : List PlaceWords) → getD ps i (place-words 0 0 0 0) ≡ q → Does (row t i (place-of q) (state-in tails nexts statuses ticket grant ps)) i e (state-in tails nexts statuses ticket grant ps)
+
+-- of the one step of a schedule of one entry: the number of its kind, and its domain
+pub record Last-told (t : Tree) (schedule : List ℕ) (s : State) (last : List ℕ) : Type 0 where
+  pub kind : length schedule ≡ 1 → getD last 0 0 ≡ kind-number (step t (getD schedule 0 0) s .kind)
+  pub domain : length schedule ≡ 1 → getD last 1 0 ≡ step t (getD schedule 0 0) s .domain
+
+-- how many of some steps are of each kind, in the order of the kinds' numbers
+unfoldable pub kinds-of : List Step → List ℕ
+kinds-of xs =
+    how-many (is-kind stay) xs ∷ how-many (is-kind other) xs ∷ how-many (is-kind root-entry) xs ∷ how-many (is-kind passed-entry) xs
+    ∷ how-many (is-kind crossed-entry) xs ∷ how-many (is-kind leaving) xs ∷ []
+
+-- one step of a kind more
+abbrev pub counted : (kinds : List ℕ) → (kind : ℕ) → List ℕ
+counted ks k = set ks k (getD ks k 0 + 1)
+
+-- those of one list of steps and of another behind it
+abbrev pub kinds-added : (kinds more : List ℕ) → List ℕ
+kinds-added a b =
+    (getD a 0 0 + getD b 0 0) ∷ (getD a 1 0 + getD b 1 0) ∷ (getD a 2 0 + getD b 2 0) ∷ (getD a 3 0 + getD b 3 0) ∷ (getD a 4 0 + getD b 4 0)
+    ∷ (getD a 5 0 + getD b 5 0) ∷ []
+
+-- what a run counts, by how many of its steps are of each kind
+abbrev pub counts-by : (kinds : List ℕ) → Counts
+counts-by ks =
+    record {
+      steps = getD ks 0 0 + getD ks 1 0 + getD ks 2 0 + getD ks 3 0 + getD ks 4 0 + getD ks 5 0;
+      entries = getD ks 2 0 + getD ks 3 0 + getD ks 4 0;
+      stays = getD ks 0 0;
+      root = getD ks 2 0;
+      passed = getD ks 3 0;
+      crossed = getD ks 4 0;
+    }
+
+-- the kind of a number is an entry
+abbrev pub is-entry-number : (kind : ℕ) → Bool
+is-entry-number k = eqb k 2 || eqb k 3 || eqb k 4
+
+-- the buffer with an entering thread at an index
+abbrev pub traced-at : List ℕ → (at kind thread : ℕ) → List ℕ
+traced-at b n k i = cond (is-entry-number k) (set b n i) b
+
+-- the buffer with a run's trace at its front
+abbrev pub trace-front : List ℕ → Run → List ℕ
+trace-front b x = x .trace ++ drop (length (x .trace)) b
+
+-- what a step was, in one number: of its kind, of the row of the place that it came from and of the domain that this place names
+abbrev pub code-of : (kind row domain : ℕ) → ℕ
+code-of k r d = k + 8 * r + 128 * d
+
+unfoldable pub step-code : Step → ℕ
+step-code x = code-of (kind-number (x .kind)) (words-of (x .place) .row) (words-of (x .place) .domain)
+
+-- a buffer with a number at an index; where it has no such index, as it came
+abbrev pub told-at : List ℕ → (at code : ℕ) → List ℕ
+told-at b n v = cond (ltb n (length b)) (set b n v) b
+
+-- the buffer with the numbers of the first steps at its front, as many as it has room for
+unfoldable pub told-front : List ℕ → List Step → List ℕ
+told-front [] xs = []
+told-front (b ∷ bs) [] = b ∷ bs
+told-front (b ∷ bs) (x ∷ xs) = step-code x ∷ told-front bs xs
+
+-- the kind that an entry names is not the one told of its step: a step's number has its kind in the lowest three bits
+abbrev pub other-kind-told : (kinds told : List ℕ) → (entry : ℕ) → Bool
+other-kind-told ks cs j = not (eqb (getD ks j 0) (getD cs j 0 % 8))
+
+-- a fresh state by the number at which its counters start
+abbrev pub fresh-from : (first : ℕ) → State
+fresh-from v = with-grant v (with-ticket v fresh-words)
+
+-- that number, by a refusal's number, the number that names the kind of root, and the start that is given
+abbrev pub first-number : (number kind start : ℕ) → ℕ
+first-number n k v = cond (eqb n 0) (cond (eqb k 0) 0 v) 0
+
+-- the numbers of a row, by number, place and counts
+abbrev pub row-numbers : (number place : ℕ) → Counts → List ℕ
+row-numbers n p c = n ∷ p ∷ c .steps ∷ c .entries ∷ c .stays ∷ c .root ∷ c .passed ∷ c .crossed ∷ []

@@ -1,0 +1,58 @@
+// The step table in code: what each row stores, and the run's loop. An inner crate: the calls on a lock stand on it, and have made the tests that it asks for.
+ghost use mathlib.Core.Path.{_≡_};
+ghost use Rattle.model.specs.Refusals.{refusal};
+ghost use Rattle.model.specs.Answers.{run-refused};
+ghost use Rattle.steps.specs.Running.{fresh-from};
+
+mod places;
+mod rows;
+pub mod run;
+
+use model::Counts;
+use model::PlaceWords;
+use model::RunReply;
+use model::State;
+
+// The state of a fresh lock, by the number at which its counters start.
+pub fn fresh_state(first: u16) -> State
+    ensures { λ r. ⌜ r ≡ fresh-from first ⌝ }
+{
+    let place = PlaceWords {
+        row: 0,
+        domain: 0,
+        peer: 0,
+        word: 0,
+    };
+    let tails = [0u16; 64];
+    let nexts = [0u16; 320];
+    let statuses = [0u64; 320];
+    let places = [place; 256];
+    State {
+        tails,
+        nexts,
+        statuses,
+        places,
+        ticket: first,
+        grant: first,
+    }
+}
+
+// A refused run: number, place, zero counts and the state as it came.
+pub fn refused(number: u32, place: u32, state: State) -> RunReply
+    ensures { λ r. ⌜ r ≡ run-refused (refusal number place) state ⌝ }
+{
+    let counts = Counts {
+        steps: 0,
+        entries: 0,
+        stays: 0,
+        root: 0,
+        passed: 0,
+        crossed: 0,
+    };
+    RunReply {
+        number,
+        place,
+        counts,
+        state,
+    }
+}

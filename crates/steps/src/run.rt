@@ -1,0 +1,199 @@
+// Effects stored into a state, and the run's loop.
+ghost use mathlib.Core.Path.{_≡_};
+ghost use mathlib.Core.Bool.{cond};
+ghost use Prim.Native.Nat.{_+_, _*_, _<_, _≤_};
+ghost use lib.ListN.{length, getD};
+ghost use Rattle.model.specs.Trees.{tree-of};
+ghost use Rattle.model.specs.Refusals.{run-refusal};
+ghost use Rattle.model.specs.Runs.{steps, run};
+ghost use Rattle.steps.specs.Effects.{stored, counter-stored};
+ghost use Rattle.steps.specs.Running.{Last-told, kinds-of, counted, counts-by, is-entry-number, traced-at, trace-front, code-of, told-at, told-front};
+use crate::places;
+use crate::rows;
+use model::Counts;
+use model::State;
+use model::TreeWords;
+
+fn store_tail(tails: &mut [u16; 64], d: u8, v: u16)
+    ensures { λ r. ⌜ now (tails .exit) ≡ stored 64 (now (tails .entry)) d v ⌝ }
+{
+    let at = d as usize;
+    if 64 <= at {
+        return;
+    }
+    tails[at] = v;
+}
+
+fn store_next(nexts: &mut [u16; 320], r: u16, v: u16)
+    ensures { λ q. ⌜ now (nexts .exit) ≡ stored 320 (now (nexts .entry)) r v ⌝ }
+{
+    let at = r as usize;
+    if 320 <= at {
+        return;
+    }
+    nexts[at] = v;
+}
+
+fn store_status(statuses: &mut [u64; 320], r: u16, v: u64)
+    ensures { λ q. ⌜ now (statuses .exit) ≡ stored 320 (now (statuses .entry)) r v ⌝ }
+{
+    let at = r as usize;
+    if 320 <= at {
+        return;
+    }
+    statuses[at] = v;
+}
+
+// A counter of a ticket lock; a number beyond 16 bits is no store.
+fn store_counter(counter: &mut u16, v: u32)
+    ensures { λ q. ⌜ now (counter .exit) ≡ counter-stored (now (counter .entry)) v ⌝ }
+{
+    if 65536 <= v {
+        return;
+    }
+    *counter = v as u16;
+}
+
+// One step of a kind more, where the steps of each kind are counted.
+fn count_in(kinds: &mut [u32; 6], kind: u8)
+    requires { ⌜ kind < 6 ⌝ }
+    requires { ⌜ getD (now kinds) kind 0 < 65536 ⌝ }
+    ensures { λ r. ⌜ now (kinds .exit) ≡ counted (now (kinds .entry)) kind ⌝ }
+{
+    let at = kind as usize;
+    kinds[at] = kinds[at] + 1;
+}
+
+// What a run counts, by how many of its steps are of each kind.
+pub fn counts_of(kinds: &[u32; 6]) -> Counts
+    requires { ⌜ counts-by (now kinds) .steps ≤ 65536 ⌝ }
+    ensures { λ r. ⌜ r ≡ counts-by (now (kinds .entry)) ⌝ }
+{
+    let stays = kinds[0];
+    let others = kinds[1];
+    let root = kinds[2];
+    let passed = kinds[3];
+    let crossed = kinds[4];
+    let leaving = kinds[5];
+    Counts {
+        steps: stays + others + root + passed + crossed + leaving,
+        entries: root + passed + crossed,
+        stays,
+        root,
+        passed,
+        crossed,
+    }
+}
+
+// An entry arrives Inside.
+pub fn is_entry(kind: u8) -> bool
+    ensures { λ r. ⌜ r ≡ is-entry-number kind ⌝ }
+{
+    if kind == model::ROOT_ENTRY {
+        return true;
+    }
+    if kind == model::PASSED_ENTRY {
+        return true;
+    }
+    kind == model::CROSSED_ENTRY
+}
+
+// An entering thread is written at an index of the trace; the index after it.
+fn trace_at(trace: &mut [u16], at: u32, kind: u8, i: u16) -> u32
+    requires { ⌜ at < length (now trace) ⌝ }
+    requires { ⌜ at < 65536 ⌝ }
+    ensures { λ r. ⌜ r ≡ at + cond (is-entry-number kind) 1 0 ⌝ }
+    ensures { λ r. ⌜ now (trace .exit) ≡ traced-at (now (trace .entry)) at kind i ⌝ }
+{
+    if is_entry(kind) {
+        let k = at as usize;
+        trace[k] = i;
+        return at + 1;
+    }
+    at
+}
+
+// What a step was, in one number; where no room is lent for it, it is not told.
+fn tell(told: &mut [u16], at: usize, kind: u8, row: u8, domain: u8)
+    ensures { λ r. ⌜ now (told .exit) ≡ told-at (now (told .entry)) at (code-of kind row domain) ⌝ }
+{
+    if told.len() <= at {
+        return;
+    }
+    told[at] = kind as u16 + 8 * (row as u16) + 128 * (domain as u16);
+}
+
+// The steps of a schedule, stored one after another into one state, which is copied at the start and at the end alone. How many of them are of each kind, kind and domain of the last one, and what each of the first was, as many as there is room for, are written where the caller lends room, so that the state alone is returned.
+pub fn run_steps(
+    tree: TreeWords,
+    state: State,
+    schedule: &[u16],
+    trace: &mut [u16],
+    kinds: &mut [u32; 6],
+    last: &mut [u32; 2],
+    told: &mut [u16],
+) -> State
+    requires { ⌜ run-refusal (tree-of tree) state (now schedule) (length (now trace)) .number ≡ 0 ⌝ }
+    ensures { λ r. ⌜ r ≡ run (tree-of tree) (now (schedule .entry)) state .state ⌝ }
+    ensures { λ r. ⌜ now (trace .exit) ≡ trace-front (now (trace .entry)) (run (tree-of tree) (now (schedule .entry)) state) ⌝ }
+    ensures { λ r. ⌜ now (kinds .exit) ≡ kinds-of (steps (tree-of tree) (now (schedule .entry)) state) ⌝ }
+    ensures { λ r. ⌜ Last-told (tree-of tree) (now (schedule .entry)) state (now (last .exit)) ⌝ }
+    ensures { λ r. ⌜ now (told .exit) ≡ told-front (now (told .entry)) (steps (tree-of tree) (now (schedule .entry)) state) ⌝ }
+{
+    let mut n = state;
+    let mut tally = [0u32; 6];
+    let mut entries: u32 = 0;
+    let mut row: u8 = 0;
+    let mut domain: u8 = 0;
+    let mut last_kind: u8 = 0;
+    let mut thread: u16 = 0;
+    let mut k: u32 = 0;
+    while (k as usize) < schedule.len() {
+        let position = k as usize;
+        let i = schedule[position];
+        let at = i as usize;
+        let before = n.places[at];
+        let e = rows::decide(
+            &tree.parents,
+            &tree.thresholds,
+            &tree.homes,
+            tree.domains,
+            tree.threads,
+            &n.tails,
+            &n.nexts,
+            &n.statuses,
+            i,
+            before,
+            tree.ticket_root,
+            n.ticket,
+            n.grant,
+        );
+        row = before.row;
+        domain = before.domain;
+        let kind = e.kind;
+        last_kind = kind;
+        thread = i;
+        count_in(&mut tally, kind);
+        if kind == model::STAY {
+            tell(told, position, kind, row, domain);
+            k += 1;
+            continue;
+        }
+        store_tail(&mut n.tails, e.domain, e.tail);
+        store_next(&mut n.nexts, e.linked, e.next);
+        store_status(&mut n.statuses, e.marked, e.status);
+        store_counter(&mut n.ticket, e.ticket);
+        store_counter(&mut n.grant, e.grant);
+        let place = e.place;
+        n.places[at] = place;
+        entries = trace_at(trace, entries, kind, i);
+        tell(told, position, kind, row, domain);
+        k += 1;
+    }
+    *kinds = tally;
+    let at = thread as usize;
+    let kind = places::wide(last_kind);
+    let domain = places::domain_by_row(tree.homes[at], row, domain);
+    *last = [kind, domain];
+    n
+}

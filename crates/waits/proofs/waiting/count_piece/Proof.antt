@@ -1,0 +1,94 @@
+-- `waits::waiting::count_piece` meets its contract: the steps so far are counted. Assumes nothing.
+use mathlib.Core.Path.{_≡_, refl, sym, ap, _∙_}
+use Prim.Native.Nat.{_-_}
+use native.Mathlib.Omega.{arith}
+use lib.ListN.{length}
+use borrow.Author.Needs.{needs}
+use Rattle.waits.proofs.Counting.{Going, going-start, thread-small, told-long, entered-few, note-fits, going-read, going-ends}
+use Rattle.waits.proofs.waiting.count_piece.Statement.{statement}
+use Rattle.waits.proofs.waiting.count_piece.Tie as tie
+
+abbrev Inv-loop : tie.InvT-loop
+Inv-loop schedule told count marks₀ attempts₀ totals₀ longest₀ tree entered₀ k₀ marks attempts totals longest entered k =
+    Going tree schedule told marks₀ attempts₀ totals₀ longest₀ count marks attempts totals longest entered k
+
+abbrev μ-loop : tie.MeasureT-loop
+μ-loop schedule told count marks₀ attempts₀ totals₀ longest₀ tree entered₀ k₀ marks attempts totals longest entered k =
+    length schedule - k
+
+loop-holds : tie.Need-loop-holds Inv-loop μ-loop
+loop-holds c = going-start _ _ _ _ _ _ _ _
+
+mul-wide : tie.Need-mul-wide Inv-loop μ-loop
+mul-wide c = omega arith
+
+shared-slice-read-wide : tie.Need-shared-slice-read-wide Inv-loop μ-loop
+shared-slice-read-wide c = omega arith
+
+wide-requires : tie.Need-wide-requires Inv-loop μ-loop
+wide-requires c κs = search needs
+
+mul-code : tie.Need-mul-code Inv-loop μ-loop
+mul-code c = omega arith
+
+shared-slice-read-code : tie.Need-shared-slice-read-code Inv-loop μ-loop
+shared-slice-read-code c = told-long _ _ _ _ _ _ _ _ _ _ _ _ _ _ (c .before .before .before .before .loop .inv) (c .before .before .before .loop-test .taken) (c .before .before .before .before .before .before .before .pre)
+
+element-copy-out-home : tie.Need-element-copy-out-home Inv-loop μ-loop
+element-copy-out-home c = rw (c .before .wide .ensures) (thread-small _ _ _ _ _ _ _ _ _ _ _ _ _ _ (c .before .before .before .before .loop .inv) (c .before .before .before .loop-test .taken) (c .before .before .before .before .before .before .before .pre))
+
+is-ticket-home-requires : tie.Need-is-ticket-home-requires Inv-loop μ-loop
+is-ticket-home-requires c κs = search needs
+
+begins-at-requires : tie.Need-begins-at-requires Inv-loop μ-loop
+begins-at-requires c κs = search needs
+
+cast-is-entry : tie.Need-cast-is-entry Inv-loop μ-loop
+cast-is-entry c = omega arith
+
+is-entry-requires : tie.Need-is-entry-requires Inv-loop μ-loop
+is-entry-requires c κs = search needs
+
+note-requires : tie.Need-note-requires Inv-loop μ-loop
+note-requires c κs = rw (c .before .before .before .before .before .before .before .before .before .wide .ensures) (note-fits _ _ _ _ _ _ _ _ _ _ _ _ _ _ (c .before .before .before .before .before .before .before .before .before .before .before .before .loop .inv) (c .before .before .before .before .before .before .before .before .before .before .before .loop-test .taken) (c .before .before .before .before .before .before .before .before .before .before .before .before .before .before .before .pre))
+
+one-more-requires : tie.Need-one-more-requires Inv-loop μ-loop
+one-more-requires c κs = entered-few _ _ _ _ _ _ _ _ _ _ _ _ _ _ (c .before .before .before .before .before .before .before .before .before .before .before .before .before .loop .inv) (c .before .before .before .before .before .before .before .before .before .before .before .before .loop-test .taken) (c .before .before .before .before .before .before .before .before .before .before .before .before .before .before .before .before .pre)
+
+add-k : tie.Need-add-k Inv-loop μ-loop
+add-k c = omega arith
+
+loop-less : tie.Need-loop-less Inv-loop μ-loop
+loop-less c = omega arith
+
+loop-again : tie.Need-loop-again Inv-loop μ-loop
+loop-again c =
+    let noted-in = c .before .note .ensures in
+    going-read _ _ _ _ _ _ _ _ _ _ _ _ _ _ (c .before .before .before .before .before .before .before .before .before .before .before .before .before .before .loop .inv) (c .before .before .before .before .before .before .before .before .before .before .before .before .before .loop-test .taken) (c .before .before .before .before .before .before .before .before .before .before .before .before .before .before .before .before .before .pre) _ (c .before .before .before .before .before .before .before .before .before .before .before .wide .ensures) _ _ _ (c .before .before .before .before .before .before .before .before .is-ticket-home .ensures) (c .before .before .before .before .before .before .before .begins-at .ensures) (c .before .before .before .before .before .before .is-entry .ensures) _ _ _ _ _ (c .one-more .ensures) (noted-in .0) (noted-in .1 .0) (noted-in .1 .1 .0) (noted-in .1 .1 .1)
+
+returns : tie.Need-returns Inv-loop μ-loop
+returns c = going-ends _ _ _ _ _ _ _ _ _ _ _ _ _ _ (c .before .loop .inv) (c .loop-test .left)
+
+pub count-piece-spec : {M : Type 1} → statement M
+count-piece-spec =
+    tie.close
+    (tie.spec
+    Inv-loop
+    μ-loop
+    loop-holds
+    mul-wide
+    shared-slice-read-wide
+    wide-requires
+    mul-code
+    shared-slice-read-code
+    element-copy-out-home
+    is-ticket-home-requires
+    begins-at-requires
+    cast-is-entry
+    is-entry-requires
+    note-requires
+    one-more-requires
+    add-k
+    loop-less
+    loop-again
+    returns)
