@@ -1,7 +1,9 @@
 // The 22 entries of the specification's example, stepped one by one on a lock that the host keeps: what each step did, and who holds the lock after it.
-// Then two threads of a lock with a ticket root, whose counters start at 65,535; and of two more locks, why a thread waits.
+// Then two threads of a lock with a ticket root, whose counters start at 65,535; of two more locks, why a thread waits; and what the first lock
+// has counted of each domain.
 #include "hmcs.hpp"
 
+#include <cinttypes>
 #include <cstdio>
 #include <vector>
 
@@ -50,6 +52,14 @@ static bool explain(const hmcs::Lock &lock, std::uint32_t thread) {
     return true;
 }
 
+// Entries, tenures and the longest tenure of each domain but the root.
+static void counted(const hmcs::Lock &lock) {
+    for (std::uint32_t domain = 1; domain < lock.tree().domains; ++domain) {
+        const hmcs::Tenures t = lock.tenures(domain);
+        std::printf("domain %u: entries %" PRIu64 ", tenures %" PRIu64 ", the longest %" PRIu64 "\n", domain, t.entries, t.tenures, t.longest);
+    }
+}
+
 int main() {
     hmcs::Tree tree;
     const auto first = tree.add_domain(0, 2);
@@ -73,5 +83,7 @@ int main() {
     hmcs::Lock busier(tree);
     if (busier.run({2, 2, 2, 2, 0, 0, 0, 0, 0, 1, 1, 1}).refused()) return 1;
     if (!explain(busier, 1)) return 1;
+
+    counted(lock);
     return 0;
 }

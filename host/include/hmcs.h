@@ -6,9 +6,8 @@
  *
  * Pointers are the one thing that no function can test. A buffer must be valid for its length, and may be null where the length is 0; the
  * pointers to a state, a place or a length must be valid, aligned and not null. The buffers of one call must not overlap. Two calls may run at
- * once unless one writes what the other reads or writes. hmcs_run_file and hmcs_run_many need 160 KB of stack,
- * hmcs_check_journal 50 KB, hmcs_run_waits 32 KB, every other function at most 26 KB beside its arguments and its result, which are up to
- * 16 KB in the caller.
+ * once unless one writes what the other reads or writes. hmcs_run_file and hmcs_run_many need 192 KB of stack, every other function at most
+ * 64 KB beside its arguments and its result, which are up to 19 KB in the caller.
  *
  * Compare two states field by field, never by memcmp: struct hmcs_place and struct hmcs_state have padding, and so have struct hmcs_text_reply
  * and struct hmcs_journal_answer.
@@ -19,8 +18,8 @@
 #include <stddef.h>
 #include <stdint.h>
 
-/* The version, here and nowhere else; HMCS_VERSION is it as a text, "1.0.0" or the like. */
-#define HMCS_VERSION_MAJOR 1
+/* The version, here and nowhere else; HMCS_VERSION is it as a text, "2.0.0" or the like. */
+#define HMCS_VERSION_MAJOR 2
 #define HMCS_VERSION_MINOR 0
 #define HMCS_VERSION_PATCH 0
 #define HMCS_VERSION_TEXT(major, minor, patch) #major "." #minor "." #patch
@@ -74,8 +73,14 @@ typedef struct hmcs_place {
     uint64_t word;  /* Grant: the word that is granted */
 } hmcs_place;
 
-/* A lock state. A tail or a next is 0 for none, else a record's number + 1. The counters ticket and grant are those of a ticket lock at the
- * root, 0 at a queue root. All zero is a fresh state, at a ticket root that of start 0. */
+/* The most that a counter of a lock state may be, 2^63. */
+#define HMCS_MOST_COUNTED (UINT64_C(1) << 63)
+
+/* A lock state. A tail or a next is 0 for none, else a record's number + 1; ticket and grant are those of a ticket lock at the root, 0 at a
+ * queue root. A tenure of a domain is its turn at the head of the queue above it (at a ticket root, the turn of its ticket), and its length is
+ * how many of the domain's members, one after another, have the lock in that turn, counted when it is passed on. No step reads the counters
+ * entries, tenures and longest; those of the root and of room that the tree lacks are 0. All zero is a fresh state, at a ticket root that of
+ * start 0. */
 typedef struct hmcs_state {
     uint16_t tails[HMCS_DOMAINS];
     uint16_t nexts[HMCS_RECORDS];
@@ -83,6 +88,9 @@ typedef struct hmcs_state {
     hmcs_place places[HMCS_THREADS];
     uint16_t ticket; /* the next ticket to be drawn; the one behind 65,535 is 0 */
     uint16_t grant;  /* the ticket that may enter */
+    uint64_t entries[HMCS_DOMAINS]; /* of each domain but the root the entries of the threads under it */
+    uint64_t tenures[HMCS_DOMAINS]; /* how many tenures have started */
+    uint64_t longest[HMCS_DOMAINS]; /* the longest of them, the running one too; at most the threshold */
 } hmcs_state;
 
 /* Status words. */
@@ -104,7 +112,8 @@ enum hmcs_refusal {
     HMCS_TOO_DEEP = 7,         /* A domain lies deeper than level 6, the root being level 1, the place being the domain. */
     HMCS_NO_THRESHOLD = 8,     /* A domain other than 0 has threshold 0, the place being the domain. Of a rate: a threshold is 0, place 1 or 2. */
     HMCS_BAD_HOME = 9,         /* A home is no domain of the tree or has child domains, the place being the thread. */
-    HMCS_BAD_STATE = 10,       /* The state handed in is not well formed (SPECIFICATION.md). */
+    HMCS_BAD_STATE = 10,       /* The state handed in is not well formed (SPECIFICATION.md); or a counter of the root or of room that the tree lacks is
+                                * not 0, a longest tenure is above the threshold, or a counter above HMCS_MOST_COUNTED. */
     HMCS_SCHEDULE_LONG = 11,   /* The schedule has more than 65,536 entries. */
     HMCS_BAD_ENTRY = 12,       /* A schedule entry is not below the number of threads, the place being its position from 0. */
     HMCS_TRACE_SHORT = 13,     /* The trace buffer has fewer elements than the schedule. */
@@ -113,6 +122,7 @@ enum hmcs_refusal {
     HMCS_EMPTY_DOMAIN = 16,    /* A domain has no thread under it, the place being the lowest such domain. Tested straight after 9. */
     HMCS_FILE_SHORT = 17,      /* The file buffer is shorter than the lock file. */
     HMCS_WAITS_SHORT = 18,     /* The row buffer of waits holds fewer rows than threads plus one. */
+    HMCS_COUNTER_FULL = 19,    /* A step would push a counter past HMCS_MOST_COUNTED, the place being its position in the schedule from 0. Tested last. */
     HMCS_CHAIN_SHORT = 20,     /* The chain buffer has fewer elements than there are threads. */
     HMCS_NO_CHAIN = 21,        /* A thread of the chain looks to nobody, to several, or to one that is already on it. */
     HMCS_LENGTHS_WRONG = 22,   /* The schedules' lengths do not add up to the entries given. */
@@ -135,7 +145,7 @@ static inline const char *hmcs_refusal_text(uint32_t number) {
     case HMCS_TOO_DEEP: return "a domain lies deeper than level 6";
     case HMCS_NO_THRESHOLD: return "a domain other than 0 has threshold 0, or a threshold of a rate is 0";
     case HMCS_BAD_HOME: return "a home is no domain of the tree or has child domains";
-    case HMCS_BAD_STATE: return "the state handed in is not well formed";
+    case HMCS_BAD_STATE: return "the state handed in is not well formed, or its counters are not";
     case HMCS_SCHEDULE_LONG: return "the schedule has more than 65,536 entries";
     case HMCS_BAD_ENTRY: return "a schedule entry is not below the number of threads";
     case HMCS_TRACE_SHORT: return "the trace buffer has fewer elements than the schedule";
@@ -144,6 +154,7 @@ static inline const char *hmcs_refusal_text(uint32_t number) {
     case HMCS_EMPTY_DOMAIN: return "a domain has no thread under it";
     case HMCS_FILE_SHORT: return "the file buffer is shorter than the lock file";
     case HMCS_WAITS_SHORT: return "the row buffer holds fewer rows than threads plus one";
+    case HMCS_COUNTER_FULL: return "a step would push a counter past 2^63";
     case HMCS_CHAIN_SHORT: return "the chain buffer has fewer elements than there are threads";
     case HMCS_NO_CHAIN: return "a thread of the chain looks to nobody, to several, or to one that is already on it";
     case HMCS_LENGTHS_WRONG: return "the lengths do not add up to the entries given";
@@ -227,10 +238,10 @@ typedef struct hmcs_run_reply {
  * Refused by 4 to 9 and 16. The state is fresh, accepted or refused; refused, its counters are 0. */
 hmcs_fresh_reply hmcs_fresh(hmcs_tree tree, uint16_t start);
 
-/* One step of a thread. Refused by 4 to 9, 16, 10 and 12; then kind and domain are 0 and the state is as it came. */
+/* One step of a thread. Refused by 4 to 9, 16, 10, 12 and 19; then kind and domain are 0 and the state is as it came. */
 hmcs_step_reply hmcs_step(hmcs_tree tree, hmcs_state state, uint16_t thread);
 
-/* The steps of a schedule, one after another. Refused by 4 to 9, 16 and 10 to 13; then no step is taken, the counts are 0, and state and
+/* The steps of a schedule, one after another. Refused by 4 to 9, 16, 10 to 13 and 19; then no step is taken, the counts are 0, and state and
  * trace are as they came. Accepted, the entering threads are written at the front of the trace, reply.entries of them, and nothing behind them. The trace must
  * have room for as many elements as the schedule has. */
 hmcs_run_reply hmcs_run(hmcs_tree tree, hmcs_state state, const uint16_t *schedule, size_t schedule_length, uint16_t *trace, size_t trace_length);
@@ -242,8 +253,8 @@ enum { HMCS_WAIT_NUMBERS = 5 };
  * with its Swap at home (at a ticket root that is its home, with its draw) and finishes with its next entry, which may be the same step; its wait
  * is the number of other threads' entries between the two. At the front of the rows stands a row for each thread, in their order, then one for
  * all threads together; nothing behind them is written. A mean is total over attempts in lowest terms; a row without an attempt is 0
- * throughout, and a total of 0 over some attempts has the mean 0 over 1. Refused as hmcs_run is, then by 18; then the counts are 0, and state,
- * trace and rows are as they came. A buffer of k numbers holds k / 5 rows, rounded down. */
+ * throughout, and a total of 0 over some attempts has the mean 0 over 1. Refused as hmcs_run is, with 18 between 13 and 19; then the counts are
+ * 0, and state, trace and rows are as they came. A buffer of k numbers holds k / 5 rows, rounded down. */
 hmcs_run_reply hmcs_run_waits(hmcs_tree tree, hmcs_state state, const uint16_t *schedule, size_t schedule_length, uint16_t *trace, size_t trace_length, uint64_t *rows, size_t rows_length);
 
 /* A fresh lock, written where the host keeps its state, its start as above. Refused by 4 to 9 and 16; then the state is as it was. */
@@ -358,22 +369,25 @@ HMCS_LAYOUT(hmcs_place, 16, 8);
 HMCS_OFFSET(hmcs_place, domain, 1);
 HMCS_OFFSET(hmcs_place, peer, 2);
 HMCS_OFFSET(hmcs_place, word, 8);
-HMCS_LAYOUT(hmcs_state, 7432, 8);
+HMCS_LAYOUT(hmcs_state, 8968, 8);
 HMCS_OFFSET(hmcs_state, nexts, 128);
 HMCS_OFFSET(hmcs_state, statuses, 768);
 HMCS_OFFSET(hmcs_state, places, 3328);
 HMCS_OFFSET(hmcs_state, ticket, 7424);
 HMCS_OFFSET(hmcs_state, grant, 7426);
+HMCS_OFFSET(hmcs_state, entries, 7432);
+HMCS_OFFSET(hmcs_state, tenures, 7944);
+HMCS_OFFSET(hmcs_state, longest, 8456);
 HMCS_LAYOUT(hmcs_answer, 8, 4);
 HMCS_OFFSET(hmcs_answer, place, 4);
 HMCS_LAYOUT(hmcs_step_answer, 16, 4);
 HMCS_OFFSET(hmcs_step_answer, domain, 12);
-HMCS_LAYOUT(hmcs_fresh_reply, 7440, 8);
+HMCS_LAYOUT(hmcs_fresh_reply, 8976, 8);
 HMCS_OFFSET(hmcs_fresh_reply, state, 8);
-HMCS_LAYOUT(hmcs_step_reply, 7448, 8);
+HMCS_LAYOUT(hmcs_step_reply, 8984, 8);
 HMCS_OFFSET(hmcs_step_reply, domain, 12);
 HMCS_OFFSET(hmcs_step_reply, state, 16);
-HMCS_LAYOUT(hmcs_run_reply, 7464, 8);
+HMCS_LAYOUT(hmcs_run_reply, 9000, 8);
 HMCS_OFFSET(hmcs_run_reply, crossed, 28);
 HMCS_OFFSET(hmcs_run_reply, state, 32);
 HMCS_LAYOUT(hmcs_journal_answer, 16, 8);

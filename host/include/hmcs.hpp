@@ -41,7 +41,10 @@ inline bool same(const hmcs_state &a, const hmcs_state &b) {
     return std::equal(std::begin(a.tails), std::end(a.tails), std::begin(b.tails)) &&
            std::equal(std::begin(a.nexts), std::end(a.nexts), std::begin(b.nexts)) &&
            std::equal(std::begin(a.statuses), std::end(a.statuses), std::begin(b.statuses)) &&
-           std::equal(std::begin(a.places), std::end(a.places), std::begin(b.places), same_place) && a.ticket == b.ticket && a.grant == b.grant;
+           std::equal(std::begin(a.places), std::end(a.places), std::begin(b.places), same_place) && a.ticket == b.ticket && a.grant == b.grant &&
+           std::equal(std::begin(a.entries), std::end(a.entries), std::begin(b.entries)) &&
+           std::equal(std::begin(a.tenures), std::end(a.tenures), std::begin(b.tenures)) &&
+           std::equal(std::begin(a.longest), std::end(a.longest), std::begin(b.longest));
 }
 
 // What stands at the root of a tree.
@@ -148,6 +151,14 @@ struct [[nodiscard]] ChainResult : Result {
     std::vector<std::uint16_t> threads; // the thread itself first; each waits for the next, and the last can move
 };
 
+// What a lock has counted of a domain. A tenure is a domain's turn at the head of the queue above it, and its length how many of the domain's
+// members have the lock in it, one after another.
+struct Tenures {
+    std::uint64_t entries = 0; // of the threads under the domain
+    std::uint64_t tenures = 0; // that have started
+    std::uint64_t longest = 0; // of them, the running one too; at most the domain's threshold
+};
+
 // A lock that the host keeps: a tree and a state, stepped where it stands.
 class Lock {
 public:
@@ -223,6 +234,14 @@ public:
         result.refusal.place = place;
         result.threads.resize(length);
         return result;
+    }
+
+    // What has been counted of a domain. Of the root nothing is counted: all three are 0, as for a number that is no domain of the tree.
+    Tenures tenures(std::uint32_t domain) const {
+        if (domain == 0 || domain >= tree_.domains || domain >= HMCS_DOMAINS) {
+            return Tenures{};
+        }
+        return Tenures{state_.entries[domain], state_.tenures[domain], state_.longest[domain]};
     }
 
     // The thread that is Inside, where there is one.

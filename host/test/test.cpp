@@ -28,7 +28,12 @@ std::vector<std::uint8_t> example_file() {
 void layouts() {
     auto state = std::make_unique<hmcs_state>();
     std::memset(state.get(), 0, sizeof *state);
-    for (int d = 0; d < HMCS_DOMAINS; ++d) state->tails[d] = static_cast<std::uint16_t>(1000 + d);
+    for (int d = 0; d < HMCS_DOMAINS; ++d) {
+        state->tails[d] = static_cast<std::uint16_t>(1000 + d);
+        state->entries[d] = UINT64_C(0xa1a2a3a4a5a60000) + static_cast<std::uint64_t>(d);
+        state->tenures[d] = UINT64_C(0xb1b2b3b4b5b60000) + static_cast<std::uint64_t>(d);
+        state->longest[d] = UINT64_C(0xc1c2c3c4c5c60000) + static_cast<std::uint64_t>(d);
+    }
     for (int r = 0; r < HMCS_RECORDS; ++r) {
         state->nexts[r] = static_cast<std::uint16_t>(2000 + r);
         state->statuses[r] = UINT64_C(0x0102030405060000) + static_cast<std::uint64_t>(r);
@@ -171,7 +176,15 @@ void saved_states() {
     }
     kept.ticket = now.ticket;
     kept.grant = now.grant;
+    std::memcpy(kept.entries, now.entries, sizeof kept.entries);
+    std::memcpy(kept.tenures, now.tenures, sizeof kept.tenures);
+    std::memcpy(kept.longest, now.longest, sizeof kept.longest);
     CHECK(same(kept, now));
+    for (std::uint64_t *count : {&kept.entries[63], &kept.tenures[63], &kept.longest[63]}) {
+        *count = 1;
+        CHECK(!same(kept, now));
+        *count = 0;
+    }
     hmcs::Lock again = hmcs::Lock::saved(example_tree(), kept);
     CHECK(again.accepted() && same(again.state(), lock.state()));
     CHECK(again.step(1).kind == lock.step(1).kind && same(again.state(), lock.state()));

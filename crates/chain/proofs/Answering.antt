@@ -9,13 +9,14 @@ use lib.ListN.{length, take, drop}
 use borrow.Author.Tests.{eq-eqb, ne-eqb, lt-ltb, le-ltb}
 use native.Mathlib.Decide.{ℕ-discrete}
 use Rattle.model.specs.declared.TreeWords.{TreeWords}
-use Rattle.model.specs.declared.State.{State}
+use Rattle.model.specs.declared.LockState.{LockState}
 use Rattle.model.specs.Trees.{Tree, tree-of}
 use Rattle.model.specs.WellFormed.{well-formed}
-use Rattle.model.specs.Refusals.{refusal, accepted, Test, test, first-refusal, has-number, entry-tests, room-tests, tree-tests, bad-length, bad-entry, bad-room, run-tests, tree-refusal, run-refusal}
+use Rattle.model.specs.Refusals as model
+use Rattle.model.specs.Refusals.{refusal, accepted, Test, test, first-refusal, has-number, entry-tests, room-tests, tree-tests, bad-length, bad-entry, bad-room, run-tests-before-19, tree-refusal}
 use Rattle.model.specs.Laws.{All-threads}
 use Rattle.model.proofs.Refusing.{numbered}
-use Rattle.model.proofs.Laws.Calls.{run-facts}
+use Rattle.model.proofs.Laws.Calls.{early-facts}
 use Rattle.refusals.specs.declared.Refusal.{Refusal}
 use Rattle.refusals.specs.Arrays.{told, tree-state-tests, schedule-room-tests}
 use Rattle.refusals.proofs.Scanning.{single-hit, single-missed}
@@ -23,7 +24,7 @@ use Rattle.refusals.proofs.Joining.{first-decides, other-decides, state-numbere
 use Rattle.refusals.proofs.RunTests.{told-not, told-zero}
 use Rattle.chain.specs.declared.ChainReply.{ChainReply}
 use Rattle.chain.specs.Chain.{chain}
-use Rattle.chain.specs.Answers.{bad-buffer, bad-chain, chain-tests, chain-refusal, chain-reply, chain-buffer, chain-answer, buffer-answer}
+use Rattle.chain.specs.Answers.{bad-buffer, bad-chain, chain-tests, chain-refusal, chain-reply, chain-refused, chain-buffer, chain-answer, buffer-answer}
 use Rattle.chain.specs.Tables.{Followed}
 use Rattle.chain.proofs.Reading.{threads-read}
 
@@ -32,12 +33,16 @@ unfolding first-refusal
 no-tests = refl
 
 -- THE TESTS: those of a step, then 20 and 21
-module _ (t : Tree) (s : State) (i room : ℕ) where
+module _ (t : Tree) (s : LockState) (i room : ℕ) where
+  -- a run of the one entry, with room for it, before 19 is tested
+  abbrev ran : model.Refusal
+  ran = first-refusal (run-tests-before-19 t s (i ∷ []) 1)
+
   abbrev entry : List Test
   entry = entry-tests t (i ∷ [])
 
   abbrev late : List Test
-  late = test 20 1 (bad-buffer t room) ∷ test 21 1 (bad-chain t s i) ∷ []
+  late = test 20 1 (bad-buffer t room) ∷ test 21 1 (bad-chain t (s .words) i) ∷ []
 
   abbrev early : List Test
   early = tree-state-tests t s ++ entry
@@ -50,8 +55,8 @@ module _ (t : Tree) (s : State) (i room : ℕ) where
       by true e = single-hit _ (room-tests (i ∷ []) 1) refl e ∙ sym (single-hit _ [] refl e)
       by false e = single-missed _ (room-tests (i ∷ []) 1) refl e ∙ single-missed _ [] refl refl ∙ sym (single-missed _ [] refl e)
 
-  early-run : first-refusal early ≡ run-refusal t s (i ∷ []) 1
-  unfolding run-refusal run-tests tree-tests
+  early-run : first-refusal early ≡ ran
+  unfolding tree-tests
   early-run =
       let xs = tree-state-tests t s in
       elim (ℕ-discrete (first-refusal xs .number) 0) [
@@ -64,71 +69,68 @@ module _ (t : Tree) (s : State) (i room : ℕ) where
   early-numbered = refl
 
   -- refused as a step is
-  pub refused-early : run-refusal t s (i ∷ []) 1 .number ≢ 0 → chain-refusal t s i room ≡ run-refusal t s (i ∷ []) 1
+  pub refused-early : ran .number ≢ 0 → chain-refusal t s i room ≡ ran
   unfolding chain-refusal chain-tests tree-tests
   refused-early n = first-decides early late (λ z. n (ap (λ r. r .number) (sym early-run) ∙ z)) ∙ early-run
 
-  passed-early : run-refusal t s (i ∷ []) 1 .number ≡ 0 → chain-refusal t s i room ≡ first-refusal late
+  passed-early : ran .number ≡ 0 → chain-refusal t s i room ≡ first-refusal late
   unfolding chain-refusal chain-tests tree-tests
   passed-early z = other-decides early late (numbered early early-numbered) (ap (λ r. r .number) early-run ∙ z)
 
-  pub refused-20 : run-refusal t s (i ∷ []) 1 .number ≡ 0 → room < t .threads → chain-refusal t s i room ≡ refusal 20 0
+  pub refused-20 : ran .number ≡ 0 → room < t .threads → chain-refusal t s i room ≡ refusal 20 0
   unfolding bad-buffer
   refused-20 z b = passed-early z ∙ single-hit _ _ refl (lt-ltb room (t .threads) b)
 
-  pub refused-21 : run-refusal t s (i ∷ []) 1 .number ≡ 0 → t .threads ≤ room → length (chain t s i) ≡ 0 → chain-refusal t s i room ≡ refusal 21 0
+  pub refused-21 : ran .number ≡ 0 → t .threads ≤ room → length (chain t (s .words) i) ≡ 0 → chain-refusal t s i room ≡ refusal 21 0
   unfolding bad-buffer bad-chain
-  refused-21 z b e = passed-early z ∙ single-missed _ _ refl (le-ltb room (t .threads) b) ∙ single-hit _ [] refl (eq-eqb (length (chain t s i)) 0 e)
+  refused-21 z b e = passed-early z ∙ single-missed _ _ refl (le-ltb room (t .threads) b) ∙ single-hit _ [] refl (eq-eqb (length (chain t (s .words) i)) 0 e)
 
-  pub not-refused : run-refusal t s (i ∷ []) 1 .number ≡ 0 → t .threads ≤ room → length (chain t s i) ≢ 0 → chain-refusal t s i room ≡ accepted
+  pub not-refused : ran .number ≡ 0 → t .threads ≤ room → length (chain t (s .words) i) ≢ 0 → chain-refusal t s i room ≡ accepted
   unfolding bad-buffer bad-chain
   not-refused z b e =
-      passed-early z ∙ single-missed (test 20 1 (bad-buffer t room)) (test 21 1 (bad-chain t s i) ∷ []) refl (le-ltb room (t .threads) b)
-      ∙ single-missed (test 21 1 (bad-chain t s i)) [] refl (ne-eqb (length (chain t s i)) 0 e) ∙ no-tests
+      passed-early z ∙ single-missed (test 20 1 (bad-buffer t room)) (test 21 1 (bad-chain t (s .words) i) ∷ []) refl (le-ltb room (t .threads) b)
+      ∙ single-missed (test 21 1 (bad-chain t (s .words) i)) [] refl (ne-eqb (length (chain t (s .words) i)) 0 e) ∙ no-tests
 
 -- THE CALL
-abbrev refused-reply : (number place : ℕ) → ChainReply
-refused-reply n p = record { number = n; place = p; length = 0 }
-
-module _ (w : TreeWords) (s : State) (i : ℕ) (b : List ℕ) where
+module _ (w : TreeWords) (s : LockState) (i : ℕ) (b : List ℕ) where
   abbrev Answers : ChainReply → List ℕ → Type 0
   Answers r c = (r ≡ chain-answer w s i b) × (c ≡ buffer-answer w s i b)
 
-  refuses : (n p : ℕ) → chain-refusal (tree-of w) s i (length b) ≡ refusal n p → n ≢ 0 → Answers (refused-reply n p) b
+  refuses : (n p : ℕ) → chain-refusal (tree-of w) s i (length b) ≡ refusal n p → n ≢ 0 → (y : ChainReply) → y ≡ chain-refused (refusal n p) → Answers y b
   unfolding chain-answer buffer-answer chain-reply chain-buffer refusal
-  refuses n p e z = rw (e, ne-eqb n 0 z) (refl, refl)
+  refuses n p e z y f = rw (e, ne-eqb n 0 z) (f, refl)
 
-  module _ (r : Refusal) (e : r ≡ told (run-refusal (tree-of w) s (i ∷ []) 1)) where
-    pub early-answered : (r .number ≡ 0 → ⊥) → Answers (refused-reply (r .number) (r .place)) b
+  module _ (r : Refusal) (e : r ≡ told (first-refusal (run-tests-before-19 (tree-of w) s (i ∷ []) 1))) where
+    pub early-answered : (r .number ≡ 0 → ⊥) → (y : ChainReply) → y ≡ chain-refused (refusal (r .number) (r .place)) → Answers y b
     unfolding refusal
-    early-answered n =
-        let x = run-refusal (tree-of w) s (i ∷ []) 1 in
+    early-answered n q f =
+        let x = first-refusal (run-tests-before-19 (tree-of w) s (i ∷ []) 1) in
         let y = refused-early (tree-of w) s i (length b) (told-not r x e n) in
-        rw e (refuses (x .number) (x .place) y (told-not r x e n))
+        refuses (x .number) (x .place) y (told-not r x e n) q (f ∙ ap (λ v. record { number = v .number; place = v .place; length = 0 }) e)
 
     module _ (z : r .number ≡ 0) where
-      passed : run-refusal (tree-of w) s (i ∷ []) 1 .number ≡ 0
+      passed : first-refusal (run-tests-before-19 (tree-of w) s (i ∷ []) 1) .number ≡ 0
       passed = told-zero r _ e z
 
-      pub answered-20 : length b < w .threads → Answers (refused-reply 20 0) b
+      pub answered-20 : length b < w .threads → (y : ChainReply) → y ≡ chain-refused (refusal 20 0) → Answers y b
       answered-20 h = refuses 20 0 (refused-20 (tree-of w) s i (length b) passed (rw (threads-read w) h)) (λ y. omega arith)
 
       -- what the links are asked
       pub tree-good : tree-refusal (tree-of w) .number ≡ 0
-      tree-good = run-facts _ _ _ _ passed .tree
+      tree-good = early-facts _ _ _ _ passed .tree
 
-      pub form-good : well-formed (tree-of w) s ≡ true
-      form-good = run-facts _ _ _ _ passed .form
+      pub form-good : well-formed (tree-of w) (s .words) ≡ true
+      form-good = early-facts _ _ _ _ passed .form
 
       pub thread-good : i < w .threads
       unfolding All-threads
-      thread-good = rw (threads-read w) at (run-facts _ _ _ _ passed .threads .0)
+      thread-good = rw (threads-read w) at (early-facts _ _ _ _ passed .threads .0)
 
-      module _ (h : w .threads ≤ length b) (found : List ℕ) (n : ℕ) (f : Followed (w .threads) (chain (tree-of w) s i) found n) where
+      module _ (h : w .threads ≤ length b) (found : List ℕ) (n : ℕ) (f : Followed (w .threads) (chain (tree-of w) (s .words) i) found n) where
         enough : tree-of w .threads ≤ length b
         enough = rw (threads-read w) h
 
-        pub answered-21 : n ≡ 0 → Answers (refused-reply 21 0) b
+        pub answered-21 : n ≡ 0 → (y : ChainReply) → y ≡ chain-refused (refusal 21 0) → Answers y b
         answered-21 y = refuses 21 0 (refused-21 (tree-of w) s i (length b) passed enough (sym (f .length-is) ∙ y)) (λ x. omega arith)
 
         pub answered : n ≢ 0 → (c : List ℕ) → c ≡ take n found ++ drop n b → Answers (record { number = 0; place = 0; length = n }) c

@@ -4,7 +4,7 @@ use mathlib.Core.Bool.{Bool, true, _&&_}
 use mathlib.Core.List.{List, [], _∷_, _++_}
 use Prim.Native.Nat.{ℕ}
 use lib.ListN.{length}
-use Rattle.model.specs.declared.State.{State}
+use Rattle.model.specs.declared.LockState.{LockState}
 use Rattle.model.specs.Scans.{any-below, all-below, filter-below}
 use Rattle.model.specs.Trees.{Tree, read-word, tree-of, is-ticket, is-child, is-leaf, depth-from, depth, level, meets, on-path, child-from, child, own-record, is-record, is-member, owner-domain, under}
 use Rattle.model.specs.Places.{bare-place, plain-place, place-of, is-idle, is-watch}
@@ -13,37 +13,44 @@ use Rattle.model.specs.Steps.{is-kind, prep-row, swap-row, link-row, wait-row, 
 use Rattle.model.specs.Runs.{steps, state-after, run-of, run, occurrences}
 use Rattle.model.specs.Acts.{sends-inside, acts-at, acts}
 use Rattle.model.specs.WellFormed.{good-tail, queue-on-path, good-place, good-counters}
-use Rattle.model.specs.Refusals.{Refusal, refusal, accepted, test, lowest-bad, first-refusal, bad-domains, bad-threads, bad-parent, too-deep, no-threshold, bad-home, empty-domain, tree-tests, bad-state, bad-entry, entry-tests}
-use Rattle.model.specs.Cases.{padded, tree, at-ticket-root, counters, two-homes, root-alone, two-in-root, same-numbers}
+use Rattle.model.specs.Counters.{lock-state, fresh-counters, good-count, good-counts}
+use Rattle.model.specs.Refusals.{Refusal, refusal, accepted, Test, test, lowest-bad, first-refusal, bad-domains, bad-threads, bad-parent, too-deep, no-threshold, bad-home, empty-domain, tree-tests, bad-state, bad-entry, entry-tests}
+use Rattle.model.specs.Cases.{padded, tree, at-ticket-root, uncounted, counters, two-homes, root-alone, two-in-root, same-numbers}
 use Rattle.chain.specs.Chain.{stays, acts-ahead, acts-holding, looked-to, looks-to, only, among, chain-from, chain}
 use Rattle.chain.specs.Answers.{bad-buffer, bad-chain, chain-tests, chain-refusal, chain-reply, chain-buffer, chain-answer, buffer-answer}
-use Rattle.chain.specs.Cases.{Case, gives, refuses, breaks, sevens, roomy, gave, refused, holds, all-hold, three-in-root, three-in-ticket, cases}
+use Rattle.chain.specs.Cases.{Case, gives, refuses, breaks, counted, sevens, roomy, gave, refused, holds, all-hold, three-in-root, three-in-ticket, cases}
 use Rattle.model.proofs.Tests.{and-both}
 use Rattle.model.proofs.Computing.{walked, Sized, formed-by-walks, same-formed, refusal-by, state-sized, sized}
 
--- what refuses a chain, where 10 is tested by walks
-unfoldable walked-refusal : Tree → State → (thread room : ℕ) → Refusal
-walked-refusal t s i room =
-    refusal-by t (formed-by-walks t s) (entry-tests t (i ∷ []) ++ (test 20 1 (bad-buffer t room) ∷ test 21 1 (bad-chain t s i) ∷ []))
+-- the tests behind 10
+abbrev later : Tree → LockState → (thread room : ℕ) → List Test
+later t s i room = entry-tests t (i ∷ []) ++ (test 20 1 (bad-buffer t room) ∷ test 21 1 (bad-chain t (s .words) i) ∷ [])
 
-same-refusal : (t : Tree) (s : State) (i room : ℕ) → Sized s → chain-refusal t s i room ≡ walked-refusal t s i room
-unfolding walked-refusal chain-refusal chain-tests bad-state
-same-refusal t s i room h =
-    ap (λ b. refusal-by t b (entry-tests t (i ∷ []) ++ (test 20 1 (bad-buffer t room) ∷ test 21 1 (bad-chain t s i) ∷ []))) (same-formed t s h)
+-- what refuses a chain, where 10 is tested by walks
+unfoldable walked-refusal : Tree → LockState → (thread room : ℕ) → Refusal
+walked-refusal t s i room = refusal-by t (formed-by-walks t (s .words) && good-counts t (s .counters)) (later t s i room)
+
+same-refusal : (t : Tree) (s : LockState) (i room : ℕ) → Sized (s .words) → chain-refusal t s i room ≡ walked-refusal t s i room
+unfolding walked-refusal chain-refusal chain-tests tree-tests bad-state
+same-refusal t s i room h = ap (λ b. refusal-by t (b && good-counts t (s .counters)) (later t s i room)) (same-formed t (s .words) h)
 
 unfoldable holds-by-walks : Case → Bool
 holds-by-walks (gives w s i c) =
-    let r = walked-refusal (tree-of w) s i (length (roomy w)) in
+    let r = walked-refusal (tree-of w) (uncounted s) i (length (roomy w)) in
     let x = chain (tree-of w) s i in
-    gave (chain-reply r x) (chain-buffer r x (roomy w)) (roomy w) c
+    gave (chain-reply r x) (chain-buffer r x (roomy w)) (roomy w) 0 c
 holds-by-walks (refuses w s i room n) =
-    let r = walked-refusal (tree-of w) s i (length (sevens room)) in
+    let r = walked-refusal (tree-of w) (uncounted s) i (length (sevens room)) in
     let x = chain (tree-of w) s i in
     refused (chain-reply r x) (chain-buffer r x (sevens room)) (sevens room) n
 holds-by-walks (breaks w s i last c) =
-    let r = walked-refusal (tree-of w) s i (length (sevens (w .threads))) in
+    let r = walked-refusal (tree-of w) (uncounted s) i (length (sevens (w .threads))) in
     let x = chain (tree-of w) s i in
     refused (chain-reply r x) (chain-buffer r x (sevens (w .threads))) (sevens (w .threads)) 21 && same-numbers (looks-to (tree-of w) s last) c
+holds-by-walks (counted w s k i n c) =
+    let r = walked-refusal (tree-of w) (lock-state s k) i (length (roomy w)) in
+    let x = chain (tree-of w) s i in
+    gave (chain-reply r x) (chain-buffer r x (roomy w)) (roomy w) n c
 
 unfoldable all-hold-by-walks : List Case → Bool
 all-hold-by-walks [] = true
@@ -54,6 +61,7 @@ unfoldable case-sized : Case → Bool
 case-sized (gives w s i c) = state-sized s
 case-sized (refuses w s i room n) = state-sized s
 case-sized (breaks w s i last c) = state-sized s
+case-sized (counted w s k i n c) = state-sized s
 
 unfoldable all-sized : List Case → Bool
 all-sized [] = true
@@ -61,9 +69,10 @@ all-sized (c ∷ cs) = case-sized c && all-sized cs
 
 same-case : (c : Case) → case-sized c ≡ true → holds c ≡ holds-by-walks c
 unfolding holds-by-walks case-sized holds chain-answer buffer-answer
-same-case (gives w s i c) e = rw (same-refusal (tree-of w) s i (length (roomy w)) (sized s e))
-same-case (refuses w s i room n) e = rw (same-refusal (tree-of w) s i (length (sevens room)) (sized s e))
-same-case (breaks w s i last c) e = rw (same-refusal (tree-of w) s i (length (sevens (w .threads))) (sized s e))
+same-case (gives w s i c) e = rw (same-refusal (tree-of w) (uncounted s) i (length (roomy w)) (sized s e))
+same-case (refuses w s i room n) e = rw (same-refusal (tree-of w) (uncounted s) i (length (sevens room)) (sized s e))
+same-case (breaks w s i last c) e = rw (same-refusal (tree-of w) (uncounted s) i (length (sevens (w .threads))) (sized s e))
+same-case (counted w s k i n c) e = rw (same-refusal (tree-of w) (lock-state s k) i (length (roomy w)) (sized s e))
 
 same-cases : (cs : List Case) → all-sized cs ≡ true → all-hold cs ≡ all-hold-by-walks cs
 unfolding all-hold all-hold-by-walks all-sized
@@ -77,5 +86,5 @@ unfolding any-below all-below filter-below read-word tree-of is-ticket is-child 
 cases-sized = refl
 
 pub cases-hold : all-hold cases ≡ true
-unfolding any-below all-below filter-below read-word tree-of is-ticket is-child is-leaf depth-from depth level meets on-path child-from child own-record is-record is-member owner-domain under bare-place plain-place place-of is-idle is-watch fresh-words is-kind prep-row swap-row link-row wait-row leave-row check-row help-row cas-row linger-row grant-row draw-row watch-row is-watched shown-members raise-row row step steps state-after run-of run occurrences sends-inside acts-at acts good-tail queue-on-path good-place good-counters refusal accepted lowest-bad first-refusal bad-domains bad-threads bad-parent too-deep no-threshold bad-home empty-domain tree-tests bad-entry padded tree at-ticket-root counters two-homes root-alone two-in-root same-numbers stays acts-ahead acts-holding looked-to looks-to only among chain-from chain bad-buffer bad-chain chain-reply chain-buffer three-in-root three-in-ticket cases walked formed-by-walks walked-refusal holds-by-walks all-hold-by-walks
+unfolding fresh-counters good-count good-counts any-below all-below filter-below read-word tree-of is-ticket is-child is-leaf depth-from depth level meets on-path child-from child own-record is-record is-member owner-domain under bare-place plain-place place-of is-idle is-watch fresh-words is-kind prep-row swap-row link-row wait-row leave-row check-row help-row cas-row linger-row grant-row draw-row watch-row is-watched shown-members raise-row row step steps state-after run-of run occurrences sends-inside acts-at acts good-tail queue-on-path good-place good-counters refusal accepted lowest-bad first-refusal bad-domains bad-threads bad-parent too-deep no-threshold bad-home empty-domain tree-tests bad-entry padded tree at-ticket-root counters two-homes root-alone two-in-root same-numbers stays acts-ahead acts-holding looked-to looks-to only among chain-from chain bad-buffer bad-chain chain-reply chain-buffer three-in-root three-in-ticket cases walked formed-by-walks walked-refusal holds-by-walks all-hold-by-walks
 cases-hold = same-cases cases cases-sized ∙ refl

@@ -1,16 +1,18 @@
--- Cases of the chain, in one list: states reached from fresh at both kinds of root, spoilt states that tell who is looked to, each reason for 21, and the refusals before it. Assumes nothing: these are definitions.
+-- Cases of the chain, in one list: states reached from fresh at both kinds of root, spoilt states that tell who is looked to, each reason for 21, the refusals before it, and counters at and above 2^63. Assumes nothing: these are definitions.
 use mathlib.Core.Bool.{Bool, true, _&&_}
 use mathlib.Core.List.{List, [], _∷_, _++_}
 use Prim.Native.Nat.{ℕ, _+_}
 use lib.Dec.{eqb}
-use lib.ListN.{length, drop, replicate}
+use lib.ListN.{length, drop, replicate, set}
 use Rattle.model.specs.declared.TreeWords.{TreeWords}
 use Rattle.model.specs.declared.State.{State}
+use Rattle.model.specs.declared.Counters.{Counters}
 use Rattle.model.specs.declared.Place.the-variants.{Swap, Link, Wait, Inside, Check, Linger, Watch, Raise}
 use Rattle.model.specs.Trees.{tree-of}
 use Rattle.model.specs.States.{acquire-parent, wait-word, fresh-words, with-tail, with-next, with-status, with-place}
 use Rattle.model.specs.Runs.{run}
-use Rattle.model.specs.Cases.{tree, at-ticket-root, counters, two-homes, root-alone, two-in-root, same-numbers}
+use Rattle.model.specs.Counters.{lock-state, most-counted}
+use Rattle.model.specs.Cases.{tree, at-ticket-root, uncounted, counters, two-homes, root-alone, two-in-root, same-numbers}
 use Rattle.chain.specs.declared.ChainReply.{ChainReply}
 use Rattle.chain.specs.Chain.{looks-to}
 use Rattle.chain.specs.Answers.{chain-answer, buffer-answer}
@@ -19,7 +21,7 @@ use Rattle.chain.specs.Answers.{chain-answer, buffer-answer}
 abbrev pub sevens : (room : ℕ) → List ℕ
 sevens n = replicate n 7
 
--- THE LINES OF THE LIST
+-- THE LINES OF THE LIST. The states are the words of a lock, whose counters are fresh where none are named
 pub data Case : Type 0 where
   -- accepted, with the chain at the front of a buffer that has one entry more than there are threads
   gives : TreeWords → State → (thread : ℕ) → (chain : List ℕ) → Case
@@ -27,26 +29,31 @@ pub data Case : Type 0 where
   refuses : TreeWords → State → (thread room number : ℕ) → Case
   -- refused by 21, with room for every thread: the chain comes to this last thread, which looks to these
   breaks : TreeWords → State → (thread last : ℕ) → (looked : List ℕ) → Case
+  -- with these counters, and room as for a chain that is given: the number, and the chain, none where it is refused
+  counted : TreeWords → State → Counters → (thread number : ℕ) → (chain : List ℕ) → Case
 
 -- WHEN A LINE HOLDS, of a reply and of the buffer after it
 abbrev pub replies : (number length : ℕ) → ChainReply → Bool
 replies n k r = eqb (r .number) n && (eqb (r .place) 0 && eqb (r .length) k)
 
-abbrev pub gave : ChainReply → (after before chain : List ℕ) → Bool
-gave r a b c = replies 0 (length c) r && same-numbers a (c ++ drop (length c) b)
+abbrev pub gave : ChainReply → (after before : List ℕ) → (number : ℕ) → (chain : List ℕ) → Bool
+gave r a b n c = replies n (length c) r && same-numbers a (c ++ drop (length c) b)
 
 abbrev pub refused : ChainReply → (after before : List ℕ) → (number : ℕ) → Bool
-refused r a b n = replies n 0 r && same-numbers a b
+refused r a b n = gave r a b n []
 
 abbrev pub roomy : TreeWords → List ℕ
 roomy w = sevens (w .threads + 1)
 
 unfoldable pub holds : Case → Bool
-holds (gives w s i c) = gave (chain-answer w s i (roomy w)) (buffer-answer w s i (roomy w)) (roomy w) c
-holds (refuses w s i room n) = refused (chain-answer w s i (sevens room)) (buffer-answer w s i (sevens room)) (sevens room) n
+holds (gives w s i c) = gave (chain-answer w (uncounted s) i (roomy w)) (buffer-answer w (uncounted s) i (roomy w)) (roomy w) 0 c
+holds (refuses w s i room n) =
+    refused (chain-answer w (uncounted s) i (sevens room)) (buffer-answer w (uncounted s) i (sevens room)) (sevens room) n
 holds (breaks w s i last c) =
-    refused (chain-answer w s i (sevens (w .threads))) (buffer-answer w s i (sevens (w .threads))) (sevens (w .threads)) 21
+    refused (chain-answer w (uncounted s) i (sevens (w .threads))) (buffer-answer w (uncounted s) i (sevens (w .threads))) (sevens (w .threads)) 21
     && same-numbers (looks-to (tree-of w) s last) c
+holds (counted w s k i n c) =
+    gave (chain-answer w (lock-state s k) i (roomy w)) (buffer-answer w (lock-state s k) i (roomy w)) (roomy w) n c
 
 unfoldable pub all-hold : List Case → Bool
 all-hold [] = true
@@ -158,5 +165,16 @@ earlier =
     ∷ refuses (tree 0 1 [] [] (0 ∷ [])) (with-place 0 (Check 0) fresh-words) 2 0 4
     ∷ []
 
+-- the entries of domain 1 are so many, all other counters 0
+abbrev pub entered : ℕ → Counters
+entered n = record { entries = set (replicate 64 0) 1 n; tenures = replicate 64 0; longest = replicate 64 0 }
+
+-- COUNTERS: above 2^63 they are 10; at 2^63, where the thread's next step would be an entry and refused by 19, the chain is given, for it takes no step
+abbrev pub counting : List Case
+counting =
+    counted two-homes (after two-homes (replicate 3 0)) (entered (most-counted + 1)) 0 10 []
+    ∷ counted two-homes (after two-homes (replicate 3 0)) (entered most-counted) 0 0 (0 ∷ [])
+    ∷ []
+
 unfoldable pub cases : List Case
-cases = reached ++ looked ++ nobody ++ several ++ comes-back ++ earlier
+cases = reached ++ looked ++ nobody ++ several ++ comes-back ++ earlier ++ counting

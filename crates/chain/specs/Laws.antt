@@ -5,10 +5,13 @@ use mathlib.Core.List.{List, [], _∷_, _++_}
 use mathlib.Core.Logic.{_≢_}
 use Prim.Native.Nat.{ℕ, _≤_, _<_}
 use Rattle.model.specs.declared.State.{State}
+use Rattle.model.specs.declared.Counters.{Counters}
+use Rattle.model.specs.declared.LockState.{LockState}
 use Rattle.model.specs.Trees.{Tree}
 use Rattle.model.specs.States.{fresh-state}
 use Rattle.model.specs.Steps.{stay, step}
 use Rattle.model.specs.Runs.{run, occurrences}
+use Rattle.model.specs.Counters.{lock-state, good-counts}
 use Rattle.model.specs.Refusals.{accepted, tree-refusal}
 use Rattle.model.specs.Laws.{All-threads, Sixteen-bit, Refuses-exactly}
 use Rattle.chain.specs.Chain.{stays, looks-to, chain}
@@ -31,7 +34,7 @@ Chain-law = (t : Tree) (s : State) (i : ℕ) → i < t .threads → Is-chain t s
 
 -- 2. REFUSALS: the call's tests are such a list as the law of refusals speaks of
 unfoldable pub Chain-refusal-law : Type 0
-Chain-refusal-law = (t : Tree) (s : State) (i room : ℕ) → Refuses-exactly (chain-tests t s i room)
+Chain-refusal-law = (t : Tree) (s : LockState) (i room : ℕ) → Refuses-exactly (chain-tests t s i room)
 
 -- 3. FROM FRESH. While the thread ahead takes no step, the one behind can only stay: after every schedule without the one ahead, its next step is a stay
 unfoldable pub Only-stays : Tree → State → (behind ahead : ℕ) → Type 0
@@ -54,9 +57,10 @@ pub record Explains (t : Tree) (s : State) (i : ℕ) (chain : List ℕ) : Type 0
   pub last-moves : step t last s .kind ≢ stay
   pub only-stays : (a b : ℕ) → Link-in chain a b → Only-stays t s a b
 
--- and 21 never occurs: with room for as many entries as there are threads, no thread's chain is refused
+-- and 21 never occurs: with room for as many entries as there are threads, and with any counters that 10 lets pass, no thread's chain is refused
 pub record Answers-why (t : Tree) (s : State) (i : ℕ) : Type 0 where
-  pub never-refused : (room : ℕ) → t .threads ≤ room → chain-refusal t s i room ≡ accepted
+  pub never-refused :
+      (c : Counters) → good-counts t c ≡ true → (room : ℕ) → t .threads ≤ room → chain-refusal t (lock-state s c) i room ≡ accepted
   pub explains : Explains t s i (chain t s i)
 
 unfoldable pub Waiting-law : Type 0

@@ -3,12 +3,13 @@ ghost use mathlib.Core.Path.{_≡_};
 ghost use mathlib.Core.List.{_++_};
 ghost use Prim.Native.Nat.{_≤_};
 ghost use lib.ListN.{length, take, drop};
-ghost use Rattle.chain.specs.Answers.{chain-answer, buffer-answer};
+ghost use Rattle.model.specs.Refusals.{refusal};
+ghost use Rattle.chain.specs.Answers.{chain-refused, chain-answer, buffer-answer};
 
 mod links;
 mod tables;
 
-use model::State;
+use model::LockState;
 use model::TreeWords;
 
 // Number 0 is accepted; then the chain's length. Refused, the length is 0.
@@ -34,35 +35,41 @@ fn copy_front(buffer: &mut [u16], found: &[u16; 256], n: u32)
     }
 }
 
+fn refused(number: u32, place: u32) -> ChainReply
+    ensures { λ r. ⌜ r ≡ chain-refused (refusal number place) ⌝ }
+{
+    ChainReply {
+        number,
+        place,
+        length: 0,
+    }
+}
+
 // The chain of a thread at the front of a buffer, nothing behind; refused, the buffer as it came.
-pub fn chain(tree: TreeWords, state: State, thread: u16, buffer: &mut [u16]) -> ChainReply
+pub fn chain(tree: TreeWords, state: LockState, thread: u16, buffer: &mut [u16]) -> ChainReply
     ensures { λ r. ⌜ r ≡ chain-answer tree state thread (now (buffer .entry)) ⌝ }
     ensures { λ r. ⌜ now (buffer .exit) ≡ buffer-answer tree state thread (now (buffer .entry)) ⌝ }
 {
     let schedule = [thread];
-    let r = refusals::run_refusal_of(tree, state, &schedule, 1);
+    let r = refusals::run_refusal_of(
+        tree,
+        state.words,
+        &state.counters.entries,
+        &state.counters.tenures,
+        &state.counters.longest,
+        &schedule,
+        1,
+    );
     if r.number != 0 {
-        return ChainReply {
-            number: r.number,
-            place: r.place,
-            length: 0,
-        };
+        return refused(r.number, r.place);
     }
     if buffer.len() < tree.threads as usize {
-        return ChainReply {
-            number: 20,
-            place: 0,
-            length: 0,
-        };
+        return refused(20, 0);
     }
     let mut found = [0u16; 256];
-    let n = links::follow(tree, state, thread, &mut found);
+    let n = links::follow(tree, state.words, thread, &mut found);
     if n == 0 {
-        return ChainReply {
-            number: 21,
-            place: 0,
-            length: 0,
-        };
+        return refused(21, 0);
     }
     copy_front(buffer, &found, n);
     ChainReply {

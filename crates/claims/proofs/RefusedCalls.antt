@@ -2,6 +2,7 @@
 use mathlib.Core.Path.{_≡_, refl}
 use Rattle.model.specs.Trees.{tree-of}
 use Rattle.model.specs.States.{fresh-words, fresh-state}
+use Rattle.model.specs.Counters.{fresh-lock}
 use Rattle.model.specs.Answers.{fresh-answer}
 use Rattle.claims.specs.Claim.{Demand-three}
 use Rattle.model.specs.Cases.{tree, two-homes}
@@ -11,7 +12,7 @@ use Rattle.model.proofs.ClaimCases.{mixed-calls-answered}
 use Rattle.claims.proofs.Claims.Demand.{demand-three}
 
 -- at a queue root a fresh state is 0 throughout
-fresh-zero : fresh-answer two-homes 0 .state ≡ fresh-words
+fresh-zero : fresh-answer two-homes 0 .state ≡ fresh-lock
 unfolding fresh-answer fresh-state fresh-words tree-of two-homes tree
 fresh-zero = refl
 

@@ -6,7 +6,7 @@ use mathlib.Core.Logic.{_≢_}
 use Prim.Native.Nat.{ℕ, _≤_}
 use lib.ListN.{take}
 use Rattle.model.specs.declared.TreeWords.{TreeWords}
-use Rattle.model.specs.declared.State.{State}
+use Rattle.model.specs.declared.LockState.{LockState}
 use Rattle.model.specs.declared.Place.the-variants.{Inside}
 use Rattle.model.specs.Trees.{Tree, tree-of, is-member, allowance}
 use Rattle.model.specs.States.{place}
@@ -15,18 +15,18 @@ use Rattle.model.specs.Runs.{steps, begun, ended, entries-under, occurrences}
 use Rattle.model.specs.Answers.{fresh-answer}
 use Rattle.model.specs.Calls.{Call, answers, joined, Names, state-at, expected-answers, Stretches, Prefix}
 
--- THE CLAIM, of a list of calls on a fresh lock of tree t, where f is its state and S the list's schedule
-pub record Claim (t : Tree) (f : State) (cs : List Call) (S : List ℕ) : Type 0 where
+-- THE CLAIM, of a list of calls on a fresh lock of tree t, where f is its lock state and S the list's schedule
+pub record Claim (t : Tree) (f : LockState) (cs : List Call) (S : List ℕ) : Type 0 where
   -- each call gives what the refusals and the step table give at that point of the whole schedule
   pub each : answers cs f ≡ expected-answers t f S 0 cs
   pub stretches : Stretches t f S 0 cs
   -- after every schedule entry at most one thread is at Inside, over all room: two at Inside are the same thread
-  pub alone : (k i j : ℕ) → place (state-at t f S k) i ≡ Inside → place (state-at t f S k) j ≡ Inside → i ≡ j
+  pub alone : (k i j : ℕ) → place (state-at t (f .words) S k) i ≡ Inside → place (state-at t (f .words) S k) j ≡ Inside → i ≡ j
   -- in each domain, after every entry: the members at the ends of standing ungranted are a prefix of those at its beginnings
-  pub in-order : (k d : ℕ) → Prefix (ended d (take k (steps t S f))) (begun d (take k (steps t S f)))
+  pub in-order : (k d : ℕ) → Prefix (ended d (take k (steps t S (f .words)))) (begun d (take k (steps t S (f .words))))
   -- for two different members of a domain, while m stands ungranted, also where the list ends first: the entries of threads under q are at most its allowance
   pub bounded :
-      (before meanwhile later : List Step) (x : Step) (m q : ℕ) → steps t S f ≡ before ++ (x ∷ (meanwhile ++ later)) →
+      (before meanwhile later : List Step) (x : Step) (m q : ℕ) → steps t S (f .words) ≡ before ++ (x ∷ (meanwhile ++ later)) →
       x .standing ≡ begins m → occurrences m (ended (x .domain) meanwhile) ≡ 0 → is-member t (x .domain) q ≡ true → q ≢ m →
       entries-under t q meanwhile ≤ allowance t q
 

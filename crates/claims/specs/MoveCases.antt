@@ -16,7 +16,7 @@ use Rattle.model.specs.Steps.{stay, is-kind, step}
 use Rattle.model.specs.Runs.{run}
 use Rattle.model.specs.Answers.{step-answer}
 use Rattle.claims.specs.Reached.{Can-move}
-use Rattle.model.specs.Cases.{tree, at-ticket-root, same-numbers, two-homes, one-home}
+use Rattle.model.specs.Cases.{tree, at-ticket-root, uncounted, same-numbers, two-homes, one-home}
 use Rattle.model.specs.TicketCases.{two-in-ticket, three-in-ticket}
 
 -- the threads that are not Idle
@@ -84,7 +84,7 @@ all-move (c ∷ cs) = move-holds c && all-move cs
 
 -- FALSE OF STATES THAT ARE HANDED IN. A state in which a step is accepted and thread 0 is not Idle, and yet nobody can move
 pub record Nobody-moves (w : TreeWords) (s : State) : Type 0 where
-  pub accepted : step-answer w s 0 .number ≡ 0
+  pub accepted : step-answer w (uncounted s) 0 .number ≡ 0
   pub not-idle : place s 0 ≢ Idle
   pub nobody : ¬ Can-move (tree-of w) s
 

@@ -8,21 +8,23 @@ use lib.Dec.{eqb}
 use lib.ListN.{length, drop}
 use Rattle.model.specs.declared.TreeWords.{TreeWords}
 use Rattle.model.specs.declared.State.{State}
+use Rattle.model.specs.declared.LockState.{LockState}
 use Rattle.model.specs.declared.Place.the-variants.{Idle, Wait, Check, Grant}
 use Rattle.model.specs.Trees.{Tree, tree-of, is-ticket, own-record, is-member}
 use Rattle.model.specs.States.{none, tail, next, status, place, wrap, fresh-state, with-place}
 use Rattle.model.specs.Steps.{stay, is-entry, Row-result, step-from, moves, release-place, check-row, step}
 use Rattle.model.specs.Runs.{steps, run, begun, ended, occurrences}
 use Rattle.model.specs.Acts.{acts}
+use Rattle.model.specs.Counters.{most-counted}
 use Rattle.model.specs.Refusals.{accepted, tree-refusal}
 use Rattle.model.specs.Answers.{fresh-answer}
 use Rattle.model.specs.Laws.{All-threads, Sixteen-bit}
-use Rattle.model.specs.Calls.{Ask, one-step, a-run, Call, state-in, answer, call-refusal, joined, Names}
+use Rattle.model.specs.Calls.{Ask, one-step, a-run, Call, state-in, answer, call-refusal, asked-entries, joined, Names}
 use Rattle.claims.specs.Claim.{Claim}
 
--- NOT EMPTY: in a list, a call that names the tree and existing threads, with room, is accepted
+-- NOT EMPTY: in a list, a call that names the tree and existing threads, with room, is accepted, so long as the list's schedule together with the call's own is shorter than 2^63
 -- the state that the last call of a list returned
-unfoldable pub last-state : List Call → State → State
+unfoldable pub last-state : List Call → LockState → LockState
 last-state [] s = s
 last-state (c ∷ cs) s = last-state cs (state-in (answer c s))
 
@@ -34,7 +36,8 @@ Asks-well t (a-run is b) = All-threads t is × (length is ≤ 65536) × (length 
 unfoldable pub Never-refused : Type 0
 Never-refused =
     (w : TreeWords) (start : ℕ) (cs : List Call) → fresh-answer w start .number ≡ 0 → Names (tree-of w) cs (fresh-answer w start .state) →
-    (c : Call) → tree-of (c .tree) ≡ tree-of w → Asks-well (tree-of w) (c .ask) → call-refusal c (last-state cs (fresh-answer w start .state)) ≡ accepted
+    (c : Call) → tree-of (c .tree) ≡ tree-of w → Asks-well (tree-of w) (c .ask) →
+    length (joined cs (fresh-answer w start .state)) + length (asked-entries (c .ask)) < most-counted → call-refusal c (last-state cs (fresh-answer w start .state)) ≡ accepted
 
 -- THE LISTING'S TEST. Check as the listing has it, by equality with the threshold
 unfoldable pub equality-check-row : Tree → (thread domain : ℕ) → State → Row-result
@@ -125,7 +128,7 @@ Move-law =
 unfoldable pub List-move-law : Type 0
 List-move-law =
     (w : TreeWords) (start : ℕ) (cs : List Call) → fresh-answer w start .number ≡ 0 → Names (tree-of w) cs (fresh-answer w start .state) →
-    (i : ℕ) → place (last-state cs (fresh-answer w start .state)) i ≢ Idle → Can-move (tree-of w) (last-state cs (fresh-answer w start .state))
+    (i : ℕ) → place (last-state cs (fresh-answer w start .state) .words) i ≢ Idle → Can-move (tree-of w) (last-state cs (fresh-answer w start .state) .words)
 
 -- A RUN ON A LOCK OF ITS OWN, as the file call makes it, is such a list
 abbrev pub lone-run : TreeWords → (schedule buffer : List ℕ) → Call

@@ -1,6 +1,6 @@
 -- A list with refused calls, some of which name other trees, has the claim. Assumes nothing: these are definitions.
 use Rattle.model.specs.Trees.{tree-of}
-use Rattle.model.specs.States.{fresh-words}
+use Rattle.model.specs.Counters.{fresh-lock}
 use Rattle.model.specs.Cases.{two-homes}
 use Rattle.model.specs.ClaimCases.{mixed-calls, mixed-schedule, Mixed-calls-answered}
 use Rattle.claims.specs.Claim.{Claim}
@@ -8,4 +8,4 @@ use Rattle.claims.specs.Claim.{Claim}
 -- its calls are answered as computed, and the claim holds of it
 pub record Refused-calls-allowed : Type 0 where
   pub answered : Mixed-calls-answered
-  pub claim : Claim (tree-of two-homes) fresh-words mixed-calls mixed-schedule
+  pub claim : Claim (tree-of two-homes) fresh-lock mixed-calls mixed-schedule

@@ -10,6 +10,7 @@ use Rattle.model.specs.declared.TreeWords.{TreeWords}
 use Rattle.model.specs.declared.RunReply.{RunReply}
 use Rattle.model.specs.Trees.{tree-of}
 use Rattle.model.specs.States.{fresh-words}
+use Rattle.model.specs.Counters.{fresh-lock}
 use Rattle.file_call.proofs.FileRun.{zero-start}
 use Rattle.model.specs.Refusals.{run-refusal}
 use Rattle.model.specs.Answers.{run-reply, run-answer, run-buffer, trace-answer}
@@ -37,10 +38,10 @@ front-listed : (b : Bool) (n : ℕ) (x : RunReply) (y : RunReply) (trace rest bu
 front-listed true n x y trace rest buffer e f l z = rw (← l) (take-front trace rest)
 front-listed false n x y trace rest buffer e f l z = absurd (true≢false (sym (eq-eqb n 0 (sym f ∙ z)) ∙ e))
 
-listed-law : (w : TreeWords) (is : List ℕ) → file-run w is .number ≡ 0 → take (file-run w is .counts .entries) (trace-answer w fresh-words is (replicate (length is) 0)) ≡ file-trace w is
+listed-law : (w : TreeWords) (is : List ℕ) → file-run w is .number ≡ 0 → take (file-run w is .counts .entries) (trace-answer w fresh-lock is (replicate (length is) 0)) ≡ file-trace w is
 unfolding file-run file-trace run-answer run-reply trace-answer run-buffer Count-law
 listed-law w is h =
-    front-listed (eqb (run-refusal (tree-of w) fresh-words is (length (replicate (length is) 0)) .number) 0) _ _ _ _ _ _ refl refl (count-law (tree-of w) is fresh-words .traced) h
+    front-listed (eqb (run-refusal (tree-of w) fresh-lock is (length (replicate (length is) 0)) .number) 0) _ _ _ _ _ _ refl refl (count-law (tree-of w) is fresh-words .traced) h
 
 pub file-claim-law : File-claim-law
 unfolding File-claim-law Lone-run-law answers answer answer-to state-in file-run

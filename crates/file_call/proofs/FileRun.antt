@@ -10,6 +10,9 @@ use lib.Seq.{take-at}
 use borrow.Author.Tests.{le-ltb}
 use Rattle.model.specs.declared.TreeWords.{TreeWords}
 use Rattle.model.specs.declared.State.{State}
+use Rattle.model.specs.declared.Counters.{Counters}
+use Rattle.model.specs.declared.LockState.{LockState}
+use Rattle.model.specs.Counters.{lock-state, fresh-counters, fresh-lock}
 use Rattle.model.specs.declared.FreshReply.{FreshReply}
 use Rattle.model.specs.declared.RunReply.{RunReply}
 use Rattle.model.specs.Trees.{Tree, tree-of}
@@ -17,7 +20,7 @@ use Rattle.model.specs.States.{fresh-words, fresh-state}
 use Rattle.model.specs.Steps.{is-entry, Step}
 use Rattle.model.specs.Runs.{Run, steps, how-many, counts-of, run-of, run}
 use Rattle.model.specs.Refusals.{tree-refusal, Refusal, lowest-bad, first-refusal, bad-room, tree-tests, run-tests, run-refusal}
-use Rattle.model.specs.Answers.{fresh-answer, run-accepted, run-refused, run-reply, run-buffer, run-answer, trace-answer}
+use Rattle.model.specs.Answers.{counters-behind, fresh-answer, run-accepted, run-refused, run-reply, run-buffer, run-answer, trace-answer}
 use Rattle.model.specs.Laws.{Count-law}
 use Rattle.model.proofs.Tests.{by-test}
 use Rattle.model.proofs.Laws.Form.{fresh-at-zero}
@@ -50,67 +53,67 @@ entries-within t is s = omega (arith, counted-within (steps t is s), steps-lengt
 
 -- more room for the trace makes no difference
 room-same :
-    (t : Tree) (s : State) (is : List ℕ) (a b : ℕ) → length is ≤ a → length is ≤ b → run-refusal t s is a ≡ run-refusal t s is b
+    (t : Tree) (s : LockState) (is : List ℕ) (a b : ℕ) → length is ≤ a → length is ≤ b → run-refusal t s is a ≡ run-refusal t s is b
 unfolding run-refusal run-tests tree-tests first-refusal lowest-bad bad-room
 room-same t s is a b h g = rw (le-ltb a (length is) h, le-ltb b (length is) g)
 
-pub run-same : (w : TreeWords) (is buffer : List ℕ) → length is ≤ length buffer → run-answer w fresh-words is buffer ≡ file-run w is
+pub run-same : (w : TreeWords) (is buffer : List ℕ) → length is ≤ length buffer → run-answer w fresh-lock is buffer ≡ file-run w is
 unfolding file-run run-answer
 run-same w is buffer h =
     let own : List ℕ = replicate (length is) 0 in
     let enough : length is ≤ length own = omega (arith, length-replicate {A = ℕ} (length is) 0) in
-    rw (room-same (tree-of w) fresh-words is (length buffer) (length own) h enough)
+    rw (room-same (tree-of w) fresh-lock is (length buffer) (length own) h enough)
 
 -- the listing of a run takes the front of its trace buffer
 front-listed :
-    (r : Refusal) (s : State) (x : Run) (buffer : List ℕ) (room : ℕ) → length (x .trace) ≡ x .counts .entries →
-    run-outcome (run-reply r s x) (take (run-reply r s x .counts .entries) (run-buffer r buffer x)) room
-    ≡ run-outcome (run-reply r s x) (x .trace) room
+    (r : Refusal) (s : LockState) (x : Run) (c : Counters) (buffer : List ℕ) (room : ℕ) → length (x .trace) ≡ x .counts .entries →
+    run-outcome (run-reply r s x c) (take (run-reply r s x c .counts .entries) (run-buffer r buffer x)) room
+    ≡ run-outcome (run-reply r s x c) (x .trace) room
 unfolding run-reply run-buffer run-outcome
-front-listed r s x buffer room h = by (eqb (r .number) 0) refl
+front-listed r s x c buffer room h = by (eqb (r .number) 0) refl
   where
     by :
         (b : Bool) → eqb (r .number) 0 ≡ b →
-        run-outcome (run-reply r s x) (take (run-reply r s x .counts .entries) (run-buffer r buffer x)) room
-        ≡ run-outcome (run-reply r s x) (x .trace) room
+        run-outcome (run-reply r s x c) (take (run-reply r s x c .counts .entries) (run-buffer r buffer x)) room
+        ≡ run-outcome (run-reply r s x c) (x .trace) room
     by true e = rw (e, take-at (x .trace) (drop (length (x .trace)) buffer) (x .counts .entries) h)
     by false e = rw (e, e)
 
 pub run-listed :
     (w : TreeWords) (is buffer : List ℕ) (room : ℕ) → length is ≤ length buffer →
-    run-outcome (run-answer w fresh-words is buffer) (take (run-answer w fresh-words is buffer .counts .entries) (trace-answer w fresh-words is buffer)) room
+    run-outcome (run-answer w fresh-lock is buffer) (take (run-answer w fresh-lock is buffer .counts .entries) (trace-answer w fresh-lock is buffer)) room
     ≡ tree-outcome w is room
 unfolding run-answer trace-answer file-trace Count-law
 run-listed w is buffer room h =
-    front-listed (run-refusal (tree-of w) fresh-words is (length buffer)) fresh-words (run (tree-of w) is fresh-words) buffer room
+    front-listed (run-refusal (tree-of w) fresh-lock is (length buffer)) fresh-lock (run (tree-of w) is fresh-words) (counters-behind (tree-of w) is fresh-lock) buffer room
     (count-law (tree-of w) is fresh-words .traced)
     ∙ ap (λ r. run-outcome r (run (tree-of w) is fresh-words .trace) room) (run-same w is buffer h)
 
 -- a run's entries are no more than its schedule's
-pub replied-within : (w : TreeWords) (is buffer : List ℕ) → run-answer w fresh-words is buffer .counts .entries ≤ length is
+pub replied-within : (w : TreeWords) (is buffer : List ℕ) → run-answer w fresh-lock is buffer .counts .entries ≤ length is
 unfolding run-answer run-reply
 replied-within w is buffer =
-    by-test (λ r. r .counts .entries ≤ length is) (eqb (run-refusal (tree-of w) fresh-words is (length buffer) .number) 0)
-    (run-accepted (run (tree-of w) is fresh-words)) (run-refused (run-refusal (tree-of w) fresh-words is (length buffer)) fresh-words)
+    by-test (λ r. r .counts .entries ≤ length is) (eqb (run-refusal (tree-of w) fresh-lock is (length buffer) .number) 0)
+    (run-accepted (run (tree-of w) is fresh-words) (counters-behind (tree-of w) is fresh-lock)) (run-refused (run-refusal (tree-of w) fresh-lock is (length buffer)) fresh-lock)
     (λ e. entries-within (tree-of w) is fresh-words) (λ e. omega arith)
 
--- a fresh call that starts at 0 returns words that are 0 throughout, accepted or refused
-pub zero-start : (w : TreeWords) → fresh-answer w 0 .state ≡ fresh-words
+-- a fresh call that starts at 0 returns a state that is 0 throughout, accepted or refused
+pub zero-start : (w : TreeWords) → fresh-answer w 0 .state ≡ fresh-lock
 unfolding fresh-answer
 zero-start w = by (eqb (tree-refusal (tree-of w) .number) 0)
   where
-    by : (a : Bool) → fresh-state (tree-of w) (cond a 0 0) ≡ fresh-words
-    by true = fresh-at-zero (tree-of w)
-    by false = fresh-at-zero (tree-of w)
+    by : (a : Bool) → lock-state (fresh-state (tree-of w) (cond a 0 0)) fresh-counters ≡ fresh-lock
+    by true = ap (λ s. lock-state s fresh-counters) (fresh-at-zero (tree-of w))
+    by false = ap (λ s. lock-state s fresh-counters) (fresh-at-zero (tree-of w))
 
-pub fresh-zero : (w : TreeWords) (r : FreshReply) → r ≡ fresh-answer w 0 → r .state ≡ fresh-words
+pub fresh-zero : (w : TreeWords) (r : FreshReply) → r ≡ fresh-answer w 0 → r .state ≡ fresh-lock
 fresh-zero w r e = ap (λ x. x .state) e ∙ zero-start w
 
 -- what the code has in its buffers, put together
 pub run-in-buffers :
-    (bs : List ℕ) (at : ℕ) (w : TreeWords) (s : State) (r : RunReply) (room-for-schedule schedule buffer trace : List ℕ) →
+    (bs : List ℕ) (at : ℕ) (w : TreeWords) (s : LockState) (r : RunReply) (room-for-schedule schedule buffer trace : List ℕ) →
     let n = (length bs - at) / 2 in
-    n ≤ length room-for-schedule → n ≤ length buffer → schedule ≡ filled (entries-at bs at) room-for-schedule → s ≡ fresh-words →
+    n ≤ length room-for-schedule → n ≤ length buffer → schedule ≡ filled (entries-at bs at) room-for-schedule → s ≡ fresh-lock →
     r ≡ run-answer w s (take n schedule) buffer → trace ≡ trace-answer w s (take n schedule) buffer →
     (r .counts .entries ≤ n)
     × ((room : ℕ) →
@@ -120,7 +123,7 @@ run-in-buffers bs at w s r free schedule buffer trace h g stored fresh replied t
     let n = (length bs - at) / 2 in
     let is = entries-from bs n at in
     let read : take n schedule ≡ is = rw stored (schedule-front bs n at free h) in
-    let reply : r ≡ run-answer w fresh-words is buffer = rw (← read, ← fresh) replied in
-    let left : trace ≡ trace-answer w fresh-words is buffer = rw (← read, ← fresh) traced in
+    let reply : r ≡ run-answer w fresh-lock is buffer = rw (← read, ← fresh) replied in
+    let left : trace ≡ trace-answer w fresh-lock is buffer = rw (← read, ← fresh) traced in
     let long = entries-length bs n at in
     (rw reply (omega (arith, replied-within w is buffer)), λ room. rw (reply, left) (run-listed w is buffer room (omega arith)))

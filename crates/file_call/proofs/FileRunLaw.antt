@@ -14,13 +14,17 @@ use Rattle.model.specs.declared.State.{State}
 use Rattle.model.specs.Trees.{Tree, tree-of}
 use Rattle.model.specs.Places.{place-words, bare-place, plain-place, place-of, is-idle, is-watch}
 use Rattle.model.specs.States.{fresh-words}
+use Rattle.model.specs.Counters.{fresh-lock}
+use Rattle.model.specs.CounterLaws.{Room-law}
 use Rattle.model.specs.Runs.{Run, run}
 use Rattle.model.specs.WellFormed.{good-tail, good-next, good-status, good-place, good-watch, good-thread, good-counters, well-formed}
-use Rattle.model.specs.Refusals.{Refusal, refusal, accepted, Test, lowest-bad, first-refusal, bad-state, bad-length, bad-room, state-tests, schedule-tests, room-tests, tree-tests, run-tests, has-number, run-refusal}
-use Rattle.model.specs.Answers.{run-reply, run-answer}
-use Rattle.model.specs.Laws.{Passes}
+use Rattle.model.specs.Refusals.{Refusal, refusal, accepted, Test, lowest-bad, first-refusal, bad-state, bad-length, bad-room, state-tests, schedule-tests, room-tests, counter-tests, tree-tests, run-tests-before-19, run-tests, has-number, run-refusal}
+use Rattle.model.specs.Answers.{counters-behind, run-reply, run-answer}
+use Rattle.model.specs.Laws.{Passes, Sixteen-bit}
 use Rattle.model.proofs.Tests.{or-right, or-neither, all-true, by-test}
 use Rattle.model.proofs.Refusing.{lowest-none}
+use Rattle.model.proofs.Trees.Accepted.{sixteen-bit}
+use Rattle.model.proofs.Laws.Counters.{fresh-good, fresh-room, room-law}
 use Rattle.model.proofs.Laws.Calls.{run-reply-number}
 use Rattle.file_call.specs.FileAnswers.{file-run}
 use Rattle.lock_file.proofs.Stored.{zeros}
@@ -94,28 +98,34 @@ same-numbers : (t u : Tree) (n : ℕ) → has-number (tree-tests t) n ≡ has-nu
 unfolding has-number tree-tests
 same-numbers t u n = refl
 
--- a run from fresh words, with a schedule that is short enough and room for its trace, meets no other
-module _ (t : Tree) (is : List ℕ) (room : ℕ) (short : length is ≤ 65536) (enough : length is ≤ room) where
-  behind : (n : ℕ) → n ≢ 12 → Never n (state-tests t fresh-words ++ (schedule-tests t is ++ room-tests is room))
+-- a run from a fresh lock, with a schedule that is short enough and room for its trace, meets no other: 10, 11, 13 and 19 pass
+module _ (t : Tree) (bits : Sixteen-bit t) (is : List ℕ) (room : ℕ) (short : length is ≤ 65536) (enough : length is ≤ room) where
+  behind : (n : ℕ) → n ≢ 12 → Never n (state-tests t fresh-lock ++ (schedule-tests t is ++ room-tests is room))
   unfolding Never bad-state bad-length bad-room
   behind n o = (
-    inr (λ p l. rw (fresh-well-formed t)),
+    inr (λ p l. rw (fresh-well-formed t, fresh-good t)),
     (inr (λ p l. le-ltb 65536 (length is) short), (inl (λ e. o (sym e)), (inr (λ p l. le-ltb room (length is) enough), tt))),
   )
 
-  pub run-never : (n : ℕ) → 0 < n → has-number (tree-tests t) n ≡ false → n ≢ 12 → run-refusal t fresh-words is room .number ≢ n
+  last : (n : ℕ) → Never n (counter-tests t fresh-lock is)
+  unfolding Never Room-law
+  last n = (inr (room-law t bits fresh-lock is (fresh-room (length is) (omega arith))), tt)
+
+  pub run-never : (n : ℕ) → 0 < n → has-number (tree-tests t) n ≡ false → n ≢ 12 → run-refusal t fresh-lock is room .number ≢ n
   unfolding run-refusal run-tests
   run-never n h e o =
-      never-answered n (run-tests t fresh-words is room) h (never-joined n (tree-tests t) _ (other-numbers n (tree-tests t) e) (behind n o))
+      never-answered n (run-tests t fresh-lock is room) h
+      (never-joined n (run-tests-before-19 t fresh-lock is room) (counter-tests t fresh-lock is)
+      (never-joined n (tree-tests t) _ (other-numbers n (tree-tests t) e) (behind n o)) (last n))
 
 pub run-met : (w : TreeWords) (is : List ℕ) → length is ≤ 65536 → Run-met (file-run w is .number)
 unfolding file-run run-answer
 run-met w is short =
     let buffer : List ℕ = replicate (length is) 0 in
     let enough : length is ≤ length buffer = omega (arith, length-replicate {A = ℕ} (length is) 0) in
-    let r = run-refusal (tree-of w) fresh-words is (length buffer) in
-    rw (run-reply-number r fresh-words (run (tree-of w) is fresh-words))
-    (by (r .number) (has-number (tree-tests (tree-of w)) (r .number)) refl (run-never (tree-of w) is (length buffer) short enough (r .number)))
+    let r = run-refusal (tree-of w) fresh-lock is (length buffer) in
+    rw (run-reply-number r fresh-lock (run (tree-of w) is fresh-words) (counters-behind (tree-of w) is fresh-lock))
+    (by (r .number) (has-number (tree-tests (tree-of w)) (r .number)) refl (run-never (tree-of w) (sixteen-bit w) is (length buffer) short enough (r .number)))
   where
     by : (n : ℕ) (b : Bool) → has-number (tree-tests (tree-of w)) n ≡ b → (0 < n → b ≡ false → n ≢ 12 → n ≢ n) → Run-met n
     by n true e f = inr (inl (λ t. same-numbers t (tree-of w) n ∙ e))

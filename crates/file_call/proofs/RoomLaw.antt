@@ -12,10 +12,11 @@ use Rattle.model.specs.declared.TreeWords.{TreeWords}
 use Rattle.model.specs.declared.State.{State}
 use Rattle.model.specs.Trees.{Tree, tree-of}
 use Rattle.model.specs.States.{fresh-words}
+use Rattle.model.specs.Counters.{fresh-lock}
 use Rattle.model.specs.Steps.{Kind, is-kind, is-entry, stay, root-entry, passed-entry, crossed-entry, Step, step}
 use Rattle.model.specs.Runs.{steps, how-many, entering, counts-of, run-of, run}
 use Rattle.model.specs.Refusals.{Refusal, refusal, tree-tests, has-number, run-refusal}
-use Rattle.model.specs.Answers.{run-reply, run-answer}
+use Rattle.model.specs.Answers.{counters-behind, run-reply, run-answer}
 use Rattle.model.specs.Laws.{All-threads}
 use Rattle.model.proofs.Tests.{by-test}
 use Rattle.model.proofs.Trees.Accepted.{accepted}
@@ -68,7 +69,7 @@ module _ (w : TreeWords) (is : List ℕ) (short : length is ≤ 32768) where
   t = tree-of w
 
   abbrev r : Refusal
-  r = run-refusal t fresh-words is (length (replicate {A = ℕ} (length is) 0))
+  r = run-refusal t fresh-lock is (length (replicate {A = ℕ} (length is) 0))
 
   few : Five-digits (run t is fresh-words .counts)
   unfolding run run-of counts-of
@@ -87,7 +88,7 @@ module _ (w : TreeWords) (is : List ℕ) (short : length is ≤ 32768) where
   fits : r .number ≡ 0 → length (listing (run t is fresh-words .counts) (run t is fresh-words .trace)) ≤ listing-room
   unfolding Length-law Count-law run run-of counts-of
   fits e =
-      let g = run-facts t fresh-words is (length (replicate {A = ℕ} (length is) 0)) e in
+      let g = run-facts t fresh-lock is (length (replicate {A = ℕ} (length is) 0)) e in
       let small = entering-small t is fresh-words (accepted t (g .tree) .few-threads) (g .threads) in
       let most = how-many-most is-entry (steps t is fresh-words) in
       let traced : length (run t is fresh-words .trace) ≡ how-many is-entry (steps t is fresh-words) = count-law t is fresh-words .traced in
@@ -102,7 +103,7 @@ module _ (w : TreeWords) (is : List ℕ) (short : length is ≤ 32768) where
 
   met : Run-met (r .number)
   unfolding file-run run-answer
-  met = rw (run-reply-number r fresh-words (run t is fresh-words)) at (run-met w is (omega arith))
+  met = rw (run-reply-number r fresh-lock (run t is fresh-words) (counters-behind t is fresh-lock)) at (run-met w is (omega arith))
 
   run-fits : (room : ℕ) → listing-room ≤ room → Not-14 (run-outcome (file-run w is) (file-trace w is) room)
   unfolding run-outcome file-run file-trace run-answer run-reply listing-outcome outcome-reply refusal

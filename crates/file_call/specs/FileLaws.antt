@@ -7,7 +7,7 @@ use Prim.Native.Nat.{ℕ, _≤_}
 use lib.ListN.{length, take, replicate}
 use Rattle.model.specs.declared.TreeWords.{TreeWords}
 use Rattle.model.specs.Trees.{Tree, tree-of}
-use Rattle.model.specs.States.{fresh-words}
+use Rattle.model.specs.Counters.{fresh-lock}
 use Rattle.model.specs.Refusals.{tree-tests, has-number}
 use Rattle.model.specs.Answers.{fresh-answer, trace-answer}
 use Rattle.model.specs.Calls.{Call, a-run, ran, answers, joined}
@@ -34,13 +34,13 @@ file-call w is = record { tree = w; ask = a-run is (replicate (length is) 0) }
 
 pub record One-call (w : TreeWords) (schedule : List ℕ) : Type 0 where
   pub answered :
-      answers (file-call w schedule ∷ []) fresh-words
-      ≡ ran (file-run w schedule) (trace-answer w fresh-words schedule (replicate (length schedule) 0)) ∷ []
+      answers (file-call w schedule ∷ []) fresh-lock
+      ≡ ran (file-run w schedule) (trace-answer w fresh-lock schedule (replicate (length schedule) 0)) ∷ []
   -- the trace that is listed is what an accepted run leaves at the front of the buffer
   pub listed :
       file-run w schedule .number ≡ 0 →
-      take (file-run w schedule .counts .entries) (trace-answer w fresh-words schedule (replicate (length schedule) 0)) ≡ file-trace w schedule
-  pub claimed : Claim (tree-of w) fresh-words (file-call w schedule ∷ []) (joined (file-call w schedule ∷ []) fresh-words)
+      take (file-run w schedule .counts .entries) (trace-answer w fresh-lock schedule (replicate (length schedule) 0)) ≡ file-trace w schedule
+  pub claimed : Claim (tree-of w) fresh-lock (file-call w schedule ∷ []) (joined (file-call w schedule ∷ []) fresh-lock)
 
 unfoldable pub File-claim-law : Type 0
 File-claim-law = (w : TreeWords) (schedule : List ℕ) → fresh-answer w 0 .number ≡ 0 → One-call w schedule

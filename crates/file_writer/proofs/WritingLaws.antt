@@ -13,9 +13,10 @@ use borrow.Author.Tests.{ltb-true, ltb-false, eq-eqb}
 use Rattle.model.specs.declared.TreeWords.{TreeWords}
 use Rattle.model.specs.Trees.{Tree, tree-of}
 use Rattle.model.specs.States.{fresh-words}
+use Rattle.model.specs.Counters.{fresh-lock}
 use Rattle.model.specs.Runs.{run}
 use Rattle.model.specs.Refusals.{refusal, accepted, first-refusal, schedule-tests, tree-refusal, run-refusal}
-use Rattle.model.specs.Answers.{run-reply, run-answer}
+use Rattle.model.specs.Answers.{counters-behind, run-reply, run-answer}
 use Rattle.model.proofs.Laws.Calls.{run-reply-number}
 use Rattle.model.proofs.Trees.Accepted as trees
 use Rattle.lock_file.specs.ReadingLaws.{Format-law}
@@ -177,10 +178,10 @@ buffer-law w is b =
 
 -- THE CIRCLE
 module _ (w : TreeWords) (is : List ℕ) (tree : tree-refusal (tree-of w) .number ≡ 0) (schedule : first-refusal (schedule-tests (tree-of w) is) .number ≡ 0) where
-  run-accepted : (trace : List ℕ) → length trace ≡ length is → run-answer w fresh-words is trace .number ≡ 0
+  run-accepted : (trace : List ℕ) → length trace ≡ length is → run-answer w fresh-lock is trace .number ≡ 0
   run-accepted trace long =
       ap (λ r. r .number) (answer-by-schedule w tree is trace long)
-      ∙ run-reply-number (first-refusal (schedule-tests (tree-of w) is)) fresh-words (run (tree-of w) is fresh-words) ∙ schedule
+      ∙ run-reply-number (first-refusal (schedule-tests (tree-of w) is)) fresh-lock (run (tree-of w) is fresh-words) (counters-behind (tree-of w) is fresh-lock) ∙ schedule
 
   -- an accepted run's outcome is its listing
   outcome-listed :
@@ -198,7 +199,7 @@ unfolding file-run file-trace run-answer
 outcome-same v w is room e =
     ap
     (λ t.
-    run-outcome (run-reply (run-refusal t fresh-words is (length (replicate {A = ℕ} (length is) 0))) fresh-words (run t is fresh-words))
+    run-outcome (run-reply (run-refusal t fresh-lock is (length (replicate {A = ℕ} (length is) 0))) fresh-lock (run t is fresh-words) (counters-behind t is fresh-lock))
     (run t is fresh-words .trace) room)
     e
 

@@ -7,6 +7,7 @@ use lib.ListN.{length, take, drop}
 use Rattle.model.specs.declared.TreeWords.{TreeWords}
 use Rattle.model.specs.Trees.{Tree, tree-of}
 use Rattle.model.specs.States.{fresh-words}
+use Rattle.model.specs.Counters.{fresh-lock}
 use Rattle.model.specs.Runs.{run}
 use Rattle.model.specs.Refusals.{refusal, accepted, first-refusal, schedule-tests, tree-refusal}
 use Rattle.model.specs.Answers.{fresh-answer, run-answer}
@@ -75,8 +76,8 @@ Too-long-law =
 
 -- 4. THE CIRCLE. The file call on the written file answers what a fresh lock and a run answer: accepted, with the listing of the run, where it fits
 pub record Runs-alike (bytes : List ℕ) (w : TreeWords) (schedule : List ℕ) : Type 0 where
-  pub fresh : fresh-answer w 0 .state ≡ fresh-words
-  pub accepted-run : (trace : List ℕ) → length trace ≡ length schedule → run-answer w fresh-words schedule trace .number ≡ 0
+  pub fresh : fresh-answer w 0 .state ≡ fresh-lock
+  pub accepted-run : (trace : List ℕ) → length trace ≡ length schedule → run-answer w fresh-lock schedule trace .number ≡ 0
   pub listed :
       (room : ℕ) →
       file-outcome bytes room

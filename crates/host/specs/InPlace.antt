@@ -5,11 +5,12 @@ use mathlib.Core.Logic.{_≢_}
 use Prim.Native.Nat.{ℕ}
 use lib.Dec.{eqb}
 use Rattle.model.specs.declared.TreeWords.{TreeWords}
-use Rattle.model.specs.declared.State.{State}
+use Rattle.model.specs.declared.LockState.{LockState}
 use Rattle.model.specs.declared.FreshReply.{FreshReply}
 use Rattle.model.specs.declared.StepReply.{StepReply}
 use Rattle.model.specs.Trees.{tree-of}
 use Rattle.model.specs.States.{fresh-state}
+use Rattle.model.specs.Counters.{lock-state, fresh-counters}
 use Rattle.model.specs.Answers.{fresh-answer, step-answer}
 use Rattle.model.specs.Calls.{one-step, stepped, answer}
 use Rattle.host.specs.declared.Answer.{Answer}
@@ -19,30 +20,30 @@ abbrev pub fresh-number : FreshReply → Answer
 fresh-number r = record { number = r .number; place = r .place }
 
 -- what a fresh call leaves of a state that the host keeps: accepted, the fresh state; refused, the state as it came
-unfoldable pub fresh-left : FreshReply → (before : State) → State
+unfoldable pub fresh-left : FreshReply → (before : LockState) → LockState
 fresh-left r s = cond (eqb (r .number) 0) (r .state) s
 
 -- the same answer with the state that is left
-abbrev pub fresh-kept : FreshReply → (before : State) → FreshReply
+abbrev pub fresh-kept : FreshReply → (before : LockState) → FreshReply
 fresh-kept r s = record { number = r .number; place = r .place; state = fresh-left r s }
 
 abbrev pub step-told : StepReply → StepAnswer
 step-told r = record { number = r .number; place = r .place; kind = r .kind; domain = r .domain }
 
 -- so an accepted fresh call in place leaves the fresh state, and a refused one the state as it came
-pub record Leaves (w : TreeWords) (start : ℕ) (s : State) : Type 0 where
-  pub accepted : fresh-answer w start .number ≡ 0 → fresh-left (fresh-answer w start) s ≡ fresh-state (tree-of w) start
+pub record Leaves (w : TreeWords) (start : ℕ) (s : LockState) : Type 0 where
+  pub accepted : fresh-answer w start .number ≡ 0 → fresh-left (fresh-answer w start) s ≡ lock-state (fresh-state (tree-of w) start) fresh-counters
   pub refused : fresh-answer w start .number ≢ 0 → fresh-left (fresh-answer w start) s ≡ s
 
 unfoldable pub Fresh-in-place-law : Type 0
-Fresh-in-place-law = (w : TreeWords) (start : ℕ) (s : State) → Leaves w start s
+Fresh-in-place-law = (w : TreeWords) (start : ℕ) (s : LockState) → Leaves w start s
 
 -- what a step in place returns, with the state that is left in place
-abbrev pub with-state : StepAnswer → State → StepReply
+abbrev pub with-state : StepAnswer → LockState → StepReply
 with-state a s = record { number = a .number; place = a .place; kind = a .kind; domain = a .domain; state = s }
 
 -- whatever a step in place returns and leaves by its contract is the answer of that step as a call of a list, so the third demand's claim speaks of it
 unfoldable pub In-place-law : Type 0
 In-place-law =
-    (w : TreeWords) (s : State) (i : ℕ) (returned : StepAnswer) (left : State) → returned ≡ step-told (step-answer w s i) → left ≡ step-answer w s i .state →
+    (w : TreeWords) (s : LockState) (i : ℕ) (returned : StepAnswer) (left : LockState) → returned ≡ step-told (step-answer w s i) → left ≡ step-answer w s i .state →
     stepped (with-state returned left) ≡ answer (record { tree = w; ask = one-step i }) s

@@ -13,8 +13,8 @@ ghost use Rattle.text_tree.specs.Answers.{text-answer};
 use journal::JournalReply;
 ghost use Rattle.waits.specs.Answers.{waits-answer, waits-trace, waits-rows};
 use model::FreshReply;
+use model::LockState;
 use model::RunReply;
-use model::State;
 use model::StepReply;
 use model::TreeWords;
 use rate::PassingTimes;
@@ -47,7 +47,7 @@ pub extern "C" fn hmcs_fresh(tree: TreeWords, start: u16) -> FreshReply
 
 // One step by value: its kind, the domain it was at and the state after it; refused, kind 0, domain 0 and the state as it came.
 #[no_mangle]
-pub extern "C" fn hmcs_step(tree: TreeWords, state: State, thread: u16) -> StepReply
+pub extern "C" fn hmcs_step(tree: TreeWords, state: LockState, thread: u16) -> StepReply
     ensures { λ r. ⌜ r ≡ step-answer tree state thread ⌝ }
 {
     lock::step_lock(tree, state, thread)
@@ -57,7 +57,7 @@ pub extern "C" fn hmcs_step(tree: TreeWords, state: State, thread: u16) -> StepR
 #[no_mangle]
 pub extern "C" fn hmcs_run(
     tree: TreeWords,
-    state: State,
+    state: LockState,
     schedule: &[u16],
     trace: &mut [u16],
 ) -> RunReply
@@ -68,7 +68,7 @@ pub extern "C" fn hmcs_run(
 }
 
 // A fresh lock by value, with the state that a host keeps: accepted, the fresh state; refused, that state as it came.
-fn fresh_kept(tree: TreeWords, state: State, start: u16) -> FreshReply
+fn fresh_kept(tree: TreeWords, state: LockState, start: u16) -> FreshReply
     ensures { λ r. ⌜ r ≡ fresh-kept (fresh-answer tree start) state ⌝ }
 {
     let r = hmcs_fresh(tree, start);
@@ -84,7 +84,7 @@ fn fresh_kept(tree: TreeWords, state: State, start: u16) -> FreshReply
 
 // A fresh lock, written where the host keeps its state; refused, the state as it came.
 #[no_mangle]
-pub extern "C" fn hmcs_fresh_in_place(tree: TreeWords, state: &mut State, start: u16) -> Answer
+pub extern "C" fn hmcs_fresh_in_place(tree: TreeWords, state: &mut LockState, start: u16) -> Answer
     ensures { λ r. ⌜ (r ≡ fresh-number (fresh-answer tree start)) × (now (state .exit) ≡ fresh-left (fresh-answer tree start) (now (state .entry))) ⌝ }
 {
     let kept = fresh_kept(tree, *state, start);
@@ -97,7 +97,11 @@ pub extern "C" fn hmcs_fresh_in_place(tree: TreeWords, state: &mut State, start:
 
 // One step of the state that the host keeps, where it stands.
 #[no_mangle]
-pub extern "C" fn hmcs_step_in_place(tree: TreeWords, state: &mut State, thread: u16) -> StepAnswer
+pub extern "C" fn hmcs_step_in_place(
+    tree: TreeWords,
+    state: &mut LockState,
+    thread: u16,
+) -> StepAnswer
     ensures { λ r. ⌜ (r ≡ step-told (step-answer tree (now (state .entry)) thread)) × (now (state .exit) ≡ step-answer tree (now (state .entry)) thread .state) ⌝ }
 {
     let r = hmcs_step(tree, *state, thread);
@@ -195,7 +199,7 @@ pub extern "C" fn hmcs_check_journal(tree: TreeWords, journal: &[u8]) -> Journal
 #[no_mangle]
 pub extern "C" fn hmcs_run_waits(
     tree: TreeWords,
-    state: State,
+    state: LockState,
     schedule: &[u16],
     trace: &mut [u16],
     rows: &mut [u64],
@@ -211,7 +215,7 @@ pub extern "C" fn hmcs_run_waits(
 #[no_mangle]
 pub extern "C" fn hmcs_chain(
     tree: TreeWords,
-    state: State,
+    state: LockState,
     thread: u16,
     chain: &mut [u16],
     place: &mut u32,

@@ -15,13 +15,16 @@ use Rattle.model.specs.Trees.{Tree, tree-of}
 use Rattle.model.specs.States.{fresh-words}
 use Rattle.model.specs.Steps.{kind-number, Step}
 use Rattle.model.specs.Runs.{steps, state-after, run-of, run}
-use Rattle.model.specs.Refusals.{Refusal, refusal, accepted, tree-refusal, run-refusal}
+use Rattle.model.specs.Counters.{lock-state, fresh-counters}
+use Rattle.model.specs.Refusals.{Refusal, refusal, accepted, first-refusal, tree-refusal, run-tests-before-19}
 use Rattle.model.specs.Answers.{fresh-answer}
 use Rattle.model.specs.Laws.{Formed, Form-law}
+use Rattle.model.specs.CounterLaws.{Counter-form-law}
 use Rattle.model.proofs.Laws.Form.{fresh-at-zero, form-law}
 use Rattle.model.proofs.Trees.Accepted.{sixteen-bit}
 use Rattle.model.proofs.Laws.Runs.{steps-length}
-use Rattle.model.proofs.Laws.Calls.{run-accepted}
+use Rattle.model.proofs.Laws.Calls.{early-accepted}
+use Rattle.model.proofs.Laws.Counters.{counter-form-law}
 use Rattle.model.proofs.Laws.Refusals.{accepted-number}
 use Rattle.refusals.specs.Lowest.{Lowest}
 use Rattle.refusals.specs.declared.Refusal.{Refusal as Told-refusal}
@@ -34,13 +37,9 @@ use Rattle.journal.specs.Laws.{kind-numbers}
 use Rattle.journal.proofs.Stepping.{stretch-threads, stretch-moves, Same-kinds, goes-on, stops-here, stopped-by, ended}
 use Rattle.steps.specs.Running.{step-code, told-front, other-kind-told, fresh-from}
 use Rattle.steps.proofs.Starting.{fresh-from-zero}
-use Rattle.steps.proofs.SoFar.{kind-small}
+use Rattle.steps.proofs.ToldStep.{code-kind}
 
 -- WHAT IS TOLD OF A STEP has its kind in the lowest three bits
-code-kind : (x : Step) → step-code x % 8 ≡ kind-number (x .kind)
-unfolding step-code
-code-kind x = omega (arith, kind-small (x .kind))
-
 told-kind : (b : List ℕ) (xs : List Step) (j : ℕ) → j < length xs → length xs ≤ length b → getD (told-front b xs) j 0 % 8 ≡ getD (kind-numbers xs) j 0
 unfolding told-front kind-numbers
 told-kind b [] j h f = absurd (omega arith)
@@ -106,11 +105,12 @@ module _ (w : TreeWords) (bs : List ℕ) where
       long : length is ≡ c .count
       long = length-take-le (c .count) threads (r .threads-fit)
 
-      pub runs : (room : ℕ) → c .count ≤ room → c .count ≤ 65536 → run-refusal t s is room .number ≡ 0
+      pub runs : (room : ℕ) → c .count ≤ room → c .count ≤ 65536 → first-refusal (run-tests-before-19 t (lock-state s fresh-counters) is room) .number ≡ 0
+      unfolding Counter-form-law
       runs room h f =
           ap (λ x. x .number)
-          (run-accepted t s is room
-          (record { tree = ok; form = g .formed .form; short = omega (arith, long); threads = stretch-threads t read; fits = omega (arith, long) }))
+          (early-accepted t (lock-state s fresh-counters) is room
+          (record { tree = ok; form = g .formed .form; counts = counter-form-law t ok (sixteen-bit w) .of-fresh; short = omega (arith, long); threads = stretch-threads t read; fits = omega (arith, long) }))
           ∙ accepted-number
 
       pub moves : p + c .count ≤ c .position

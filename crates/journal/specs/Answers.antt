@@ -15,9 +15,9 @@ use Rattle.journal.specs.declared.Entry.the-variants.{Named, Broken, End
 use Rattle.journal.specs.declared.JournalReply.{JournalReply}
 use Rattle.journal.specs.Reading.{entry-at}
 
--- a fresh lock: what a fresh call with start 0 returns, at both kinds of root
+-- the words of a fresh lock: what a fresh call with start 0 returns, at both kinds of root, without its counters, which no step reads
 abbrev pub fresh-lock : TreeWords → State
-fresh-lock w = fresh-answer w 0 .state
+fresh-lock w = fresh-answer w 0 .state .words
 
 -- 26, the kind is not the step's; else what follows
 unfoldable pub kind-checked : (kind position : ℕ) → Step → (following : State → Refusal) → Refusal

@@ -4,7 +4,8 @@ ghost use Prim.Native.Nat.{_≤_};
 ghost use lib.ListN.{length, take};
 ghost use Rattle.model.specs.Trees.{tree-of};
 ghost use Rattle.model.specs.Runs.{steps, run};
-ghost use Rattle.model.specs.Refusals.{refusal, tree-refusal, run-refusal};
+ghost use Rattle.model.specs.Counters.{lock-state, fresh-counters};
+ghost use Rattle.model.specs.Refusals.{refusal, first-refusal, tree-refusal, run-tests-before-19};
 ghost use Rattle.refusals.specs.Lowest.{Lowest};
 ghost use Rattle.steps.specs.Running.{told-front, other-kind-told};
 ghost use Rattle.journal.specs.Answers.{replied, journal-answer};
@@ -35,7 +36,7 @@ fn answer_at(number: u32, place: usize) -> JournalReply
     JournalReply { number, place }
 }
 
-// The steps of a piece's threads: the state after them, and what each of them was.
+// The steps of a piece's threads: the state after them, and what each of them was. The counters of the domains, which no step reads, start at 0 for each piece, so that no journal is too long for them.
 fn run_piece(
     tree: TreeWords,
     state: State,
@@ -45,20 +46,24 @@ fn run_piece(
     told: &mut [u16],
 ) -> State
     requires { ⌜ count ≤ length (now threads) ⌝ }
-    requires { ⌜ run-refusal (tree-of tree) state (take count (now threads)) (length (now trace)) .number ≡ 0 ⌝ }
+    requires { ⌜ first-refusal (run-tests-before-19 (tree-of tree) (lock-state state fresh-counters) (take count (now threads)) (length (now trace))) .number ≡ 0 ⌝ }
     ensures { λ r. ⌜ r ≡ run (tree-of tree) (take count (now (threads .entry))) state .state ⌝ }
     ensures { λ r. ⌜ now (told .exit) ≡ told-front (now (told .entry)) (steps (tree-of tree) (take count (now (threads .entry))) state) ⌝ }
 {
     let mut counts = [0u32; 6];
-    let mut last = [0u32; 2];
+    let mut entries = [0u64; 64];
+    let mut tenures = [0u64; 64];
+    let mut longest = [0u64; 64];
     steps::run::run_steps(
         tree,
         state,
         &threads[0..count],
         trace,
         &mut counts,
-        &mut last,
         told,
+        &mut entries,
+        &mut tenures,
+        &mut longest,
     )
 }
 

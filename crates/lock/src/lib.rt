@@ -1,14 +1,16 @@
 // The three calls on a lock, by value: each answers as the model says, for every input.
 ghost use mathlib.Core.Path.{_≡_};
-ghost use Rattle.steps.specs.Running.{first-number};
+ghost use Rattle.model.specs.Counters.{fresh-counters};
 ghost use Rattle.model.specs.Answers.{fresh-answer, step-answer, run-answer, trace-answer};
+ghost use Rattle.steps.specs.Running.{first-number};
+use model::Counters;
 use model::FreshReply;
+use model::LockState;
 use model::RunReply;
-use model::State;
 use model::StepReply;
 use model::TreeWords;
 
-// The number at which the counters start: the one given at a ticket root that is not refused.
+// The number at which the counters of a ticket lock start: the one given at a ticket root that is not refused.
 fn first_of(number: u32, ticket_root: u32, start: u16) -> u16
     ensures { λ r. ⌜ r ≡ first-number number «ticket_root» start ⌝ }
 {
@@ -19,6 +21,20 @@ fn first_of(number: u32, ticket_root: u32, start: u16) -> u16
         return 0;
     }
     start
+}
+
+// Counters that are 0 throughout.
+fn fresh_counters() -> Counters
+    ensures { λ r. ⌜ r ≡ fresh-counters ⌝ }
+{
+    let entries = [0u64; 64];
+    let tenures = [0u64; 64];
+    let longest = [0u64; 64];
+    Counters {
+        entries,
+        tenures,
+        longest,
+    }
 }
 
 // A fresh lock: a fresh state, accepted or refused.
@@ -33,7 +49,9 @@ pub fn fresh_lock(tree: TreeWords, start: u16) -> FreshReply
         tree.threads,
     );
     let first = first_of(r.number, tree.ticket_root, start);
-    let state = steps::fresh_state(first);
+    let words = steps::fresh_state(first);
+    let counters = fresh_counters();
+    let state = LockState { words, counters };
     FreshReply {
         number: r.number,
         place: r.place,
@@ -42,11 +60,16 @@ pub fn fresh_lock(tree: TreeWords, start: u16) -> FreshReply
 }
 
 // One step of a thread: its kind, the domain it was at and the state after it; refused, kind 0, domain 0 and the state as it came.
-pub fn step_lock(tree: TreeWords, state: State, thread: u16) -> StepReply
+pub fn step_lock(tree: TreeWords, state: LockState, thread: u16) -> StepReply
     ensures { λ r. ⌜ r ≡ step-answer tree state thread ⌝ }
 {
     let schedule = [thread];
-    let r = refusals::run_refusal_of(tree, state, &schedule, 1);
+    let words = state.words;
+    let counters = state.counters;
+    let mut entries = counters.entries;
+    let mut tenures = counters.tenures;
+    let mut longest = counters.longest;
+    let r = steps::limits::refusal_of(tree, words, &entries, &tenures, &longest, &schedule, 1);
     if r.number != 0 {
         return StepReply {
             number: r.number,
@@ -58,54 +81,89 @@ pub fn step_lock(tree: TreeWords, state: State, thread: u16) -> StepReply
     }
     let mut trace = [0u16];
     let mut kinds = [0u32; 6];
-    let mut last = [0u32; 2];
-    let mut told = [0u16; 0];
+    let mut told = [0u16];
     let after = steps::run::run_steps(
         tree,
-        state,
+        words,
         &schedule,
         &mut trace,
         &mut kinds,
-        &mut last,
         &mut told,
+        &mut entries,
+        &mut tenures,
+        &mut longest,
     );
-    let kind = last[0];
-    let domain = last[1];
+    let code = told[0];
+    let kind = (code % 8) as u32;
+    let at = thread as usize;
+    let domain = steps::run::domain_told(tree.homes[at], code);
+    let counted = Counters {
+        entries,
+        tenures,
+        longest,
+    };
+    let left = LockState {
+        words: after,
+        counters: counted,
+    };
     StepReply {
         number: 0,
         place: 0,
         kind,
         domain,
-        state: after,
+        state: left,
     }
 }
 
 // The steps of a schedule: the state after the last of them and the counts, the entering threads at the front of the trace; refused, the state and the trace as they came.
-pub fn run_lock(tree: TreeWords, state: State, schedule: &[u16], trace: &mut [u16]) -> RunReply
+pub fn run_lock(tree: TreeWords, state: LockState, schedule: &[u16], trace: &mut [u16]) -> RunReply
     ensures { λ r. ⌜ r ≡ run-answer tree state (now (schedule .entry)) (now (trace .entry)) ⌝ }
     ensures { λ r. ⌜ now (trace .exit) ≡ trace-answer tree state (now (schedule .entry)) (now (trace .entry)) ⌝ }
 {
-    let r = refusals::run_refusal_of(tree, state, schedule, trace.len());
+    let words = state.words;
+    let counters = state.counters;
+    let mut entries = counters.entries;
+    let mut tenures = counters.tenures;
+    let mut longest = counters.longest;
+    let r = steps::limits::refusal_of(
+        tree,
+        words,
+        &entries,
+        &tenures,
+        &longest,
+        schedule,
+        trace.len(),
+    );
     if r.number != 0 {
         return steps::refused(r.number, r.place, state);
     }
     let mut kinds = [0u32; 6];
-    let mut last = [0u32; 2];
     let mut told = [0u16; 0];
     let after = steps::run::run_steps(
         tree,
-        state,
+        words,
         schedule,
         trace,
         &mut kinds,
-        &mut last,
         &mut told,
+        &mut entries,
+        &mut tenures,
+        &mut longest,
     );
     let counts = steps::run::counts_of(&kinds);
+    let counted = Counters {
+        entries,
+        tenures,
+        longest,
+    };
+    let left = LockState {
+        words: after,
+        counters: counted,
+    };
     RunReply {
         number: 0,
         place: 0,
         counts,
-        state: after,
+        state: left,
     }
 }

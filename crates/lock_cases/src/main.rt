@@ -1,4 +1,6 @@
 // Cases of document 01's ladder that are executed: what the calls answer, one line each.
+use model::Counters;
+use model::LockState;
 use model::PlaceWords;
 use model::RunReply;
 use model::State;
@@ -64,9 +66,24 @@ fn four_threads(threshold: u16) -> TreeWords {
     }
 }
 
-fn fresh(tree: TreeWords) -> State {
+fn fresh(tree: TreeWords) -> LockState {
     let r = lock::fresh_lock(tree, 0);
     r.state
+}
+
+fn fresh_words(tree: TreeWords) -> State {
+    let fresh = fresh(tree);
+    fresh.words
+}
+
+// A state with these words whose counters are 0.
+fn uncounted(words: State) -> LockState {
+    let counters = Counters {
+        entries: [0u64; 64],
+        tenures: [0u64; 64],
+        longest: [0u64; 64],
+    };
+    LockState { words, counters }
 }
 
 // Number, place and counts of a run, and the first two elements of its trace buffer.
@@ -109,7 +126,8 @@ fn late_entry() {
     let r = lock::run_lock(tree, fresh(tree), &schedule, &mut trace);
     put(b"last entry no thread");
     show(r, trace[0], trace[1]);
-    let s = r.state;
+    let left = r.state;
+    let s = left.words;
     let p = s.places[0];
     put(b"its state's first tail, status and row");
     short(s.tails[1]);
@@ -164,16 +182,18 @@ fn ticket_turns() {
     let mut trace = [77u16; 4000];
     let r = lock::run_lock(tree, start.state, &schedule, &mut trace);
     show(r, trace[0], trace[1]);
-    let s = r.state;
+    let left = r.state;
+    let s = left.words;
     put(b"its counters");
     short(s.ticket);
     short(s.grant);
     put(b"\n");
 }
 
-fn step_line(tree: TreeWords, state: State, thread: u16) {
-    let r = lock::step_lock(tree, state, thread);
-    let s = r.state;
+fn step_line(tree: TreeWords, words: State, thread: u16) {
+    let r = lock::step_lock(tree, uncounted(words), thread);
+    let left = r.state;
+    let s = left.words;
     let at = (thread % 256) as usize;
     let p = s.places[at];
     number(r.number);
@@ -204,33 +224,33 @@ fn place(row: u8, domain: u8, peer: u16, word: u64) -> PlaceWords {
 // States that a caller hands over and that no schedule reaches.
 fn handed_in() {
     let tree = two_threads(2);
-    let mut above = fresh(tree);
+    let mut above = fresh_words(tree);
     above.statuses[0] = 900;
     above.nexts[0] = 2;
     above.places[0] = place(6, 1, 0, 0);
     put(b"Check with a status above the threshold");
     step_line(tree, above, 0);
-    let mut itself = fresh(tree);
+    let mut itself = fresh_words(tree);
     itself.tails[1] = 1;
     itself.places[0] = place(2, 1, 0, 0);
     put(b"Swap that finds its own record");
     step_line(tree, itself, 0);
-    let mut own = fresh(tree);
+    let mut own = fresh_words(tree);
     own.places[0] = place(3, 1, 0, 0);
     put(b"Link to its own record");
     step_line(tree, own, 0);
-    let mut prep = fresh(tree);
+    let mut prep = fresh_words(tree);
     prep.places[0] = place(1, 1, 0, 0);
     put(b"Prep at home");
     step_line(tree, prep, 0);
     put(b"Idle");
-    step_line(tree, fresh(tree), 0);
-    let mut root = fresh(tree);
+    step_line(tree, fresh_words(tree), 0);
+    let mut root = fresh_words(tree);
     root.places[0] = place(6, 0, 0, 0);
     put(b"Check at the root");
     step_line(tree, root, 0);
     put(b"thread 2 of two");
-    step_line(tree, fresh(tree), 2);
+    step_line(tree, fresh_words(tree), 2);
 }
 
 // A leaf without threads is refused before a state that is not well formed.
@@ -238,7 +258,7 @@ fn empty_leaf() {
     let mut tree = two_threads(2);
     tree.domains = 3;
     tree.thresholds[2] = 2;
-    let mut root = fresh(tree);
+    let mut root = fresh_words(tree);
     root.places[0] = place(6, 0, 0, 0);
     put(b"a leaf without threads");
     step_line(tree, root, 0);

@@ -6,7 +6,7 @@ use Prim.Native.Nat.{ℕ, zero, suc, _<_}
 use native.Mathlib.Omega.{arith}
 use lib.Dec.{eqb}
 use lib.ListN.{length, getD}
-use Rattle.model.specs.declared.State.{State}
+use Rattle.model.specs.declared.LockState.{LockState}
 use Rattle.model.specs.Scans.{any-below, all-below, largest-below, filter-below}
 use Rattle.model.specs.Trees.{Tree, read-word, tree-of, is-ticket, is-child, is-leaf, depth-from, depth, level, meets, on-path, child-from, child, own-record, is-record, is-member, owner-domain, under, domain-allowance, allowance}
 use Rattle.model.specs.Places.{bare-place, plain-place, place-of, is-idle, is-watch}
@@ -14,8 +14,10 @@ use Rattle.model.specs.States.{fresh-words, fresh-state}
 use Rattle.model.specs.Steps.{is-kind, is-entry, prep-row, swap-row, link-row, wait-row, leave-row, check-row, help-row, cas-row, linger-row, grant-row, draw-row, watch-row, is-watched, shown-members, raise-row, row, step}
 use Rattle.model.specs.Runs.{steps, state-after, how-many, entering, counts-of, run-of, run, begun-in, ended-in, begun, ended, entries-under, occurrences}
 use Rattle.model.specs.WellFormed.{good-tail, good-next, good-status, queue-on-path, good-place, good-watch, good-thread, good-counters, well-formed}
-use Rattle.model.specs.Refusals.{Refusal, refusal, accepted, lowest-bad, first-refusal, bad-domains, bad-threads, bad-parent, too-deep, no-threshold, bad-home, empty-domain, tree-tests, bad-state, bad-length, bad-entry, bad-room, step-tests, run-tests, tree-refusal, step-refusal, run-refusal}
-use Rattle.model.specs.Answers.{fresh-answer, step-reply, step-answer, run-reply, run-buffer, run-answer, trace-answer}
+use Rattle.model.specs.Tenures.{finds-none, taken-from, given, starts, checks-at, word-to-grant, told-length, domain-entries, domain-tenures, longest-told}
+use Rattle.model.specs.Counters.{fresh-counters, fresh-lock, each-with-index, counters-after, good-count, good-counts, count-above, any-above}
+use Rattle.model.specs.Refusals.{Refusal, refusal, accepted, lowest-bad, first-refusal, bad-domains, bad-threads, bad-parent, too-deep, no-threshold, bad-home, empty-domain, tree-tests, bad-state, bad-length, bad-entry, bad-room, bad-counter, step-tests, run-tests, tree-refusal, step-refusal, run-refusal}
+use Rattle.model.specs.Answers.{fresh-answer, counters-behind, step-reply, step-answer, run-reply, run-buffer, run-answer, trace-answer}
 use Rattle.model.specs.Laws.{Unread-law}
 use Rattle.model.specs.Calls.{Ask, one-step, a-run, Call, state-in, answer-to, answer, ask-refusal, call-refusal, asked-entries, added, answers, joined, Names}
 use Rattle.model.specs.Cases.{padded, tree, count-up, same-numbers, two-homes}
@@ -47,13 +49,13 @@ same-tree =
     })
 
 -- FROM THE REFUSALS THAT A LIST IS ANSWERED WITH, its names and its schedule
-call-refused : (c : Call) (s : State) → refusal-in (answer c s) .number ≡ call-refusal c s .number
+call-refused : (c : Call) (s : LockState) → refusal-in (answer c s) .number ≡ call-refusal c s .number
 unfolding refusal refusal-in answer answer-to call-refusal ask-refusal step-answer run-answer
 call-refused c s = by (c .ask)
   where
     by : (a : Ask) → refusal-in (answer-to (c .tree) a s) .number ≡ ask-refusal (tree-of (c .tree)) a s .number
-    by (one-step i) = step-reply-number (step-refusal (tree-of (c .tree)) s i) s (steps (tree-of (c .tree)) (i ∷ []) s)
-    by (a-run is b) = run-reply-number (run-refusal (tree-of (c .tree)) s is (length b)) s (run (tree-of (c .tree)) is s)
+    by (one-step i) = step-reply-number (step-refusal (tree-of (c .tree)) s i) s (steps (tree-of (c .tree)) (i ∷ []) (s .words)) (counters-behind (tree-of (c .tree)) (i ∷ []) s)
+    by (a-run is b) = run-reply-number (run-refusal (tree-of (c .tree)) s is (length b)) s (run (tree-of (c .tree)) is (s .words)) (counters-behind (tree-of (c .tree)) is s)
 
 -- each call that is answered with number 0 names the tree
 Names-by : Tree → List Call → List Refusal → Type 0
@@ -61,7 +63,7 @@ Names-by t [] rs = Unit {0}
 Names-by t (c ∷ cs) [] = ⊥
 Names-by t (c ∷ cs) (r ∷ rs) = (r .number ≡ 0 → tree-of (c .tree) ≡ t) × Names-by t cs rs
 
-names-by : (t : Tree) (cs : List Call) (s : State) → Names-by t cs (refusals-in (answers cs s)) → Names t cs s
+names-by : (t : Tree) (cs : List Call) (s : LockState) → Names-by t cs (refusals-in (answers cs s)) → Names t cs s
 unfolding Names-by Names answers refusals-in
 names-by t [] s n = tt
 names-by t (c ∷ cs) s n = (λ e. n .0 (rw (call-refused c s) e), names-by t cs _ (n .1))
@@ -71,7 +73,7 @@ joined-by [] rs = []
 joined-by (c ∷ cs) [] = []
 joined-by (c ∷ cs) (r ∷ rs) = cond (eqb (r .number) 0) (asked-entries (c .ask)) [] ++ joined-by cs rs
 
-joined-same : (cs : List Call) (s : State) → joined cs s ≡ joined-by cs (refusals-in (answers cs s))
+joined-same : (cs : List Call) (s : LockState) → joined cs s ≡ joined-by cs (refusals-in (answers cs s))
 unfolding joined joined-by added answers refusals-in
 joined-same [] s = refl
 joined-same (c ∷ cs) s = rw (call-refused c s, joined-same cs (state-in (answer c s)))
@@ -79,20 +81,20 @@ joined-same (c ∷ cs) s = rw (call-refused c s, joined-same cs (state-in (answe
 abbrev mixed-refusals : List Refusal
 mixed-refusals = accepted ∷ refusal 4 0 ∷ accepted ∷ refusal 12 1 ∷ accepted ∷ accepted ∷ []
 
-refused : refusals-in (answers mixed-calls fresh-words) ≡ mixed-refusals
-unfolding any-below filter-below all-below read-word tree-of is-ticket is-child is-leaf depth-from depth level meets on-path child-from child own-record is-record is-member owner-domain under bare-place plain-place place-of is-watch is-idle fresh-words fresh-state is-kind is-entry prep-row swap-row link-row wait-row leave-row check-row help-row cas-row linger-row grant-row draw-row watch-row is-watched shown-members raise-row row step steps state-after how-many entering counts-of run-of run good-tail good-next good-status queue-on-path good-place good-watch good-thread good-counters well-formed refusal accepted lowest-bad first-refusal bad-domains bad-threads bad-parent too-deep no-threshold bad-home empty-domain tree-tests bad-state bad-length bad-entry bad-room step-tests run-tests tree-refusal step-refusal run-refusal fresh-answer step-reply step-answer run-reply run-buffer run-answer trace-answer padded tree count-up two-homes state-in answer-to answer answers too-many-domains two-homes-again mixed-calls refusal-in refusals-in
+refused : refusals-in (answers mixed-calls fresh-lock) ≡ mixed-refusals
+unfolding occurrences ended-in entries-under finds-none taken-from given starts checks-at word-to-grant told-length domain-entries domain-tenures longest-told fresh-counters each-with-index counters-after good-count good-counts count-above any-above bad-counter counters-behind any-below filter-below all-below read-word tree-of is-ticket is-child is-leaf depth-from depth level meets on-path child-from child own-record is-record is-member owner-domain under bare-place plain-place place-of is-watch is-idle fresh-words fresh-state is-kind is-entry prep-row swap-row link-row wait-row leave-row check-row help-row cas-row linger-row grant-row draw-row watch-row is-watched shown-members raise-row row step steps state-after how-many entering counts-of run-of run good-tail good-next good-status queue-on-path good-place good-watch good-thread good-counters well-formed refusal accepted lowest-bad first-refusal bad-domains bad-threads bad-parent too-deep no-threshold bad-home empty-domain tree-tests bad-state bad-length bad-entry bad-room step-tests run-tests tree-refusal step-refusal run-refusal fresh-answer step-reply step-answer run-reply run-buffer run-answer trace-answer padded tree count-up two-homes state-in answer-to answer answers too-many-domains two-homes-again mixed-calls refusal-in refusals-in
 refused = refl
 
 named : Names-by (tree-of two-homes) mixed-calls mixed-refusals
 unfolding Names-by mixed-calls refusal accepted
 named = (λ e. refl, (λ e. absurd (omega arith), (λ e. refl, (λ e. absurd (omega arith), (λ e. same-tree, (λ e. refl, tt))))))
 
-names : Names (tree-of two-homes) mixed-calls fresh-words
-names = names-by (tree-of two-homes) mixed-calls fresh-words (rw refused named)
+names : Names (tree-of two-homes) mixed-calls fresh-lock
+names = names-by (tree-of two-homes) mixed-calls fresh-lock (rw refused named)
 
-schedule : joined mixed-calls fresh-words ≡ mixed-schedule
+schedule : joined mixed-calls fresh-lock ≡ mixed-schedule
 unfolding joined-by mixed-calls asked-entries mixed-schedule refusal accepted
-schedule = joined-same mixed-calls fresh-words ∙ ap (joined-by mixed-calls) refused
+schedule = joined-same mixed-calls fresh-lock ∙ ap (joined-by mixed-calls) refused
 
 fresh-accepted : fresh-answer two-homes 0 .number ≡ 0
 unfolding any-below filter-below read-word tree-of is-ticket is-child is-leaf depth-from depth level meets on-path under refusal accepted lowest-bad first-refusal bad-domains bad-threads bad-parent too-deep no-threshold bad-home empty-domain tree-tests tree-refusal fresh-answer padded tree two-homes

@@ -11,4 +11,6 @@ pub mod Words
 pub mod Unread
 pub mod Search
 pub mod Root
+pub mod Given
+pub mod Counters
 pub mod Telling

@@ -6,9 +6,11 @@ pub mod Places
 pub mod Storing
 pub mod Trees
 pub mod Laws
+pub mod Counted
 pub mod Meanings
 pub mod Counting
 pub mod Computing
 pub mod Cases
 pub mod TicketCases
 pub mod ClaimCases
+pub mod CounterCases

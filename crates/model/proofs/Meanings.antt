@@ -11,10 +11,10 @@ use lib.ListN.{length, take, drop}
 use lib.Seq.{take-append-seam, drop-drop, drop-length}
 use borrow.Author.Tests.{not-false, eqb-true, eq-eqb, ne-eqb, lt-ltb, le-ltb}
 use Rattle.model.specs.Scans.{any-below, largest-below}
-use Rattle.model.specs.declared.State.{State}
+use Rattle.model.specs.declared.LockState.{LockState}
 use Rattle.model.specs.Trees.{Tree, is-child, is-leaf, on-path, under, allowance}
 use Rattle.model.specs.Answers.{run-reply}
-use Rattle.model.specs.Calls.{Call, added, state-at, Stretches}
+use Rattle.model.specs.Calls.{Call, added, lock-at, Stretches}
 use Rattle.model.specs.Meanings.{Within, itself, below, Tells-under, Under-law, Largest-child, Allowance-law, Prefix-law, own-entries, Stretches-law, Refused-run-law}
 use Rattle.model.proofs.Tests.{or-neither, largest-ge}
 use Rattle.model.proofs.Trees.Index.{ancestor, height, member-allowance}
@@ -138,11 +138,11 @@ prefix-law xs ys = (
   λ e. record { remainder = drop (length xs) ys; joins = rw e at (take-drop (length xs) ys) },
 )
 
-stretches-own : (t : Tree) (f : State) (S : List ℕ) (k : ℕ) (cs : List Call) → Stretches t f S k cs → drop k S ≡ own-entries t f S k cs
+stretches-own : (t : Tree) (f : LockState) (S : List ℕ) (k : ℕ) (cs : List Call) → Stretches t f S k cs → drop k S ≡ own-entries t f S k cs
 unfolding Stretches own-entries
 stretches-own t f S k [] e = rw e (drop-length S)
 stretches-own t f S k (c ∷ cs) e =
-    let own = added c (state-at t f S k) in
+    let own = added c (lock-at t f S k) in
     sym (take-drop (length own) (drop k S)) ∙ rw (e .0, drop-drop (length own) k S) (ap (λ r. own ++ r) (stretches-own t f S (k + length own) cs (e .1)))
 
 pub stretches-law : Stretches-law
@@ -152,4 +152,4 @@ stretches-law t f S cs e = stretches-own t f S 0 cs e
 -- REFUSED RUNS
 pub refused-run-law : Refused-run-law
 unfolding Refused-run-law run-reply
-refused-run-law r s x n = let e = ne-eqb (r .number) 0 n in (rw e, rw e, rw e, rw e, rw e, rw e)
+refused-run-law r s x c n = let e = ne-eqb (r .number) 0 n in (rw e, rw e, rw e, rw e, rw e, rw e)

@@ -9,8 +9,9 @@ use Rattle.model.specs.Steps.{is-kind, is-entry, prep-row, swap-row, lin
 use Rattle.model.specs.Runs.{steps, state-after, how-many, entering, counts-of, run-of, run, begun-in, ended-in, begun, ended}
 use Rattle.model.specs.WellFormed.{good-tail, queue-on-path, good-place, good-counters}
 use Rattle.model.specs.Refusals.{refusal, accepted, lowest-bad, first-refusal, bad-domains, bad-threads, bad-parent, too-deep, no-threshold, bad-home, empty-domain, tree-tests, bad-length, bad-entry, bad-room, tree-refusal}
+use Rattle.model.specs.Counters.{fresh-counters}
 use Rattle.model.specs.Answers.{fresh-answer, first-kind, first-domain, step-reply, run-reply, run-buffer}
-use Rattle.model.specs.Cases.{padded, tree, at-ticket-root, count-up, counters, ok, refused, two-homes, root-alone, two-in-root, one-home, same-numbers, place-numbers, same-state, gives, same-counts, kept, holds, all-hold}
+use Rattle.model.specs.Cases.{padded, tree, at-ticket-root, count-up, counters, ok, refused, two-homes, root-alone, two-in-root, one-home, same-numbers, place-numbers, same-state, same-counters, same-lock, gives, same-counts, kept, holds, all-hold}
 use Rattle.model.specs.TicketCases.{ticket-alone, two-in-ticket, three-in-ticket, ticket-above, with-numbers, ticket-cases, Several-shown, Raises-in-order}
 use Rattle.model.proofs.Computing.{walked, formed-by-walks, walked-step, walked-refusal, holds-by-walks, all-hold-by-walks, case-sized, all-sized, same-cases}
 
@@ -21,7 +22,7 @@ ticket-cases-sized = refl
 
 -- each line is computed
 pub ticket-cases-hold : all-hold ticket-cases ≡ true
-unfolding any-below filter-below all-below read-word tree-of is-ticket is-child is-leaf depth-from depth level meets on-path child-from child own-record is-record is-member owner-domain under bare-place plain-place place-of is-watch is-idle is-inside fresh-words fresh-state is-kind is-entry prep-row swap-row link-row wait-row leave-row check-row help-row cas-row linger-row grant-row draw-row watch-row is-watched shown-members raise-row row step steps state-after how-many entering counts-of run-of run good-tail queue-on-path good-place good-counters refusal accepted lowest-bad first-refusal bad-domains bad-threads bad-parent too-deep no-threshold bad-home empty-domain tree-tests bad-length bad-entry bad-room tree-refusal fresh-answer first-kind first-domain step-reply run-reply run-buffer padded tree at-ticket-root count-up ok refused counters two-homes root-alone two-in-root one-home ticket-alone two-in-ticket three-in-ticket ticket-above with-numbers ticket-cases same-numbers place-numbers same-state gives same-counts kept holds walked formed-by-walks walked-step walked-refusal holds-by-walks all-hold-by-walks
+unfolding any-below filter-below all-below read-word tree-of is-ticket is-child is-leaf depth-from depth level meets on-path child-from child own-record is-record is-member owner-domain under bare-place plain-place place-of is-watch is-idle is-inside fresh-words fresh-state is-kind is-entry prep-row swap-row link-row wait-row leave-row check-row help-row cas-row linger-row grant-row draw-row watch-row is-watched shown-members raise-row row step steps state-after how-many entering counts-of run-of run good-tail queue-on-path good-place good-counters refusal accepted lowest-bad first-refusal bad-domains bad-threads bad-parent too-deep no-threshold bad-home empty-domain tree-tests bad-length bad-entry bad-room tree-refusal fresh-answer first-kind first-domain step-reply run-reply run-buffer padded tree at-ticket-root count-up ok refused counters two-homes root-alone two-in-root one-home ticket-alone two-in-ticket three-in-ticket ticket-above with-numbers ticket-cases same-numbers place-numbers same-state same-counters same-lock fresh-counters gives same-counts kept holds walked formed-by-walks walked-step walked-refusal holds-by-walks all-hold-by-walks
 ticket-cases-hold = same-cases ticket-cases ticket-cases-sized ∙ refl
 
 -- a raise that shows several

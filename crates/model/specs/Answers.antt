@@ -5,15 +5,17 @@ use Prim.Native.Nat.{ℕ}
 use lib.Dec.{eqb}
 use lib.ListN.{length, drop, replicate}
 use Rattle.model.specs.declared.TreeWords.{TreeWords}
-use Rattle.model.specs.declared.State.{State}
+use Rattle.model.specs.declared.LockState.{LockState}
 use Rattle.model.specs.declared.Counts.{Counts}
+use Rattle.model.specs.declared.Counters.{Counters}
 use Rattle.model.specs.declared.FreshReply.{FreshReply}
 use Rattle.model.specs.declared.StepReply.{StepReply}
 use Rattle.model.specs.declared.RunReply.{RunReply}
-use Rattle.model.specs.Trees.{tree-of}
-use Rattle.model.specs.States.{fresh-words, fresh-state}
+use Rattle.model.specs.Trees.{Tree, tree-of}
+use Rattle.model.specs.States.{fresh-state}
 use Rattle.model.specs.Steps.{kind-number, Step}
 use Rattle.model.specs.Runs.{steps, state-after, Run, run}
+use Rattle.model.specs.Counters.{lock-state, fresh-counters, fresh-lock, counters-after}
 use Rattle.model.specs.Refusals.{Refusal, tree-refusal, step-refusal, run-refusal}
 
 -- a fresh call returns a fresh state, accepted or refused; the start that it is given is 0 where it is refused
@@ -21,7 +23,7 @@ unfoldable pub fresh-answer : TreeWords → (start : ℕ) → FreshReply
 fresh-answer w v =
     let r = tree-refusal (tree-of w) in
     let first = cond (eqb (r .number) 0) v 0 in
-    record { number = r .number; place = r .place; state = fresh-state (tree-of w) first }
+    record { number = r .number; place = r .place; state = lock-state (fresh-state (tree-of w) first) fresh-counters }
 
 -- the number of the first step's kind, and its domain
 unfoldable pub first-kind : List Step → ℕ
@@ -32,45 +34,50 @@ unfoldable pub first-domain : List Step → ℕ
 first-domain [] = 0
 first-domain (x ∷ xs) = x .domain
 
--- an accepted step: its kind, the domain it was at and the state after it
-abbrev pub step-accepted : State → (taken : List Step) → StepReply
-step-accepted s xs = record { number = 0; place = 0; kind = first-kind xs; domain = first-domain xs; state = state-after s xs }
+-- the counters behind a schedule's steps
+unfoldable pub counters-behind : Tree → (schedule : List ℕ) → LockState → Counters
+counters-behind t is s = counters-after t (s .counters) (steps t is (s .words))
+
+-- an accepted step: its kind, the domain it was at, and the words and counters after it
+abbrev pub step-accepted : LockState → (taken : List Step) → Counters → StepReply
+step-accepted s xs c = record { number = 0; place = 0; kind = first-kind xs; domain = first-domain xs; state = lock-state (state-after (s .words) xs) c }
 
 -- a refused step: kind 0, domain 0, the state as it came
-abbrev pub step-refused : Refusal → State → StepReply
+abbrev pub step-refused : Refusal → LockState → StepReply
 step-refused r s = record { number = r .number; place = r .place; kind = 0; domain = 0; state = s }
 
--- a step by its refusal, the state handed in and the one step taken
-unfoldable pub step-reply : Refusal → State → (taken : List Step) → StepReply
-step-reply r s xs = cond (eqb (r .number) 0) (step-accepted s xs) (step-refused r s)
+-- a step by its refusal, the state handed in, the one step taken and the counters after it
+unfoldable pub step-reply : Refusal → LockState → (taken : List Step) → Counters → StepReply
+step-reply r s xs c = cond (eqb (r .number) 0) (step-accepted s xs c) (step-refused r s)
 
-unfoldable pub step-answer : TreeWords → State → (thread : ℕ) → StepReply
-step-answer w s i = step-reply (step-refusal (tree-of w) s i) s (steps (tree-of w) (i ∷ []) s)
+unfoldable pub step-answer : TreeWords → LockState → (thread : ℕ) → StepReply
+step-answer w s i =
+    step-reply (step-refusal (tree-of w) s i) s (steps (tree-of w) (i ∷ []) (s .words)) (counters-behind (tree-of w) (i ∷ []) s)
 
 abbrev pub no-counts : Counts
 no-counts = record { steps = 0; entries = 0; stays = 0; root = 0; passed = 0; crossed = 0 }
 
 -- a refused run: zero counts, the state as it came
-abbrev pub run-refused : Refusal → State → RunReply
-run-refused r s =
-    record { number = r .number; place = r .place; counts = no-counts; state = s }
+abbrev pub run-refused : Refusal → LockState → RunReply
+run-refused r s = record { number = r .number; place = r .place; counts = no-counts; state = s }
 
-abbrev pub run-accepted : Run → RunReply
-run-accepted x = record { number = 0; place = 0; counts = x .counts; state = x .state }
+-- an accepted run: its counts, and the words and counters after it
+abbrev pub run-accepted : Run → Counters → RunReply
+run-accepted x c = record { number = 0; place = 0; counts = x .counts; state = lock-state (x .state) c }
 
-unfoldable pub run-reply : Refusal → State → Run → RunReply
-run-reply r s x = cond (eqb (r .number) 0) (run-accepted x) (run-refused r s)
+unfoldable pub run-reply : Refusal → LockState → Run → Counters → RunReply
+run-reply r s x c = cond (eqb (r .number) 0) (run-accepted x c) (run-refused r s)
 
 -- the trace buffer after a run: the entering threads at its front and nothing behind them; refused, as it came
 unfoldable pub run-buffer : Refusal → (buffer : List ℕ) → Run → List ℕ
 run-buffer r b x = cond (eqb (r .number) 0) (x .trace ++ drop (length (x .trace)) b) b
 
-unfoldable pub run-answer : TreeWords → State → (schedule buffer : List ℕ) → RunReply
-run-answer w s is b = run-reply (run-refusal (tree-of w) s is (length b)) s (run (tree-of w) is s)
+unfoldable pub run-answer : TreeWords → LockState → (schedule buffer : List ℕ) → RunReply
+run-answer w s is b = run-reply (run-refusal (tree-of w) s is (length b)) s (run (tree-of w) is (s .words)) (counters-behind (tree-of w) is s)
 
-unfoldable pub trace-answer : TreeWords → State → (schedule buffer : List ℕ) → List ℕ
-trace-answer w s is b = run-buffer (run-refusal (tree-of w) s is (length b)) b (run (tree-of w) is s)
+unfoldable pub trace-answer : TreeWords → LockState → (schedule buffer : List ℕ) → List ℕ
+trace-answer w s is b = run-buffer (run-refusal (tree-of w) s is (length b)) b (run (tree-of w) is (s .words))
 
 -- a run on a lock of its own: from fresh words, with a trace buffer of the schedule's length
 abbrev pub lone-answer : TreeWords → (schedule : List ℕ) → RunReply
-lone-answer w is = run-answer w fresh-words is (replicate (length is) 0)
+lone-answer w is = run-answer w fresh-lock is (replicate (length is) 0)

@@ -7,11 +7,14 @@ use lib.Dec.{eqb}
 use lib.ListN.{length, take, drop}
 use Rattle.model.specs.declared.TreeWords.{TreeWords}
 use Rattle.model.specs.declared.State.{State}
+use Rattle.model.specs.declared.Counters.{Counters}
+use Rattle.model.specs.declared.LockState.{LockState}
 use Rattle.model.specs.declared.StepReply.{StepReply}
 use Rattle.model.specs.declared.RunReply.{RunReply}
 use Rattle.model.specs.Trees.{Tree, tree-of}
 use Rattle.model.specs.Steps.{Step}
 use Rattle.model.specs.Runs.{steps, run-of, run}
+use Rattle.model.specs.Counters.{lock-state, counters-after}
 use Rattle.model.specs.Refusals.{Refusal, step-refusal, run-refusal}
 use Rattle.model.specs.Answers.{step-reply, step-answer, run-reply, run-buffer, run-answer, trace-answer}
 
@@ -29,24 +32,24 @@ pub data Answer : Type 0 where
   stepped : StepReply → Answer
   ran : RunReply → (buffer : List ℕ) → Answer
 
-unfoldable pub state-in : Answer → State
+unfoldable pub state-in : Answer → LockState
 state-in (stepped r) = r .state
 state-in (ran r b) = r .state
 
 -- the answer to a call on a state that is handed in
-unfoldable pub answer-to : TreeWords → Ask → State → Answer
+unfoldable pub answer-to : TreeWords → Ask → LockState → Answer
 answer-to w (one-step i) s = stepped (step-answer w s i)
 answer-to w (a-run is b) s = ran (run-answer w s is b) (trace-answer w s is b)
 
-unfoldable pub answer : Call → State → Answer
+unfoldable pub answer : Call → LockState → Answer
 answer c s = answer-to (c .tree) (c .ask) s
 
 -- the refusal that a call meets on a state
-unfoldable pub ask-refusal : Tree → Ask → State → Refusal
+unfoldable pub ask-refusal : Tree → Ask → LockState → Refusal
 ask-refusal t (one-step i) s = step-refusal t s i
 ask-refusal t (a-run is b) s = run-refusal t s is (length b)
 
-unfoldable pub call-refusal : Call → State → Refusal
+unfoldable pub call-refusal : Call → LockState → Refusal
 call-refusal c s = ask-refusal (tree-of (c .tree)) (c .ask) s
 
 unfoldable pub asked-entries : Ask → List ℕ
@@ -54,26 +57,26 @@ asked-entries (one-step i) = i ∷ []
 asked-entries (a-run is b) = is
 
 -- the schedule entries that a call adds: its own where it is accepted, none where it is refused
-unfoldable pub added : Call → State → List ℕ
+unfoldable pub added : Call → LockState → List ℕ
 added c s = cond (eqb (call-refusal c s .number) 0) (asked-entries (c .ask)) []
 
 -- THE LIST: each call gets unaltered the state that the one before returned
-unfoldable pub answers : List Call → State → List Answer
+unfoldable pub answers : List Call → LockState → List Answer
 answers [] s = []
 answers (c ∷ cs) s = let a = answer c s in a ∷ answers cs (state-in a)
 
 -- the list's schedule: the schedule entries of its accepted calls, joined in order
-unfoldable pub joined : List Call → State → List ℕ
+unfoldable pub joined : List Call → LockState → List ℕ
 joined [] s = []
 joined (c ∷ cs) s = added c s ++ joined cs (state-in (answer c s))
 
 -- asked of the list: each accepted call names the fresh call's tree
-unfoldable pub Names : Tree → List Call → State → Type 0
+unfoldable pub Names : Tree → List Call → LockState → Type 0
 Names t [] s = Unit {0}
 Names t (c ∷ cs) s = (call-refusal c s .number ≡ 0 → tree-of (c .tree) ≡ t) × Names t cs (state-in (answer c s))
 
 -- WHAT IS EXPECTED, worked out from the step table over a schedule from the fresh state alone: no other state is handed in
--- the step table's state behind the first k entries
+-- the step table's words behind the first k entries
 unfoldable pub state-at : Tree → (fresh : State) → (schedule : List ℕ) → (k : ℕ) → State
 state-at t f S k = run t (take k S) f .state
 
@@ -81,26 +84,36 @@ state-at t f S k = run t (take k S) f .state
 unfoldable pub stretch : Tree → (fresh : State) → (schedule : List ℕ) → (k n : ℕ) → List Step
 stretch t f S k n = take n (drop k (steps t S f))
 
--- a call at that point: refused or not by the table's state there; accepted, what the table gives over its stretch
-unfoldable pub expected-ask : Tree → (fresh : State) → (schedule : List ℕ) → (k : ℕ) → (named : Tree) → Ask → Answer
-expected-ask t f S k u (one-step i) = stepped (step-reply (step-refusal u (state-at t f S k) i) (state-at t f S k) (stretch t f S k 1))
-expected-ask t f S k u (a-run is b) =
-    let r = run-refusal u (state-at t f S k) is (length b) in
-    let x = run-of (state-at t f S k) (stretch t f S k (length is)) in
-    ran (run-reply r (state-at t f S k) x) (run-buffer r b x)
+-- the counters behind the first k entries
+unfoldable pub counters-at : Tree → (fresh : LockState) → (schedule : List ℕ) → (k : ℕ) → Counters
+counters-at t f S k = counters-after t (f .counters) (stretch t (f .words) S 0 k)
 
-unfoldable pub expected : Tree → (fresh : State) → (schedule : List ℕ) → (k : ℕ) → Call → Answer
+abbrev pub lock-at : Tree → (fresh : LockState) → (schedule : List ℕ) → (k : ℕ) → LockState
+lock-at t f S k = lock-state (state-at t (f .words) S k) (counters-at t f S k)
+
+-- a call at that point: refused or not by the table's state there; accepted, what the table gives over its stretch
+unfoldable pub expected-ask : Tree → (fresh : LockState) → (schedule : List ℕ) → (k : ℕ) → (named : Tree) → Ask → Answer
+expected-ask t f S k u (one-step i) =
+    let s = lock-at t f S k in
+    stepped (step-reply (step-refusal u s i) s (stretch t (f .words) S k 1) (counters-at t f S (k + 1)))
+expected-ask t f S k u (a-run is b) =
+    let s = lock-at t f S k in
+    let r = run-refusal u s is (length b) in
+    let x = run-of (s .words) (stretch t (f .words) S k (length is)) in
+    ran (run-reply r s x (counters-at t f S (k + length is))) (run-buffer r b x)
+
+unfoldable pub expected : Tree → (fresh : LockState) → (schedule : List ℕ) → (k : ℕ) → Call → Answer
 expected t f S k c = expected-ask t f S k (tree-of (c .tree)) (c .ask)
 
-unfoldable pub expected-answers : Tree → (fresh : State) → (schedule : List ℕ) → (k : ℕ) → List Call → List Answer
+unfoldable pub expected-answers : Tree → (fresh : LockState) → (schedule : List ℕ) → (k : ℕ) → List Call → List Answer
 expected-answers t f S k [] = []
-expected-answers t f S k (c ∷ cs) = expected t f S k c ∷ expected-answers t f S (k + length (added c (state-at t f S k))) cs
+expected-answers t f S k (c ∷ cs) = expected t f S k c ∷ expected-answers t f S (k + length (added c (lock-at t f S k))) cs
 
 -- each accepted call's own entries are its stretch of the schedule
-unfoldable pub Stretches : Tree → (fresh : State) → (schedule : List ℕ) → (k : ℕ) → List Call → Type 0
+unfoldable pub Stretches : Tree → (fresh : LockState) → (schedule : List ℕ) → (k : ℕ) → List Call → Type 0
 Stretches t f S k [] = k ≡ length S
 Stretches t f S k (c ∷ cs) =
-    let own = added c (state-at t f S k) in
+    let own = added c (lock-at t f S k) in
     (take (length own) (drop k S) ≡ own) × Stretches t f S (k + length own) cs
 
 pub record Prefix (xs ys : List ℕ) : Type 0 where

@@ -8,12 +8,15 @@ use Rattle.model.specs.declared.TreeWords.{TreeWords}
 use Rattle.model.specs.declared.PlaceWords.{PlaceWords}
 use Rattle.model.specs.declared.Place.the-variants.{Idle, Prep, Swap, Wait, Inside, Check, Help, Linger, Grant}
 use Rattle.model.specs.declared.State.{State}
+use Rattle.model.specs.declared.Counters.{Counters}
+use Rattle.model.specs.declared.LockState.{LockState}
 use Rattle.model.specs.declared.Counts.{Counts}
 use Rattle.model.specs.declared.StepReply.{StepReply}
 use Rattle.model.specs.declared.RunReply.{RunReply}
 use Rattle.model.specs.Trees.{tree-of, allowance}
 use Rattle.model.specs.States.{wait-word, locked, fresh-words, with-tail, with-next, with-status, with-place, with-ticket, with-grant}
 use Rattle.model.specs.Runs.{steps, state-after, begun, ended, entries-under, occurrences}
+use Rattle.model.specs.Counters.{lock-state, fresh-counters}
 use Rattle.model.specs.Answers.{no-counts, fresh-answer, step-answer, run-answer, trace-answer}
 
 -- INPUTS. A tree by its numbers of domains and threads, its parents, thresholds and homes; the room behind them is 0
@@ -57,7 +60,7 @@ refused n p = record { number = n; place = p; counts = no-counts; trace = [] }
 unfoldable pub passes : Expected
 passes = ok 0 0 0 0 0 0 []
 
--- THE TABLE'S LINES. What a fresh call of a tree, a step in a state, and a run in a state with a trace buffer as long as the schedule are expected to answer
+-- THE TABLE'S LINES. The states that they hand in are the words of a lock, whose counters are fresh: CounterCases.antt has those of the counters. What a fresh call of a tree, a step in a state, and a run in a state with a trace buffer as long as the schedule are expected to answer
 pub data Case : Type 0 where
   -- a fresh call that is given a start, where none is taken: the state is 0 throughout
   fresh-call : TreeWords → Expected → Case
@@ -202,37 +205,49 @@ same-counts r x =
     (eqb (r .steps) (x .steps) && eqb (r .entries) (x .entries))
     && ((eqb (r .stays) (x .stays) && eqb (r .root) (x .root)) && (eqb (r .passed) (x .passed) && eqb (r .crossed) (x .crossed)))
 
+unfoldable pub same-counters : Counters → Counters → Bool
+same-counters a b =
+    same-numbers (a .entries) (b .entries) && (same-numbers (a .tenures) (b .tenures) && same-numbers (a .longest) (b .longest))
+
+unfoldable pub same-lock : LockState → LockState → Bool
+same-lock a b = same-state (a .words) (b .words) && same-counters (a .counters) (b .counters)
+
 -- where refused, the state is as it came
-unfoldable pub kept : (refused : ℕ) → (before after : State) → Bool
+unfoldable pub kept : (refused : ℕ) → (before after : LockState) → Bool
 kept zero s n = true
-kept (suc r) s n = same-state n s
+kept (suc r) s n = same-lock n s
 
 -- of a run's reply and trace buffer: number, place, counts and the whole buffer; refused, also the state
-abbrev pub run-holds : RunReply → (traced : List ℕ) → State → (buffer : List ℕ) → Expected → Bool
+abbrev pub run-holds : RunReply → (traced : List ℕ) → LockState → (buffer : List ℕ) → Expected → Bool
 run-holds r tr s b x =
     (gives (r .number) (r .place) x && same-counts (r .counts) (x .counts))
     && (kept (x .number) s (r .state) && same-numbers tr (x .trace ++ drop (length (x .trace)) b))
 
 -- of a step's reply: number and place; refused, also the state, kind 0 and domain 0
-abbrev pub step-holds : StepReply → State → Expected → Bool
+abbrev pub step-holds : StepReply → LockState → Expected → Bool
 step-holds r s x = (gives (r .number) (r .place) x && kept (x .number) s (r .state)) && (eqb (r .kind) 0 && eqb (r .domain) 0)
 
--- of an accepted step's reply: kind, domain and the whole state
+-- of an accepted step's reply: kind, domain and all words of the state
 abbrev pub step-gave : StepReply → (kind domain : ℕ) → State → Bool
-step-gave r k d n = (eqb (r .number) 0 && eqb (r .place) 0) && ((eqb (r .kind) k && eqb (r .domain) d) && same-state (r .state) n)
+step-gave r k d n = (eqb (r .number) 0 && eqb (r .place) 0) && ((eqb (r .kind) k && eqb (r .domain) d) && same-state (r .state .words) n)
 
 -- the buffer of a run: as long as the schedule, and no number of it is a thread's
 abbrev pub trace-room : (schedule : List ℕ) → List ℕ
 trace-room is = replicate (length is) 999
 
+-- the words of a lock with fresh counters
+abbrev pub uncounted : State → LockState
+uncounted s = lock-state s fresh-counters
+
 unfoldable pub holds : Case → Bool
-holds (fresh-call w x) = let r = fresh-answer w 7 in gives (r .number) (r .place) x && same-state (r .state) fresh-words
+holds (fresh-call w x) = let r = fresh-answer w 7 in gives (r .number) (r .place) x && same-lock (r .state) (uncounted fresh-words)
 holds (fresh-starts w v c) =
     let r = fresh-answer w v in
-    (eqb (r .number) 0 && eqb (r .place) 0) && same-state (r .state) (counters c c fresh-words)
-holds (step-call w s i x) = step-holds (step-answer w s i) s x
-holds (step-gives w s i k d n) = step-gave (step-answer w s i) k d n
-holds (run-call w s is x) = run-holds (run-answer w s is (trace-room is)) (trace-answer w s is (trace-room is)) s (trace-room is) x
+    (eqb (r .number) 0 && eqb (r .place) 0) && same-lock (r .state) (uncounted (counters c c fresh-words))
+holds (step-call w s i x) = step-holds (step-answer w (uncounted s) i) (uncounted s) x
+holds (step-gives w s i k d n) = step-gave (step-answer w (uncounted s) i) k d n
+holds (run-call w s is x) =
+    run-holds (run-answer w (uncounted s) is (trace-room is)) (trace-answer w (uncounted s) is (trace-room is)) (uncounted s) (trace-room is) x
 
 unfoldable pub all-hold : List Case → Bool
 all-hold [] = true

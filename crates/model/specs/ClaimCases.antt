@@ -10,6 +10,7 @@ use Rattle.model.specs.Trees.{tree-of, is-member, allowance}
 use Rattle.model.specs.States.{fresh-words}
 use Rattle.model.specs.Steps.{step}
 use Rattle.model.specs.Runs.{steps, run, begun-in, ended, entries-under, occurrences}
+use Rattle.model.specs.Counters.{fresh-lock}
 use Rattle.model.specs.Refusals.{Refusal, refusal, accepted}
 use Rattle.model.specs.Answers.{fresh-answer}
 use Rattle.model.specs.Calls.{Ask, one-step, a-run, Call, Answer, stepped, ran, answers, joined, Names}
@@ -90,8 +91,8 @@ refusals-in (a ∷ rest) = refusal-in a ∷ refusals-in rest
 -- the fresh call is accepted, the list names its tree, some of the calls are refused, and the list's schedule is that of the others
 pub record Mixed-calls-answered : Type 0 where
   pub fresh : fresh-answer two-homes 0 .number ≡ 0
-  pub names : Names (tree-of two-homes) mixed-calls fresh-words
+  pub names : Names (tree-of two-homes) mixed-calls fresh-lock
   pub refused :
-      refusals-in (answers mixed-calls fresh-words)
+      refusals-in (answers mixed-calls fresh-lock)
       ≡ accepted ∷ refusal 4 0 ∷ accepted ∷ refusal 12 1 ∷ accepted ∷ accepted ∷ []
-  pub schedule : joined mixed-calls fresh-words ≡ mixed-schedule
+  pub schedule : joined mixed-calls fresh-lock ≡ mixed-schedule

@@ -8,6 +8,7 @@ use lib.Dec.{eqb}
 use lib.ListN.{length, getD}
 use Rattle.model.specs.declared.TreeWords.{TreeWords}
 use Rattle.model.specs.declared.State.{State}
+use Rattle.model.specs.declared.LockState.{LockState}
 use Rattle.model.specs.declared.Counts.{Counts}
 use Rattle.model.specs.declared.Place.{Place}
 use Rattle.model.specs.declared.Place.the-variants.{Idle, Prep, Swap, Link, Wait, Inside, Check, Help, Cas, Linger, Grant, Draw, Watch, Raise, Invalid}
@@ -128,7 +129,7 @@ unfoldable pub Domain-law : Type 0
 Domain-law = (t : Tree) (i : ℕ) (s : State) → tree-refusal t .number ≡ 0 → i < t .threads → Formed t s → Tells-domain t i s
 
 -- an accepted step says the kind and the domain of the step table's step; a run's counts are those of the kinds that single calls say, each on the state that the one before returned
-unfoldable pub told-kinds : TreeWords → (schedule : List ℕ) → State → List ℕ
+unfoldable pub told-kinds : TreeWords → (schedule : List ℕ) → LockState → List ℕ
 told-kinds w [] s = []
 told-kinds w (i ∷ is) s = let r = step-answer w s i in r .kind ∷ told-kinds w is (r .state)
 
@@ -145,7 +146,7 @@ told-counts ks =
 
 unfoldable pub Told-law : Type 0
 Told-law =
-    (w : TreeWords) (s : State) (is b : List ℕ) → Formed (tree-of w) s → run-answer w s is b .number ≡ 0 → run-answer w s is b .counts ≡ told-counts (told-kinds w is s)
+    (w : TreeWords) (s : LockState) (is b : List ℕ) → Formed (tree-of w) (s .words) → run-answer w s is b .number ≡ 0 → run-answer w s is b .counts ≡ told-counts (told-kinds w is s)
 
 -- What document 01 counted as passed, before document 02 told crossed entries apart: an entry from Wait at any domain but the root
 unfoldable pub waits-below : Place → Bool
@@ -204,8 +205,8 @@ Refusal-law = (xs : List Test) → Numbered xs → Refuses-exactly xs
 -- the tests of the three calls are such lists
 pub record Calls-refuse-exactly (t : Tree) : Type 0 where
   pub of-fresh : Refuses-exactly (tree-tests t)
-  pub of-step : (s : State) (i : ℕ) → Refuses-exactly (step-tests t s i)
-  pub of-run : (s : State) (is : List ℕ) (room : ℕ) → Refuses-exactly (run-tests t s is room)
+  pub of-step : (s : LockState) (i : ℕ) → Refuses-exactly (step-tests t s i)
+  pub of-run : (s : LockState) (is : List ℕ) (room : ℕ) → Refuses-exactly (run-tests t s is room)
 
 unfoldable pub Call-refusal-law : Type 0
 Call-refusal-law = (t : Tree) → Calls-refuse-exactly t

@@ -6,14 +6,17 @@ pub mod States
 pub mod Steps
 pub mod Runs
 pub mod Tenures
+pub mod Counters
 pub mod Acts
 pub mod WellFormed
 pub mod Refusals
 pub mod Answers
 pub mod Calls
 pub mod Laws
+pub mod CounterLaws
 pub mod Meanings
 pub mod Cases
 pub mod ClaimCases
 pub mod Search
 pub mod TicketCases
+pub mod CounterCases

@@ -7,13 +7,15 @@ use Prim.Native.Nat.{ℕ, _+_, _*_, _≤_, _<_}
 use lib.ListN.{length, take}
 use Rattle.model.specs.declared.Place.the-variants.{Inside}
 use Rattle.model.specs.declared.State.{State}
+use Rattle.model.specs.declared.Counters.{Counters}
+use Rattle.model.specs.declared.LockState.{LockState}
 use Rattle.model.specs.Trees.{Tree, is-child, is-leaf, on-path, under, allowance}
 use Rattle.model.specs.States.{place, inside-count}
 use Rattle.model.specs.Runs.{Run}
 use Rattle.model.specs.Refusals.{Refusal, tree-refusal}
 use Rattle.model.specs.Answers.{run-reply}
 use Rattle.model.specs.Laws.{_⟺_}
-use Rattle.model.specs.Calls.{Call, added, state-at, Stretches, Prefix}
+use Rattle.model.specs.Calls.{Call, added, lock-at, Stretches, Prefix}
 
 -- UNDER. A domain is another, or lies below it: its parent is that other, or lies below it
 pub data Within (t : Tree) (other : ℕ) : (domain : ℕ) → Type 0 where
@@ -55,16 +57,16 @@ unfoldable pub Prefix-law : Type 0
 Prefix-law = (xs ys : List ℕ) → Prefix xs ys ⟺ (take (length xs) ys ≡ xs)
 
 -- STRETCHES. The schedule is the accepted calls' own entries, one call's behind the other's
-unfoldable pub own-entries : Tree → (fresh : State) → (schedule : List ℕ) → (k : ℕ) → List Call → List ℕ
+unfoldable pub own-entries : Tree → (fresh : LockState) → (schedule : List ℕ) → (k : ℕ) → List Call → List ℕ
 own-entries t f S k [] = []
-own-entries t f S k (c ∷ cs) = let own = added c (state-at t f S k) in own ++ own-entries t f S (k + length own) cs
+own-entries t f S k (c ∷ cs) = let own = added c (lock-at t f S k) in own ++ own-entries t f S (k + length own) cs
 
 unfoldable pub Stretches-law : Type 0
-Stretches-law = (t : Tree) (f : State) (S : List ℕ) (cs : List Call) → Stretches t f S 0 cs → S ≡ own-entries t f S 0 cs
+Stretches-law = (t : Tree) (f : LockState) (S : List ℕ) (cs : List Call) → Stretches t f S 0 cs → S ≡ own-entries t f S 0 cs
 
 -- REFUSED RUNS count nothing
 unfoldable pub Refused-run-law : Type 0
 Refused-run-law =
-    (r : Refusal) (s : State) (x : Run) → r .number ≢ 0 →
-    (run-reply r s x .counts .steps ≡ 0) × (run-reply r s x .counts .entries ≡ 0) × (run-reply r s x .counts .stays ≡ 0)
-    × (run-reply r s x .counts .root ≡ 0) × (run-reply r s x .counts .passed ≡ 0) × (run-reply r s x .counts .crossed ≡ 0)
+    (r : Refusal) (s : LockState) (x : Run) (c : Counters) → r .number ≢ 0 →
+    (run-reply r s x c .counts .steps ≡ 0) × (run-reply r s x c .counts .entries ≡ 0) × (run-reply r s x c .counts .stays ≡ 0)
+    × (run-reply r s x c .counts .root ≡ 0) × (run-reply r s x c .counts .passed ≡ 0) × (run-reply r s x c .counts .crossed ≡ 0)

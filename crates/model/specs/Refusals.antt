@@ -1,12 +1,14 @@
--- Document 01, "When a call says no": numbers 4 to 13; and 16 of document 02 (iv). Assumes nothing: these are definitions.
+-- Document 01, "When a call says no": numbers 4 to 13; and of document 02 16 (iv), 19 and what (vii) adds to 10. Assumes nothing: these are definitions.
 use mathlib.Core.Bool.{Bool, false, _&&_, _||_, not, cond}
 use mathlib.Core.List.{List, [], _∷_, _++_}
 use Prim.Native.Nat.{ℕ, zero, suc, _+_}
 use lib.Dec.{ltb, leb, eqb}
-use lib.ListN.{length, getD}
-use Rattle.model.specs.declared.State.{State}
+use lib.ListN.{length, getD, take}
+use Rattle.model.specs.declared.LockState.{LockState}
 use Rattle.model.specs.Scans.{any-below}
 use Rattle.model.specs.Trees.{Tree, is-leaf, level, under}
+use Rattle.model.specs.Runs.{steps}
+use Rattle.model.specs.Counters.{counters-after, good-counts, any-above}
 use Rattle.model.specs.WellFormed.{well-formed}
 
 -- an answer's number and place; 0 and 0 for accepted
@@ -67,9 +69,9 @@ bad-home t i = leb (t .domains) (t .home i) || not (is-leaf t (t .home i))
 unfoldable pub empty-domain : Tree → (domain : ℕ) → Bool
 empty-domain t d = not (any-below (t .threads) (under t (256 + d)))
 
--- 10: the state handed in is not well formed
-unfoldable pub bad-state : Tree → State → ℕ → Bool
-bad-state t s p = not (well-formed t s)
+-- 10: the state handed in is not well formed, or its counters are not: one of the root or of unused room is not 0, a longest tenure is above the threshold, or a counter above 2^63
+unfoldable pub bad-state : Tree → LockState → ℕ → Bool
+bad-state t s p = not (well-formed t (s .words) && good-counts t (s .counters))
 
 -- 11: the schedule has more than 65,536 entries
 unfoldable pub bad-length : (schedule : List ℕ) → ℕ → Bool
@@ -82,6 +84,10 @@ bad-entry t is p = leb (t .threads) (getD is p 0)
 -- 13: the trace buffer has fewer elements than the schedule
 unfoldable pub bad-room : (schedule : List ℕ) → (room : ℕ) → ℕ → Bool
 bad-room is room p = ltb room (length is)
+
+-- 19: a counter is above 2^63 behind the step of the schedule entry at this position
+unfoldable pub bad-counter : Tree → LockState → (schedule : List ℕ) → (position : ℕ) → Bool
+bad-counter t s is p = any-above (counters-after t (s .counters) (take (p + 1) (steps t is (s .words))))
 
 -- THE GROUPS, each over what its tests look at: the counts, the domains and the homes of a tree, and the threads under each domain
 abbrev pub count-tests : Tree → List Test
@@ -97,7 +103,7 @@ abbrev pub empty-tests : Tree → List Test
 empty-tests t = test 16 (t .domains) (empty-domain t) ∷ []
 
 -- a state handed in
-abbrev pub state-tests : Tree → State → List Test
+abbrev pub state-tests : Tree → LockState → List Test
 state-tests t s = test 10 1 (bad-state t s) ∷ []
 
 -- a schedule's entries, and its length before them
@@ -118,13 +124,23 @@ tests-before-16 t = count-tests t ++ (domain-tests t ++ home-tests t)
 unfoldable pub tree-tests : Tree → List Test
 tree-tests t = tests-before-16 t ++ empty-tests t
 
--- one step meets 4 to 9, 16, 10 and 12
-unfoldable pub step-tests : Tree → State → (thread : ℕ) → List Test
-step-tests t s i = tree-tests t ++ (state-tests t s ++ entry-tests t (i ∷ []))
+-- the counters that a schedule's steps would leave
+abbrev pub counter-tests : Tree → LockState → (schedule : List ℕ) → List Test
+counter-tests t s is = test 19 (length is) (bad-counter t s is) ∷ []
 
--- a run meets 4 to 9, 16 and 10 to 13
-unfoldable pub run-tests : Tree → State → (schedule : List ℕ) → (room : ℕ) → List Test
-run-tests t s is room = tree-tests t ++ (state-tests t s ++ (schedule-tests t is ++ room-tests is room))
+-- one step meets 4 to 9, 16, 10, 12 and 19
+abbrev pub step-tests-before-19 : Tree → LockState → (thread : ℕ) → List Test
+step-tests-before-19 t s i = tree-tests t ++ (state-tests t s ++ entry-tests t (i ∷ []))
+
+unfoldable pub step-tests : Tree → LockState → (thread : ℕ) → List Test
+step-tests t s i = step-tests-before-19 t s i ++ counter-tests t s (i ∷ [])
+
+-- a run meets 4 to 9, 16, 10 to 13 and 19
+abbrev pub run-tests-before-19 : Tree → LockState → (schedule : List ℕ) → (room : ℕ) → List Test
+run-tests-before-19 t s is room = tree-tests t ++ (state-tests t s ++ (schedule-tests t is ++ room-tests is room))
+
+unfoldable pub run-tests : Tree → LockState → (schedule : List ℕ) → (room : ℕ) → List Test
+run-tests t s is room = run-tests-before-19 t s is room ++ counter-tests t s is
 
 -- a number is one of a list's
 unfoldable pub has-number : List Test → (number : ℕ) → Bool
@@ -134,8 +150,8 @@ has-number (x ∷ xs) n = eqb (x .number) n || has-number xs n
 unfoldable pub tree-refusal : Tree → Refusal
 tree-refusal t = first-refusal (tree-tests t)
 
-unfoldable pub step-refusal : Tree → State → (thread : ℕ) → Refusal
+unfoldable pub step-refusal : Tree → LockState → (thread : ℕ) → Refusal
 step-refusal t s i = first-refusal (step-tests t s i)
 
-unfoldable pub run-refusal : Tree → State → (schedule : List ℕ) → (room : ℕ) → Refusal
+unfoldable pub run-refusal : Tree → LockState → (schedule : List ℕ) → (room : ℕ) → Refusal
 run-refusal t s is room = first-refusal (run-tests t s is room)

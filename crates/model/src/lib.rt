@@ -44,7 +44,7 @@ pub struct PlaceWords {
     pub word: u64,
 }
 
-// A lock state. A tail or a next is 0 for none, else the record's number + 1. The counters ticket and grant are those of a ticket lock at the root. Fresh is 0 throughout, but for these two, which a fresh call may start at another number.
+// The words of a lock. A tail or a next is 0 for none, else the record's number + 1. The counters ticket and grant are those of a ticket lock at the root. Fresh is 0 throughout, but for these two, which a fresh call may start at another number.
 #[repr(C)]
 pub struct State {
     pub tails: [u16; 64],
@@ -53,6 +53,21 @@ pub struct State {
     pub places: [PlaceWords; 256],
     pub ticket: u16,
     pub grant: u16,
+}
+
+// Of each domain but the root its threads' entries, its tenures and its longest tenure; of the root and of room that the tree lacks 0. No step reads them. Fresh is 0 throughout.
+#[repr(C)]
+pub struct Counters {
+    pub entries: [u64; 64],
+    pub tenures: [u64; 64],
+    pub longest: [u64; 64],
+}
+
+// A lock state as it crosses a call: the words of the lock, and the counters.
+#[repr(C)]
+pub struct LockState {
+    pub words: State,
+    pub counters: Counters,
 }
 
 // A thread's place as the step table names it; Invalid where four numbers are no place.
@@ -96,7 +111,7 @@ pub struct Counts {
 pub struct FreshReply {
     pub number: u32,
     pub place: u32,
-    pub state: State,
+    pub state: LockState,
 }
 
 #[repr(C)]
@@ -105,7 +120,7 @@ pub struct StepReply {
     pub place: u32,
     pub kind: u32,
     pub domain: u32,
-    pub state: State,
+    pub state: LockState,
 }
 
 #[repr(C)]
@@ -113,5 +128,5 @@ pub struct RunReply {
     pub number: u32,
     pub place: u32,
     pub counts: Counts,
-    pub state: State,
+    pub state: LockState,
 }

@@ -3,7 +3,7 @@ use mathlib.Core.Path.{_≡_, refl, _∙_}
 use mathlib.Core.Bool.{Bool, true, false, cond}
 use mathlib.Core.List.{List, [], _∷_, _++_}
 use Prim.Native.Nat.{ℕ, zero, suc}
-use Rattle.model.specs.declared.State.{State}
+use Rattle.model.specs.declared.LockState.{LockState}
 use Rattle.model.specs.Trees.{Tree}
 use Rattle.model.specs.Refusals.{Refusal, refusal, accepted, Test, lowest-bad, first-refusal, tree-tests, has-number}
 use Rattle.model.specs.Laws.{Numbered}
@@ -37,6 +37,6 @@ other-decides (x ∷ xs) ys n e =
     let both = tests-pass x xs (n .0) e in
     test-skipped x (xs ++ ys) (both .0) ∙ other-decides xs ys (n .1) (both .1)
 
-pub state-numbered : (t : Tree) (s : State) → Numbered (tree-state-tests t s)
+pub state-numbered : (t : Tree) (s : LockState) → Numbered (tree-state-tests t s)
 unfolding has-number tree-tests
 state-numbered t s = numbered (tree-state-tests t s) refl

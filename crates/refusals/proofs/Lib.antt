@@ -13,6 +13,7 @@ pub mod Joining
 pub mod TreeTests
 pub mod Domains
 pub mod Occupying
-pub mod StateTests
+pub mod Counts
 pub mod RunTests
+pub mod StateTests
 pub mod Passing

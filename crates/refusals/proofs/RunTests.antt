@@ -3,10 +3,10 @@ use mathlib.Core.Path.{_≡_, sym, ap, _∙_}
 use mathlib.Core.List.{List}
 use Prim.Native.Nat.{ℕ}
 use Rattle.model.specs.declared.TreeWords.{TreeWords}
-use Rattle.model.specs.declared.State.{State}
+use Rattle.model.specs.declared.LockState.{LockState}
 use Rattle.model.specs.Trees.{tree-of}
 use Rattle.model.specs.Refusals as model
-use Rattle.model.specs.Refusals.{first-refusal, tree-tests, bad-entry, run-tests, run-refusal}
+use Rattle.model.specs.Refusals.{first-refusal, tree-tests, bad-entry, run-tests-before-19}
 use Rattle.refusals.specs.declared.Refusal.{Refusal}
 use Rattle.refusals.specs.Arrays.{threads-in, told, tree-state-tests, schedule-room-tests}
 use Rattle.refusals.proofs.Joining.{first-decides, other-decides, state-numbered}
@@ -18,12 +18,12 @@ told-not r x e n z = n (ap (λ q. q .number) e ∙ z)
 pub told-zero : (r : Refusal) (x : model.Refusal) → r ≡ told x → r .number ≡ 0 → x .number ≡ 0
 told-zero r x e z = sym (ap (λ q. q .number) e) ∙ z
 
-module _ (w : TreeWords) (s : State) (is : List ℕ) (room : ℕ) (r : Refusal) (e : r ≡ told (first-refusal (tree-state-tests (tree-of w) s))) where
-  pub state-decides : (r .number ≡ 0 → ⊥) → r ≡ told (run-refusal (tree-of w) s is room)
-  unfolding run-refusal run-tests tree-tests bad-entry tree-of
+module _ (w : TreeWords) (s : LockState) (is : List ℕ) (room : ℕ) (r : Refusal) (e : r ≡ told (first-refusal (tree-state-tests (tree-of w) s))) where
+  pub state-decides : (r .number ≡ 0 → ⊥) → r ≡ told (first-refusal (run-tests-before-19 (tree-of w) s is room))
+  unfolding tree-tests bad-entry tree-of
   state-decides n = e ∙ ap told (sym (first-decides (tree-state-tests (tree-of w) s) (schedule-room-tests (threads-in (w .threads)) is room) (told-not r _ e n)))
 
-  pub schedule-decides : r .number ≡ 0 → (q : Refusal) → q ≡ told (first-refusal (schedule-room-tests (threads-in (w .threads)) is room)) → q ≡ told (run-refusal (tree-of w) s is room)
-  unfolding run-refusal run-tests tree-tests bad-entry tree-of
+  pub schedule-decides : r .number ≡ 0 → (q : Refusal) → q ≡ told (first-refusal (schedule-room-tests (threads-in (w .threads)) is room)) → q ≡ told (first-refusal (run-tests-before-19 (tree-of w) s is room))
+  unfolding tree-tests bad-entry tree-of
   schedule-decides z q f =
       f ∙ ap told (sym (other-decides (tree-state-tests (tree-of w) s) (schedule-room-tests (threads-in (w .threads)) is room) (state-numbered (tree-of w) s) (told-zero r _ e z)))

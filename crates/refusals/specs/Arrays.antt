@@ -5,7 +5,7 @@ use mathlib.Core.List.{List, [], _++_}
 use Prim.Native.Nat.{ℕ, _<_}
 use lib.Dec.{eqb, leb}
 use lib.ListN.{getD, length}
-use Rattle.model.specs.declared.State.{State}
+use Rattle.model.specs.declared.LockState.{LockState}
 use Rattle.model.specs.declared.TreeWords.{TreeWords}
 use Rattle.model.specs.Scans.{any-below}
 use Rattle.model.specs.Trees.{Tree, tree-of, is-leaf}
@@ -93,7 +93,7 @@ abbrev pub threads-in : (threads : ℕ) → Tree
 threads-in m = tree-in 0 m [] [] []
 
 -- the tests of a tree and a state
-abbrev pub tree-state-tests : Tree → State → List Test
+abbrev pub tree-state-tests : Tree → LockState → List Test
 tree-state-tests t s = tree-tests t ++ state-tests t s
 
 -- the tests of a schedule and the room for its trace

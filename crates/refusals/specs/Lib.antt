@@ -2,3 +2,4 @@
 pub mod Arrays
 pub mod Lowest
 pub mod Tables
+pub mod Counts

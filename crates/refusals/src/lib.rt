@@ -4,11 +4,14 @@ ghost use mathlib.Core.List.{[]};
 ghost use Prim.Native.Nat.{_<_, _≤_};
 ghost use lib.ListN.{length};
 ghost use Rattle.model.specs.Trees.{tree-of};
+ghost use Rattle.model.specs.Counters.{lock-state};
 ghost use Rattle.model.specs.WellFormed.{well-formed};
-ghost use Rattle.model.specs.Refusals.{refusal, first-refusal, count-tests, domain-tests, tree-refusal, run-refusal, bad-entry};
-ghost use Rattle.refusals.specs.Arrays.{tree-in, threads-in, told, shape-tests, tree-state-tests, schedule-room-tests};
+ghost use Rattle.model.specs.Refusals.{refusal, first-refusal, count-tests, domain-tests, tree-refusal, run-tests-before-19, bad-entry};
+ghost use Rattle.refusals.specs.Arrays.{tree-in, threads-in, told, shape-tests, schedule-room-tests};
+ghost use Rattle.refusals.specs.Counts.{counters-in};
 ghost use Rattle.refusals.specs.Lowest.{Lowest};
 
+mod counters;
 mod states;
 mod trees;
 
@@ -184,26 +187,6 @@ fn is_well_formed(tree: TreeWords, state: State) -> bool
     true
 }
 
-// A tree meets 4 to 9 and 16, a state handed in 10.
-fn state_refusal_of(tree: TreeWords, state: State) -> Refusal
-    ensures { λ r. ⌜ r ≡ told (first-refusal (tree-state-tests (tree-of tree) state)) ⌝ }
-{
-    let r = tree_refusal_of(
-        &tree.parents,
-        &tree.thresholds,
-        &tree.homes,
-        tree.domains,
-        tree.threads,
-    );
-    if r.number != 0 {
-        return r;
-    }
-    if is_well_formed(tree, state) {
-        return refusal_at(0, 0);
-    }
-    refusal_at(10, 0)
-}
-
 fn lowest_bad_entry(schedule: &[u16], threads: u32) -> u32
     requires { ⌜ length (now schedule) ≤ 65536 ⌝ }
     ensures { λ r. ⌜ Lowest (length (now (schedule .entry))) (bad-entry (threads-in threads) (now (schedule .entry))) r ⌝ }
@@ -249,13 +232,33 @@ pub fn schedule_refusal_of(threads: u32, schedule: &[u16], room: usize) -> Refus
     }
 }
 
-// A run meets 4 to 9, 16 and 10 to 13. A step is a run of one entry, with room for one.
-pub fn run_refusal_of(tree: TreeWords, state: State, schedule: &[u16], room: usize) -> Refusal
-    ensures { λ r. ⌜ r ≡ told (run-refusal (tree-of tree) state (now (schedule .entry)) room) ⌝ }
+// A run meets 4 to 9, 16 and 10 to 13; whoever takes its steps tests 19. A step is a run of one entry, with room for one. The counters are lent, so that the words alone are copied.
+pub fn run_refusal_of<'c>(
+    tree: TreeWords,
+    state: State,
+    entries: &'c [u64; 64],
+    tenures: &'c [u64; 64],
+    longest: &'c [u64; 64],
+    schedule: &[u16],
+    room: usize,
+) -> Refusal
+    ensures { λ r. ⌜ r ≡ told (first-refusal (run-tests-before-19 (tree-of tree) (lock-state state (counters-in (now (entries .entry)) (now (tenures .entry)) (now (longest .entry)))) (now (schedule .entry)) room)) ⌝ }
 {
-    let r = state_refusal_of(tree, state);
+    let r = tree_refusal_of(
+        &tree.parents,
+        &tree.thresholds,
+        &tree.homes,
+        tree.domains,
+        tree.threads,
+    );
     if r.number != 0 {
         return r;
+    }
+    if !counters::good_counts(&tree.thresholds, tree.domains, entries, tenures, longest) {
+        return refusal_at(10, 0);
+    }
+    if !is_well_formed(tree, state) {
+        return refusal_at(10, 0);
     }
     schedule_refusal_of(tree.threads, schedule, room)
 }

@@ -63,7 +63,7 @@ pub(crate) fn lowest_too_deep(parents: &[u8; 64], domains: u32) -> u32
 }
 
 // A word of 16 bits, and that it is one.
-fn of_16_bits(x: u16) -> u16
+pub(crate) fn of_16_bits(x: u16) -> u16
     ensures { λ r. ⌜ (r ≡ x) × (x < 65536) ⌝ }
 {
     x

@@ -10,20 +10,24 @@ use lib.Dec.{eqb}
 use lib.ListN.{length, drop, getD, replicate, length-replicate}
 use borrow.Author.Tests.{ne-eqb, eqb-true, le-ltb}
 use Rattle.model.specs.declared.TreeWords.{TreeWords}
-use Rattle.model.specs.declared.State.{State}
+use Rattle.model.specs.declared.Counters.{Counters}
+use Rattle.model.specs.declared.LockState.{LockState}
 use Rattle.model.specs.declared.RunReply.{RunReply}
 use Rattle.model.specs.Trees.{Tree, tree-of}
 use Rattle.model.specs.States.{fresh-words}
 use Rattle.model.specs.Runs.{Run, run}
-use Rattle.model.specs.Refusals.{Refusal, refusal, accepted, Test, first-refusal, lowest-bad, bad-state, bad-length, bad-entry, bad-room, entry-tests, state-tests, schedule-tests, room-tests, tree-tests, run-tests, has-number, tree-refusal, run-refusal}
-use Rattle.model.specs.Answers.{fresh-answer, run-reply, run-answer}
+use Rattle.model.specs.Counters.{fresh-lock}
+use Rattle.model.specs.CounterLaws.{Room-law}
+use Rattle.model.specs.Refusals.{Refusal, refusal, accepted, Test, test, first-refusal, lowest-bad, bad-state, bad-length, bad-entry, bad-room, bad-counter, counter-tests, run-tests-before-19, entry-tests, state-tests, schedule-tests, room-tests, tree-tests, run-tests, has-number, tree-refusal, run-refusal}
+use Rattle.model.specs.Answers.{fresh-answer, counters-behind, run-reply, run-answer}
 use Rattle.model.specs.Laws.{Numbered, Refusal-law, Form-law}
 use Rattle.model.specs.WellFormed.{well-formed}
 use Rattle.claims.specs.Reached.{Lone-run-law}
-use Rattle.model.proofs.Refusing.{numbered}
-use Rattle.model.proofs.Laws.Refusals.{refusal-law, tree-numbered}
+use Rattle.model.proofs.Refusing.{test-skipped, numbered}
+use Rattle.model.proofs.Laws.Refusals.{refusal-law, tree-numbered, run-numbered-before-19}
+use Rattle.model.proofs.Laws.Counters.{fresh-good, room-law, fresh-room}
 use Rattle.model.proofs.Laws.Form.{fresh-at-zero, form-law}
-use Rattle.model.proofs.Laws.Calls.{run-reply-number}
+use Rattle.model.proofs.Laws.Calls.{early-facts, run-reply-number}
 use Rattle.model.proofs.Tests.{by-test}
 use Rattle.model.proofs.Trees.Accepted.{sixteen-bit}
 use Rattle.claims.proofs.Claims.Accepts.{lone-run-law}
@@ -46,21 +50,38 @@ unfolding has-number
 schedule-numbered t is = numbered (schedule-tests t is) refl
 
 module _ (w : TreeWords) (ok : tree-refusal (tree-of w) .number ≡ 0) where
-  -- fresh words pass 10
-  fresh-passes : first-refusal (state-tests (tree-of w) fresh-words) ≡ accepted
+  -- a fresh lock passes 10
+  fresh-passes : first-refusal (state-tests (tree-of w) fresh-lock) ≡ accepted
   unfolding Form-law bad-state first-refusal
-  fresh-passes = single-missed _ [] refl (rw (subst (λ x. well-formed (tree-of w) x ≡ true) (fresh-at-zero (tree-of w)) (form-law (tree-of w) (sixteen-bit w) ok .of-fresh 0 .form)))
+  fresh-passes =
+      let form : well-formed (tree-of w) fresh-words ≡ true = subst (λ x. well-formed (tree-of w) x ≡ true) (fresh-at-zero (tree-of w)) (form-law (tree-of w) (sixteen-bit w) ok .of-fresh 0 .form) in
+      single-missed _ [] refl (rw (form, fresh-good (tree-of w)))
 
-  -- so a run from them meets 11 to 13 alone
-  pub schedule-decides : (is : List ℕ) (room : ℕ) → run-refusal (tree-of w) fresh-words is room ≡ first-refusal (schedule-tests (tree-of w) is ++ room-tests is room)
-  unfolding run-refusal run-tests tree-refusal has-number refusal accepted
+  -- and 19: a schedule that 11 does not refuse is too short for it
+  before-19 : (is : List ℕ) (room : ℕ) → run-refusal (tree-of w) fresh-lock is room ≡ first-refusal (run-tests-before-19 (tree-of w) fresh-lock is room)
+  unfolding run-refusal run-tests Room-law first-refusal
+  before-19 is room =
+      let t = tree-of w in
+      let xs = run-tests-before-19 t fresh-lock is room in
+      elim (ℕ-discrete (first-refusal xs .number) 0) [
+        | yes z ↦
+            let short = early-facts t fresh-lock is room z .short in
+            passing-behind xs (counter-tests t fresh-lock is) (run-numbered-before-19 t fresh-lock is room)
+            (test-skipped (test 19 (length is) (bad-counter t fresh-lock is)) [] (room-law t (sixteen-bit w) fresh-lock is (fresh-room (length is) (omega arith))))
+        | no z ↦ first-decides xs (counter-tests t fresh-lock is) z
+      ]
+
+  -- so a run from it meets 11 to 13 alone
+  pub schedule-decides : (is : List ℕ) (room : ℕ) → run-refusal (tree-of w) fresh-lock is room ≡ first-refusal (schedule-tests (tree-of w) is ++ room-tests is room)
+  unfolding tree-refusal has-number refusal accepted
   schedule-decides is room =
       let t = tree-of w in
-      other-decides (tree-tests t) (state-tests t fresh-words ++ (schedule-tests t is ++ room-tests is room)) (tree-numbered t) ok
-      ∙ other-decides (state-tests t fresh-words) (schedule-tests t is ++ room-tests is room) (numbered (state-tests t fresh-words) refl) (ap (λ r. r .number) fresh-passes)
+      before-19 is room
+      ∙ other-decides (tree-tests t) (state-tests t fresh-lock ++ (schedule-tests t is ++ room-tests is room)) (tree-numbered t) ok
+      ∙ other-decides (state-tests t fresh-lock) (schedule-tests t is ++ room-tests is room) (numbered (state-tests t fresh-lock) refl) (ap (λ r. r .number) fresh-passes)
 
   -- and with room for its trace 11 and 12
-  pub alone-decides : (is : List ℕ) (room : ℕ) → length is ≤ room → run-refusal (tree-of w) fresh-words is room ≡ first-refusal (schedule-tests (tree-of w) is)
+  pub alone-decides : (is : List ℕ) (room : ℕ) → length is ≤ room → run-refusal (tree-of w) fresh-lock is room ≡ first-refusal (schedule-tests (tree-of w) is)
   unfolding bad-room first-refusal
   alone-decides is room h =
       schedule-decides is room
@@ -69,27 +90,27 @@ module _ (w : TreeWords) (ok : tree-refusal (tree-of w) .number ≡ 0) where
   -- what a run with a trace buffer of the schedule's length answers
   pub answer-by-schedule :
       (is b : List ℕ) → length b ≡ length is →
-      run-answer w fresh-words is b ≡ run-reply (first-refusal (schedule-tests (tree-of w) is)) fresh-words (run (tree-of w) is fresh-words)
+      run-answer w fresh-lock is b ≡ run-reply (first-refusal (schedule-tests (tree-of w) is)) fresh-lock (run (tree-of w) is fresh-words) (counters-behind (tree-of w) is fresh-lock)
   unfolding run-answer
   answer-by-schedule is b long = rw (alone-decides is (length b) (omega arith))
 
-  pub alone-by-schedule : (is : List ℕ) → alone w is ≡ run-reply (first-refusal (schedule-tests (tree-of w) is)) fresh-words (run (tree-of w) is fresh-words)
+  pub alone-by-schedule : (is : List ℕ) → alone w is ≡ run-reply (first-refusal (schedule-tests (tree-of w) is)) fresh-lock (run (tree-of w) is fresh-words) (counters-behind (tree-of w) is fresh-lock)
   unfolding alone
   alone-by-schedule is = answer-by-schedule is (replicate (length is) 0) (length-replicate {A = ℕ} (length is) 0)
 
 -- THE ROW of a run's reply
-row-number : (r : Refusal) (s : State) (x : Run) → getD (row-of (run-reply r s x)) 0 0 ≡ r .number
+row-number : (r : Refusal) (s : LockState) (x : Run) (c : Counters) → getD (row-of (run-reply r s x c)) 0 0 ≡ r .number
 unfolding row-of
-row-number r s x = run-reply-number r s x
+row-number r s x c = run-reply-number r s x c
 
-row-place : (r : Refusal) (s : State) (x : Run) → (r .number ≡ 0 → r .place ≡ 0) → getD (row-of (run-reply r s x)) 1 0 ≡ r .place
+row-place : (r : Refusal) (s : LockState) (x : Run) (c : Counters) → (r .number ≡ 0 → r .place ≡ 0) → getD (row-of (run-reply r s x c)) 1 0 ≡ r .place
 unfolding row-of run-reply
-row-place r s x h =
+row-place r s x c h =
     by-test (λ (y : RunReply). y .place ≡ r .place) (eqb (r .number) 0) _ _ (λ e. sym (h (eqb-true (r .number) 0 e))) (λ e. refl)
 
-row-no-counts : (r : Refusal) (s : State) (x : Run) → r .number ≢ 0 → drop 2 (row-of (run-reply r s x)) ≡ replicate 6 0
+row-no-counts : (r : Refusal) (s : LockState) (x : Run) (c : Counters) → r .number ≢ 0 → drop 2 (row-of (run-reply r s x c)) ≡ replicate 6 0
 unfolding row-of run-reply
-row-no-counts r s x h = rw (ne-eqb (r .number) 0 h)
+row-no-counts r s x c h = rw (ne-eqb (r .number) 0 h)
 
 -- an accepted answer has place 0
 zero-place : (r : Refusal) → (r .number ≡ 0 → r ≡ accepted) → r .number ≡ 0 → r .place ≡ 0
@@ -117,19 +138,22 @@ module _ (w : TreeWords) (ok : tree-refusal (tree-of w) .number ≡ 0) (is : Lis
   abbrev ran : Run
   ran = run (tree-of w) is fresh-words
 
+  abbrev left : Counters
+  left = counters-behind (tree-of w) is fresh-lock
+
   -- what a row says, of the row that its schedule gives alone
   pub row-says : Says w is (row-of (alone w is))
   unfolding fresh-answer refusal Refusal-law Lone-run-law tree-refusal
   row-says =
       let e = alone-by-schedule w ok is in
       let exactly = refusal-law (schedule-tests (tree-of w) is) (schedule-numbered (tree-of w) is) in
-      let number : getD (row-of (alone w is)) 0 0 ≡ met .number = ap (λ y. getD (row-of y) 0 0) e ∙ row-number met fresh-words ran in
+      let number : getD (row-of (alone w is)) 0 0 ≡ met .number = ap (λ y. getD (row-of y) 0 0) e ∙ row-number met fresh-lock ran left in
       let place : getD (row-of (alone w is)) 1 0 ≡ met .place =
-      ap (λ y. getD (row-of y) 1 0) e ∙ row-place met fresh-words ran (zero-place met (exactly .zero-accepted)) in
+      ap (λ y. getD (row-of y) 1 0) e ∙ row-place met fresh-lock ran left (zero-place met (exactly .zero-accepted)) in
       record {
         alone = λ b long. rw (ok, fresh-at-zero (tree-of w)) (ap row-of (e ∙ sym (answer-by-schedule w ok is b long)));
         refused = rw (number, place);
         number = rw number (schedule-number (tree-of w) is);
-        no-counts = λ h. ap (λ y. drop 2 (row-of y)) e ∙ row-no-counts met fresh-words ran (λ z. h (number ∙ z));
+        no-counts = λ h. ap (λ y. drop 2 (row-of y)) e ∙ row-no-counts met fresh-lock ran left (λ z. h (number ∙ z));
         claimed = λ b. lone-run-law w 0 is b ok;
       }

@@ -10,12 +10,14 @@ use Rattle.model.specs.declared.State.{State}
 use Rattle.model.specs.declared.Counts.{Counts}
 use Rattle.model.specs.Trees.{tree-of}
 use Rattle.model.specs.States.{fresh-words}
+use Rattle.model.specs.Counters.{lock-state, fresh-counters, fresh-lock}
 use Rattle.model.specs.Runs.{steps, run}
-use Rattle.model.specs.Refusals.{refusal, first-refusal, bad-entry, tree-refusal, run-refusal}
+use Rattle.model.specs.Refusals.{refusal, first-refusal, bad-entry, tree-refusal, run-tests-before-19, run-refusal}
 use Rattle.model.specs.Answers.{run-refused}
 use Rattle.model.proofs.Laws.Refusals.{accepted-number}
-use Rattle.model.proofs.Laws.Calls.{Good-run, run-facts, run-accepted}
+use Rattle.model.proofs.Laws.Calls.{Good-run, run-facts, early-accepted}
 use Rattle.refusals.specs.declared.Refusal.{Refusal}
+use Rattle.refusals.specs.Counts.{counters-in}
 use Rattle.refusals.specs.Arrays.{threads-in, told, schedule-room-tests}
 use Rattle.schedules.specs.Rows.{alone, row-of}
 use Rattle.schedules.proofs.Alone.{schedule-decides}
@@ -42,32 +44,34 @@ module _ (w : TreeWords) (ok : tree-refusal (tree-of w) .number ≡ 0) (is : Lis
   abbrev own : List ℕ
   own = replicate (length is) 0
 
-  met : r ≡ told (run-refusal (tree-of w) fresh-words is (length own))
+  met : r ≡ told (run-refusal (tree-of w) fresh-lock is (length own))
   unfolding bad-entry tree-of
   met = e ∙ ap told (sym (rw (length-replicate {A = ℕ} (length is) 0) (schedule-decides w ok is (length is))))
 
   pub row-refuses :
       (counts : Counts) → (r .number ≡ 0 → ⊥) → counts ≡ counts-by (replicate 6 0) → row-numbers (r .number) (r .place) counts ≡ row-of (alone w is)
   unfolding alone row-of refusal
-  row-refuses counts n f = rw f (ap row-of (run-refuses w fresh-words is own r met (run-refused (refusal (r .number) (r .place)) fresh-words) n refl .0))
+  row-refuses counts n f = rw f (ap row-of (run-refuses w fresh-lock is own r met (run-refused (refusal (r .number) (r .place)) fresh-lock) n refl .0))
 
   module _ (z : r .number ≡ 0) (fresh : State) (made : fresh ≡ fresh-words) where
-    abbrev facts : Good-run (tree-of w) fresh-words is (length own)
-    facts = run-facts (tree-of w) fresh-words is (length own) (run-passes w fresh-words is own r met z)
+    abbrev facts : Good-run (tree-of w) fresh-lock is (length own)
+    facts = run-facts (tree-of w) fresh-lock is (length own) (run-passes w fresh-lock is own r met z)
 
-    pub steps-pass : (room : ℕ) → 65536 ≤ room → run-refusal (tree-of w) fresh is room .number ≡ 0
+    -- with counters that start at 0 for each schedule
+    pub steps-pass : (room : ℕ) → 65536 ≤ room → first-refusal (run-tests-before-19 (tree-of w) (lock-state fresh (counters-in (replicate 64 0) (replicate 64 0) (replicate 64 0))) is room) .number ≡ 0
+    unfolding fresh-counters
     steps-pass room h =
         rw made
-        (ap (λ x. x .number) (run-accepted (tree-of w) fresh-words is room
-        (record { tree = facts .tree; form = facts .form; short = facts .short; threads = facts .threads; fits = omega (arith, facts .short) })) ∙ accepted-number)
+        (ap (λ x. x .number) (early-accepted (tree-of w) fresh-lock is room
+        (record { tree = facts .tree; form = facts .form; counts = facts .counts; short = facts .short; threads = facts .threads; fits = omega (arith, facts .short) })) ∙ accepted-number)
 
     module _ (kinds : List ℕ) (k : kinds ≡ kinds-of (steps (tree-of w) is fresh)) where
       pub kinds-of-row : counts-by kinds .steps ≤ 65536
-      kinds-of-row = kinds-few w fresh-words is own r met z kinds (k ∙ ap (λ s. kinds-of (steps (tree-of w) is s)) made)
+      kinds-of-row = kinds-few w fresh-lock is own r met z kinds (k ∙ ap (λ s. kinds-of (steps (tree-of w) is s)) made)
 
       pub row-answered : (counts : Counts) → counts ≡ counts-by kinds → row-numbers 0 0 counts ≡ row-of (alone w is)
       unfolding alone row-of
       row-answered counts c =
           ap row-of
-          (run-answered w fresh-words is own r met z (run (tree-of w) is fresh-words .state) (trace-front own (run (tree-of w) is fresh-words)) kinds counts refl refl
-          (k ∙ ap (λ s. kinds-of (steps (tree-of w) is s)) made) c .0)
+          (run-answered w fresh-lock is own r met z (run (tree-of w) is fresh-words .state) (trace-front own (run (tree-of w) is fresh-words)) kinds counts _ refl refl
+          (k ∙ ap (λ s. kinds-of (steps (tree-of w) is s)) made) c refl .0)

@@ -54,16 +54,20 @@ fn run_row(
         put_row(rows, at, r.number, r.place, steps::run::counts_of(&kinds));
         return;
     }
-    let mut last = [0u32; 2];
     let mut told = [0u16; 0];
+    let mut entries = [0u64; 64];
+    let mut tenures = [0u64; 64];
+    let mut longest = [0u64; 64];
     let after = steps::run::run_steps(
         tree,
         fresh,
         schedule,
         trace,
         &mut kinds,
-        &mut last,
         &mut told,
+        &mut entries,
+        &mut tenures,
+        &mut longest,
     );
     put_row(rows, at, 0, 0, steps::run::counts_of(&kinds));
 }

@@ -2,30 +2,48 @@
 use mathlib.Core.Path.{_≡_, refl, sym, ap, _∙_}
 use mathlib.Core.Bool.{Bool, true, false}
 use mathlib.Core.List.{List, [], _∷_, _++_}
-use Prim.Native.Nat.{ℕ, _≤_}
+use Prim.Native.Nat.{ℕ, _/_, _%_, _≤_, _<_}
 use native.Mathlib.Omega.{arith}
 use native.Mathlib.Decide.{ℕ-discrete}
 use lib.ListN.{length, getD}
 use borrow.Author.Tests.{ne-eqb, eq-eqb}
 use Rattle.model.specs.declared.TreeWords.{TreeWords}
 use Rattle.model.specs.declared.State.{State}
+use Rattle.model.specs.declared.Counters.{Counters}
+use Rattle.model.specs.declared.LockState.{LockState}
 use Rattle.model.specs.declared.Counts.{Counts}
 use Rattle.model.specs.declared.RunReply.{RunReply}
 use Rattle.model.specs.Trees.{Tree, tree-of}
 use Rattle.model.specs.States.{place}
-use Rattle.model.specs.Steps.{step}
+use Rattle.model.specs.Steps.{kind-number, Step, step}
 use Rattle.model.specs.Runs.{steps, state-after, counts-of, run-of, run}
-use Rattle.model.specs.Refusals.{refusal, Test, first-refusal, entry-tests, room-tests, tree-tests, bad-length, bad-entry, bad-room, step-tests, run-tests, step-refusal, run-refusal}
-use Rattle.model.specs.Answers.{first-kind, first-domain, step-reply, step-answer, run-refused, run-reply, run-buffer, run-answer, trace-answer}
+use Rattle.model.specs.Counters.{lock-state, counters-after}
+use Rattle.model.specs.Refusals.{refusal, Test, first-refusal, entry-tests, room-tests, tree-tests, counter-tests, has-number, bad-length, bad-entry, bad-room, step-tests-before-19, step-tests, run-tests-before-19, run-tests, step-refusal, run-refusal}
+use Rattle.model.specs.Answers.{counters-behind, first-kind, first-domain, step-reply, step-answer, run-refused, run-reply, run-buffer, run-answer, trace-answer}
 use Rattle.model.proofs.Laws.Runs.{steps-length}
-use Rattle.model.proofs.Laws.Calls.{run-facts}
+use Rattle.model.specs.Laws.{Numbered}
+use Rattle.model.proofs.Refusing.{numbered}
+use Rattle.model.proofs.Laws.Calls.{early-accepted, run-facts}
+use Rattle.model.proofs.Laws.Refusals.{accepted-number, run-numbered-before-19}
 use Rattle.refusals.specs.declared.Refusal.{Refusal}
 use Rattle.refusals.specs.Arrays.{told, tree-state-tests, schedule-room-tests}
 use Rattle.refusals.proofs.Scanning.{single-hit, single-missed}
 use Rattle.refusals.proofs.Joining.{first-decides, other-decides, state-numbered}
 use Rattle.refusals.proofs.RunTests.{told-not, told-zero}
-use Rattle.steps.proofs.SoFar.{counts-kinds}
-use Rattle.steps.specs.Running.{Last-told, kinds-of, counts-by, trace-front}
+use Rattle.steps.proofs.SoFar.{counts-kinds, thread-at, below}
+use Rattle.steps.proofs.ToldStep.{code-kind, domain-told}
+use Rattle.steps.specs.Effects.{row-domain}
+use Rattle.steps.specs.Running.{kinds-of, counts-by, trace-front, step-code, told-front}
+
+-- a run that is not refused passes the tests before 19
+early-run : (t : Tree) (s : LockState) (is : List ℕ) (room : ℕ) → run-refusal t s is room .number ≡ 0 → first-refusal (run-tests-before-19 t s is room) .number ≡ 0
+early-run t s is room e = ap (λ x. x .number) (early-accepted t s is room (run-facts t s is room e)) ∙ accepted-number
+
+-- what is told of a first step
+first-told : (b : List ℕ) (x : Step) (xs : List Step) → 0 < length b → getD (told-front b (x ∷ xs)) 0 0 ≡ step-code x
+unfolding told-front
+first-told [] x xs h = absurd (omega arith)
+first-told (c ∷ b) x xs h = refl
 
 -- A STEP is refused as a run of its one entry is, with room for it
 module _ (t : Tree) (i : ℕ) where
@@ -46,9 +64,9 @@ module _ (t : Tree) (i : ℕ) where
       by true e = single-hit _ fits refl e ∙ sym (single-hit _ [] refl e)
       by false e = single-missed _ fits refl e ∙ single-missed _ [] refl refl ∙ sym (single-missed _ [] refl e)
 
-  one-refusal : (s : State) → step-refusal t s i ≡ run-refusal t s (i ∷ []) 1
-  unfolding step-refusal step-tests run-refusal run-tests tree-tests
-  one-refusal s =
+  early-refusal : (s : LockState) → first-refusal (step-tests-before-19 t s i) ≡ first-refusal (run-tests-before-19 t s (i ∷ []) 1)
+  unfolding tree-tests
+  early-refusal s =
       let xs = tree-state-tests t s in
       elim (ℕ-discrete (first-refusal xs .number) 0) [
         | yes z ↦
@@ -57,25 +75,58 @@ module _ (t : Tree) (i : ℕ) where
         | no z ↦ first-decides xs entry z ∙ sym (first-decides xs one-run z)
       ]
 
-module _ (w : TreeWords) (s : State) (i : ℕ) (r : Refusal) (e : r ≡ told (run-refusal (tree-of w) s (i ∷ []) 1)) where
+  step-numbered : (s : LockState) → Numbered (step-tests-before-19 t s i)
+  unfolding has-number tree-tests
+  step-numbered s = numbered (step-tests-before-19 t s i) refl
+
+  one-refusal : (s : LockState) → step-refusal t s i ≡ run-refusal t s (i ∷ []) 1
+  unfolding step-refusal step-tests run-refusal run-tests
+  one-refusal s =
+      let xs = step-tests-before-19 t s i in
+      let ys = run-tests-before-19 t s (i ∷ []) 1 in
+      let zs = counter-tests t s (i ∷ []) in
+      elim (ℕ-discrete (first-refusal xs .number) 0) [
+        | yes z ↦
+            other-decides xs zs (step-numbered s) z
+            ∙ sym (other-decides ys zs (run-numbered-before-19 t s (i ∷ []) 1) (sym (ap (λ r. r .number) (early-refusal s)) ∙ z))
+        | no z ↦ first-decides xs zs z ∙ early-refusal s ∙ sym (first-decides ys zs (λ y. z (ap (λ r. r .number) (early-refusal s) ∙ y)))
+      ]
+
+module _ (w : TreeWords) (s : LockState) (i : ℕ) (r : Refusal) (e : r ≡ told (run-refusal (tree-of w) s (i ∷ []) 1)) where
   pub step-refuses : (r .number ≡ 0 → ⊥) → record { number = r .number; place = r .place; kind = 0; domain = 0; state = s } ≡ step-answer w s i
   unfolding step-answer step-reply
   step-refuses n = rw (e, one-refusal (tree-of w) i s, ne-eqb (run-refusal (tree-of w) s (i ∷ []) 1 .number) 0 (told-not r _ e n))
 
   module _ (z : r .number ≡ 0) where
-    pub one-runs : run-refusal (tree-of w) s (i ∷ []) 1 .number ≡ 0
+    one-runs : run-refusal (tree-of w) s (i ∷ []) 1 .number ≡ 0
     one-runs = told-zero r _ e z
 
+    pub one-early : first-refusal (run-tests-before-19 (tree-of w) s (i ∷ []) 1) .number ≡ 0
+    one-early = early-run (tree-of w) s (i ∷ []) 1 one-runs
+
+    pub one-small : i < 256
+    one-small = let R = run-facts (tree-of w) s (i ∷ []) 1 one-runs in below (tree-of w) (i ∷ []) (R .tree) (R .threads) 0 (omega arith)
+
     pub step-answered :
-        (n : State) (last : List ℕ) → n ≡ run (tree-of w) (i ∷ []) s .state → Last-told (tree-of w) (i ∷ []) s last →
-        record { number = 0; place = 0; kind = getD last 0 0; domain = getD last 1 0; state = n } ≡ step-answer w s i
-    unfolding step-answer step-reply first-kind first-domain run run-of steps state-after step step-refusal
-    step-answered n last f from =
+        (n : State) (told₀ told : List ℕ) (domain : ℕ) (c : Counters) → n ≡ run (tree-of w) (i ∷ []) (s .words) .state → length told₀ ≡ 1 →
+        told ≡ told-front told₀ (steps (tree-of w) (i ∷ []) (s .words)) →
+        domain ≡ row-domain (getD (w .homes) i 0) ((getD told 0 0 / 8) % 16) (getD told 0 0 / 128) →
+        c ≡ counters-after (tree-of w) (s .counters) (steps (tree-of w) (i ∷ []) (s .words)) →
+        record { number = 0; place = 0; kind = getD told 0 0 % 8; domain = domain; state = lock-state n c } ≡ step-answer w s i
+    unfolding step-answer step-reply first-kind first-domain counters-behind run run-of steps state-after step step-refusal
+    step-answered n told₀ told domain c f room e′ at counted =
+        let R = run-facts (tree-of w) s (i ∷ []) 1 one-runs in
+        let x = step (tree-of w) i (s .words) in
+        let code : getD told 0 0 ≡ step-code x = ap (λ v. getD v 0 0) e′ ∙ first-told told₀ x [] (omega (arith, room)) in
+        let kind : getD told 0 0 % 8 ≡ kind-number (x .kind) = ap (λ v. v % 8) code ∙ code-kind x in
+        let where-at : domain ≡ x .domain =
+        at ∙ ap (λ v. row-domain (getD (w .homes) i 0) ((v / 8) % 16) (v / 128)) code
+        ∙ domain-told w (s .words) i (R .form) (thread-at (tree-of w) (i ∷ []) (R .threads) 0 (omega arith)) (below (tree-of w) (i ∷ []) (R .tree) (R .threads) 0 (omega arith)) in
         let y = ap (λ x. x .number) (one-refusal (tree-of w) i s) ∙ one-runs in
-        rw (f, from .kind refl, from .domain refl, eq-eqb (step-refusal (tree-of w) s i .number) 0 y)
+        rw (f, kind, where-at, counted, eq-eqb (step-refusal (tree-of w) s i .number) 0 y)
 
 -- A RUN
-module _ (w : TreeWords) (s : State) (is b : List ℕ) (r : Refusal) (e : r ≡ told (run-refusal (tree-of w) s is (length b))) where
+module _ (w : TreeWords) (s : LockState) (is b : List ℕ) (r : Refusal) (e : r ≡ told (run-refusal (tree-of w) s is (length b))) where
   pub run-refuses :
       (y : RunReply) → (r .number ≡ 0 → ⊥) → y ≡ run-refused (refusal (r .number) (r .place)) s → (y ≡ run-answer w s is b) × (b ≡ trace-answer w s is b)
   unfolding run-answer run-reply trace-answer run-buffer refusal
@@ -87,17 +138,21 @@ module _ (w : TreeWords) (s : State) (is b : List ℕ) (r : Refusal) (e : r ≡ 
     pub run-passes : run-refusal (tree-of w) s is (length b) .number ≡ 0
     run-passes = told-zero r _ e z
 
-    pub kinds-few : (kinds : List ℕ) → kinds ≡ kinds-of (steps (tree-of w) is s) → counts-by kinds .steps ≤ 65536
+    pub early-passes : first-refusal (run-tests-before-19 (tree-of w) s is (length b)) .number ≡ 0
+    early-passes = early-run (tree-of w) s is (length b) run-passes
+
+    pub kinds-few : (kinds : List ℕ) → kinds ≡ kinds-of (steps (tree-of w) is (s .words)) → counts-by kinds .steps ≤ 65536
     unfolding counts-of
     kinds-few kinds f =
-        let n : counts-by kinds .steps ≡ length (steps (tree-of w) is s) = ap (λ v. counts-by v .steps) f ∙ ap (λ v. v .steps) (counts-kinds (steps (tree-of w) is s)) in
-        omega (arith, n, steps-length (tree-of w) is s, run-facts (tree-of w) s is (length b) run-passes .short)
+        let n : counts-by kinds .steps ≡ length (steps (tree-of w) is (s .words)) = ap (λ v. counts-by v .steps) f ∙ ap (λ v. v .steps) (counts-kinds (steps (tree-of w) is (s .words))) in
+        omega (arith, n, steps-length (tree-of w) is (s .words), run-facts (tree-of w) s is (length b) run-passes .short)
 
     pub run-answered :
-        (n : State) (b′ kinds : List ℕ) (counts : Counts) → n ≡ run (tree-of w) is s .state → b′ ≡ trace-front b (run (tree-of w) is s) →
-        kinds ≡ kinds-of (steps (tree-of w) is s) → counts ≡ counts-by kinds →
-        (record { number = 0; place = 0; counts = counts; state = n } ≡ run-answer w s is b) × (b′ ≡ trace-answer w s is b)
-    unfolding run-answer run-reply trace-answer run-buffer run run-of
-    run-answered n b′ kinds counts g h k c =
+        (n : State) (b′ kinds : List ℕ) (counts : Counts) (c : Counters) → n ≡ run (tree-of w) is (s .words) .state → b′ ≡ trace-front b (run (tree-of w) is (s .words)) →
+        kinds ≡ kinds-of (steps (tree-of w) is (s .words)) → counts ≡ counts-by kinds →
+        c ≡ counters-after (tree-of w) (s .counters) (steps (tree-of w) is (s .words)) →
+        (record { number = 0; place = 0; counts = counts; state = lock-state n c } ≡ run-answer w s is b) × (b′ ≡ trace-answer w s is b)
+    unfolding run-answer run-reply trace-answer run-buffer counters-behind run run-of
+    run-answered n b′ kinds counts c g h k f counted =
         let p = eq-eqb (run-refusal (tree-of w) s is (length b) .number) 0 run-passes in
-        (rw (g, c, k, counts-kinds (steps (tree-of w) is s), p), h ∙ rw p)
+        (rw (g, f, k, counted, counts-kinds (steps (tree-of w) is (s .words)), p), h ∙ rw p)

@@ -6,7 +6,16 @@ pub mod Deciding
 pub mod SoFar
 pub mod Typing
 pub mod Turns
-pub mod LastTold
+pub mod ToldStep
 pub mod Telling
 pub mod Answering
 pub mod Starting
+pub mod Counts
+pub mod Above
+pub mod StepEntries
+pub mod StepTenures
+pub mod StepCounts
+pub mod Tallying
+pub mod Looking
+pub mod Trying
+pub mod CounterLimits

@@ -157,7 +157,7 @@ module _ (t : Tree) (is b₀ : List ℕ) (s₀ : State) where
   first-steps k = steps t (take k is) s₀
 
   -- k entries of the schedule are done
-  pub record So-far (b : List ℕ) (s : State) (kinds : List ℕ) (entries row domain kind thread k : ℕ) : Type 0 where
+  pub record So-far (b : List ℕ) (s : State) (kinds : List ℕ) (entries k : ℕ) : Type 0 where
     pub within : k ≤ length is
     pub long : length b ≡ length b₀
     pub formed : Formed t s
@@ -166,13 +166,8 @@ module _ (t : Tree) (is b₀ : List ℕ) (s₀ : State) where
     pub entries-are : entries ≡ length (entering (first-steps k))
     pub entries-fit : entries ≤ k
     pub trace-is : b ≡ trace-front b₀ (run t (take k is) s₀)
-    pub row-is : k ≡ 1 → row ≡ getD (s₀ .places) (getD is 0 0) (place-words 0 0 0 0) .row
-    pub kind-is : k ≡ 1 → kind ≡ kind-number (step t (getD is 0 0) s₀ .kind)
-    pub domain-is : k ≡ 1 → domain ≡ getD (s₀ .places) (getD is 0 0) (place-words 0 0 0 0) .domain
-    pub thread-is : k ≡ 1 → thread ≡ getD is 0 0
-    pub thread-below : thread < 256
 
-  pub start : Formed t s₀ → So-far b₀ s₀ (0 ∷ 0 ∷ 0 ∷ 0 ∷ 0 ∷ 0 ∷ []) 0 0 0 0 0 0
+  pub start : Formed t s₀ → So-far b₀ s₀ (0 ∷ 0 ∷ 0 ∷ 0 ∷ 0 ∷ 0 ∷ []) 0 0
   unfolding run run-of steps state-after how-many entering kinds-of
   start f =
       record {
@@ -184,11 +179,6 @@ module _ (t : Tree) (is b₀ : List ℕ) (s₀ : State) where
         entries-are = refl;
         entries-fit = omega arith;
         trace-is = refl;
-        row-is = λ z. absurd (omega arith);
-        domain-is = λ z. absurd (omega arith);
-        kind-is = λ z. absurd (omega arith);
-        thread-is = λ z. absurd (omega arith);
-        thread-below = omega arith;
       }
 
   -- one entry more: the steps so far, then one
@@ -200,40 +190,24 @@ module _ (t : Tree) (is b₀ : List ℕ) (s₀ : State) where
 
   -- the kind of a step has its number, and no kind has more steps than entries are done
   pub kind-room :
-      (b : List ℕ) (s : State) (kinds : List ℕ) (entries row₀ domain₀ kind₀ thread₀ k : ℕ) (e : Effect) → So-far b s kinds entries row₀ domain₀ kind₀ thread₀ k →
+      (b : List ℕ) (s : State) (kinds : List ℕ) (entries k : ℕ) (e : Effect) → So-far b s kinds entries k →
       Does (row t (getD is k 0) (place s (getD is k 0)) s) (getD is k 0) e s → k < length is → length is ≤ 65536 →
       (e .kind < 6) × (getD kinds (e .kind) 0 < 65536)
-  kind-room b s kinds entries row₀ domain₀ kind₀ thread₀ k e g D h short =
+  kind-room b s kinds entries k e g D h short =
       let x = row t (getD is k 0) (place s (getD is k 0)) s .kind in
       let few : how-many (is-kind x) (first-steps k) ≤ k = omega (arith, few-kinds (is-kind x) (first-steps k), steps-length t (take k is) s₀, length-take-le k is (g .within)) in
       let at : getD kinds (e .kind) 0 ≡ how-many (is-kind x) (first-steps k) = ap (λ v. getD v (e .kind) 0) (g .kinds-are) ∙ ap (λ v. getD (kinds-of (first-steps k)) v 0) (D .kind-told) ∙ kind-at x (first-steps k) in
       (omega (arith, D .kind-told, kind-small x), omega (arith, at, few))
 
-  -- the first entry is done from the state handed in
-  at-start :
-      (f : PlaceWords → ℕ) (s : State) (k : ℕ) → s ≡ state-after s₀ (first-steps k) → k + 1 ≡ 1 →
-      f (getD (s .places) (getD is k 0) (place-words 0 0 0 0)) ≡ f (getD (s₀ .places) (getD is 0 0) (place-words 0 0 0 0))
-  unfolding steps state-after
-  at-start f s k st z =
-      let e : k ≡ 0 = omega arith in
-      ap (λ j. f (getD (s .places) (getD is j 0) (place-words 0 0 0 0))) e
-      ∙ ap (λ (v : State). f (getD (v .places) (getD is 0 0) (place-words 0 0 0 0))) (st ∙ ap (λ j. state-after s₀ (first-steps j)) e)
-
-  kind-at-start : (s : State) (k : ℕ) → s ≡ state-after s₀ (first-steps k) → k + 1 ≡ 1 → kind-number (step t (getD is k 0) s .kind) ≡ kind-number (step t (getD is 0 0) s₀ .kind)
-  unfolding steps state-after
-  kind-at-start s k st z =
-      let e : k ≡ 0 = omega arith in
-      ap (λ j. kind-number (step t (getD is j 0) s .kind)) e ∙ ap (λ (v : State). kind-number (step t (getD is 0 0) v .kind)) (st ∙ ap (λ j. state-after s₀ (first-steps j)) e)
-
   -- one turn of the loop
   pub turn :
-      (b : List ℕ) (s : State) (kinds : List ℕ) (entries row₀ domain₀ kind₀ thread₀ k : ℕ) (e : Effect) (b′ : List ℕ) (s′ : State) (entries′ : ℕ) →
-      tree-refusal t .number ≡ 0 → Sixteen-bit t → All-threads t is → length is ≤ length b₀ → k < length is → So-far b s kinds entries row₀ domain₀ kind₀ thread₀ k →
+      (b : List ℕ) (s : State) (kinds : List ℕ) (entries k : ℕ) (e : Effect) (b′ : List ℕ) (s′ : State) (entries′ : ℕ) →
+      tree-refusal t .number ≡ 0 → Sixteen-bit t → All-threads t is → length is ≤ length b₀ → k < length is → So-far b s kinds entries k →
       Does (row t (getD is k 0) (place s (getD is k 0)) s) (getD is k 0) e s → s′ ≡ apply (getD is k 0) e s →
       entries′ ≡ entries + cond (is-entry-number (e .kind)) 1 0 → b′ ≡ traced-at b entries (e .kind) (getD is k 0) →
-      (let q = getD (s .places) (getD is k 0) (place-words 0 0 0 0) in So-far b′ s′ (counted kinds (e .kind)) entries′ (q .row) (q .domain) (e .kind) (getD is k 0) (k + 1))
+      So-far b′ s′ (counted kinds (e .kind)) entries′ (k + 1)
   unfolding run run-of steps step state-after how-many entering Form-law
-  turn b s kinds entries row₀ domain₀ kind₀ thread₀ k e b′ s′ entries′ accepted sixteen all room h g D es ee eb =
+  turn b s kinds entries k e b′ s′ entries′ accepted sixteen all room h g D es ee eb =
       let i = getD is k 0 in
       let x = step t i s in
       let kind : e .kind ≡ kind-number (x .kind) = D .kind-told in
@@ -255,26 +229,21 @@ module _ (t : Tree) (is b₀ : List ℕ) (s₀ : State) where
             eb ∙ ap (λ v. traced-at v entries (e .kind) i) (g .trace-is) ∙ ap (λ v. traced-at (trace-front b₀ (run t (take k is) s₀)) entries v i) kind
             ∙ front-kind (x .kind) (entering xs) b₀ entries i (g .entries-are) (omega (arith, g .entries-fit))
             ∙ sym (ap (λ v. v ++ drop (length v) b₀) traces);
-        row-is = at-start (λ (q : PlaceWords). q .row) s k (g .state-is);
-        domain-is = at-start (λ (q : PlaceWords). q .domain) s k (g .state-is);
-        kind-is = λ z. kind ∙ kind-at-start s k (g .state-is) z;
-        thread-is = λ z. ap (λ j. getD is j 0) (omega arith);
-        thread-below = below t is accepted all k h;
       }
 
   -- a turn that stays: nothing is stored
   pub turn-stay :
-      (b : List ℕ) (s : State) (kinds : List ℕ) (entries row₀ domain₀ kind₀ thread₀ k : ℕ) (e : Effect) → tree-refusal t .number ≡ 0 → Sixteen-bit t → All-threads t is →
-      length is ≤ length b₀ → k < length is → So-far b s kinds entries row₀ domain₀ kind₀ thread₀ k →
+      (b : List ℕ) (s : State) (kinds : List ℕ) (entries k : ℕ) (e : Effect) → tree-refusal t .number ≡ 0 → Sixteen-bit t → All-threads t is →
+      length is ≤ length b₀ → k < length is → So-far b s kinds entries k →
       Does (row t (getD is k 0) (place s (getD is k 0)) s) (getD is k 0) e s → e .kind ≡ 0 →
-      (let q = getD (s .places) (getD is k 0) (place-words 0 0 0 0) in So-far b s (counted kinds (e .kind)) entries (q .row) (q .domain) (e .kind) (getD is k 0) (k + 1))
+      So-far b s (counted kinds (e .kind)) entries (k + 1)
   unfolding Kind-law step
-  turn-stay b s kinds entries row₀ domain₀ kind₀ thread₀ k e accepted sixteen all room h g D z =
+  turn-stay b s kinds entries k e accepted sixteen all room h g D z =
       let same = kind-law t (getD is k 0) s accepted (thread-at t is all k h) (g .formed) .stays-exactly .0 (zero-stay _ (sym (D .kind-told) ∙ z)) in
-      turn b s kinds entries row₀ domain₀ kind₀ thread₀ k e b s entries accepted sixteen all room h g D (sym (D .state-left ∙ same)) (rw z (sym (add-zero entries))) (rw z)
+      turn b s kinds entries k e b s entries accepted sixteen all room h g D (sym (D .state-left ∙ same)) (rw z (sym (add-zero entries))) (rw z)
 
   -- the end
-  module _ (b : List ℕ) (s : State) (kinds : List ℕ) (entries row₀ domain₀ kind₀ thread₀ k : ℕ) (g : So-far b s kinds entries row₀ domain₀ kind₀ thread₀ k) (h : length is ≤ k) where
+  module _ (b : List ℕ) (s : State) (kinds : List ℕ) (entries k : ℕ) (g : So-far b s kinds entries k) (h : length is ≤ k) where
     whole : take k is ≡ is
     whole = take-all k is h
 

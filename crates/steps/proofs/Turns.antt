@@ -7,6 +7,7 @@ use native.Mathlib.Nat.{mod-lt}
 use lib.ListN.{getD, length, set}
 use Rattle.model.specs.declared.TreeWords.{TreeWords}
 use Rattle.model.specs.declared.State.{State}
+use Rattle.model.specs.declared.LockState.{LockState}
 use Rattle.model.specs.Places.{place-words}
 use Rattle.model.specs.Trees.{Tree, tree-of, read-word}
 use Rattle.model.specs.Laws.{Sixteen-bit, Formed}
@@ -22,10 +23,10 @@ unfolding tree-of
 sixteen w d = let h = mod-lt (read-word 1 (w .domains) (w .thresholds) d) {m = 65536} (omega arith) in omega arith
 
 -- an entry of an accepted schedule
-pub thread-small : (t : Tree) (s : State) (is : List ℕ) (room k : ℕ) → Good-run t s is room → k < length is → getD is k 0 < 256
+pub thread-small : (t : Tree) (s : LockState) (is : List ℕ) (room k : ℕ) → Good-run t s is room → k < length is → getD is k 0 < 256
 thread-small t s is room k R h = below t is (R .tree) (R .threads) k h
 
-pub ready : (t : Tree) (s₀ s : State) (is : List ℕ) (room k : ℕ) → Good-run t s₀ is room → Formed t s → k < length is → Ready t (getD is k 0) (getD (s .places) (getD is k 0) (place-words 0 0 0 0))
+pub ready : (t : Tree) (s₀ : LockState) (s : State) (is : List ℕ) (room k : ℕ) → Good-run t s₀ is room → Formed t s → k < length is → Ready t (getD is k 0) (getD (s .places) (getD is k 0) (place-words 0 0 0 0))
 ready t s₀ s is room k R f h =
     let i = thread-at t is (R .threads) k h in
     record { tree = R .tree; thread = i; place = well-formed-facts t s f .places (getD is k 0) .used i }

@@ -1,3 +1,4 @@
 -- What the functions behind the calls say of the words that they read and store.
 pub mod Effects
 pub mod Running
+pub mod Counting

@@ -28,11 +28,6 @@ pub record Ready (t : Tree) (i : ℕ) (q : PlaceWords) : Type 0 where
 pub record Decided (t : Tree) (i : ℕ) (q : PlaceWords) (tails nexts statuses : List ℕ) (ticket grant : ℕ) (e : Effect) : Type 0 where
   pub does : (ps : List PlaceWords) → getD ps i (place-words 0 0 0 0) ≡ q → Does (row t i (place-of q) (state-in tails nexts statuses ticket grant ps)) i e (state-in tails nexts statuses ticket grant ps)
 
--- of the one step of a schedule of one entry: the number of its kind, and its domain
-pub record Last-told (t : Tree) (schedule : List ℕ) (s : State) (last : List ℕ) : Type 0 where
-  pub kind : length schedule ≡ 1 → getD last 0 0 ≡ kind-number (step t (getD schedule 0 0) s .kind)
-  pub domain : length schedule ≡ 1 → getD last 1 0 ≡ step t (getD schedule 0 0) s .domain
-
 -- how many of some steps are of each kind, in the order of the kinds' numbers
 unfoldable pub kinds-of : List Step → List ℕ
 kinds-of xs =

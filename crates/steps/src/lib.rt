@@ -1,14 +1,17 @@
-// The step table in code: what each row stores, and the run's loop. An inner crate: the calls on a lock stand on it, and have made the tests that it asks for.
+// The step table in code: what each row stores, what it counts, and the run's loop. An inner crate: the calls on a lock stand on it, and have made the tests that it asks for.
 ghost use mathlib.Core.Path.{_≡_};
 ghost use Rattle.model.specs.Refusals.{refusal};
 ghost use Rattle.model.specs.Answers.{run-refused};
 ghost use Rattle.steps.specs.Running.{fresh-from};
 
+mod counting;
+pub mod limits;
 mod places;
 mod rows;
 pub mod run;
 
 use model::Counts;
+use model::LockState;
 use model::PlaceWords;
 use model::RunReply;
 use model::State;
@@ -38,7 +41,7 @@ pub fn fresh_state(first: u16) -> State
 }
 
 // A refused run: number, place, zero counts and the state as it came.
-pub fn refused(number: u32, place: u32, state: State) -> RunReply
+pub fn refused(number: u32, place: u32, state: LockState) -> RunReply
     ensures { λ r. ⌜ r ≡ run-refused (refusal number place) state ⌝ }
 {
     let counts = Counts {

@@ -3,7 +3,7 @@ ghost use mathlib.Core.Path.{_≡_};
 ghost use mathlib.Core.Logic.{_≢_};
 ghost use Rattle.model.specs.declared.Place.the-variants.{Invalid};
 ghost use Rattle.model.specs.Places.{place-words, words-of, place-of, place-domain};
-ghost use Rattle.steps.specs.Effects.{acquire-at, release-at, done-at, row-domain};
+ghost use Rattle.steps.specs.Effects.{acquire-at, release-at, done-at};
 use model::Place;
 use model::PlaceWords;
 
@@ -131,17 +131,4 @@ pub(crate) fn wide(x: u8) -> u32
     ensures { λ r. ⌜ r ≡ x ⌝ }
 {
     x as u32
-}
-
-// The domain of a place by its row and the domain that it names; Idle and Inside are at home.
-pub(crate) fn domain_by_row(home: u8, row: u8, domain: u8) -> u32
-    ensures { λ r. ⌜ r ≡ row-domain home row domain ⌝ }
-{
-    if row == 0 {
-        return wide(home);
-    }
-    if row == 5 {
-        return wide(home);
-    }
-    wide(domain)
 }

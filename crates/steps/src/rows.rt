@@ -46,7 +46,7 @@ pub(crate) struct Effect {
 }
 
 // The search for the child of a domain on the path from a home up, level by level: it leaves as soon as it has the child, and says how many domains it looked at.
-fn search_at(parents: &[u8; 64], domains: u32, home: u8, l: u8) -> Found
+pub(crate) fn search_at(parents: &[u8; 64], domains: u32, home: u8, l: u8) -> Found
     requires { ⌜ domains ≤ 64 ⌝ }
     requires { ⌜ Lower domains (now parents) ⌝ }
     requires { ⌜ home < domains ⌝ }
@@ -280,7 +280,7 @@ fn grant(w: Words, to: u16, word: u64) -> Effect
 }
 
 // One more, from 65,535 to 0.
-fn next_number(v: u16) -> u32
+pub(crate) fn next_number(v: u16) -> u32
     ensures { λ r. ⌜ r ≡ wrap (v + 1) ⌝ }
 {
     std::num::wrapping_add_u16(v, 1) as u32

@@ -1,13 +1,16 @@
 // Effects stored into a state, and the run's loop.
 ghost use mathlib.Core.Path.{_≡_};
 ghost use mathlib.Core.Bool.{cond};
-ghost use Prim.Native.Nat.{_+_, _*_, _<_, _≤_};
+ghost use Prim.Native.Nat.{_+_, _*_, _/_, _%_, _<_, _≤_};
 ghost use lib.ListN.{length, getD};
 ghost use Rattle.model.specs.Trees.{tree-of};
-ghost use Rattle.model.specs.Refusals.{run-refusal};
+ghost use Rattle.model.specs.Counters.{lock-state, counters-after};
+ghost use Rattle.model.specs.Refusals.{first-refusal, run-tests-before-19};
+ghost use Rattle.refusals.specs.Counts.{counters-in};
 ghost use Rattle.model.specs.Runs.{steps, run};
-ghost use Rattle.steps.specs.Effects.{stored, counter-stored};
-ghost use Rattle.steps.specs.Running.{Last-told, kinds-of, counted, counts-by, is-entry-number, traced-at, trace-front, code-of, told-at, told-front};
+ghost use Rattle.steps.specs.Effects.{stored, counter-stored, row-domain};
+ghost use Rattle.steps.specs.Running.{kinds-of, counted, counts-by, is-entry-number, traced-at, trace-front, code-of, told-at, told-front};
+use crate::counting;
 use crate::places;
 use crate::rows;
 use model::Counts;
@@ -123,30 +126,43 @@ fn tell(told: &mut [u16], at: usize, kind: u8, row: u8, domain: u8)
     told[at] = kind as u16 + 8 * (row as u16) + 128 * (domain as u16);
 }
 
-// The steps of a schedule, stored one after another into one state, which is copied at the start and at the end alone. How many of them are of each kind, kind and domain of the last one, and what each of the first was, as many as there is room for, are written where the caller lends room, so that the state alone is returned.
+// The domain that a step was at, by its thread's home and what was told of the step.
+pub fn domain_told(home: u8, code: u16) -> u32
+    ensures { λ r. ⌜ r ≡ row-domain home ((code / 8) % 16) (code / 128) ⌝ }
+{
+    let row = (code / 8) % 16;
+    if row == 0 {
+        return places::wide(home);
+    }
+    if row == 5 {
+        return places::wide(home);
+    }
+    (code / 128) as u32
+}
+
+// The steps of a schedule, stored one after another into one state, which is copied at the start and at the end alone. How many of them are of each kind, what each of the first was, as many as there is room for, and the counters of the domains are written where the caller lends room, so that the state alone is returned.
 pub fn run_steps(
     tree: TreeWords,
     state: State,
     schedule: &[u16],
     trace: &mut [u16],
     kinds: &mut [u32; 6],
-    last: &mut [u32; 2],
     told: &mut [u16],
+    entries: &mut [u64; 64],
+    tenures: &mut [u64; 64],
+    longest: &mut [u64; 64],
 ) -> State
-    requires { ⌜ run-refusal (tree-of tree) state (now schedule) (length (now trace)) .number ≡ 0 ⌝ }
+    requires { ⌜ first-refusal (run-tests-before-19 (tree-of tree) (lock-state state (counters-in (now entries) (now tenures) (now longest))) (now schedule) (length (now trace))) .number ≡ 0 ⌝ }
     ensures { λ r. ⌜ r ≡ run (tree-of tree) (now (schedule .entry)) state .state ⌝ }
     ensures { λ r. ⌜ now (trace .exit) ≡ trace-front (now (trace .entry)) (run (tree-of tree) (now (schedule .entry)) state) ⌝ }
     ensures { λ r. ⌜ now (kinds .exit) ≡ kinds-of (steps (tree-of tree) (now (schedule .entry)) state) ⌝ }
-    ensures { λ r. ⌜ Last-told (tree-of tree) (now (schedule .entry)) state (now (last .exit)) ⌝ }
     ensures { λ r. ⌜ now (told .exit) ≡ told-front (now (told .entry)) (steps (tree-of tree) (now (schedule .entry)) state) ⌝ }
+    ensures { λ r. ⌜ counters-in (now (entries .exit)) (now (tenures .exit)) (now (longest .exit)) ≡ counters-after (tree-of tree) (counters-in (now (entries .entry)) (now (tenures .entry)) (now (longest .entry))) (steps (tree-of tree) (now (schedule .entry)) state) ⌝ }
 {
     let mut n = state;
     let mut tally = [0u32; 6];
-    let mut entries: u32 = 0;
-    let mut row: u8 = 0;
-    let mut domain: u8 = 0;
-    let mut last_kind: u8 = 0;
-    let mut thread: u16 = 0;
+    let mut shown = [false; 64];
+    let mut entered: u32 = 0;
     let mut k: u32 = 0;
     while (k as usize) < schedule.len() {
         let position = k as usize;
@@ -168,32 +184,56 @@ pub fn run_steps(
             n.ticket,
             n.grant,
         );
-        row = before.row;
-        domain = before.domain;
+        let row = before.row;
+        let domain = before.domain;
         let kind = e.kind;
-        last_kind = kind;
-        thread = i;
         count_in(&mut tally, kind);
         if kind == model::STAY {
             tell(told, position, kind, row, domain);
             k += 1;
             continue;
         }
+        let place = e.place;
+        let home = tree.homes[at];
+        let looked = counting::looked_at(row, tree.threads);
+        let mut j: u32 = 0;
+        while j < looked {
+            let other = j as usize;
+            let q = n.places[other];
+            let its_home = tree.homes[other];
+            counting::mark_shown(
+                &tree.parents,
+                tree.domains,
+                its_home,
+                &n.statuses,
+                q,
+                n.grant,
+                &mut shown,
+            );
+            j += 1;
+        }
+        counting::count_step(
+            &tree.parents,
+            tree.domains,
+            home,
+            before,
+            place,
+            kind,
+            &mut shown,
+            entries,
+            tenures,
+            longest,
+        );
         store_tail(&mut n.tails, e.domain, e.tail);
         store_next(&mut n.nexts, e.linked, e.next);
         store_status(&mut n.statuses, e.marked, e.status);
         store_counter(&mut n.ticket, e.ticket);
         store_counter(&mut n.grant, e.grant);
-        let place = e.place;
         n.places[at] = place;
-        entries = trace_at(trace, entries, kind, i);
+        entered = trace_at(trace, entered, kind, i);
         tell(told, position, kind, row, domain);
         k += 1;
     }
     *kinds = tally;
-    let at = thread as usize;
-    let kind = places::wide(last_kind);
-    let domain = places::domain_by_row(tree.homes[at], row, domain);
-    *last = [kind, domain];
     n
 }

@@ -12,4 +12,5 @@ pub mod Along
 pub mod Fitting
 pub mod Tracking
 pub mod Law
+pub mod Counted
 pub mod Cases

@@ -1,5 +1,5 @@
 -- THE ROW BUFFER after a call: each row at its place, nothing behind them. Assumes nothing.
-use mathlib.Core.Path.{_≡_, refl, sym, ap, _∙_}
+use mathlib.Core.Path.{_≡_, refl, ap, _∙_}
 use mathlib.Core.List.{List, [], _∷_, _++_, append-assoc}
 use mathlib.Core.Logic.{_≢_}
 use Prim.Native.Nat.{ℕ, zero, suc, _+_, _*_, _≤_, _<_}
@@ -9,21 +9,19 @@ use lib.ListN.{length, take, drop, getD, length-append, length-drop}
 use borrow.Author.Tests.{eq-eqb, ne-eqb}
 use lib.Seq.{drop-at}
 use Rattle.model.specs.declared.TreeWords.{TreeWords}
-use Rattle.model.specs.declared.State.{State}
+use Rattle.model.specs.declared.LockState.{LockState}
 use Rattle.model.specs.Trees.{Tree, tree-of}
 use Rattle.model.specs.Steps.{Step}
 use Rattle.model.specs.Runs.{steps, run}
-use Rattle.model.specs.Refusals.{refusal, run-tests, run-refusal}
-use Rattle.model.specs.Answers.{run-reply, run-buffer, run-answer, trace-answer}
-use Rattle.model.specs.Laws.{Refusal-law}
-use Rattle.model.proofs.Laws.Refusals.{refusal-law}
+use Rattle.model.specs.Refusals.{refusal, first-refusal, run-tests-before-19, run-refusal}
+use Rattle.model.specs.Answers.{counters-behind, run-reply, run-buffer, run-answer, trace-answer}
 use Rattle.schedules.specs.Rows.{total}
 use Rattle.schedules.specs.Answers.{row-buffer}
 use Rattle.waits.specs.Attempts.{waits, waits-below}
 use Rattle.waits.specs.Rows.{largest, row-with, row-of, rows-below, all-rows}
 use Rattle.waits.specs.Answers.{refused-by, waits-answer, waits-trace, waits-rows}
 use Rattle.waits.specs.Laws.{Waits-refusal-law, Runs-as, Waits-run-law, row-at, column, Says, Row-law, Keeps-rest, Row-buffer-law}
-use Rattle.waits.proofs.Refusing.{run-numbered, waits-refusal-law}
+use Rattle.waits.proofs.Refusing.{early-passes, early-zero, waits-refusal-law}
 use Rattle.waits.proofs.Tallying.{total-join, largest-join}
 
 row-long : (n w m : ℕ) → length (row-with n w m) ≡ 5
@@ -60,12 +58,12 @@ row-in t xs (suc n) i rest h =
     ]
 
 -- THE CALL by its refusal
-module _ (w : TreeWords) (s : State) (is b rs : List ℕ) where
+module _ (w : TreeWords) (s : LockState) (is b rs : List ℕ) where
   abbrev t : Tree
   t = tree-of w
 
   abbrev xs : List Step
-  xs = steps t is s
+  xs = steps t is (s .words)
 
   rows-accepted : refused-by w s is b rs .number ≡ 0 → waits-rows w s is b rs ≡ all-rows t xs ++ drop (length (all-rows t xs)) rs
   unfolding waits-rows row-buffer
@@ -76,13 +74,8 @@ module _ (w : TreeWords) (s : State) (is b rs : List ℕ) where
   rows-refused n = rw (ne-eqb (refused-by w s is b rs .number) 0 n)
 
   rows-fit : refused-by w s is b rs .number ≡ 0 → 5 * (t .threads + 1) ≤ length rs
-  unfolding Waits-refusal-law refusal refused-by
-  rows-fit e =
-      by-contra (5 * (t .threads + 1)) (length rs)
-      (λ h. elim (ℕ-discrete (run-refusal t s is (length b) .number) 0) [
-        | no z ↦ z (sym (ap (λ r. r .number) (waits-refusal-law t s is (length b) (length rs) .run-refused z)) ∙ e)
-        | yes z ↦ (let m = ap (λ r. r .number) (waits-refusal-law t s is (length b) (length rs) .room-refused z h) in omega arith)
-      ])
+  unfolding refused-by
+  rows-fit e = early-passes t s is (length b) (length rs) (early-zero t s is (length b) (length rs) e) .1
 
   rest-accepted : refused-by w s is b rs .number ≡ 0 → Keeps-rest w s is b rs
   rest-accepted e =
@@ -104,19 +97,18 @@ module _ (w : TreeWords) (s : State) (is b rs : List ℕ) where
   -- the run's part
   module _ (n : refused-by w s is b rs .number ≢ 18) where
     same-refusal : refused-by w s is b rs ≡ run-refusal t s is (length b)
-    unfolding Waits-refusal-law refusal refused-by Refusal-law run-refusal
+    unfolding Waits-refusal-law refusal refused-by
     same-refusal =
-        elim (ℕ-discrete (run-refusal t s is (length b) .number) 0) [
+        elim (ℕ-discrete (first-refusal (run-tests-before-19 t s is (length b)) .number) 0) [
           | no z ↦ waits-refusal-law t s is (length b) (length rs) .run-refused z
           | yes z ↦
-              waits-refusal-law t s is (length b) (length rs) .accepts z
+              waits-refusal-law t s is (length b) (length rs) .rows-fit z
               (by-contra (5 * (t .threads + 1)) (length rs) (λ h. n (ap (λ r. r .number) (waits-refusal-law t s is (length b) (length rs) .room-refused z h))))
-              ∙ sym (refusal-law (run-tests t s is (length b)) (run-numbered t s is (length b) (length rs)) .zero-accepted z)
         ]
 
     runs-as : Runs-as w s is b rs
     unfolding waits-answer waits-trace run-answer trace-answer
-    runs-as = record { reply = ap (λ r. run-reply r s (run t is s)) same-refusal; traced = ap (λ r. run-buffer r b (run t is s)) same-refusal }
+    runs-as = record { reply = ap (λ r. run-reply r s (run t is (s .words)) (counters-behind t is s)) same-refusal; traced = ap (λ r. run-buffer r b (run t is (s .words))) same-refusal }
 
   -- what the rows say
   module _ (e : refused-by w s is b rs .number ≡ 0) where

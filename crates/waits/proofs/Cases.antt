@@ -4,47 +4,53 @@ use mathlib.Core.Bool.{Bool, true, _&&_, not}
 use mathlib.Core.List.{List, [], _∷_, _++_}
 use Prim.Native.Nat.{ℕ}
 use lib.ListN.{length}
+use Rattle.model.specs.declared.LockState.{LockState}
 use Rattle.model.specs.Scans.{any-below, filter-below, all-below}
 use Rattle.model.specs.Trees.{Tree, read-word, tree-of, is-ticket, is-child, is-leaf, depth-from, depth, level, meets, on-path, child-from, child, own-record, is-record, is-member, owner-domain, under}
 use Rattle.model.specs.Places.{bare-place, plain-place, place-of, is-watch, is-idle, is-inside}
 use Rattle.model.specs.States.{fresh-words, fresh-state}
 use Rattle.model.specs.Steps.{is-kind, is-entry, prep-row, swap-row, link-row, wait-row, leave-row, check-row, help-row, cas-row, linger-row, grant-row, draw-row, watch-row, is-watched, shown-members, raise-row, row, step}
-use Rattle.model.specs.Runs.{steps, state-after, how-many, entering, counts-of, run-of, run}
+use Rattle.model.specs.Runs.{steps, state-after, how-many, entering, counts-of, run-of, run, ended-in, entries-under, occurrences}
 use Rattle.model.specs.WellFormed.{good-tail, queue-on-path, good-place, good-counters}
-use Rattle.model.specs.Refusals.{Refusal, test, refusal, accepted, lowest-bad, first-refusal, bad-domains, bad-threads, bad-parent, too-deep, no-threshold, bad-home, empty-domain, tree-tests, bad-state, bad-length, bad-entry, bad-room, schedule-tests, room-tests, run-tests}
-use Rattle.model.specs.Answers.{run-reply, run-buffer}
-use Rattle.model.specs.Cases.{padded, tree, at-ticket-root, two-homes, first-entries, two-in-root, three-levels, same-numbers, place-numbers, same-counts, same-state}
+use Rattle.model.specs.Tenures.{finds-none, taken-from, given, starts, checks-at, word-to-grant, told-length, domain-entries, domain-tenures, longest-told}
+use Rattle.model.specs.Counters.{fresh-counters, each-with-index, counters-after, good-count, good-counts, count-above, any-above}
+use Rattle.model.specs.Refusals.{Refusal, test, refusal, accepted, lowest-bad, first-refusal, bad-domains, bad-threads, bad-parent, too-deep, no-threshold, bad-home, empty-domain, tree-tests, bad-state, bad-length, bad-entry, bad-room, bad-counter, counter-tests, schedule-tests, room-tests}
+use Rattle.model.specs.Answers.{counters-behind, run-reply, run-buffer}
+use Rattle.model.specs.Cases.{padded, tree, at-ticket-root, two-homes, first-entries, two-in-root, three-levels, same-numbers, place-numbers, same-counts, same-state, same-counters, same-lock}
 use Rattle.schedules.specs.Rows.{total}
 use Rattle.schedules.specs.Answers.{row-buffer}
 use Rattle.waits.specs.Attempts.{swaps-at, draws, begins-from, begins, enters, begun, counted, under-way-after, finished, finished-by, waits-from, waits-below}
 use Rattle.waits.specs.Rows.{largest, divisor-in, mean, row-with, row-of, rows-below, all-rows}
 use Rattle.waits.specs.Refusals.{bad-row-room, row-room-tests, waits-tests, waits-refusal}
 use Rattle.waits.specs.Answers.{refused-by, waits-answer, waits-trace, waits-rows}
-use Rattle.waits.specs.Cases.{Case, rows-given, refused-with, reached, no-attempt, no-wait, taking-turns, cases, answered, holds, all-hold}
+use Rattle.waits.specs.Cases.{Case, rows-given, refused-from, refused-with, full-entries, reached, no-attempt, no-wait, taking-turns, cases, answered, holds, all-hold}
 use Rattle.model.proofs.Tests.{and-both}
 use Rattle.model.proofs.Computing.{walked, Sized, formed-by-walks, same-formed, state-sized, sized}
 
--- what refuses a run with waits, by whether the state is well formed; and where that is tested by walks
-abbrev refusal-by : Tree → (formed : Bool) → (schedule : List ℕ) → (room row-room : ℕ) → Refusal
-refusal-by t b is room n = first-refusal ((tree-tests t ++ ((test 10 1 (λ p. not b) ∷ []) ++ (schedule-tests t is ++ room-tests is room))) ++ row-room-tests t n)
+-- what refuses a run with waits, by whether the words of the state are well formed; and where that is tested by walks
+abbrev refusal-by : Tree → (formed : Bool) → LockState → (schedule : List ℕ) → (room row-room : ℕ) → Refusal
+refusal-by t b s is room n =
+    first-refusal
+    (((tree-tests t ++ ((test 10 1 (λ p. not (b && good-counts t (s .counters))) ∷ []) ++ (schedule-tests t is ++ room-tests is room))) ++ row-room-tests t n)
+    ++ counter-tests t s is)
 
 unfoldable walked-refusal : Case → Refusal
 walked-refusal c =
     let t = tree-of (c .words) in
-    refusal-by t (formed-by-walks t (c .state)) (c .schedule) (length (c .trace)) (length (c .rows))
+    refusal-by t (formed-by-walks t (c .state .words)) (c .state) (c .schedule) (length (c .trace)) (length (c .rows))
 
-same-refusal : (c : Case) → Sized (c .state) → refused-by (c .words) (c .state) (c .schedule) (c .trace) (c .rows) ≡ walked-refusal c
-unfolding walked-refusal refused-by waits-refusal waits-tests run-tests bad-state
+same-refusal : (c : Case) → Sized (c .state .words) → refused-by (c .words) (c .state) (c .schedule) (c .trace) (c .rows) ≡ walked-refusal c
+unfolding walked-refusal refused-by waits-refusal waits-tests bad-state
 same-refusal c h =
     let t = tree-of (c .words) in
-    ap (λ b. refusal-by t b (c .schedule) (length (c .trace)) (length (c .rows))) (same-formed t (c .state) h)
+    ap (λ b. refusal-by t b (c .state) (c .schedule) (length (c .trace)) (length (c .rows))) (same-formed t (c .state .words) h)
 
 unfoldable holds-by-walks : Case → Bool
 holds-by-walks c =
     let t = tree-of (c .words) in
     let r = walked-refusal c in
-    let x = run t (c .schedule) (c .state) in
-    answered (run-reply r (c .state) x) (run-buffer r (c .trace) x) (row-buffer r (c .rows) (all-rows t (steps t (c .schedule) (c .state)))) c
+    let x = run t (c .schedule) (c .state .words) in
+    answered (run-reply r (c .state) x (counters-behind t (c .schedule) (c .state))) (run-buffer r (c .trace) x) (row-buffer r (c .rows) (all-rows t (steps t (c .schedule) (c .state .words)))) c
 
 unfoldable all-hold-by-walks : List Case → Bool
 all-hold-by-walks [] = true
@@ -53,23 +59,23 @@ all-hold-by-walks (c ∷ cs) = holds-by-walks c && all-hold-by-walks cs
 -- the states that the cases hand in are whole
 unfoldable all-sized : List Case → Bool
 all-sized [] = true
-all-sized (c ∷ cs) = state-sized (c .state) && all-sized cs
+all-sized (c ∷ cs) = state-sized (c .state .words) && all-sized cs
 
-same-case : (c : Case) → state-sized (c .state) ≡ true → holds c ≡ holds-by-walks c
+same-case : (c : Case) → state-sized (c .state .words) ≡ true → holds c ≡ holds-by-walks c
 unfolding holds-by-walks holds waits-answer waits-trace waits-rows
-same-case c e = rw (same-refusal c (sized (c .state) e))
+same-case c e = rw (same-refusal c (sized (c .state .words) e))
 
 same-cases : (cs : List Case) → all-sized cs ≡ true → all-hold cs ≡ all-hold-by-walks cs
 unfolding all-hold all-hold-by-walks all-sized
 same-cases [] e = refl
 same-cases (c ∷ cs) e =
-    let a = and-both (state-sized (c .state)) (all-sized cs) e in
+    let a = and-both (state-sized (c .state .words)) (all-sized cs) e in
     rw (same-case c (a .0), same-cases cs (a .1))
 
 cases-sized : all-sized cases ≡ true
-unfolding any-below filter-below all-below read-word tree-of is-ticket is-child is-leaf depth-from depth level meets on-path child-from child own-record is-record is-member owner-domain under bare-place plain-place place-of is-watch is-idle is-inside fresh-words fresh-state is-kind is-entry prep-row swap-row link-row wait-row leave-row check-row help-row cas-row linger-row grant-row draw-row watch-row is-watched shown-members raise-row row step steps state-after how-many entering counts-of run-of run good-tail queue-on-path good-place good-counters refusal accepted bad-domains bad-threads bad-parent too-deep no-threshold bad-home empty-domain tree-tests bad-length bad-entry bad-room run-reply run-buffer padded tree at-ticket-root two-homes first-entries two-in-root three-levels same-numbers place-numbers same-counts same-state total row-buffer swaps-at draws begins-from begins enters begun counted under-way-after finished finished-by waits-from waits-below largest divisor-in mean row-with row-of rows-below all-rows rows-given refused-with reached no-attempt no-wait taking-turns cases all-sized
+unfolding any-below filter-below all-below read-word tree-of is-ticket is-child is-leaf depth-from depth level meets on-path child-from child own-record is-record is-member owner-domain under bare-place plain-place place-of is-watch is-idle is-inside fresh-words fresh-state is-kind is-entry prep-row swap-row link-row wait-row leave-row check-row help-row cas-row linger-row grant-row draw-row watch-row is-watched shown-members raise-row row step steps state-after how-many entering counts-of run-of run good-tail queue-on-path good-place good-counters refusal accepted bad-domains bad-threads bad-parent too-deep no-threshold bad-home empty-domain tree-tests bad-length bad-entry bad-room run-reply run-buffer padded tree at-ticket-root two-homes first-entries two-in-root three-levels same-numbers place-numbers same-counts same-state total row-buffer swaps-at draws begins-from begins enters begun counted under-way-after finished finished-by waits-from waits-below largest divisor-in mean row-with row-of rows-below all-rows rows-given refused-from refused-with full-entries reached no-attempt no-wait taking-turns cases all-sized
 cases-sized = refl
 
 pub cases-hold : all-hold cases ≡ true
-unfolding any-below filter-below all-below read-word tree-of is-ticket is-child is-leaf depth-from depth level meets on-path child-from child own-record is-record is-member owner-domain under bare-place plain-place place-of is-watch is-idle is-inside fresh-words fresh-state is-kind is-entry prep-row swap-row link-row wait-row leave-row check-row help-row cas-row linger-row grant-row draw-row watch-row is-watched shown-members raise-row row step steps state-after how-many entering counts-of run-of run good-tail queue-on-path good-place good-counters refusal accepted lowest-bad first-refusal bad-domains bad-threads bad-parent too-deep no-threshold bad-home empty-domain tree-tests bad-length bad-entry bad-room run-reply run-buffer padded tree at-ticket-root two-homes first-entries two-in-root three-levels same-numbers place-numbers same-counts same-state total row-buffer swaps-at draws begins-from begins enters begun counted under-way-after finished finished-by waits-from waits-below largest divisor-in mean row-with row-of rows-below all-rows bad-row-room rows-given refused-with reached no-attempt no-wait taking-turns cases walked formed-by-walks walked-refusal holds-by-walks all-hold-by-walks
+unfolding occurrences ended-in entries-under finds-none taken-from given starts checks-at word-to-grant told-length domain-entries domain-tenures longest-told fresh-counters each-with-index counters-after good-count good-counts count-above any-above bad-counter counters-behind any-below filter-below all-below read-word tree-of is-ticket is-child is-leaf depth-from depth level meets on-path child-from child own-record is-record is-member owner-domain under bare-place plain-place place-of is-watch is-idle is-inside fresh-words fresh-state is-kind is-entry prep-row swap-row link-row wait-row leave-row check-row help-row cas-row linger-row grant-row draw-row watch-row is-watched shown-members raise-row row step steps state-after how-many entering counts-of run-of run good-tail queue-on-path good-place good-counters refusal accepted lowest-bad first-refusal bad-domains bad-threads bad-parent too-deep no-threshold bad-home empty-domain tree-tests bad-length bad-entry bad-room run-reply run-buffer padded tree at-ticket-root two-homes first-entries two-in-root three-levels same-numbers place-numbers same-counts same-state same-counters same-lock total row-buffer swaps-at draws begins-from begins enters begun counted under-way-after finished finished-by waits-from waits-below largest divisor-in mean row-with row-of rows-below all-rows bad-row-room rows-given refused-from refused-with full-entries reached no-attempt no-wait taking-turns cases walked formed-by-walks walked-refusal holds-by-walks all-hold-by-walks
 cases-hold = same-cases cases cases-sized ∙ refl

@@ -1,22 +1,30 @@
 -- A run in pieces: what holds between two of them. Assumes nothing.
 use mathlib.Core.Path.{_≡_, refl, sym, ap, subst, _∙_}
+use mathlib.Core.Bool.{true}
 use mathlib.Core.List.{List, [], _∷_, _++_, append-assoc, append-nil}
 use Prim.Native.Nat.{ℕ, zero, suc, _+_, _-_, _≤_, _<_}
 use native.Mathlib.Omega.{arith}
 use lib.ListN.{getD, length, take, drop, replicate, drop-of-length-le, length-drop, length-append, length-replicate, take-append-drop}
-use lib.Seq.{length-take-le, take-all, drop-cons, take-append-seam, drop-append-seam, drop-drop, sets, length-sets}
+use lib.Seq.{length-take-le, take-take, take-all, drop-cons, take-append-seam, drop-append-seam, drop-drop, sets, length-sets}
 use Rattle.model.specs.declared.TreeWords.{TreeWords}
 use Rattle.model.specs.declared.State.{State}
+use Rattle.model.specs.declared.Counters.{Counters}
+use Rattle.model.specs.declared.LockState.{LockState}
 use Rattle.model.specs.Trees.{Tree, tree-of}
 use Rattle.model.specs.Steps.{stay, other, root-entry, passed-entry, crossed-entry, leaving, is-kind, is-entry, Step, step}
 use Rattle.model.specs.Runs.{steps, state-after, how-many, entering, counts-of, run-of, run}
-use Rattle.model.specs.Refusals.{tree-refusal, run-refusal}
+use Rattle.model.specs.Counters.{lock-state, counters-after, good-counts, any-above}
+use Rattle.model.specs.Refusals.{first-refusal, bad-counter, tree-refusal, run-tests-before-19, run-refusal}
+use Rattle.model.specs.Answers.{counters-behind}
+use Rattle.model.specs.CounterLaws.{Counter-form-law}
 use Rattle.model.proofs.Trees.Accepted.{accepted}
 use Rattle.model.specs.Laws.{All-threads, Formed, Form-law, Count-law}
-use Rattle.model.proofs.Laws.Runs.{steps-join, steps-length, state-after-join, entering-join, how-many-join, count-law}
+use Rattle.model.proofs.Laws.Runs.{steps-join, steps-take, steps-length, state-after-join, entering-join, how-many-join, count-law}
 use Rattle.model.proofs.Laws.Refusals.{accepted-number}
 use Rattle.model.proofs.Laws.Form.{form-law}
-use Rattle.model.proofs.Laws.Calls.{Good-run, run-accepted}
+use Rattle.model.proofs.Counted.{counters-none, counters-join}
+use Rattle.model.proofs.Laws.Counters.{counter-form-law}
+use Rattle.model.proofs.Laws.Calls.{Good-run, run-facts, run-counted, early-accepted}
 use Rattle.waits.specs.Rows.{all-rows}
 use Rattle.waits.specs.Tallies.{Tallies, rows-by}
 use Rattle.waits.proofs.Tables.{start, fits, rows-end}
@@ -106,27 +114,35 @@ threads-few w z = accepted (tree-of w) z .few-threads
 few-entries : (xs : List Step) → how-many is-entry xs ≤ length xs
 few-entries xs = few-kinds is-entry xs
 
-module _ (w : TreeWords) (is b₀ : List ℕ) (s₀ : State) where
+module _ (w : TreeWords) (is b₀ : List ℕ) (s₀ : State) (c₀ : Counters) where
   abbrev t : Tree
   t = tree-of w
+
+  abbrev handed : LockState
+  handed = lock-state s₀ c₀
 
   abbrev done : ℕ → List Step
   done k = steps t (take k is) s₀
 
   -- the first entries are done, in some pieces
-  pub record In-pieces (b M A W L : List ℕ) (s : State) (kinds : List ℕ) (n from : ℕ) : Type 0 where
+  pub record In-pieces (b M A W L : List ℕ) (s : State) (c : Counters) (kinds : List ℕ) (n from : ℕ) : Type 0 where
     pub within : from ≤ length is
     pub formed : Formed t s
+    pub first-formed : Formed t s₀
     pub state-is : s ≡ state-after s₀ (done from)
+    pub counters-are : c ≡ counters-after t c₀ (done from)
     pub kinds-are : kinds ≡ kinds-of (done from)
     pub trace-is : b ≡ trace-front b₀ (run t (take from is) s₀)
     pub tallies : Tallies t (done from) M A W L n
 
-  pub pieces-start : Formed t s₀ → In-pieces b₀ (replicate 256 0) (replicate 256 0) (replicate 256 0) (replicate 256 0) s₀ (0 ∷ 0 ∷ 0 ∷ 0 ∷ 0 ∷ 0 ∷ []) 0 0
+  pub pieces-start : Formed t s₀ → In-pieces b₀ (replicate 256 0) (replicate 256 0) (replicate 256 0) (replicate 256 0) s₀ c₀ (0 ∷ 0 ∷ 0 ∷ 0 ∷ 0 ∷ 0 ∷ []) 0 0
   unfolding run run-of steps state-after how-many entering kinds-of
-  pieces-start f = record { within = omega arith; formed = f; state-is = refl; kinds-are = refl; trace-is = refl; tallies = start t }
+  pieces-start f = record { within = omega arith; formed = f; first-formed = f; state-is = refl; counters-are = sym (counters-none t c₀); kinds-are = refl; trace-is = refl; tallies = start t }
 
-  module _ (b M A W L : List ℕ) (s : State) (kinds : List ℕ) (n from : ℕ) (G : In-pieces b M A W L s kinds n from) (R : Good-run t s₀ is (length b₀)) where
+  module _ (b M A W L : List ℕ) (s : State) (c : Counters) (kinds : List ℕ) (n from : ℕ) (G : In-pieces b M A W L s c kinds n from) (ok : run-refusal t handed is (length b₀) .number ≡ 0) where
+    abbrev R : Good-run t handed is (length b₀)
+    R = run-facts t handed is (length b₀) ok
+
     abbrev T : List ℕ
     T = run t (take from is) s₀ .trace
 
@@ -164,6 +180,9 @@ module _ (w : TreeWords) (is b₀ : List ℕ) (s₀ : State) where
       unfolding run run-of
       state-ends = G .state-is ∙ ap (λ v. state-after s₀ (steps t v s₀)) whole
 
+      pub counters-end : c ≡ counters-after t c₀ (steps t is s₀)
+      counters-end = G .counters-are ∙ ap (λ v. counters-after t c₀ (steps t v s₀)) whole
+
       pub kinds-end : kinds ≡ kinds-of (steps t is s₀)
       kinds-end = G .kinds-are ∙ ap (λ v. kinds-of (steps t v s₀)) whole
 
@@ -184,14 +203,26 @@ module _ (w : TreeWords) (is b₀ : List ℕ) (s₀ : State) where
       piece-threads : All-threads t piece
       piece-threads = all-take t (drop from is) (end - from) (all-drop t is from (R .threads))
 
-      pub piece-runs : run-refusal t s piece (length (take (length b - n) (drop n b))) .number ≡ 0
+      -- no counter is above 2^63 behind the pieces so far
+      counts-good : good-counts t c ≡ true
+      unfolding Counter-form-law counters-behind bad-counter
+      counts-good =
+          rw (G .counters-are)
+          (counter-form-law t (R .tree) (sixteen w) .of-run (take from is) handed (all-take t is from (R .threads)) (G .first-formed) (R .counts)
+          (λ p h.
+          let k : p + 1 ≤ from = omega (arith, length-take-le from is (G .within)) in
+          ap (λ v. any-above (counters-after t c₀ v)) (sym (steps-take t (p + 1) (take from is) s₀) ∙ ap (λ v. steps t v s₀) (take-take (p + 1) from is k) ∙ steps-take t (p + 1) is s₀)
+          ∙ run-counted t handed is (length b₀) ok p (omega (arith, G .within))))
+
+      pub piece-runs : first-refusal (run-tests-before-19 t (lock-state s c) piece (length (take (length b - n) (drop n b)))) .number ≡ 0
       piece-runs =
           let room : length (take (length b - n) (drop n b)) ≡ length b - n = length-take-le (length b - n) (drop n b) (omega (arith, length-drop n b)) in
           ap (λ r. r .number)
-          (run-accepted t s piece (length (take (length b - n) (drop n b)))
+          (early-accepted t (lock-state s c) piece (length (take (length b - n) (drop n b)))
           (record {
             tree = R .tree;
             form = G .formed .form;
+            counts = counts-good;
             short = omega (arith, piece-long, R .short, fit);
             threads = piece-threads;
             fits = omega (arith, piece-long, room, trace-long, entered-few, fit, R .fits, more);
@@ -239,15 +270,17 @@ module _ (w : TreeWords) (is b₀ : List ℕ) (s₀ : State) where
         countable = record { done = done from; state = s; counting = counting }
 
         pub pieces-turn :
-            (s′ : State) → s′ ≡ run t piece s .state → (ys : List ℕ) → ys ≡ trace-front (take (length b - n) (drop n b)) (run t piece s) → (pk kinds′ : List ℕ) →
+            (s′ : State) (c′ : Counters) → s′ ≡ run t piece s .state → c′ ≡ counters-after t c (steps t piece s) → (ys : List ℕ) → ys ≡ trace-front (take (length b - n) (drop n b)) (run t piece s) → (pk kinds′ : List ℕ) →
             pk ≡ kinds-of (steps t piece s) → kinds′ ≡ kinds-added kinds pk → (M′ A′ W′ L′ : List ℕ) (n′ : ℕ) → Counted t piece told M A W L n M′ A′ W′ L′ n′ →
-            In-pieces (take n b ++ (ys ++ drop (length b - n) (drop n b))) M′ A′ W′ L′ s′ kinds′ n′ end
+            In-pieces (take n b ++ (ys ++ drop (length b - n) (drop n b))) M′ A′ W′ L′ s′ c′ kinds′ n′ end
         unfolding run run-of Form-law
-        pieces-turn s′ es ys ey pk kinds′ ek em M′ A′ W′ L′ n′ C =
+        pieces-turn s′ c′ es ec ys ey pk kinds′ ek em M′ A′ W′ L′ n′ C =
             record {
               within = fit;
               formed = rw es (form-law t (sixteen w) (R .tree) .of-run piece s piece-threads (G .formed));
+              first-formed = G .first-formed;
               state-is = es ∙ ap (λ v. state-after v (steps t piece s)) (G .state-is) ∙ sym (ap (state-after s₀) joined ∙ state-after-join s₀ (done from) (steps t piece s));
+              counters-are = ec ∙ ap (λ v. counters-after t v (steps t piece s)) (G .counters-are) ∙ sym (ap (counters-after t c₀) joined ∙ counters-join t c₀ (done from) (steps t piece s));
               kinds-are = em ∙ ap (λ v. kinds-added v pk) (G .kinds-are) ∙ ap (kinds-added (kinds-of (done from))) ek ∙ sym (ap kinds-of joined ∙ kinds-join (done from) (steps t piece s));
               trace-is =
                   trace-behind b₀ b T (entering (steps t piece s)) ys n (G .trace-is) traced part-room ey

@@ -3,47 +3,102 @@ use mathlib.Core.Path.{_≡_, refl, sym, ap, _∙_}
 use mathlib.Core.List.{List, []}
 use mathlib.Core.Logic.{_≢_}
 use Prim.Native.Nat.{ℕ, _+_, _*_, _/_, _≤_, _<_}
-use native.Mathlib.Omega.{arith}
+use native.Mathlib.Omega.{arith, by-contra}
+use native.Mathlib.Decide.{ℕ-discrete}
 use borrow.Author.Tests.{lt-ltb, le-ltb}
-use Rattle.model.specs.declared.State.{State}
+use Rattle.model.specs.declared.LockState.{LockState}
 use Rattle.model.specs.Trees.{Tree}
-use Rattle.model.specs.Refusals.{refusal, accepted, first-refusal, tree-tests, run-tests, has-number, run-refusal}
+use Rattle.model.specs.Refusals as model
+use Rattle.model.specs.Refusals.{refusal, accepted, Test, first-refusal, tree-tests, counter-tests, run-tests-before-19, run-tests, has-number, run-refusal}
 use Rattle.model.specs.Laws.{Numbered, Refusal-law, Refuses-exactly}
 use Rattle.model.proofs.Refusing.{numbered}
-use Rattle.model.proofs.Laws.Refusals.{refusal-law}
+use Rattle.model.proofs.Laws.Refusals.{accepted-number, refusal-law, run-numbered-before-19}
 use Rattle.refusals.specs.declared.Refusal.{Refusal}
 use Rattle.refusals.specs.Arrays.{told}
 use Rattle.refusals.proofs.Joining.{first-decides, other-decides}
 use Rattle.refusals.proofs.Scanning.{single-hit, single-missed}
 use Rattle.refusals.proofs.RunTests.{told-not, told-zero}
-use Rattle.waits.specs.Refusals.{bad-row-room, row-room-tests, waits-tests, waits-refusal}
+use Rattle.waits.specs.Refusals.{bad-row-room, row-room-tests, waits-tests-before-19, waits-tests, waits-refusal}
 use Rattle.waits.specs.Laws.{Waits-refusal-law}
 
-module _ (t : Tree) (s : State) (is : List ℕ) (room n : ℕ) where
+module _ (t : Tree) (s : LockState) (is : List ℕ) (room n : ℕ) where
+  abbrev ran : List Test
+  ran = run-tests-before-19 t s is room
+
+  -- what is refused before 19 is tested, by the run and by the run with waits
+  abbrev run-early : model.Refusal
+  run-early = first-refusal ran
+
+  abbrev early : model.Refusal
+  early = first-refusal (waits-tests-before-19 t s is room n)
+
+  early-numbered : Numbered (waits-tests-before-19 t s is room n)
+  unfolding has-number tree-tests
+  early-numbered = numbered (waits-tests-before-19 t s is room n) refl
+
   exactly : Refuses-exactly (waits-tests t s is room n)
-  unfolding Refusal-law has-number tree-tests run-tests waits-tests
+  unfolding Refusal-law has-number tree-tests waits-tests
   exactly = refusal-law (waits-tests t s is room n) (numbered (waits-tests t s is room n) refl)
 
-  pub run-numbered : Numbered (run-tests t s is room)
-  unfolding has-number tree-tests run-tests
-  run-numbered = numbered (run-tests t s is room) refl
+  -- BEFORE 19: the run's tests decide where one of them refuses, else the room for rows
+  run-decides : run-early .number ≢ 0 → early ≡ run-early
+  run-decides = first-decides ran (row-room-tests t n)
 
-  run-refused : run-refusal t s is room .number ≢ 0 → waits-refusal t s is room n ≡ run-refusal t s is room
-  unfolding waits-refusal waits-tests run-refusal
-  run-refused h = first-decides (run-tests t s is room) (row-room-tests t n) h
+  module _ (passes : run-early .number ≡ 0) where
+    rows-decide : early ≡ first-refusal (row-room-tests t n)
+    rows-decide = other-decides ran (row-room-tests t n) (run-numbered-before-19 t s is room) passes
 
-  module _ (passes : run-refusal t s is room .number ≡ 0) where
-    behind-run : waits-refusal t s is room n ≡ first-refusal (row-room-tests t n)
-    unfolding waits-refusal waits-tests run-refusal
-    behind-run = other-decides (run-tests t s is room) (row-room-tests t n) run-numbered passes
-
-    room-refused : n < 5 * (t .threads + 1) → waits-refusal t s is room n ≡ refusal 18 0
+    rows-refuse : n < 5 * (t .threads + 1) → early ≡ refusal 18 0
     unfolding bad-row-room
-    room-refused h = behind-run ∙ single-hit _ [] refl (lt-ltb (n / 5) (t .threads + 1) (omega arith))
+    rows-refuse h = rows-decide ∙ single-hit _ [] refl (lt-ltb (n / 5) (t .threads + 1) (omega arith))
 
-    accepts : 5 * (t .threads + 1) ≤ n → waits-refusal t s is room n ≡ accepted
+    rows-pass : 5 * (t .threads + 1) ≤ n → early ≡ accepted
     unfolding bad-row-room first-refusal
-    accepts h = behind-run ∙ single-missed _ [] refl (le-ltb (n / 5) (t .threads + 1) (omega arith))
+    rows-pass h = rows-decide ∙ single-missed _ [] refl (le-ltb (n / 5) (t .threads + 1) (omega arith))
+
+  -- WITH 19: what refuses before it is the answer; where nothing does, 19 decides
+  pub early-decides : early .number ≢ 0 → waits-refusal t s is room n ≡ early
+  unfolding waits-refusal waits-tests
+  early-decides = first-decides (waits-tests-before-19 t s is room n) (counter-tests t s is)
+
+  pub counters-decide : early .number ≡ 0 → waits-refusal t s is room n ≡ first-refusal (counter-tests t s is)
+  unfolding waits-refusal waits-tests
+  counters-decide = other-decides (waits-tests-before-19 t s is room n) (counter-tests t s is) early-numbered
+
+  -- where nothing refuses before 19, neither the run's tests do nor the room for rows
+  pub early-passes : early .number ≡ 0 → (run-early .number ≡ 0) × (5 * (t .threads + 1) ≤ n)
+  unfolding refusal
+  early-passes e =
+      elim (ℕ-discrete (run-early .number) 0) [
+        | no z ↦ absurd (z (sym (ap (λ r. r .number) (run-decides z)) ∙ e))
+        | yes z ↦ (z, by-contra (5 * (t .threads + 1)) n (λ h. let m = ap (λ r. r .number) (rows-refuse z h) in omega arith))
+      ]
+
+  -- an accepted call met no refusal before 19
+  pub early-zero : waits-refusal t s is room n .number ≡ 0 → early .number ≡ 0
+  early-zero e =
+      elim (ℕ-discrete (early .number) 0) [
+        | yes z ↦ z
+        | no z ↦ absurd (z (sym (ap (λ r. r .number) (early-decides z)) ∙ e))
+      ]
+
+  run-refused : run-early .number ≢ 0 → waits-refusal t s is room n ≡ run-refusal t s is room
+  unfolding run-refusal run-tests
+  run-refused h =
+      early-decides (λ z. h (sym (ap (λ r. r .number) (run-decides h)) ∙ z)) ∙ run-decides h ∙ sym (first-decides ran (counter-tests t s is) h)
+
+  module _ (passes : run-early .number ≡ 0) where
+    room-refused : n < 5 * (t .threads + 1) → waits-refusal t s is room n ≡ refusal 18 0
+    unfolding refusal
+    room-refused h =
+        let e = rows-refuse passes h in
+        early-decides (λ z. let m = sym (ap (λ r. r .number) e) ∙ z in omega arith) ∙ e
+
+    rows-fit : 5 * (t .threads + 1) ≤ n → waits-refusal t s is room n ≡ run-refusal t s is room
+    unfolding run-refusal run-tests
+    rows-fit h =
+        counters-decide (ap (λ r. r .number) (rows-pass passes h) ∙ accepted-number)
+        ∙ sym (other-decides ran (counter-tests t s is) (run-numbered-before-19 t s is room) passes)
 
 pub waits-refusal-law : Waits-refusal-law
 unfolding Waits-refusal-law
@@ -52,19 +107,34 @@ waits-refusal-law t s is room n =
       exactly = exactly t s is room n;
       run-refused = run-refused t s is room n;
       room-refused = room-refused t s is room n;
-      accepts = accepts t s is room n;
+      rows-fit = rows-fit t s is room n;
     }
 
 -- what the code tells, by what it has tested
-module _ (t : Tree) (s : State) (is : List ℕ) (room n : ℕ) (r : Refusal) (e : r ≡ told (run-refusal t s is room)) where
-  pub told-run : (r .number ≡ 0 → ⊥) → r ≡ told (waits-refusal t s is room n)
-  told-run h = e ∙ ap told (sym (run-refused t s is room n (told-not r _ e h)))
+module _ (t : Tree) (s : LockState) (is : List ℕ) (room n : ℕ) (r : Refusal) (e : r ≡ told (run-early t s is room n)) where
+  pub told-run : (r .number ≡ 0 → ⊥) → r ≡ told (early t s is room n)
+  told-run h = e ∙ ap told (sym (run-decides t s is room n (told-not r _ e h)))
 
   module _ (z : r .number ≡ 0) where
-    pub told-room : n / 5 ≤ t .threads → told (refusal 18 0) ≡ told (waits-refusal t s is room n)
-    told-room l = ap told (sym (room-refused t s is room n (told-zero r _ e z) (omega arith)))
+    pub told-room : n / 5 ≤ t .threads → told (refusal 18 0) ≡ told (early t s is room n)
+    told-room l = ap told (sym (rows-refuse t s is room n (told-zero r _ e z) (omega arith)))
 
-    pub told-accepted : t .threads < n / 5 → r ≡ told (waits-refusal t s is room n)
-    unfolding Refusal-law run-refusal
+    pub told-accepted : t .threads < n / 5 → r ≡ told (early t s is room n)
+    unfolding Refusal-law
     told-accepted l =
-        e ∙ ap told (refusal-law (run-tests t s is room) (run-numbered t s is room n) .zero-accepted (told-zero r _ e z) ∙ sym (accepts t s is room n (told-zero r _ e z) (omega arith)))
+        let passes = told-zero r _ e z in
+        e ∙ ap told (refusal-law (run-tests-before-19 t s is room) (run-numbered-before-19 t s is room) .zero-accepted passes ∙ sym (rows-pass t s is room n passes (omega arith)))
+
+-- what a caller learns from what it is told
+module _ (t : Tree) (s : LockState) (is : List ℕ) (room n : ℕ) (r : Refusal) (e : r ≡ told (early t s is room n)) where
+  -- refused: what it is told is the answer
+  pub told-waits : (r .number ≡ 0 → ⊥) → r ≡ told (waits-refusal t s is room n)
+  told-waits h = e ∙ ap told (sym (early-decides t s is room n (told-not r _ e h)))
+
+  -- not refused: 19 is left, and the run and its rows may go on
+  module _ (z : r .number ≡ 0) where
+    pub told-left : waits-refusal t s is room n ≡ first-refusal (counter-tests t s is)
+    told-left = counters-decide t s is room n (told-zero r _ e z)
+
+    pub told-passes : (first-refusal (run-tests-before-19 t s is room) .number ≡ 0) × (5 * (t .threads + 1) ≤ n)
+    told-passes = early-passes t s is room n (told-zero r _ e z)

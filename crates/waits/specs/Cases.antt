@@ -3,36 +3,56 @@ use mathlib.Core.Bool.{Bool, true, _&&_, _||_}
 use mathlib.Core.List.{List, [], _∷_, _++_}
 use Prim.Native.Nat.{ℕ}
 use lib.Dec.{eqb}
-use lib.ListN.{replicate}
+use lib.ListN.{replicate, set}
 use Rattle.model.specs.declared.TreeWords.{TreeWords}
 use Rattle.model.specs.declared.State.{State}
+use Rattle.model.specs.declared.LockState.{LockState}
 use Rattle.model.specs.declared.RunReply.{RunReply}
 use Rattle.model.specs.Trees.{tree-of}
 use Rattle.model.specs.States.{fresh-words}
 use Rattle.model.specs.Runs.{steps, state-after}
-use Rattle.model.specs.Cases.{tree, at-ticket-root, two-homes, first-entries, two-in-root, three-levels, same-numbers, same-counts, same-state}
+use Rattle.model.specs.Counters.{lock-state, fresh-lock, most-counted}
+use Rattle.model.specs.Cases.{tree, at-ticket-root, two-homes, first-entries, two-in-root, three-levels, same-numbers, same-counts, same-lock, uncounted}
 use Rattle.model.specs.Answers.{no-counts}
 use Rattle.waits.specs.Answers.{waits-answer, waits-trace, waits-rows}
 
 -- a call, number and place that it is to answer, and the row buffer after it
 pub record Case : Type 0 where
   pub words : TreeWords
-  pub state : State
+  pub state : LockState
   pub schedule : List ℕ
   pub trace : List ℕ
   pub rows : List ℕ
   pub number : ℕ
+  pub place : ℕ
   pub after : List ℕ
 
--- accepted from a state, with these rows at the front of a buffer of sevens, and two numbers behind them
+-- accepted from the words of a state, with these rows at the front of a buffer of sevens, and two numbers behind them
 unfoldable pub rows-given : TreeWords → State → (schedule : List ℕ) → (threads : ℕ) → (rows : List ℕ) → Case
 rows-given w s is n xs =
-    record { words = w; state = s; schedule = is; trace = replicate 64 9; rows = replicate 5 7 ++ (replicate n 7 ++ replicate 2 7); number = 0; after = xs ++ replicate 2 7 }
+    record {
+      words = w;
+      state = uncounted s;
+      schedule = is;
+      trace = replicate 64 9;
+      rows = replicate 5 7 ++ (replicate n 7 ++ replicate 2 7);
+      number = 0;
+      place = 0;
+      after = xs ++ replicate 2 7;
+    }
 
 -- refused: both buffers as they came
+unfoldable pub refused-from : LockState → (number place : ℕ) → TreeWords → (schedule : List ℕ) → (room row-room : ℕ) → Case
+refused-from s n p w is room m =
+    record { words = w; state = s; schedule = is; trace = replicate room 9; rows = replicate m 7; number = n; place = p; after = replicate m 7 }
+
+-- from a fresh lock, at place 0
 unfoldable pub refused-with : (number : ℕ) → TreeWords → (schedule : List ℕ) → (room row-room : ℕ) → Case
-refused-with n w is room m =
-    record { words = w; state = fresh-words; schedule = is; trace = replicate room 9; rows = replicate m 7; number = n; after = replicate m 7 }
+refused-with n w is room m = refused-from fresh-lock n 0 w is room m
+
+-- fresh words, and all counters 0 but for the entries of domain 1, which are the most that they may be
+unfoldable pub full-entries : LockState
+full-entries = lock-state fresh-words (record { entries = set (replicate 64 0) 1 most-counted; tenures = replicate 64 0; longest = replicate 64 0 })
 
 -- the state that some entries lead to from fresh
 unfoldable pub reached : TreeWords → (schedule : List ℕ) → State
@@ -79,14 +99,19 @@ cases =
     -- 12 and 13 before 18, and a thread that is none before the trace buffer
     ∷ refused-with 13 two-in-root (0 ∷ 0 ∷ []) 1 0
     ∷ refused-with 12 two-in-root (2 ∷ []) 0 14
-    ∷ refused-with 5 (tree 1 0 (0 ∷ []) (0 ∷ []) []) [] 0 0 ∷ []
+    ∷ refused-with 5 (tree 1 0 (0 ∷ []) (0 ∷ []) []) [] 0 0
+    -- an entry would push a counter past 2^63: 13 and 18 before 19, and 19 at the entry's position where the rows suffice
+    ∷ refused-from full-entries 13 0 two-homes (replicate 4 0) 3 20
+    ∷ refused-from full-entries 18 0 two-homes (replicate 4 0) 4 19
+    ∷ refused-from full-entries 19 3 two-homes (replicate 4 0) 4 20 ∷ []
 
 -- WHEN A LINE HOLDS, of the run's reply and of both buffers after it. Refused, zero counts, and state and trace as they came
 abbrev pub nothing-done : RunReply → (traced : List ℕ) → Case → Bool
-nothing-done r tr c = (same-counts (r .counts) no-counts && same-state (r .state) (c .state)) && same-numbers tr (c .trace)
+nothing-done r tr c = (same-counts (r .counts) no-counts && same-lock (r .state) (c .state)) && same-numbers tr (c .trace)
 
 abbrev pub answered : RunReply → (traced rows : List ℕ) → Case → Bool
-answered r tr xs c = (eqb (r .number) (c .number) && (eqb (r .number) 0 || nothing-done r tr c)) && same-numbers xs (c .after)
+answered r tr xs c =
+    ((eqb (r .number) (c .number) && eqb (r .place) (c .place)) && (eqb (r .number) 0 || nothing-done r tr c)) && same-numbers xs (c .after)
 
 unfoldable pub holds : Case → Bool
 holds c =

@@ -6,10 +6,11 @@ use Prim.Native.Nat.{ℕ, zero, suc, _+_, _*_, _≤_, _<_, _∣_}
 use lib.ListN.{length, take, drop, getD}
 use Rattle.model.specs.declared.TreeWords.{TreeWords}
 use Rattle.model.specs.declared.State.{State}
+use Rattle.model.specs.declared.LockState.{LockState}
 use Rattle.model.specs.Trees.{Tree, tree-of}
 use Rattle.model.specs.States.{fresh-state}
 use Rattle.model.specs.Runs.{steps, run, occurrences}
-use Rattle.model.specs.Refusals.{refusal, accepted, tree-refusal, run-refusal}
+use Rattle.model.specs.Refusals.{refusal, first-refusal, run-tests-before-19, tree-refusal, run-refusal}
 use Rattle.model.specs.Answers.{run-answer, trace-answer}
 use Rattle.model.specs.Laws.{All-threads, Formed, Refuses-exactly, Sixteen-bit}
 use Rattle.schedules.specs.Rows.{total}
@@ -19,25 +20,29 @@ use Rattle.waits.specs.Rows.{largest, mean, row-with, row-of}
 use Rattle.waits.specs.Refusals.{waits-tests, waits-refusal}
 use Rattle.waits.specs.Answers.{refused-by, waits-answer, waits-trace, waits-rows}
 
--- 1. REFUSALS. The tests are a list that the one law of refusals covers; in plain numbers, one of these three holds of every call
-pub record Refuses-waits (t : Tree) (s : State) (schedule : List ℕ) (room row-room : ℕ) : Type 0 where
+-- 1. REFUSALS. The tests are a list that the one law of refusals covers; in plain numbers, one of these three holds of every call: a test before 18 refuses the run; 18 refuses, before 19 is tested; or the run's own answer stands, 19 or accepted
+pub record Refuses-waits (t : Tree) (s : LockState) (schedule : List ℕ) (room row-room : ℕ) : Type 0 where
   pub exactly : Refuses-exactly (waits-tests t s schedule room row-room)
-  pub run-refused : run-refusal t s schedule room .number ≢ 0 → waits-refusal t s schedule room row-room ≡ run-refusal t s schedule room
+  pub run-refused :
+      first-refusal (run-tests-before-19 t s schedule room) .number ≢ 0 → waits-refusal t s schedule room row-room ≡ run-refusal t s schedule room
   pub room-refused :
-      run-refusal t s schedule room .number ≡ 0 → row-room < 5 * (t .threads + 1) → waits-refusal t s schedule room row-room ≡ refusal 18 0
-  pub accepts : run-refusal t s schedule room .number ≡ 0 → 5 * (t .threads + 1) ≤ row-room → waits-refusal t s schedule room row-room ≡ accepted
+      first-refusal (run-tests-before-19 t s schedule room) .number ≡ 0 → row-room < 5 * (t .threads + 1) →
+      waits-refusal t s schedule room row-room ≡ refusal 18 0
+  pub rows-fit :
+      first-refusal (run-tests-before-19 t s schedule room) .number ≡ 0 → 5 * (t .threads + 1) ≤ row-room →
+      waits-refusal t s schedule room row-room ≡ run-refusal t s schedule room
 
 unfoldable pub Waits-refusal-law : Type 0
-Waits-refusal-law = (t : Tree) (s : State) (schedule : List ℕ) (room row-room : ℕ) → Refuses-waits t s schedule room row-room
+Waits-refusal-law = (t : Tree) (s : LockState) (schedule : List ℕ) (room row-room : ℕ) → Refuses-waits t s schedule room row-room
 
 -- 2. THE RUN. Where 18 does not refuse, reply and trace are those of the run itself
-pub record Runs-as (w : TreeWords) (s : State) (schedule trace rows : List ℕ) : Type 0 where
+pub record Runs-as (w : TreeWords) (s : LockState) (schedule trace rows : List ℕ) : Type 0 where
   pub reply : waits-answer w s schedule trace rows ≡ run-answer w s schedule trace
   pub traced : waits-trace w s schedule trace rows ≡ trace-answer w s schedule trace
 
 unfoldable pub Waits-run-law : Type 0
 Waits-run-law =
-    (w : TreeWords) (s : State) (schedule trace rows : List ℕ) → refused-by w s schedule trace rows .number ≢ 18 → Runs-as w s schedule trace rows
+    (w : TreeWords) (s : LockState) (schedule trace rows : List ℕ) → refused-by w s schedule trace rows .number ≢ 18 → Runs-as w s schedule trace rows
 
 -- 3. THE MEAN. It is total over attempts, and no number but 1 divides both its parts; without attempts it is 0 over 0, and a total of 0 over some attempts is 0 over 1
 pub record In-lowest-terms (total attempts : ℕ) (f : Fraction) : Type 0 where
@@ -59,24 +64,24 @@ column c zero b = []
 column c (suc n) b = column c n b ++ (getD (row-at n b) c 0 ∷ [])
 
 -- what the row buffer of an accepted call says: each thread's row is that of its waits; attempts and total of the last row are the sums of those above, its largest wait is the largest of them, and its mean that of all attempts
-pub record Says (w : TreeWords) (s : State) (schedule trace rows : List ℕ) : Type 0 where
-  pub of-thread : (i : ℕ) → i < tree-of w .threads → row-at i (waits-rows w s schedule trace rows) ≡ row-of (waits (tree-of w) i (steps (tree-of w) schedule s))
+pub record Says (w : TreeWords) (s : LockState) (schedule trace rows : List ℕ) : Type 0 where
+  pub of-thread : (i : ℕ) → i < tree-of w .threads → row-at i (waits-rows w s schedule trace rows) ≡ row-of (waits (tree-of w) i (steps (tree-of w) schedule (s .words)))
   pub of-all :
       (let b = waits-rows w s schedule trace rows in
       let n = tree-of w .threads in
       row-at n b ≡ row-with (total (column 0 n b)) (total (column 1 n b)) (largest (column 2 n b)))
 
 unfoldable pub Row-law : Type 0
-Row-law = (w : TreeWords) (s : State) (schedule trace rows : List ℕ) → refused-by w s schedule trace rows .number ≡ 0 → Says w s schedule trace rows
+Row-law = (w : TreeWords) (s : LockState) (schedule trace rows : List ℕ) → refused-by w s schedule trace rows .number ≡ 0 → Says w s schedule trace rows
 
 -- 5. THE ROW BUFFER keeps its length and what is behind the rows; refused, all of it
-pub record Keeps-rest (w : TreeWords) (s : State) (schedule trace rows : List ℕ) : Type 0 where
+pub record Keeps-rest (w : TreeWords) (s : LockState) (schedule trace rows : List ℕ) : Type 0 where
   pub long : length (waits-rows w s schedule trace rows) ≡ length rows
   pub behind : drop (5 * (tree-of w .threads + 1)) (waits-rows w s schedule trace rows) ≡ drop (5 * (tree-of w .threads + 1)) rows
   pub refused : refused-by w s schedule trace rows .number ≢ 0 → waits-rows w s schedule trace rows ≡ rows
 
 unfoldable pub Row-buffer-law : Type 0
-Row-buffer-law = (w : TreeWords) (s : State) (schedule trace rows : List ℕ) → Keeps-rest w s schedule trace rows
+Row-buffer-law = (w : TreeWords) (s : LockState) (schedule trace rows : List ℕ) → Keeps-rest w s schedule trace rows
 
 -- 6. ENTRIES. In a run from any well-formed state a thread's entries are its attempts, or one more: of an attempt that was under way before; from fresh they are its attempts
 abbrev pub entries-of : (thread : ℕ) → Tree → (schedule : List ℕ) → State → ℕ

@@ -1,11 +1,11 @@
--- Document 02, (vi): what refuses a run with waits: 4 to 9, 16 and 10 to 13, then 18. Assumes nothing: these are definitions.
+-- Document 02, (vi): what refuses a run with waits: 4 to 9, 16 and 10 to 13, then 18, and 19 last of all. Assumes nothing: these are definitions.
 use mathlib.Core.Bool.{Bool}
 use mathlib.Core.List.{List, [], _∷_, _++_}
 use Prim.Native.Nat.{ℕ, _+_, _/_}
 use lib.Dec.{ltb}
-use Rattle.model.specs.declared.State.{State}
+use Rattle.model.specs.declared.LockState.{LockState}
 use Rattle.model.specs.Trees.{Tree}
-use Rattle.model.specs.Refusals.{Refusal, Test, test, first-refusal, run-tests}
+use Rattle.model.specs.Refusals.{Refusal, Test, test, first-refusal, counter-tests, run-tests-before-19}
 
 -- 18: the row buffer holds fewer rows than threads plus one. A row is five numbers
 unfoldable pub bad-row-room : Tree → (row-room : ℕ) → ℕ → Bool
@@ -14,8 +14,12 @@ bad-row-room t n p = ltb (n / 5) (t .threads + 1)
 abbrev pub row-room-tests : Tree → (row-room : ℕ) → List Test
 row-room-tests t n = test 18 1 (bad-row-room t n) ∷ []
 
-unfoldable pub waits-tests : Tree → State → (schedule : List ℕ) → (room row-room : ℕ) → List Test
-waits-tests t s is room n = run-tests t s is room ++ row-room-tests t n
+-- the run's own tests but 19, then 18
+abbrev pub waits-tests-before-19 : Tree → LockState → (schedule : List ℕ) → (room row-room : ℕ) → List Test
+waits-tests-before-19 t s is room n = run-tests-before-19 t s is room ++ row-room-tests t n
 
-unfoldable pub waits-refusal : Tree → State → (schedule : List ℕ) → (room row-room : ℕ) → Refusal
+unfoldable pub waits-tests : Tree → LockState → (schedule : List ℕ) → (room row-room : ℕ) → List Test
+waits-tests t s is room n = waits-tests-before-19 t s is room n ++ counter-tests t s is
+
+unfoldable pub waits-refusal : Tree → LockState → (schedule : List ℕ) → (room row-room : ℕ) → Refusal
 waits-refusal t s is room n = first-refusal (waits-tests t s is room n)

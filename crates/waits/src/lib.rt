@@ -1,13 +1,18 @@
-// A run with waits: what refuses it, 4 to 9, 16 and 10 to 13, then 18, the mean of a row, and the run itself.
+// A run with waits: what refuses it, 4 to 9, 16 and 10 to 13, then 18 and 19, the mean of a row, and the run itself.
 ghost use mathlib.Core.Path.{_≡_};
 ghost use Rattle.model.specs.Trees.{tree-of};
+ghost use Rattle.model.specs.Counters.{lock-state};
+ghost use Rattle.model.specs.Refusals.{first-refusal};
 ghost use Rattle.refusals.specs.Arrays.{told};
+ghost use Rattle.refusals.specs.Counts.{counters-in};
 ghost use Rattle.waits.specs.Rows.{greatest-divisor, mean};
-ghost use Rattle.waits.specs.Refusals.{waits-refusal};
+ghost use Rattle.waits.specs.Refusals.{waits-tests-before-19, waits-refusal};
 ghost use Rattle.waits.specs.Answers.{waits-answer, waits-trace, waits-rows};
 
 mod waiting;
 
+use model::Counters;
+use model::LockState;
 use model::RunReply;
 use model::State;
 use model::TreeWords;
@@ -50,17 +55,20 @@ pub fn mean_of(total: u64, attempts: u64) -> Fraction
     }
 }
 
-// A run with waits meets 4 to 9, 16 and 10 to 13, then 18.
-pub fn waits_refusal_of(
+// A run with waits meets 4 to 9, 16 and 10 to 13, then 18; whoever takes its steps tests 19. The counters are lent, so that the words alone are copied.
+pub fn waits_refusal_of<'c>(
     tree: TreeWords,
     state: State,
+    entries: &'c [u64; 64],
+    tenures: &'c [u64; 64],
+    longest: &'c [u64; 64],
     schedule: &[u16],
     room: usize,
     row_room: usize,
 ) -> Refusal
-    ensures { λ r. ⌜ r ≡ told (waits-refusal (tree-of tree) state (now (schedule .entry)) room «row_room») ⌝ }
+    ensures { λ r. ⌜ r ≡ told (first-refusal (waits-tests-before-19 (tree-of tree) (lock-state state (counters-in (now (entries .entry)) (now (tenures .entry)) (now (longest .entry)))) (now (schedule .entry)) room «row_room»)) ⌝ }
 {
-    let r = refusals::run_refusal_of(tree, state, schedule, room);
+    let r = refusals::run_refusal_of(tree, state, entries, tenures, longest, schedule, room);
     if r.number != 0 {
         return r;
     }
@@ -73,10 +81,39 @@ pub fn waits_refusal_of(
     r
 }
 
+// With 19 behind them.
+fn refusal_of<'c>(
+    tree: TreeWords,
+    state: State,
+    entries: &'c [u64; 64],
+    tenures: &'c [u64; 64],
+    longest: &'c [u64; 64],
+    schedule: &[u16],
+    room: usize,
+    row_room: usize,
+) -> Refusal
+    ensures { λ r. ⌜ r ≡ told (waits-refusal (tree-of tree) (lock-state state (counters-in (now (entries .entry)) (now (tenures .entry)) (now (longest .entry)))) (now (schedule .entry)) room «row_room») ⌝ }
+{
+    let r = waits_refusal_of(
+        tree,
+        state,
+        entries,
+        tenures,
+        longest,
+        schedule,
+        room,
+        row_room,
+    );
+    if r.number != 0 {
+        return r;
+    }
+    steps::limits::counter_refusal_of(tree, state, entries, tenures, longest, schedule)
+}
+
 // A run, and in a row buffer of its own the waits of each thread's attempts and of all together, five numbers a row. Refused, state, trace and rows as they came.
 pub fn run_waits(
     tree: TreeWords,
-    state: State,
+    state: LockState,
     schedule: &[u16],
     trace: &mut [u16],
     rows: &mut [u64],
@@ -85,17 +122,50 @@ pub fn run_waits(
     ensures { λ r. ⌜ now (trace .exit) ≡ waits-trace tree state (now (schedule .entry)) (now (trace .entry)) (now (rows .entry)) ⌝ }
     ensures { λ r. ⌜ now (rows .exit) ≡ waits-rows tree state (now (schedule .entry)) (now (trace .entry)) (now (rows .entry)) ⌝ }
 {
-    let r = waits_refusal_of(tree, state, schedule, trace.len(), rows.len());
+    let words = state.words;
+    let counters = state.counters;
+    let mut entries = counters.entries;
+    let mut tenures = counters.tenures;
+    let mut longest = counters.longest;
+    let r = refusal_of(
+        tree,
+        words,
+        &entries,
+        &tenures,
+        &longest,
+        schedule,
+        trace.len(),
+        rows.len(),
+    );
     if r.number != 0 {
         return steps::refused(r.number, r.place, state);
     }
     let mut kinds = [0u32; 6];
-    let after = waiting::run_counted(tree, state, schedule, trace, &mut kinds, rows);
+    let after = waiting::run_counted(
+        tree,
+        words,
+        schedule,
+        trace,
+        &mut kinds,
+        rows,
+        &mut entries,
+        &mut tenures,
+        &mut longest,
+    );
     let counts = steps::run::counts_of(&kinds);
+    let counted = Counters {
+        entries,
+        tenures,
+        longest,
+    };
+    let left = LockState {
+        words: after,
+        counters: counted,
+    };
     RunReply {
         number: 0,
         place: 0,
         counts,
-        state: after,
+        state: left,
     }
 }

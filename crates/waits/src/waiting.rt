@@ -6,7 +6,9 @@ ghost use lib.ListN.{length, getD, set};
 ghost use lib.Seq.{sets};
 ghost use Rattle.model.specs.Trees.{tree-of};
 ghost use Rattle.model.specs.Runs.{steps, run};
+ghost use Rattle.model.specs.Counters.{lock-state, counters-after};
 ghost use Rattle.model.specs.Refusals.{run-refusal};
+ghost use Rattle.refusals.specs.Counts.{counters-in};
 ghost use Rattle.waits.specs.Rows.{row-with, all-rows};
 ghost use Rattle.waits.specs.Tallies.{begins-number, mark-with, finishes, wait-of, noted, rows-by};
 ghost use Rattle.steps.specs.Running.{kinds-of, kinds-added, counts-by, trace-front};
@@ -212,7 +214,7 @@ fn piece_end(from: usize, whole: usize) -> usize
     from + 1024
 }
 
-// The run of a whole schedule in pieces, and the rows of its waits. Each piece copies the state once, and what its steps were has room for one piece.
+// The run of a whole schedule in pieces, the rows of its waits, and the counters of the domains. Each piece copies the state once, and what its steps were has room for one piece.
 pub(crate) fn run_counted(
     tree: TreeWords,
     state: State,
@@ -220,18 +222,22 @@ pub(crate) fn run_counted(
     trace: &mut [u16],
     kinds: &mut [u32; 6],
     rows: &mut [u64],
+    entries: &mut [u64; 64],
+    tenures: &mut [u64; 64],
+    longest: &mut [u64; 64],
 ) -> State
-    requires { ⌜ run-refusal (tree-of tree) state (now schedule) (length (now trace)) .number ≡ 0 ⌝ }
+    requires { ⌜ run-refusal (tree-of tree) (lock-state state (counters-in (now entries) (now tenures) (now longest))) (now schedule) (length (now trace)) .number ≡ 0 ⌝ }
     requires { ⌜ 5 * (tree-of tree .threads + 1) ≤ length (now rows) ⌝ }
     ensures { λ r. ⌜ r ≡ run (tree-of tree) (now (schedule .entry)) state .state ⌝ }
     ensures { λ r. ⌜ now (trace .exit) ≡ trace-front (now (trace .entry)) (run (tree-of tree) (now (schedule .entry)) state) ⌝ }
     ensures { λ r. ⌜ now (kinds .exit) ≡ kinds-of (steps (tree-of tree) (now (schedule .entry)) state) ⌝ }
     ensures { λ r. ⌜ now (rows .exit) ≡ sets (now (rows .entry)) 0 (all-rows (tree-of tree) (steps (tree-of tree) (now (schedule .entry)) state)) ⌝ }
+    ensures { λ r. ⌜ counters-in (now (entries .exit)) (now (tenures .exit)) (now (longest .exit)) ≡ counters-after (tree-of tree) (counters-in (now (entries .entry)) (now (tenures .entry)) (now (longest .entry))) (steps (tree-of tree) (now (schedule .entry)) state) ⌝ }
 {
     let mut marks = [0u64; 256];
     let mut attempts = [0u64; 256];
     let mut totals = [0u64; 256];
-    let mut longest = [0u64; 256];
+    let mut largest = [0u64; 256];
     let mut n = state;
     let mut tally = [0u32; 6];
     let mut entered: u64 = 0;
@@ -240,7 +246,6 @@ pub(crate) fn run_counted(
         let end = piece_end(from, schedule.len());
         let mut told = [0u16; 1024];
         let mut piece = [0u32; 6];
-        let mut last = [0u32; 2];
         let written = entered as usize;
         n = steps::run::run_steps(
             tree,
@@ -248,8 +253,10 @@ pub(crate) fn run_counted(
             &schedule[from..end],
             &mut trace[written..],
             &mut piece,
-            &mut last,
             &mut told,
+            entries,
+            tenures,
+            longest,
         );
         add_kinds(&mut tally, &piece);
         entered = count_piece(
@@ -260,11 +267,11 @@ pub(crate) fn run_counted(
             &mut marks,
             &mut attempts,
             &mut totals,
-            &mut longest,
+            &mut largest,
         );
         from = end;
     }
     *kinds = tally;
-    put_rows(rows, tree.threads, &attempts, &totals, &longest);
+    put_rows(rows, tree.threads, &attempts, &totals, &largest);
     n
 }

@@ -18,7 +18,7 @@ pub enum Broken {
     ComesBack,
 }
 
-fn is_on_path(tree: &Tree, thread: usize, domain: usize) -> bool {
+pub fn is_on_path(tree: &Tree, thread: usize, domain: usize) -> bool {
     path(tree, thread).any(|above| above == domain)
 }
 

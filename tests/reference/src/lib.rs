@@ -2,6 +2,7 @@
 
 pub mod calls;
 pub mod chain;
+pub mod counters;
 pub mod draft;
 pub mod file_writer;
 pub mod journal;
@@ -18,11 +19,11 @@ pub mod random_state;
 pub mod random_text;
 pub mod rate;
 pub mod refusals;
-pub mod root_met;
 pub mod schedules;
 pub mod shrink;
 pub mod side_by_side;
 pub mod standing;
+pub mod state_met;
 pub mod table;
 pub mod text_tree;
 pub mod ticket_lock;

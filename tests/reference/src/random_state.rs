@@ -1,5 +1,6 @@
-//! Random trees and states as a caller hands them in: reached, well formed in any way, and spoilt; and starts of a ticket lock.
+//! Random trees and states as a caller hands them in: reached, well formed in any way, and spoilt; starts of a ticket lock; and counters.
 
+use crate::counters::{Counters, MOST_COUNTED};
 use crate::draft::Draft;
 use crate::random::Random;
 use crate::schedules::{schedule, STYLES};
@@ -38,12 +39,48 @@ pub fn tree_words(random: &mut Random, draft: &Draft) -> TreeWords {
 
 /// A state for a tree that is accepted.
 pub fn random_state(random: &mut Random, tree: &Tree) -> StateWords {
-    let state = match random.below(3) {
+    let mut state = match random.below(3) {
         0 => State::fresh_at(tree, random_start(random)),
         1 => reached(random, tree),
         _ => any_well_formed(random, tree),
     };
+    if random.one_in(2) {
+        state.counters = random_counters(random, tree);
+    }
     StateWords::of(&state)
+}
+
+/// Any that are allowed: of one domain or of all so near 2^63 that a few steps, or a long schedule, would push one past it, or as they come.
+pub fn random_counters(random: &mut Random, tree: &Tree) -> Counters {
+    let mut counters = Counters::ZERO;
+    let near = random.pick(&[0, 1, 3, 12, 4_000, 8_000]);
+    let chosen = random.below(tree.domains);
+    let all = random.one_in(3);
+    for domain in 1..tree.domains {
+        let mut count = || if all || domain == chosen { MOST_COUNTED - random.between(0, near) as u64 } else { random_count(random) };
+        (counters.entries[domain], counters.tenures[domain]) = (count(), count());
+        let threshold = tree.thresholds[domain] as usize;
+        let lengths = [0, 1, threshold - 1, threshold, random.between(0, threshold)];
+        counters.longest[domain] = random.pick(&lengths) as u64;
+    }
+    counters
+}
+
+/// Fresh, with the counters of thread 0's home so near to 2^63 that some thousands of its entries push one past it.
+pub fn late_state(random: &mut Random, tree: &Tree) -> StateWords {
+    let mut state = State::fresh_at(tree, random_start(random));
+    if tree.home(0) != ROOT {
+        state.counters.entries[tree.home(0)] = MOST_COUNTED - random.below(7_000) as u64;
+        state.counters.tenures[tree.home(0)] = MOST_COUNTED - random.below(7_000) as u64;
+    }
+    StateWords::of(&state)
+}
+
+/// Mostly far from 2^63, at times about as far as the longest schedule is long.
+fn random_count(random: &mut Random) -> u64 {
+    let edge = MOST_COUNTED - 65_536;
+    let counts = [0, 1, 77, u32::MAX as u64, random.word() >> 1, edge - 1, edge, edge + 1];
+    random.pick(&counts)
 }
 
 /// After a random schedule from fresh.
@@ -174,7 +211,7 @@ pub fn spoil(random: &mut Random, tree: &Tree, words: &mut StateWords) {
     let record = random.pick(&[thread, domain_record(domain), domain_record(ROOT)]);
     let near = [1, 257, 258, 320, 321, 65_535, random.below(330) as u16];
     let other = random.pick(&near);
-    match random.below(12) {
+    match random.below(16) {
         0 => words.tails[domain] = other,
         1 => words.nexts[record] = other,
         2 => words.statuses[record] = random_word(random, tree),
@@ -182,7 +219,21 @@ pub fn spoil(random: &mut Random, tree: &Tree, words: &mut StateWords) {
         4 => words.places[thread].domain = random.below(66) as u8,
         5 => words.places[thread].peer = other,
         6 => words.places[thread].word = random_word(random, tree),
+        7..=10 => spoil_counter(random, tree, &mut words.counters),
         _ => spoil_root(random, tree, words),
+    }
+}
+
+/// Changes one counter: of the root, of room that the tree lacks, or to one of the numbers about its limit.
+fn spoil_counter(random: &mut Random, tree: &Tree, counters: &mut Counters) {
+    let domain = if random.one_in(4) { ROOT } else { used_or_not(random, tree.domains, DOMAIN_ROOM) };
+    let threshold = tree.thresholds[domain] as u64;
+    let about = [1, threshold, threshold + 1, 65_535, 65_536, MOST_COUNTED, MOST_COUNTED + 1, u64::MAX, random.word()];
+    let count = random.pick(&about);
+    match random.below(3) {
+        0 => counters.entries[domain] = count,
+        1 => counters.tenures[domain] = count,
+        _ => counters.longest[domain] = count,
     }
 }
 

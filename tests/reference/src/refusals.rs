@@ -1,5 +1,7 @@
-//! Refusals 4 to 13 of document 01 and 16 of document 02, 10 with what document 02 adds of a ticket root, and the fresh call, the single step and the run that meet them.
+//! Refusals 4 to 13 of document 01 and 16 and 19 of document 02, 10 with what document 02 adds of a ticket root and of counters, and the fresh call, the single step and the run
+//! that meet them.
 
+use crate::counters::{first_past, MOST_COUNTED};
 use crate::table::*;
 
 pub const LONGEST_SCHEDULE: usize = 65_536;
@@ -151,35 +153,65 @@ fn tail_at_a_ticket_root(tree: &Tree, state: &State) -> bool {
     tree.ticket_root && state.tails[ROOT].is_some()
 }
 
-fn watched_status_above_a_counter(tree: &Tree, state: &State) -> bool {
+fn watched_status_above_a_ticket(tree: &Tree, state: &State) -> bool {
     let watches = |&thread: &usize| state.places[thread] == Place::Watch;
     tree.ticket_root && (0..tree.threads).filter(watches).any(|thread| state.statuses[tree.record(thread, ROOT)] > u16::MAX as u64)
 }
 
-fn counters_at_a_queue_root(tree: &Tree, state: &State) -> bool {
+fn ticket_or_grant_at_a_queue_root(tree: &Tree, state: &State) -> bool {
     !tree.ticket_root && (state.ticket, state.grant) != (0, 0)
 }
 
-/// What 10 refuses by the kind of root, each with its name.
-pub type RootReason = (&'static str, fn(&Tree, &State) -> bool);
+/// One of the three counters of a domain that meets the test.
+fn some_counter(state: &State, mut domains: std::ops::Range<usize>, test: impl Fn(u64) -> bool) -> bool {
+    domains.any(|domain| state.counters.of(domain).into_iter().any(&test))
+}
 
-pub const ROOT_REASONS: [RootReason; 5] = [
+fn counter_of_the_root(_: &Tree, state: &State) -> bool {
+    some_counter(state, ROOT..ROOT + 1, |count| count != 0)
+}
+
+fn counter_of_unused_room(tree: &Tree, state: &State) -> bool {
+    some_counter(state, tree.domains..DOMAIN_ROOM, |count| count != 0)
+}
+
+fn longest_above_the_threshold(tree: &Tree, state: &State) -> bool {
+    (1..tree.domains).any(|domain| state.counters.longest[domain] > tree.thresholds[domain] as u64)
+}
+
+fn entries_above_the_most(tree: &Tree, state: &State) -> bool {
+    state.counters.entries[1..tree.domains].iter().any(|&count| count > MOST_COUNTED)
+}
+
+fn tenures_above_the_most(tree: &Tree, state: &State) -> bool {
+    state.counters.tenures[1..tree.domains].iter().any(|&count| count > MOST_COUNTED)
+}
+
+/// What 10 refuses by the kind of root or by a counter, each with its name. A longest tenure above 2^63 is above the threshold too.
+pub type Reason = (&'static str, fn(&Tree, &State) -> bool);
+
+pub const REASONS: [Reason; 10] = [
     ("draw, watch or raise at a queue root", ticket_place_at_a_queue_root),
     ("queue place at a ticket root", queue_place_at_a_ticket_root),
     ("tail at a ticket root", tail_at_a_ticket_root),
-    ("watched status above 65,535", watched_status_above_a_counter),
-    ("counters at a queue root", counters_at_a_queue_root),
+    ("watched status above 65,535", watched_status_above_a_ticket),
+    ("ticket or grant at a queue root", ticket_or_grant_at_a_queue_root),
+    ("counter of the root", counter_of_the_root),
+    ("counter of unused room", counter_of_unused_room),
+    ("longest above the threshold", longest_above_the_threshold),
+    ("entries above 2^63", entries_above_the_most),
+    ("tenures above 2^63", tenures_above_the_most),
 ];
 
-/// Well formed but for what the kind of root refuses.
-pub fn well_formed_for_some_root(tree: &Tree, state: &State) -> bool {
+/// Well formed but for what the kind of root or a counter refuses.
+pub fn words_well_formed(tree: &Tree, state: &State) -> bool {
     (0..DOMAIN_ROOM).all(|domain| tail_well_formed(tree, state, domain))
         && (0..RECORD_ROOM).all(|record| record_well_formed(tree, state, record))
         && (0..THREAD_ROOM).all(|thread| place_well_formed(tree, state, thread))
 }
 
 pub fn well_formed(tree: &Tree, state: &State) -> bool {
-    well_formed_for_some_root(tree, state) && !ROOT_REASONS.iter().any(|(_, refuses)| refuses(tree, state))
+    words_well_formed(tree, state) && !REASONS.iter().any(|(_, refuses)| refuses(tree, state))
 }
 
 /// 10.
@@ -197,14 +229,23 @@ pub fn accept_entries(tree: &Tree, schedule: impl Iterator<Item = u16>) -> Outco
     Ok(())
 }
 
+/// 19, last of all.
+pub fn accept_counters(tree: &Tree, state: &State, schedule: &[u16]) -> Outcome<()> {
+    match first_past(tree, state, schedule) {
+        Some(position) => refuse(19, position),
+        None => Ok(()),
+    }
+}
+
 fn accept_step(tree: &Tree, state: &State, thread: u16) -> Outcome<()> {
     accept_tree(tree)?;
     accept_state(tree, state)?;
-    accept_entries(tree, std::iter::once(thread))
+    accept_entries(tree, std::iter::once(thread))?;
+    accept_counters(tree, state, &[thread])
 }
 
-/// 4 to 9, 16 and 10 to 13.
-pub fn accept_run(tree: &Tree, state: &State, schedule: &[u16], trace: &[u16]) -> Outcome<()> {
+/// 4 to 9, 16 and 10 to 13: all that a run meets before 19.
+pub fn accept_before_counters(tree: &Tree, state: &State, schedule: &[u16], trace: &[u16]) -> Outcome<()> {
     accept_tree(tree)?;
     accept_state(tree, state)?;
     refuse_if(11, schedule.len() > LONGEST_SCHEDULE)?;
@@ -227,7 +268,8 @@ pub fn step_lock(tree: &Tree, state: &mut State, thread: u16) -> Outcome<Kind> {
 
 /// A run; a refused one has taken no step and leaves state and trace buffer as they came.
 pub fn run_lock(tree: &Tree, state: &mut State, schedule: &[u16], trace: &mut [u16]) -> Outcome<Counts> {
-    accept_run(tree, state, schedule, trace)?;
+    accept_before_counters(tree, state, schedule, trace)?;
+    accept_counters(tree, state, schedule)?;
     let mut entered = Vec::new();
     let counts = run(tree, state, schedule.iter().copied(), &mut entered);
     trace[..entered.len()].copy_from_slice(&entered);

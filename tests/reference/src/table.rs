@@ -1,4 +1,6 @@
-//! Document 01's tree, words and step table, and document 02's ticket lock at the root; one function for each row.
+//! Document 01's tree, words and step table, document 02's ticket lock at the root, and what each row counts; one function for each row.
+
+use crate::counters::{show, Counters};
 
 pub const DOMAIN_ROOM: usize = 64;
 pub const THREAD_ROOM: usize = 256;
@@ -42,7 +44,7 @@ pub enum Place {
     Raise,
 }
 
-/// The counters ticket and grant are those of a ticket lock at the root, 0 at a queue root.
+/// Ticket and grant are those of a ticket lock at the root, 0 at a queue root.
 #[derive(Clone, Debug, PartialEq, Eq)]
 pub struct State {
     pub tails: [Option<u16>; DOMAIN_ROOM],
@@ -51,6 +53,7 @@ pub struct State {
     pub places: [Place; THREAD_ROOM],
     pub ticket: u16,
     pub grant: u16,
+    pub counters: Counters,
 }
 
 #[derive(Clone, Copy, Debug, PartialEq, Eq)]
@@ -130,6 +133,7 @@ impl State {
             places: [Place::Idle; THREAD_ROOM],
             ticket: 0,
             grant: 0,
+            counters: Counters::ZERO,
         }
     }
 
@@ -183,8 +187,9 @@ fn leave(tree: &Tree, state: &mut State, thread: usize) -> Kind {
     Kind::Leaving
 }
 
-fn enter(state: &mut State, thread: usize, entry: Kind) -> Kind {
+fn enter(tree: &Tree, state: &mut State, thread: usize, entry: Kind) -> Kind {
     state.places[thread] = Place::Inside;
+    state.counters.enter(tree, thread);
     entry
 }
 
@@ -242,11 +247,19 @@ fn swap(tree: &Tree, state: &mut State, thread: usize, domain: usize) -> Kind {
     let record = tree.record(thread, domain);
     match state.tails[domain].replace(record as u16) {
         Some(before) => go(state, thread, Place::Link(domain as u8, before)),
-        None if domain == ROOT => {
-            state.statuses[record] = UNLOCKED;
-            enter(state, thread, Kind::RootEntry)
+        None => {
+            state.counters.give(record);
+            found_none(tree, state, thread, domain, record)
         }
-        None => start_cohort(tree, state, thread, domain, record),
+    }
+}
+
+fn found_none(tree: &Tree, state: &mut State, thread: usize, domain: usize, record: usize) -> Kind {
+    if domain == ROOT {
+        state.statuses[record] = UNLOCKED;
+        enter(tree, state, thread, Kind::RootEntry)
+    } else {
+        start_cohort(tree, state, thread, domain, record)
     }
 }
 
@@ -261,14 +274,14 @@ fn wait(tree: &Tree, state: &mut State, thread: usize, domain: usize) -> Kind {
     if domain == ROOT {
         match status {
             LOCKED => Kind::Stay,
-            _ => enter(state, thread, Kind::RootEntry),
+            _ => enter(tree, state, thread, Kind::RootEntry),
         }
     } else {
         match status {
             WAIT => Kind::Stay,
             ACQUIRE_PARENT => start_cohort(tree, state, thread, domain, record),
-            _ if domain == tree.home(thread) => enter(state, thread, Kind::PassedEntry),
-            _ => enter(state, thread, Kind::CrossedEntry),
+            _ if domain == tree.home(thread) => enter(tree, state, thread, Kind::PassedEntry),
+            _ => enter(tree, state, thread, Kind::CrossedEntry),
         }
     }
 }
@@ -277,7 +290,10 @@ fn check(tree: &Tree, state: &mut State, thread: usize, domain: usize) -> Kind {
     let record = tree.record(thread, domain);
     let status = state.statuses[record];
     match state.nexts[record] {
-        Some(next) if status < tree.thresholds[domain] as u64 => go(state, thread, Place::Grant(domain as u8, next, status + 1)),
+        Some(next) if status < tree.thresholds[domain] as u64 => {
+            state.counters.lengthen(domain, status + 1);
+            go(state, thread, Place::Grant(domain as u8, next, status + 1))
+        }
         _ => go(state, thread, released_next(tree, tree.parent(domain))),
     }
 }
@@ -307,15 +323,17 @@ fn linger(tree: &Tree, state: &mut State, thread: usize, domain: usize) -> Kind 
 
 fn grant(tree: &Tree, state: &mut State, thread: usize, domain: usize, to: usize, word: u64) -> Kind {
     state.statuses[to] = word;
+    state.counters.give(to);
     go(state, thread, done(tree, thread, domain))
 }
 
 fn draw(tree: &Tree, state: &mut State, thread: usize) -> Kind {
-    let ticket = state.ticket;
-    state.statuses[tree.record(thread, ROOT)] = ticket as u64;
+    let (ticket, record) = (state.ticket, tree.record(thread, ROOT));
+    state.statuses[record] = ticket as u64;
     state.ticket = ticket.wrapping_add(1);
     if ticket == state.grant {
-        enter(state, thread, Kind::RootEntry)
+        state.counters.give(record);
+        enter(tree, state, thread, Kind::RootEntry)
     } else {
         go(state, thread, Place::Watch)
     }
@@ -323,7 +341,7 @@ fn draw(tree: &Tree, state: &mut State, thread: usize) -> Kind {
 
 fn watch(tree: &Tree, state: &mut State, thread: usize) -> Kind {
     if state.statuses[tree.record(thread, ROOT)] == state.grant as u64 {
-        enter(state, thread, Kind::RootEntry)
+        enter(tree, state, thread, Kind::RootEntry)
     } else {
         Kind::Stay
     }
@@ -331,6 +349,7 @@ fn watch(tree: &Tree, state: &mut State, thread: usize) -> Kind {
 
 fn raise(tree: &Tree, state: &mut State, thread: usize) -> Kind {
     state.grant = state.grant.wrapping_add(1);
+    show(tree, state);
     go(state, thread, done(tree, thread, ROOT))
 }
 

@@ -100,8 +100,9 @@ fn write(sums: &[Sum], rows: &mut [u64]) {
 pub fn run_waits(words: &TreeWords, state: &StateWords, schedule: &[u16], trace: &mut [u16], rows: &mut [u64]) -> RunReply {
     let tree = words.tree();
     let outcome = read_state(&tree, state).and_then(|mut taken| {
-        accept_run(&tree, &taken, schedule, trace)?;
+        accept_before_counters(&tree, &taken, schedule, trace)?;
         refuse_if(18, rows.len() / ROW < tree.threads + 1)?;
+        accept_counters(&tree, &taken, schedule)?;
         let mut sums = vec![Sum::default(); tree.threads];
         let counts = take(&tree, &mut taken, schedule, trace, &mut sums);
         write(&sums, rows);

@@ -1,5 +1,6 @@
 //! The words that cross a call, laid out as C lays them out, and the tree and state that they mean.
 
+use crate::counters::Counters;
 use crate::table::*;
 
 #[repr(C)]
@@ -34,6 +35,7 @@ pub struct StateWords {
     pub places: [PlaceWords; THREAD_ROOM],
     pub ticket: u16,
     pub grant: u16,
+    pub counters: Counters,
 }
 
 #[repr(C)]
@@ -164,7 +166,7 @@ impl StateWords {
             *place = words.place()?;
         }
         let (tails, nexts) = (self.tails.map(record), self.nexts.map(record));
-        Some(State { tails, nexts, statuses: self.statuses, places, ticket: self.ticket, grant: self.grant })
+        Some(State { tails, nexts, statuses: self.statuses, places, ticket: self.ticket, grant: self.grant, counters: self.counters })
     }
 
     pub fn of(state: &State) -> StateWords {
@@ -175,6 +177,7 @@ impl StateWords {
             places: state.places.map(PlaceWords::of),
             ticket: state.ticket,
             grant: state.grant,
+            counters: state.counters,
         }
     }
 }

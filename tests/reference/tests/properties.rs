@@ -1,9 +1,10 @@
 //! What document 01 says of single steps, on random states that a caller may hand in.
 
+use reference::counters::first_past;
 use reference::random::Random;
 use reference::random_file::valid_draft;
 use reference::random_state::{random_state, tree_words};
-use reference::refusals::well_formed;
+use reference::refusals::{well_formed, words_well_formed};
 use reference::table::*;
 use reference::words::*;
 
@@ -25,7 +26,9 @@ fn steps_keep_a_state_well_formed() {
     each(|tree, state, thread| {
         let mut after = state.clone();
         step(tree, &mut after, thread);
-        assert!(well_formed(tree, state) && well_formed(tree, &after));
+        let past = first_past(tree, state, &[thread as u16]).is_some();
+        assert!(well_formed(tree, state) && words_well_formed(tree, &after));
+        assert_eq!(well_formed(tree, &after), !past);
     });
 }
 

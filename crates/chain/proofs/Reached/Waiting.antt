@@ -12,12 +12,13 @@ use Rattle.model.specs.Trees.{Tree}
 use Rattle.model.specs.States.{fresh-state}
 use Rattle.model.specs.Steps.{step}
 use Rattle.model.specs.Runs.{run-of, run, occurrences}
+use Rattle.model.specs.Counters.{lock-state}
 use Rattle.model.specs.Refusals.{accepted, refusal, tree-refusal}
 use Rattle.model.specs.Laws.{All-threads, Sixteen-bit, Form-law}
 use Rattle.model.proofs.Trees.Accepted.{Accepted, accepted as accepted-tree}
 use Rattle.model.proofs.Lists.{same-or}
 use Rattle.model.proofs.Laws.Form.{form-law}
-use Rattle.model.proofs.Laws.Calls.{run-accepted}
+use Rattle.model.proofs.Laws.Calls.{early-accepted}
 use Rattle.claims.proofs.Claims.Reached.{Queued, from-fresh}
 use Rattle.chain.specs.Chain.{stays, looks-to, chain-from, chain}
 use Rattle.chain.specs.Laws.{Only-stays, Explains, Waiting-law}
@@ -160,8 +161,9 @@ waiting-law t bits ok v is all i h =
     let q = from-fresh t (accepted-tree t ok) bits v is all .there in
     let x = explains t ok bits s q i h in
     let form = form-law t bits ok .of-run is (fresh-state t v) all (form-law t bits ok .of-fresh v) .form in
-    let passed = run-accepted t s (i ∷ []) 1 (record { tree = ok; form = form; short = omega arith; threads = (h, tt); fits = omega arith }) in
     record {
-      never-refused = λ room b. not-refused t s i room (ap (λ r. r .number) passed) b (not-empty (chain t s i) (x .more) i (x .itself-first));
+      never-refused = λ c good room b.
+          (let passed = early-accepted t (lock-state s c) (i ∷ []) 1 (record { tree = ok; form = form; counts = good; short = omega arith; threads = (h, tt); fits = omega arith }) in
+          not-refused t (lock-state s c) i room (ap (λ r. r .number) passed) b (not-empty (chain t s i) (x .more) i (x .itself-first)));
       explains = x;
     }

@@ -3,10 +3,11 @@ use mathlib.Core.Path.{_≡_, refl}
 use mathlib.Core.List.{List, []}
 use Prim.Native.Nat.{ℕ}
 use lib.ListN.{take}
-use Rattle.model.specs.declared.State.{State}
+use Rattle.model.specs.declared.LockState.{LockState}
 use Rattle.model.specs.Trees.{Tree, tree-of}
 use Rattle.model.specs.States.{fresh-state}
 use Rattle.model.specs.Runs.{steps, state-after, run-of, run}
+use Rattle.model.specs.Counters.{lock-state, fresh-counters}
 use Rattle.model.specs.Refusals.{tree-refusal}
 use Rattle.model.specs.Answers.{fresh-answer}
 use Rattle.model.specs.Laws.{All-threads, Sixteen-bit, Form-law}
@@ -20,19 +21,18 @@ use Rattle.claims.proofs.Claims.Reached.{from-fresh, threads-take}
 use Rattle.claims.proofs.Claims.Alone.{alone}
 use Rattle.claims.proofs.Claims.Order.{ordered}
 use Rattle.claims.proofs.Claims.Bounded.{bounded}
-use Rattle.claims.proofs.Claims.Calls.{each-from, stretches-from, joined-threads}
+use Rattle.claims.proofs.Claims.Calls.{reached, starts-here, each-from, stretches-from, joined-threads}
 
-module _ (t : Tree) (bits : Sixteen-bit t) (ok : tree-refusal t .number ≡ 0) (v : ℕ) (cs : List Call) (n : Names t cs (fresh-state t v)) where
-  abbrev f : State
-  f = fresh-state t v
+module _ (t : Tree) (bits : Sixteen-bit t) (ok : tree-refusal t .number ≡ 0) (v : ℕ) (cs : List Call) (n : Names t cs (lock-state (fresh-state t v) fresh-counters)) where
+  abbrev f : LockState
+  f = lock-state (fresh-state t v) fresh-counters
 
   -- the list's schedule
   abbrev S : List ℕ
   S = joined cs f
 
-  start : f ≡ run t [] f .state
-  unfolding run run-of steps state-after
-  start = refl
+  start : f ≡ reached t f []
+  start = starts-here t f
 
   threads : All-threads t S
   threads = joined-threads t f cs [] f start n
@@ -48,12 +48,12 @@ module _ (t : Tree) (bits : Sixteen-bit t) (ok : tree-refusal t .number ≡ 0) (
         stretches = stretches-from t f cs [] f start n;
         alone = λ k.
             let x = from-fresh t 𝓐 bits v (take k S) (front k) in
-            let formed = form-law t bits ok .of-run (take k S) f (front k) (form-law t bits ok .of-fresh v) in
-            alone t 𝓐 (run t (take k S) f .state) (well-formed-facts t _ formed) (x .there);
+            let formed = form-law t bits ok .of-run (take k S) (f .words) (front k) (form-law t bits ok .of-fresh v) in
+            alone t 𝓐 (run t (take k S) (f .words) .state) (well-formed-facts t _ formed) (x .there);
         in-order = λ k d.
             let x = from-fresh t 𝓐 bits v (take k S) (front k) in
-            rw (steps-take t k S f) at (ordered t d (steps t (take k S) f) (x .there .queues) (x .follows));
-        bounded = bounded t 𝓐 (steps t S f) (whole .there .queues) (whole .real) (whole .follows);
+            rw (steps-take t k S (f .words)) at (ordered t d (steps t (take k S) (f .words)) (x .there .queues) (x .follows));
+        bounded = bounded t 𝓐 (steps t S (f .words)) (whole .there .queues) (whole .real) (whole .follows);
       }
 
 pub demand-three : Demand-three

@@ -40,7 +40,7 @@ use Rattle.claims.proofs.Words.Represents.{letting-go, letting-go-low, 
 use Rattle.claims.proofs.Words.Tickets.{tickets-first}
 use Rattle.claims.proofs.Words.Releasing.{Ungranted, linking, waiting, watching, firm, ungranted}
 use Rattle.claims.proofs.Claims.Reached.{Queued, from-fresh}
-use Rattle.claims.proofs.Claims.Calls.{joined-threads}
+use Rattle.claims.proofs.Claims.Calls.{starts-here, joined-threads}
 use Rattle.claims.proofs.Claims.Accepts.{last-reached}
 
 -- a kind of another number than a stay's
@@ -253,9 +253,10 @@ move-law t bits ok v is all i n =
     record { thread = x .thread; real = x .real; not-idle = x .not-idle; no-stay = x .moves; changes = λ e. x .moves (told .stays-exactly .1 e) }
 
 pub list-move-law : List-move-law
-unfolding List-move-law Move-law fresh-answer run run-of steps state-after
+unfolding List-move-law Move-law fresh-answer
 list-move-law w start cs ok n i busy =
     let t = tree-of w in
     let f = fresh-answer w start .state in
-    let there = last-reached t f cs [] f refl n in
-    rw there (move-law t (sixteen-bit w) ok _ (joined cs f) (joined-threads t f cs [] f refl n) i (rw there at busy))
+    let here = starts-here t f in
+    let there = last-reached t f cs [] f here n in
+    rw there (move-law t (sixteen-bit w) ok _ (joined cs f) (joined-threads t f cs [] f here n) i (rw there at busy))

@@ -1,5 +1,5 @@
 -- `host::hmcs_fresh_in_place` meets its contract: a walk of its MIR, by hand. The borrow is opened, the state is copied out of it and passed to `fresh_kept` by value, the state of the reply is stored back, and the borrow is closed at it.
--- All that the proof knows of `fresh_kept` is that it meets its contract, `r ≡ fresh-kept (fresh-answer ..) ..`. No field of the state is named, so the walk holds for any `State` and `Tree` of plain data.
+-- All that the proof knows of `fresh_kept` is that it meets its contract, `r ≡ fresh-kept (fresh-answer ..) ..`. No field of the state is named, so the walk holds for any state and tree of plain data.
 -- Assumes nothing.
 use mathlib.Core.Path.{_≡_, refl, ap}
 use Prim.Native.Nat.{ℕ, _<_, _^_}
@@ -40,11 +40,11 @@ use denote.Triple.Table.{entered, cited}
 use denote.Triple.Walked.{says, Stays, stay-ref, stay-none, walkOf, AllGo, goes-none, goes-ref, Walks, ends-at, walked, walk-meets}
 use denote.Exit.{yes}
 use Rattle.model.specs.declared.TreeWords.{TreeWords}
-use Rattle.model.specs.declared.State.{State}
+use Rattle.model.specs.declared.LockState.{LockState}
 use Rattle.model.proofs.TreeWords as Tr
 use Rattle.model.proofs.TreeWords.Laws as Tr′
-use Rattle.model.proofs.State as S
-use Rattle.model.proofs.State.Laws as S′
+use Rattle.model.proofs.LockState as S
+use Rattle.model.proofs.LockState.Laws as S′
 use Rattle.model.specs.declared.FreshReply.{FreshReply}
 use Rattle.host.specs.declared.Answer.{Answer}
 use Rattle.model.specs.Answers.{fresh-answer}
@@ -69,7 +69,7 @@ stayed = (stay-none (λ _. Tr.the-row) yes, (stay-ref (0 ∷ []) tt (plain (λ _
 abbrev tree-vals : TreeWords → List Val
 tree-vals = LL.vals Tr.the-type Tr′.the-laws
 
-abbrev state-vals : State → List Val
+abbrev state-vals : LockState → List Val
 state-vals = LL.vals S.the-type S′.the-laws
 
 abbrev answer-vals : Answer → List Val
@@ -79,10 +79,10 @@ answer-vals = LL.vals An.the-type An′.the-laws
 abbrev Step : {M : Type 1} (𝓤 : URA M) (H : Heap 𝓤) (A : Atoms 𝓤) (mem : Memory → SProp 𝓤) (run : Routine → Fun 𝓤) → Contract 𝓤
 Step 𝓤 H A mem run = tripleOf 𝓤 H A step.signature (step.spec 𝓤 H A mem run)
 
-module _ {M : Type 1} (𝓤 : URA M) (H : Heap 𝓤) (A : Atoms 𝓤) (W : Given 𝓤 H A) (at-mem : Memory → SProp 𝓤) (run : Routine → Fun 𝓤) (κ : Lft) (q : Share) (b o : ℕ) (γ : GName) (t : TreeWords) (h : State) (n : ℕ)
+module _ {M : Type 1} (𝓤 : URA M) (H : Heap 𝓤) (A : Atoms 𝓤) (W : Given 𝓤 H A) (at-mem : Memory → SProp 𝓤) (run : Routine → Fun 𝓤) (κ : Lft) (q : Share) (b o : ℕ) (γ : GName) (t : TreeWords) (h : LockState) (n : ℕ)
     (is-t : Is Tr.the-row t (tree-vals t)) (fits : n < 2 ^ 16) where
   abbrev Arg : Type 0
-  Arg = TreeWords × (RefT State × (ℕ × Unit {0}))
+  Arg = TreeWords × (RefT LockState × (ℕ × Unit {0}))
 
   abbrev x : Arg
   x = (t, (record { ptr = (b, o); name = γ; now = h }, (n, tt)))
@@ -125,7 +125,7 @@ module _ {M : Type 1} (𝓤 : URA M) (H : Heap 𝓤) (A : Atoms 𝓤) (W : Given
         move ! (13 ∷ []) $ fsplit ! $ drop ! $ fsplit ! $ fsplit3 ! $ drop ! $ move ! (15 ∷ []) $ split ! $ move ! (2 ∷ 3 ∷ 0 ∷ []) $
         opens ! tt S.the-row {h = h} b o (λ vs. spelt ! S.the-row (Is S.the-row) (shows 𝓤 H A S.the-row) state-vals (LL.tells S.the-type S′.the-laws) fullShare h vs b o $
         move ! (1 ∷ []) $ peeks ! S.the-row (Is S.the-row) (shows 𝓤 H A S.the-row) h (state-vals h) (λ is-h. move ! (1 ∷ 0 ∷ []) $
-        -- [the state's cell; what a State owns; the open borrow; obs; auth; true; the start's; _5; …; _4; …; _3; …; _2; …; _1; …; room for _0; …]: _5 = *_2
+        -- [the state's cell; what a LockState owns; the open borrow; obs; auth; true; the start's; _5; …; _4; …; _3; …; _2; …; _1; …; room for _0; …]: _5 = *_2
         assigns ! (of-opd ! (load ! (from ! (hop ! (look ! 13 refl) (stop !))) (look-raw ! 0 refl))) (from ! (stop !)) (init ! 7 refl (LL.lawful S.the-type S′.the-laws 𝓤 H A W .typed h _ is-h .0)) $
         -- _4 = fresh_kept(_1, _5, _3)
         nothing ! $ use1 W (raw (Step 𝓤 H A at-mem run .pre to-step)) (goes is-h) $

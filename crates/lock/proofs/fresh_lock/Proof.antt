@@ -17,11 +17,15 @@ first-of-requires c κs = search needs
 fresh-state-requires : tie.Need-fresh-state-requires
 fresh-state-requires c κs = search needs
 
+fresh-counters-requires : tie.Need-fresh-counters-requires
+fresh-counters-requires c κs = search needs
+
 returns : tie.Need-returns
 unfolding fresh-answer
 returns c =
-    let s = c .before .before .before .before .before .before .before in
-    rw (c .fresh-state .ensures, c .before .first-of .ensures, fresh-is (s .args .t1) (c .before .before .tree-refusal-of .result .number) (s .args .start) (omega arith), c .before .before .tree-refusal-of .ensures ∙ told-same (s .args .t1))
+    let s = c .before .before .before .before .before .before .before .before in
+    let asked = c .before .before .before .tree-refusal-of in
+    rw (c .fresh-counters .ensures, c .before .fresh-state .ensures, c .before .before .first-of .ensures, fresh-is (s .args .t1) (asked .result .number) (s .args .start) (omega arith), asked .ensures ∙ told-same (s .args .t1))
 
 pub fresh-lock-spec : {M : Type 1} → statement M
-fresh-lock-spec = tie.close (tie.spec tree-refusal-of-requires first-of-requires fresh-state-requires returns)
+fresh-lock-spec = tie.close (tie.spec tree-refusal-of-requires first-of-requires fresh-state-requires fresh-counters-requires returns)

@@ -7,29 +7,33 @@ use native.Mathlib.Omega.{arith}
 use lib.Dec.{eqb}
 use lib.ListN.{length}
 use borrow.Author.Tests.{eqb-true, ltb-false, leb-false, not-false, le-ltb, lt-leb}
-use Rattle.model.specs.declared.State.{State}
+use Rattle.model.specs.declared.Counters.{Counters}
+use Rattle.model.specs.declared.LockState.{LockState}
 use Rattle.model.specs.declared.StepReply.{StepReply}
 use Rattle.model.specs.declared.RunReply.{RunReply}
 use Rattle.model.specs.Trees.{Tree}
 use Rattle.model.specs.Steps.{Step}
 use Rattle.model.specs.Runs.{Run}
 use Rattle.model.specs.WellFormed.{well-formed}
-use Rattle.model.specs.Refusals.{Refusal, accepted, Test, tree-tests, bad-state, bad-length, bad-entry, bad-room, step-tests, run-tests, tree-refusal, step-refusal, run-refusal}
+use Rattle.model.specs.Counters.{good-counts}
+use Rattle.model.specs.Refusals.{Refusal, accepted, Test, first-refusal, tree-tests, bad-state, bad-length, bad-entry, bad-room, bad-counter, counter-tests, step-tests-before-19, step-tests, run-tests-before-19, run-tests, tree-refusal, step-refusal, run-refusal}
 use Rattle.model.specs.Answers.{step-reply, run-reply}
-use Rattle.model.specs.Laws.{All-threads, All-pass}
-use Rattle.model.proofs.Tests.{by-test}
-use Rattle.model.proofs.Laws.Refusals.{accepted-number, tree-refuses-exactly, step-refuses-exactly, run-refuses-exactly}
+use Rattle.model.specs.Laws.{All-threads, All-pass, Refusal-law}
+use Rattle.model.proofs.Tests.{and-both, by-test}
+use Rattle.model.proofs.Laws.Refusals.{accepted-number, refusal-law, tree-refuses-exactly, step-refuses-exactly, run-refuses-exactly, run-numbered-before-19}
 
--- an accepted step's tree, state and thread
-pub record Good-step (t : Tree) (s : State) (i : ℕ) : Type 0 where
+-- an accepted step's tree, state and thread, all but 19
+pub record Good-step (t : Tree) (s : LockState) (i : ℕ) : Type 0 where
   pub tree : tree-refusal t .number ≡ 0
-  pub form : well-formed t s ≡ true
+  pub form : well-formed t (s .words) ≡ true
+  pub counts : good-counts t (s .counters) ≡ true
   pub thread : i < t .threads
 
--- an accepted run's tree, state, schedule and room
-pub record Good-run (t : Tree) (s : State) (is : List ℕ) (room : ℕ) : Type 0 where
+-- an accepted run's tree, state, schedule and room, all but 19
+pub record Good-run (t : Tree) (s : LockState) (is : List ℕ) (room : ℕ) : Type 0 where
   pub tree : tree-refusal t .number ≡ 0
-  pub form : well-formed t s ≡ true
+  pub form : well-formed t (s .words) ≡ true
+  pub counts : good-counts t (s .counters) ≡ true
   pub short : length is ≤ 65536
   pub threads : All-threads t is
   pub fits : length is ≤ room
@@ -65,44 +69,85 @@ no-bad-entry t [] h p l = absurd (omega arith)
 no-bad-entry t (i ∷ is) h zero l = lt-leb _ _ (h .0)
 no-bad-entry t (i ∷ is) h (suc p) l = no-bad-entry t is (h .1) p (omega arith)
 
-pub step-facts : (t : Tree) (s : State) (i : ℕ) → step-refusal t s i .number ≡ 0 → Good-step t s i
-unfolding step-refusal step-tests All-pass bad-state bad-entry
+-- 19 refuses nothing
+abbrev pub Counts-pass : Tree → LockState → (schedule : List ℕ) → Type 0
+Counts-pass t s is = (p : ℕ) → p < length is → bad-counter t s is p ≡ false
+
+step-passed : (t : Tree) (s : LockState) (i : ℕ) → step-refusal t s i .number ≡ 0 → All-pass (step-tests-before-19 t s i) × All-pass (counter-tests t s (i ∷ []))
+unfolding step-refusal step-tests
+step-passed t s i e = let x = step-refuses-exactly t s i in pass-split (step-tests-before-19 t s i) _ (x .passed .0 (x .zero-accepted e))
+
+pub step-facts : (t : Tree) (s : LockState) (i : ℕ) → step-refusal t s i .number ≡ 0 → Good-step t s i
+unfolding All-pass bad-state bad-entry
 step-facts t s i e =
-    let x = step-refuses-exactly t s i in
-    let both = pass-split (tree-tests t) _ (x .passed .0 (x .zero-accepted e)) in
-    record { tree = tree-passes t (both .0); form = not-false _ (both .1 .0 0 (omega arith)); thread = leb-false _ _ (both .1 .1 .0 0 (omega arith)) }
+    let both = pass-split (tree-tests t) _ (step-passed t s i e .0) in
+    let good = and-both (well-formed t (s .words)) (good-counts t (s .counters)) (not-false _ (both .1 .0 0 (omega arith))) in
+    record { tree = tree-passes t (both .0); form = good .0; counts = good .1; thread = leb-false _ _ (both .1 .1 .0 0 (omega arith)) }
 
-pub step-accepted : (t : Tree) (s : State) (i : ℕ) → Good-step t s i → step-refusal t s i ≡ accepted
+pub step-counted : (t : Tree) (s : LockState) (i : ℕ) → step-refusal t s i .number ≡ 0 → Counts-pass t s (i ∷ [])
+unfolding All-pass
+step-counted t s i e = step-passed t s i e .1 .0
+
+pub step-accepted : (t : Tree) (s : LockState) (i : ℕ) → Good-step t s i → Counts-pass t s (i ∷ []) → step-refusal t s i ≡ accepted
 unfolding step-refusal step-tests All-pass All-threads bad-state
-step-accepted t s i g =
+step-accepted t s i g low =
     step-refuses-exactly t s i .passed .1
-    (pass-join (tree-tests t) _ (tree-passed t (g .tree)) (λ p l. rw (g .form), (no-bad-entry t (i ∷ []) (g .thread, tt), tt)))
+    (pass-join (step-tests-before-19 t s i) _
+    (pass-join (tree-tests t) _ (tree-passed t (g .tree)) (λ p l. rw (g .form, g .counts), (no-bad-entry t (i ∷ []) (g .thread, tt), tt)))
+    (low, tt))
 
-pub run-facts : (t : Tree) (s : State) (is : List ℕ) (room : ℕ) → run-refusal t s is room .number ≡ 0 → Good-run t s is room
-unfolding run-refusal run-tests All-pass bad-state bad-length bad-room
-run-facts t s is room e =
-    let x = run-refuses-exactly t s is room in
-    let both = pass-split (tree-tests t) _ (x .passed .0 (x .zero-accepted e)) in
+before-facts : (t : Tree) (s : LockState) (is : List ℕ) (room : ℕ) → All-pass (run-tests-before-19 t s is room) → Good-run t s is room
+unfolding All-pass bad-state bad-length bad-room
+before-facts t s is room h =
+    let both = pass-split (tree-tests t) _ h in
+    let good = and-both (well-formed t (s .words)) (good-counts t (s .counters)) (not-false _ (both .1 .0 0 (omega arith))) in
     record {
       tree = tree-passes t (both .0);
-      form = not-false _ (both .1 .0 0 (omega arith));
+      form = good .0;
+      counts = good .1;
       short = ltb-false _ _ (both .1 .1 .0 0 (omega arith));
       threads = all-threads t is (both .1 .1 .1 .0);
       fits = ltb-false _ _ (both .1 .1 .1 .1 .0 0 (omega arith));
     }
 
-pub run-accepted : (t : Tree) (s : State) (is : List ℕ) (room : ℕ) → Good-run t s is room → run-refusal t s is room ≡ accepted
-unfolding run-refusal run-tests All-pass bad-state bad-length bad-room
-run-accepted t s is room g =
-    run-refuses-exactly t s is room .passed .1
-    (pass-join (tree-tests t) _ (tree-passed t (g .tree))
-    (λ p l. rw (g .form), (λ p l. le-ltb _ _ (g .short), (no-bad-entry t is (g .threads), (λ p l. le-ltb _ _ (g .fits), tt)))))
+before-passed : (t : Tree) (s : LockState) (is : List ℕ) (room : ℕ) → Good-run t s is room → All-pass (run-tests-before-19 t s is room)
+unfolding All-pass bad-state bad-length bad-room
+before-passed t s is room g =
+    pass-join (tree-tests t) _ (tree-passed t (g .tree))
+    (λ p l. rw (g .form, g .counts), (λ p l. le-ltb _ _ (g .short), (no-bad-entry t is (g .threads), (λ p l. le-ltb _ _ (g .fits), tt))))
+
+-- all but 19
+pub early-facts : (t : Tree) (s : LockState) (is : List ℕ) (room : ℕ) → first-refusal (run-tests-before-19 t s is room) .number ≡ 0 → Good-run t s is room
+unfolding Refusal-law
+early-facts t s is room e =
+    let x = refusal-law (run-tests-before-19 t s is room) (run-numbered-before-19 t s is room) in
+    before-facts t s is room (x .passed .0 (x .zero-accepted e))
+
+pub early-accepted : (t : Tree) (s : LockState) (is : List ℕ) (room : ℕ) → Good-run t s is room → first-refusal (run-tests-before-19 t s is room) ≡ accepted
+unfolding Refusal-law
+early-accepted t s is room g = refusal-law (run-tests-before-19 t s is room) (run-numbered-before-19 t s is room) .passed .1 (before-passed t s is room g)
+
+run-passed : (t : Tree) (s : LockState) (is : List ℕ) (room : ℕ) → run-refusal t s is room .number ≡ 0 → All-pass (run-tests-before-19 t s is room) × All-pass (counter-tests t s is)
+unfolding run-refusal run-tests
+run-passed t s is room e = let x = run-refuses-exactly t s is room in pass-split (run-tests-before-19 t s is room) _ (x .passed .0 (x .zero-accepted e))
+
+pub run-facts : (t : Tree) (s : LockState) (is : List ℕ) (room : ℕ) → run-refusal t s is room .number ≡ 0 → Good-run t s is room
+run-facts t s is room e = before-facts t s is room (run-passed t s is room e .0)
+
+pub run-counted : (t : Tree) (s : LockState) (is : List ℕ) (room : ℕ) → run-refusal t s is room .number ≡ 0 → Counts-pass t s is
+unfolding All-pass
+run-counted t s is room e = run-passed t s is room e .1 .0
+
+pub run-accepted : (t : Tree) (s : LockState) (is : List ℕ) (room : ℕ) → Good-run t s is room → Counts-pass t s is → run-refusal t s is room ≡ accepted
+unfolding run-refusal run-tests All-pass
+run-accepted t s is room g low =
+    run-refuses-exactly t s is room .passed .1 (pass-join (run-tests-before-19 t s is room) _ (before-passed t s is room g) (low, tt))
 
 -- the number of an answer is its refusal's
-pub run-reply-number : (r : Refusal) (s : State) (x : Run) → run-reply r s x .number ≡ r .number
+pub run-reply-number : (r : Refusal) (s : LockState) (x : Run) (c : Counters) → run-reply r s x c .number ≡ r .number
 unfolding run-reply
-run-reply-number r s x = by-test (λ (y : RunReply). y .number ≡ r .number) (eqb (r .number) 0) _ _ (λ e. sym (eqb-true (r .number) 0 e)) (λ e. refl)
+run-reply-number r s x c = by-test (λ (y : RunReply). y .number ≡ r .number) (eqb (r .number) 0) _ _ (λ e. sym (eqb-true (r .number) 0 e)) (λ e. refl)
 
-pub step-reply-number : (r : Refusal) (s : State) (xs : List Step) → step-reply r s xs .number ≡ r .number
+pub step-reply-number : (r : Refusal) (s : LockState) (xs : List Step) (c : Counters) → step-reply r s xs c .number ≡ r .number
 unfolding step-reply
-step-reply-number r s xs = by-test (λ (y : StepReply). y .number ≡ r .number) (eqb (r .number) 0) _ _ (λ e. sym (eqb-true (r .number) 0 e)) (λ e. refl)
+step-reply-number r s xs c = by-test (λ (y : StepReply). y .number ≡ r .number) (eqb (r .number) 0) _ _ (λ e. sym (eqb-true (r .number) 0 e)) (λ e. refl)

@@ -7,9 +7,9 @@ use Prim.Native.Nat.{ℕ, zero, suc, _+_, _-_, _<_}
 use native.Mathlib.Nat.{add-zero}
 use native.Mathlib.Omega.{arith}
 use native.Mathlib.Decide.{ℕ-discrete}
-use Rattle.model.specs.declared.State.{State}
+use Rattle.model.specs.declared.LockState.{LockState}
 use Rattle.model.specs.Trees.{Tree}
-use Rattle.model.specs.Refusals.{Refusal, refusal, accepted, Test, lowest-bad, first-refusal, tree-tests, step-tests, run-tests, has-number}
+use Rattle.model.specs.Refusals.{Refusal, refusal, accepted, Test, lowest-bad, first-refusal, tree-tests, step-tests, run-tests-before-19, run-tests, has-number}
 use Rattle.model.specs.Laws.{Refuses, here, later, All-pass, Numbered, Refuses-exactly, Refusal-law, Call-refusal-law}
 use Rattle.model.proofs.Refusing.{test-skipped, numbered}
 
@@ -131,13 +131,17 @@ pub tree-refuses-exactly : (t : Tree) → Refuses-exactly (tree-tests t)
 unfolding Refusal-law
 tree-refuses-exactly t = refusal-law (tree-tests t) (tree-numbered t)
 
-pub step-refuses-exactly : (t : Tree) (s : State) (i : ℕ) → Refuses-exactly (step-tests t s i)
+pub step-refuses-exactly : (t : Tree) (s : LockState) (i : ℕ) → Refuses-exactly (step-tests t s i)
 unfolding Refusal-law has-number tree-tests step-tests
 step-refuses-exactly t s i = refusal-law (step-tests t s i) (numbered (step-tests t s i) refl)
 
-pub run-refuses-exactly : (t : Tree) (s : State) (is : List ℕ) (room : ℕ) → Refuses-exactly (run-tests t s is room)
+pub run-refuses-exactly : (t : Tree) (s : LockState) (is : List ℕ) (room : ℕ) → Refuses-exactly (run-tests t s is room)
 unfolding Refusal-law has-number tree-tests run-tests
 run-refuses-exactly t s is room = refusal-law (run-tests t s is room) (numbered (run-tests t s is room) refl)
+
+pub run-numbered-before-19 : (t : Tree) (s : LockState) (is : List ℕ) (room : ℕ) → Numbered (run-tests-before-19 t s is room)
+unfolding has-number tree-tests
+run-numbered-before-19 t s is room = numbered (run-tests-before-19 t s is room) refl
 
 pub call-refusal-law : Call-refusal-law
 unfolding Call-refusal-law

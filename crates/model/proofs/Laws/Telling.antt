@@ -4,21 +4,23 @@ use mathlib.Core.Bool.{true, false, not, cond, false≢true}
 use mathlib.Core.List.{List, [], _∷_}
 use mathlib.Core.Logic.{_≢_, _⊎_, inl, inr}
 use Prim.Native.Nat.{ℕ, suc, _+_, _<_}
+use native.Mathlib.Omega.{arith}
 use lib.Dec.{eqb}
 use lib.ListN.{length, getD}
 use borrow.Author.Tests.{eq-eqb}
 use Rattle.model.specs.declared.Place.{Place}
 use Rattle.model.specs.declared.Place.the-variants.{Idle, Prep, Swap, Link, Wait, Inside, Check, Help, Cas, Linger, Grant, Draw, Watch, Raise, Invalid}
 use Rattle.model.specs.declared.TreeWords.{TreeWords}
-use Rattle.model.specs.declared.State.{State}
+use Rattle.model.specs.declared.LockState.{LockState}
 use Rattle.model.specs.Trees.{Tree, tree-of, on-path, is-member}
 use Rattle.model.specs.Places.{place-words, words-of, place-domain}
 use Rattle.model.specs.States.{place}
 use Rattle.model.specs.Steps.{Kind, stay, root-entry, passed-entry, crossed-entry, kind-number, is-kind, Step, step}
 use Rattle.model.specs.Runs.{steps, state-after, how-many, counts-of, run-of, run, occurrences}
 use Rattle.model.specs.WellFormed.{queue-on-path, good-place}
+use Rattle.model.specs.Counters.{lock-state, counters-after, good-counts, any-above}
 use Rattle.model.specs.Refusals.{tree-refusal, run-refusal, accepted, refusal}
-use Rattle.model.specs.Answers.{first-kind, step-reply, step-answer, run-reply, run-answer}
+use Rattle.model.specs.Answers.{counters-behind, first-kind, step-reply, step-answer, run-reply, run-answer}
 use Rattle.model.specs.Laws.{All-threads, Formed, Form-law, Domain-law, told-kinds, told-counts, Told-law}
 use Rattle.model.proofs.Tests.{and-both}
 use Rattle.model.proofs.Places.{words-of-place}
@@ -28,7 +30,8 @@ use Rattle.model.proofs.Trees.Paths.{on-path-home, on-path-root}
 use Rattle.model.proofs.Laws.Facts.{well-formed-facts}
 use Rattle.model.proofs.Laws.Form.{valid, form-law}
 use Rattle.model.proofs.Laws.Runs.{entries-all}
-use Rattle.model.proofs.Laws.Calls.{step-accepted, run-facts, run-reply-number}
+use Rattle.model.proofs.Laws.Calls.{Counts-pass, step-accepted, run-facts, run-counted, run-reply-number}
+use Rattle.model.proofs.Laws.Counters.{one-kept, count-first, count-later}
 
 -- THE DOMAIN. Where a place names a domain, it is the number in its words
 named : (h : ℕ) (p : Place) → p ≢ Idle → p ≢ Inside → place-domain h p ≡ words-of p .domain ⊎ (p ≡ Invalid)
@@ -95,14 +98,21 @@ unfolding numbers occurrences how-many is-kind
 numbers-count k [] = refl
 numbers-count k (x ∷ xs) = ap (λ v. cond (eqb (kind-number k) (kind-number (x .kind))) 1 0 + v) (numbers-count k xs)
 
-told-all : (w : TreeWords) → tree-refusal (tree-of w) .number ≡ 0 → (is : List ℕ) → All-threads (tree-of w) is → (s : State) → Formed (tree-of w) s →
-    told-kinds w is s ≡ numbers (steps (tree-of w) is s)
-unfolding numbers told-kinds steps state-after All-threads step-answer step-reply first-kind accepted refusal Form-law
-told-all w ok [] all s f = refl
-told-all w ok (i ∷ is) all s f =
+told-all :
+    (w : TreeWords) → tree-refusal (tree-of w) .number ≡ 0 → (is : List ℕ) → All-threads (tree-of w) is → (s : LockState) → Formed (tree-of w) (s .words) →
+    good-counts (tree-of w) (s .counters) ≡ true → Counts-pass (tree-of w) s is → told-kinds w is s ≡ numbers (steps (tree-of w) is (s .words))
+unfolding numbers told-kinds steps state-after All-threads step-answer step-reply first-kind counters-behind accepted refusal Form-law
+told-all w ok [] all s f g low = refl
+told-all w ok (i ∷ is) all s f g low =
     let t = tree-of w in
-    let next = form-law t (sixteen-bit w) ok .of-step i s (all .0) f in
-    rw (step-accepted t s i (record { tree = ok; form = f .form; thread = all .0 })) (ap (λ ks. kind-number (step t i s .kind) ∷ ks) (told-all w ok is (all .1) (step t i s .state) next))
+    let x = step t i (s .words) in
+    let first : any-above (counters-after t (s .counters) (x ∷ [])) ≡ false = rw (count-first t s i is) at (low 0 (omega arith)) in
+    let one : Counts-pass t s (i ∷ []) = λ p h. let z : p ≡ 0 = omega arith in rw (z, count-first t s i []) first in
+    let next = form-law t (sixteen-bit w) ok .of-step i (s .words) (all .0) f in
+    rw (step-accepted t s i (record { tree = ok; form = f .form; counts = g; thread = all .0 }) one)
+    (ap (λ ks. kind-number (x .kind) ∷ ks)
+    (told-all w ok is (all .1) (lock-state (x .state) (counters-after t (s .counters) (x ∷ []))) next (one-kept t ok (sixteen-bit w) i s (all .0) f g first)
+    (λ p h. rw (count-later t s i is p) at (low (suc p) (omega arith)))))
 
 counted : (xs : List Step) → counts-of xs ≡ told-counts (numbers xs)
 unfolding counts-of told-counts
@@ -114,6 +124,7 @@ unfolding Told-law run-answer run-reply run run-of
 told-law w s is b f e =
     let t = tree-of w in
     let r = run-refusal t s is (length b) in
-    let zero : r .number ≡ 0 = sym (run-reply-number r s (run t is s)) ∙ e in
+    let zero : r .number ≡ 0 = sym (run-reply-number r s (run t is (s .words)) (counters-behind t is s)) ∙ e in
     let facts = run-facts t s is (length b) zero in
-    rw (eq-eqb (r .number) 0 zero) (counted (steps t is s) ∙ ap told-counts (sym (told-all w (facts .tree) is (facts .threads) s f)))
+    rw (eq-eqb (r .number) 0 zero)
+    (counted (steps t is (s .words)) ∙ ap told-counts (sym (told-all w (facts .tree) is (facts .threads) s f (facts .counts) (run-counted t s is (length b) zero))))

@@ -1,4 +1,4 @@
--- `waits::waits_refusal_of` meets its contract: the run's tests, then the one of its own. Assumes nothing.
+-- `waits::waits_refusal_of` meets its contract: the run's tests but 19, then the one of its own. Assumes nothing.
 use Rattle.model.specs.Trees.{tree-of}
 use Rattle.model.specs.Refusals.{refusal}
 use Rattle.waits.proofs.Refusing.{told-run, told-room, told-accepted}
@@ -17,11 +17,11 @@ cast-if2 c = search needs
 
 returns-2 : tie.Need-returns-2
 unfolding refusal tree-of
-returns-2 c = let ran = c .before .before in told-room _ _ _ _ _ _ (ran .before .before .run-refusal-of .ensures) (ran .if1 .left) (c .if2 .taken)
+returns-2 c = told-room _ _ _ _ _ _ (c .before .before .before .before .run-refusal-of .ensures) (c .before .before .if1 .left) (c .if2 .taken)
 
 returns-3 : tie.Need-returns-3
 unfolding tree-of
-returns-3 c = let ran = c .before .before in told-accepted _ _ _ _ _ _ (ran .before .before .run-refusal-of .ensures) (ran .if1 .left) (c .if2 .left)
+returns-3 c = told-accepted _ _ _ _ _ _ (c .before .before .before .before .run-refusal-of .ensures) (c .before .before .if1 .left) (c .if2 .left)
 
 pub waits-refusal-of-spec : {M : Type 1} → statement M
 waits-refusal-of-spec = tie.close (tie.spec run-refusal-of-requires returns cast-if2 returns-2 returns-3)

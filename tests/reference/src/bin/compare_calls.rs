@@ -6,14 +6,14 @@ use reference::met::Met;
 use reference::options::{conclude, Options};
 use reference::random::Random;
 use reference::random_file::{broken_draft, valid_draft};
-use reference::random_state::{random_start, random_state, spoil, tree_words};
+use reference::random_state::{late_state, random_start, random_state, spoil, tree_words};
 use reference::refusals::{accept_tree, LONGEST_SCHEDULE};
-use reference::root_met::RootMet;
+use reference::state_met::{StateMet, Told};
 use reference::words::*;
 use std::process::exit;
 
 const CANARY: usize = 16;
-const REFUSALS: [usize; 11] = [4, 5, 6, 7, 8, 9, 16, 10, 11, 12, 13];
+const REFUSALS: [usize; 12] = [4, 5, 6, 7, 8, 9, 16, 10, 11, 12, 13, 19];
 
 #[derive(Clone, Copy, Debug)]
 enum Call {
@@ -46,8 +46,8 @@ fn random_case(random: &mut Random) -> Case {
     let call = random.pick(&[Call::Fresh, Call::FreshInPlace, Call::Step, Call::StepInPlace, Call::Run, Call::Run, Call::Run]);
     let draft = if random.one_in(5) { broken_draft(random) } else { valid_draft(random) };
     let tree = tree_words(random, &draft);
-    let state = case_state(random, &tree);
     let schedule = case_schedule(random, draft.schedule, tree.threads);
+    let state = case_state(random, &tree, schedule.len());
     let room = match random.below(6) {
         0 => schedule.len().saturating_sub(random.between(1, 2)),
         1..=3 => schedule.len(),
@@ -57,13 +57,17 @@ fn random_case(random: &mut Random) -> Case {
     Case { call, tree, start: random_start(random), state, schedule, trace }
 }
 
-fn case_state(random: &mut Random, words: &TreeWords) -> StateWords {
+fn case_state(random: &mut Random, words: &TreeWords, length: usize) -> StateWords {
     let tree = words.tree();
     if accept_tree(&tree).is_err() {
         let mut state = StateWords::fresh();
         state.places[255].row = random.pick(&[0, 11, 14]);
         (state.ticket, state.grant) = (random_start(random), random_start(random));
+        state.counters.entries[0] = random.pick(&[0, 1, u64::MAX]);
         return state;
+    }
+    if length > 10_000 && !random.one_in(4) {
+        return late_state(random, &tree);
     }
     let mut state = random_state(random, &tree);
     if random.one_in(4) {
@@ -125,7 +129,7 @@ fn main() {
     println!("{subject}: {} cases, seed {}", options.count, options.seed);
     let mut random = Random::new(options.seed);
     let mut met = Met::new(&REFUSALS);
-    let mut root_met = RootMet::default();
+    let mut state_met = StateMet::default();
     for number in 0..options.count {
         let case = random_case(&mut random);
         let table = make(TABLE, &case);
@@ -136,12 +140,14 @@ fn main() {
         }
         met.count(table.reply.number);
         if !matches!(case.call, Call::Fresh | Call::FreshInPlace) {
-            root_met.count(&case.tree, &case.state, table.reply.number);
+            let schedule = if matches!(case.call, Call::Run) { &case.schedule[..] } else { &case.schedule[..1] };
+            let RunReply { number, place, .. } = table.reply;
+            state_met.count(&case.tree, &case.state, Told { number, place, schedule });
         }
     }
     met.print();
-    root_met.print();
-    conclude(met.complete() && root_met.complete(), library.is_some(), &["HMCS_LIBRARY", "HMCS_CALLS"]);
+    state_met.print();
+    conclude(met.complete() && state_met.complete(), library.is_some(), &["HMCS_LIBRARY", "HMCS_CALLS"]);
 }
 
 fn report(case: &Case, table: &Left, other: &Left) {
@@ -170,6 +176,9 @@ fn differences(one: &StateWords, other: &StateWords) -> String {
     list(&mut found, "status", &one.statuses, &other.statuses);
     list(&mut found, "place", &one.places, &other.places);
     list(&mut found, "ticket and grant", &[(one.ticket, one.grant)], &[(other.ticket, other.grant)]);
+    list(&mut found, "entries", &one.counters.entries, &other.counters.entries);
+    list(&mut found, "tenures", &one.counters.tenures, &other.counters.tenures);
+    list(&mut found, "longest", &one.counters.longest, &other.counters.longest);
     found.join(", ")
 }
 

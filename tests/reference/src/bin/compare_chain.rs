@@ -2,12 +2,13 @@
 //! Without the library it does the latter and counts what the cases meet.
 
 use reference::chain::{chain, chain_words, Broken, ChainAnswer, ChainCall};
+use reference::counters::MOST_COUNTED;
 use reference::library;
 use reference::met::Met;
 use reference::options::{conclude, Options};
 use reference::random::Random;
 use reference::random_file::{broken_draft, valid_draft};
-use reference::random_state::{any_well_formed, random_start, reached, spoil, tree_words, waiting};
+use reference::random_state::{any_well_formed, random_counters, random_start, reached, spoil, tree_words, waiting};
 use reference::refusals::accept_tree;
 use reference::schedules::{schedule, STYLES};
 use reference::table::*;
@@ -27,7 +28,7 @@ struct Case {
 }
 
 /// What the cases met, for each kind of root: reasons for 21, chains of three threads or more of states that are reached and of others, and, where it was tried what a
-/// thread behind can do, links from Wait, Linger and Watch and steps of others that moved.
+/// thread behind can do, links from Wait, Linger and Watch and steps of others that moved; and chains of states with a counter of 2^63.
 #[derive(Default)]
 struct ChainMet {
     nobody: [u64; 2],
@@ -39,6 +40,7 @@ struct ChainMet {
     lingers: [u64; 2],
     watches: [u64; 2],
     moved: [u64; 2],
+    most_counted: [u64; 2],
 }
 
 impl ChainMet {
@@ -49,12 +51,14 @@ impl ChainMet {
             "links tried: from Wait {:?}, Linger {:?}, Watch {:?}; moves of others meanwhile {:?}",
             self.waits, self.lingers, self.watches, self.moved
         );
+        println!("chains of states with a counter of 2^63 {:?}", self.most_counted);
     }
 
     /// Nobody watches at a queue root.
     fn complete(&self) -> bool {
-        let both = [self.nobody, self.several, self.comes_back, self.long_reached, self.long_other, self.waits, self.lingers, self.moved];
-        both.iter().flatten().all(|&times| times > 0) && self.watches[1] > 0
+        let chains = [self.nobody, self.several, self.comes_back, self.long_reached, self.long_other, self.most_counted];
+        let links = [self.waits, self.lingers, self.moved];
+        chains.iter().chain(&links).flatten().all(|&times| times > 0) && self.watches[1] > 0
     }
 }
 
@@ -85,7 +89,7 @@ fn until_lingering(random: &mut Random, tree: &Tree) -> State {
     state
 }
 
-/// The state, and whether it is reached from fresh.
+/// The state, and whether its words are reached from fresh.
 fn case_state(random: &mut Random, words: &TreeWords) -> (StateWords, bool) {
     let tree = words.tree();
     if accept_tree(&tree).is_err() {
@@ -95,7 +99,7 @@ fn case_state(random: &mut Random, words: &TreeWords) -> (StateWords, bool) {
         return (state, false);
     }
     let from_fresh = random.below(3) == 0;
-    let state = match random.below(4) {
+    let mut state = match random.below(4) {
         0 if from_fresh => until_lingering(random, &tree),
         _ if from_fresh => reached(random, &tree),
         0 => any_well_formed(random, &tree),
@@ -105,6 +109,10 @@ fn case_state(random: &mut Random, words: &TreeWords) -> (StateWords, bool) {
             mixed(random, &tree, one, &other)
         }
     };
+    // a chain takes no step, so that counters at 2^63 change nothing of it
+    if random.one_in(4) {
+        state.counters = random_counters(random, &tree);
+    }
     let mut state = StateWords::of(&state);
     if !from_fresh && random.one_in(8) {
         spoil(random, &tree, &mut state);
@@ -216,6 +224,7 @@ fn count_accepted(case: &Case, length: u32, met: &mut ChainMet) {
     let root = (case.tree.ticket_root != 0) as usize;
     let long = if case.from_fresh { &mut met.long_reached } else { &mut met.long_other };
     long[root] += (length >= 3) as u64;
+    met.most_counted[root] += case.state.counters.all().any(|count| count == MOST_COUNTED) as u64;
 }
 
 fn fail(number: usize, case: &Case, text: String) -> ! {

@@ -6,8 +6,9 @@ use reference::met::Met;
 use reference::options::{conclude, Options};
 use reference::random::Random;
 use reference::random_file::{broken_draft, valid_draft};
-use reference::random_state::{random_state, spoil, tree_words};
+use reference::random_state::{late_state, random_state, spoil, tree_words};
 use reference::refusals::{accept_tree, LONGEST_SCHEDULE};
+use reference::state_met::{StateMet, Told};
 use reference::table::State;
 use reference::waits::{run_waits, seen, waits, RunWaits, ROW};
 use reference::words::*;
@@ -28,8 +29,8 @@ struct Case {
 /// At times too long, at times with an entry that names no thread; often a few threads in turn, so that they wait for one another.
 fn random_schedule(random: &mut Random, threads: u32) -> Vec<u16> {
     let length = match random.below(2_000) {
-        0 => LONGEST_SCHEDULE + random.below(2),
-        1..=100 => 0,
+        0..=1 => LONGEST_SCHEDULE + random.below(2),
+        2..=100 => 0,
         101..=300 => random.between(900, 3_200),
         _ => random.between(1, 300),
     };
@@ -42,17 +43,28 @@ fn random_schedule(random: &mut Random, threads: u32) -> Vec<u16> {
     schedule
 }
 
+/// The state for a schedule of this length, and whether its words are fresh.
+fn case_state(random: &mut Random, words: &TreeWords, length: usize) -> (StateWords, bool) {
+    let tree = words.tree();
+    let accepted = accept_tree(&tree).is_ok();
+    if accepted && length > 10_000 {
+        return (late_state(random, &tree), true);
+    }
+    if !accepted || random.one_in(3) {
+        return (StateWords::of(&State::fresh_at(&tree, random.pick(&[0, 7, 65_535]))), true);
+    }
+    let mut state = random_state(random, &tree);
+    if random.one_in(8) {
+        spoil(random, &tree, &mut state);
+    }
+    (state, false)
+}
+
 fn random_case(random: &mut Random) -> Case {
     let draft = if random.one_in(8) { broken_draft(random) } else { valid_draft(random) };
     let tree = tree_words(random, &draft);
-    let accepted = accept_tree(&tree.tree()).is_ok();
-    let from_fresh = !accepted || random.one_in(3);
-    let mut state =
-        if from_fresh { StateWords::of(&State::fresh_at(&tree.tree(), random.pick(&[0, 7, 65_535]))) } else { random_state(random, &tree.tree()) };
-    if accepted && !from_fresh && random.one_in(8) {
-        spoil(random, &tree.tree(), &mut state);
-    }
     let schedule = random_schedule(random, tree.threads);
+    let (state, from_fresh) = case_state(random, &tree, schedule.len());
     let room = match random.below(8) {
         0 => schedule.len().saturating_sub(1),
         _ => schedule.len() + random.below(3),
@@ -124,7 +136,8 @@ fn main() {
     };
     println!("{subject}: {} cases, seed {}", options.count, options.seed);
     let mut random = Random::new(options.seed);
-    let mut met = Met::new(&[4, 5, 6, 7, 8, 9, 16, 10, 11, 12, 13, 18]);
+    let mut met = Met::new(&[4, 5, 6, 7, 8, 9, 16, 10, 11, 12, 13, 18, 19]);
+    let mut state_met = StateMet::default();
     let (mut attempts, mut waited, mut reduced) = (0, 0, 0);
     for number in 0..options.count {
         let case = random_case(&mut random);
@@ -145,6 +158,7 @@ fn main() {
             }
         }
         met.count(reply.number);
+        state_met.count(&case.tree, &case.state, Told { number: reply.number, place: reply.place, schedule: &case.schedule });
         if reply.number == 0 {
             let written = &rows[CANARY..];
             if let Some(text) = wrong_row(&case, written) {
@@ -157,6 +171,7 @@ fn main() {
         }
     }
     met.print();
+    state_met.print();
     println!("{attempts} attempts, of other threads' entries {waited}, means that reduce {reduced}");
-    conclude(met.complete() && waited > 0 && reduced > 0, library.is_some(), &["HMCS_LIBRARY", "HMCS_CALLS"]);
+    conclude(met.complete() && state_met.complete() && waited > 0 && reduced > 0, library.is_some(), &["HMCS_LIBRARY", "HMCS_CALLS"]);
 }

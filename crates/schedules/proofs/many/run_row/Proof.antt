@@ -33,20 +33,20 @@ slice-aggregate-run-steps c = search needs
 
 run-steps-requires : tie.Need-run-steps-requires
 run-steps-requires c κs =
-    let passed = c .before .before .before .before in
+    let passed = c .before .before .before .before .before .before in
     let start = passed .before .before .before .before .before .before in
     steps-pass (start .args .tree) (start .pre .0) (start .args .schedule .now) _ (passed .before .before .schedule-refusal-of .ensures) (passed .if1 .left) _ (start .pre .1 .0) _ (omega (arith, start .pre .1 .1))
 
 counts-of-requires-2 : tie.Need-counts-of-requires-2
 counts-of-requires-2 c κs =
     let ran = c .before .before .before .before .before in
-    let passed = ran .before .before .before .before .before in
+    let passed = ran .before .before .before .before .before .before .before in
     let start = passed .before .before .before .before .before .before in
     kinds-of-row (start .args .tree) (start .pre .0) (start .args .schedule .now) _ (passed .before .before .schedule-refusal-of .ensures) (passed .if1 .left) _ (start .pre .1 .0) _ (ran .run-steps .ensures .1 .1 .0)
 
 put-row-requires-2 : tie.Need-put-row-requires-2
 put-row-requires-2 c κs =
-    let start = c .before .before .before .before .before .before .before .before .before .before .before .before .before .before .before .before .before in
+    let start = c .before .before .before .before .before .before .before .before .before .before .before .before .before .before .before .before .before .before .before in
     omega (arith, start .pre .1 .1)
 
 same-length-2 : tie.Need-same-length-2
@@ -59,7 +59,7 @@ returns-2 : tie.Need-returns-2
 returns-2 c =
     let counted = c .before .before .before in
     let ran = counted .before .before .before .before .before .before in
-    let passed = ran .before .before .before .before .before in
+    let passed = ran .before .before .before .before .before .before .before in
     let start = passed .before .before .before .before .before .before in
     c .before .before .put-row2 .ensures
     ∙ ap (sets (start .args .rows .now) (start .args .at))

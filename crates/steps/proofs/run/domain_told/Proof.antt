@@ -1,9 +1,8 @@
 -- Both rows without a domain are compared in turn. Assumes nothing.
-use mathlib.Core.Path.{sym, _∙_}
 use borrow.Author.Tests.{eq-eqb, ne-eqb}
 use borrow.Author.Needs.{needs}
-use Rattle.steps.proofs.places.domain_by_row.Statement.{statement}
-use Rattle.steps.proofs.places.domain_by_row.Tie as tie
+use Rattle.steps.proofs.run.domain_told.Statement.{statement}
+use Rattle.steps.proofs.run.domain_told.Tie as tie
 
 wide-requires : tie.Need-wide-requires
 wide-requires c κs = search needs
@@ -17,11 +16,11 @@ wide-requires-2 c κs = search needs
 returns-2 : tie.Need-returns-2
 returns-2 c = rw (ne-eqb _ _ (c .before .before .if1 .left), eq-eqb _ _ (c .before .if2 .taken)) (c .wide2 .ensures)
 
-wide-requires-3 : tie.Need-wide-requires-3
-wide-requires-3 c κs = search needs
+cast-result : tie.Need-cast-result
+cast-result c = search needs
 
 returns-3 : tie.Need-returns-3
-returns-3 c = rw (ne-eqb _ _ (c .before .before .if1 .left), ne-eqb _ _ (c .before .if2 .left)) (c .wide3 .ensures)
+returns-3 c = rw (ne-eqb _ _ (c .before .if1 .left), ne-eqb _ _ (c .if2 .left))
 
-pub domain-by-row-spec : {M : Type 1} → statement M
-domain-by-row-spec = tie.close (tie.spec wide-requires returns wide-requires-2 returns-2 wide-requires-3 returns-3)
+pub domain-told-spec : {M : Type 1} → statement M
+domain-told-spec = tie.close (tie.spec wide-requires returns wide-requires-2 returns-2 cast-result returns-3)

@@ -1,30 +1,26 @@
--- The run's loop tells kind and domain of the one step of a schedule of one entry. Assumes nothing.
+-- Kind and domain of a step, by what the run's loop tells of it. Assumes nothing.
 use mathlib.Core.Path.{_≡_, refl, sym, ap, _∙_}
 use mathlib.Core.Bool.{true, _&&_}
 use mathlib.Core.Logic.{_≢_}
-use mathlib.Core.List.{List, [], _∷_}
-use Prim.Native.Nat.{ℕ, _≤_, _<_}
+use Prim.Native.Nat.{ℕ, _/_, _%_, _≤_, _<_}
 use native.Mathlib.Omega.{arith}
-use lib.ListN.{length, getD}
+use lib.ListN.{getD}
 use borrow.Author.Tests.{lt-ltb, le-leb}
 use Rattle.model.specs.declared.TreeWords.{TreeWords}
 use Rattle.model.specs.declared.State.{State}
-use Rattle.model.specs.declared.PlaceWords.{PlaceWords}
 use Rattle.model.specs.declared.Place.{Place}
 use Rattle.model.specs.declared.Place.the-variants.{Idle, Prep, Swap, Link, Wait, Inside, Check, Help, Cas, Linger, Grant, Draw, Watch, Raise, Invalid}
 use Rattle.model.specs.Scans.{all-below}
 use Rattle.model.specs.Trees.{tree-of, read-word}
-use Rattle.model.specs.Places.{place-words, words-of, place-of, place-domain}
+use Rattle.model.specs.Places.{place-words, words-of, place-domain}
 use Rattle.model.specs.States.{place}
-use Rattle.model.specs.Steps.{step}
+use Rattle.model.specs.Steps.{kind-number, Step, step}
 use Rattle.model.specs.WellFormed.{good-tail, good-next, good-status, good-place, good-watch, good-thread, good-counters, well-formed}
 use Rattle.model.proofs.Laws.Form.{valid}
 use Rattle.model.proofs.Tests.{and-both, all-each}
-use Rattle.model.proofs.Laws.Calls.{Good-run}
-use Rattle.model.proofs.Places.{words-of-place}
 use Rattle.steps.specs.Effects.{row-domain}
-use Rattle.steps.specs.Running.{Last-told}
-use Rattle.steps.proofs.SoFar.{So-far, thread-at, below}
+use Rattle.steps.specs.Running.{step-code}
+use Rattle.steps.proofs.SoFar.{kind-small}
 
 -- the domain of a place by the row and the domain of its words
 place-by-row : (h : ℕ) (p : Place) → p ≢ Invalid → row-domain h (words-of p .row) (words-of p .domain) ≡ place-domain h p
@@ -44,13 +40,40 @@ place-by-row h Watch n = refl
 place-by-row h Raise n = refl
 place-by-row h Invalid n = absurd (n refl)
 
-by-row : (h : ℕ) (q : PlaceWords) → place-of q ≢ Invalid → row-domain h (q .row) (q .domain) ≡ place-domain h (place-of q)
-by-row h q n = sym (ap (λ (x : PlaceWords). row-domain h (x .row) (x .domain)) (words-of-place q n)) ∙ place-by-row h (place-of q) n
+-- what is told of a step is its kind, its row and its domain, each in bits of its own
+row-small : (p : Place) → words-of p .row < 16
+row-small Idle = omega arith
+row-small (Prep l) = omega arith
+row-small (Swap l) = omega arith
+row-small (Link l p) = omega arith
+row-small (Wait l) = omega arith
+row-small Inside = omega arith
+row-small (Check l) = omega arith
+row-small (Help l) = omega arith
+row-small (Cas l) = omega arith
+row-small (Linger l) = omega arith
+row-small (Grant l r w) = omega arith
+row-small Draw = omega arith
+row-small Watch = omega arith
+row-small Raise = omega arith
+row-small Invalid = omega arith
 
--- the domain of a step, by the home of its thread and the words of its place
+pub code-kind : (x : Step) → step-code x % 8 ≡ kind-number (x .kind)
+unfolding step-code
+code-kind x = omega (arith, kind-small (x .kind))
+
+code-row : (x : Step) → (step-code x / 8) % 16 ≡ words-of (x .place) .row
+unfolding step-code
+code-row x = omega (arith, kind-small (x .kind), row-small (x .place))
+
+code-domain : (x : Step) → step-code x / 128 ≡ words-of (x .place) .domain
+unfolding step-code
+code-domain x = omega (arith, kind-small (x .kind), row-small (x .place))
+
+-- the domain of a step, by the home of its thread and what is told of it
 module _ (w : TreeWords) (s : State) (i : ℕ) (form : well-formed (tree-of w) s ≡ true) (h : i < tree-of w .threads) (small : i < 256) where
   -- the thread's place is one of the table's
-  place-valid : place-of (getD (s .places) i (place-words 0 0 0 0)) ≢ Invalid
+  place-valid : place s i ≢ Invalid
   unfolding well-formed good-thread
   place-valid =
       let t = tree-of w in
@@ -64,25 +87,10 @@ module _ (w : TreeWords) (s : State) (i : ℕ) (form : well-formed (tree-of w) s
   unfolding tree-of read-word
   home-read = let small-thread : i < w .threads = h in rw (lt-ltb i (w .threads) small-thread, le-leb 0 i (omega arith))
 
-  step-domain : (let q = getD (s .places) i (place-words 0 0 0 0) in row-domain (getD (w .homes) i 0) (q .row) (q .domain) ≡ step (tree-of w) i s .domain)
+  pub domain-told : (let c = step-code (step (tree-of w) i s) in row-domain (getD (w .homes) i 0) ((c / 8) % 16) (c / 128) ≡ step (tree-of w) i s .domain)
   unfolding step
-  step-domain =
+  domain-told =
       let t = tree-of w in
-      let q = getD (s .places) i (place-words 0 0 0 0) in
-      ap (λ v. row-domain v (q .row) (q .domain)) home-read ∙ by-row (t .home i) q place-valid
-
-module _ (w : TreeWords) (is b₀ : List ℕ) (s₀ : State) (room : ℕ) (R : Good-run (tree-of w) s₀ is room) where
-  pub last-told :
-      (b : List ℕ) (s : State) (kinds : List ℕ) (entries row domain kind thread k : ℕ) → So-far (tree-of w) is b₀ s₀ b s kinds entries row domain kind thread k → length is ≤ k →
-      (kind′ domain′ : ℕ) → kind′ ≡ kind → domain′ ≡ row-domain (getD (w .homes) thread 0) row domain → Last-told (tree-of w) is s₀ (kind′ ∷ domain′ ∷ [])
-  last-told b s kinds entries row domain kind thread k g h kind′ domain′ ek ed =
-      let i = getD is 0 0 in
-      let q = getD (s₀ .places) i (place-words 0 0 0 0) in
-      let one : length is ≡ 1 → k ≡ 1 = λ z. omega (arith, g .within) in
-      record {
-        kind = λ z. ek ∙ g .kind-is (one z);
-        domain =
-            λ z.
-            ed ∙ ap (λ j. row-domain (getD (w .homes) j 0) row domain) (g .thread-is (one z)) ∙ ap (λ v. row-domain (getD (w .homes) i 0) v domain) (g .row-is (one z))
-            ∙ ap (row-domain (getD (w .homes) i 0) (q .row)) (g .domain-is (one z)) ∙ step-domain w s₀ i (R .form) (thread-at (tree-of w) is (R .threads) 0 (omega arith)) (below (tree-of w) is (R .tree) (R .threads) 0 (omega arith));
-      }
+      let x = step t i s in
+      let p = place s i in
+      rw (code-row x, code-domain x) (ap (λ v. row-domain v (words-of p .row) (words-of p .domain)) home-read ∙ place-by-row (t .home i) p place-valid)

@@ -1,0 +1,12 @@
+-- `chain::refused` meets its contract. Assumes nothing.
+use Rattle.model.specs.Refusals.{refusal}
+use borrow.Author.Needs.{needs}
+use Rattle.chain.proofs.refused.Statement.{statement}
+use Rattle.chain.proofs.refused.Tie as tie
+
+returns : tie.Need-returns
+unfolding refusal
+returns c = search needs
+
+pub refused-spec : {M : Type 1} → statement M
+refused-spec = tie.close (tie.spec returns)

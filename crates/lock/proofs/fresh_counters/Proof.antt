@@ -1,0 +1,13 @@
+-- `lock::fresh_counters` meets its contract. Assumes nothing.
+use mathlib.Core.Path.{refl}
+use Rattle.model.specs.Counters.{fresh-counters}
+use borrow.Author.Needs.{needs}
+use Rattle.lock.proofs.fresh_counters.Statement.{statement}
+use Rattle.lock.proofs.fresh_counters.Tie as tie
+
+returns : tie.Need-returns
+unfolding fresh-counters
+returns c = refl
+
+pub fresh-counters-spec : {M : Type 1} → statement M
+fresh-counters-spec = tie.close (tie.spec returns)

@@ -1,0 +1,103 @@
+-- The cases of the counters hold, by walks where 10 is tested. Assumes nothing.
+use mathlib.Core.Path.{_≡_, refl, ap, _∙_}
+use mathlib.Core.Bool.{Bool, true, not, _&&_}
+use mathlib.Core.List.{List, [], _∷_, _++_}
+use Prim.Native.Nat.{ℕ}
+use lib.Dec.{leb}
+use lib.ListN.{length}
+use borrow.Author.Tests.{leb-true}
+use Rattle.model.specs.declared.TreeWords.{TreeWords}
+use Rattle.model.specs.declared.State.{State}
+use Rattle.model.specs.declared.LockState.{LockState}
+use Rattle.model.specs.Scans.{any-below, all-below, filter-below}
+use Rattle.model.specs.Trees.{read-word, Tree, tree-of, is-ticket, is-child, is-leaf, depth-from, depth, level, meets, on-path, child-from, child, own-record, is-record, is-member, owner-domain, under}
+use Rattle.model.specs.Places.{bare-place, plain-place, place-of, is-idle, is-inside, is-watch}
+use Rattle.model.specs.States.{fresh-words, fresh-state}
+use Rattle.model.specs.Steps.{is-kind, is-entry, prep-row, swap-row, link-row, wait-row, leave-row, check-row, help-row, cas-row, linger-row, grant-row, draw-row, watch-row, is-watched, shown-members, raise-row, row, step}
+use Rattle.model.specs.Runs.{steps, state-after, how-many, entering, counts-of, run-of, run, ended-in, entries-under, occurrences}
+use Rattle.model.specs.Tenures.{finds-none, taken-from, given, starts, checks-at, word-to-grant, told-length, domain-entries, domain-tenures, longest-told}
+use Rattle.model.specs.WellFormed.{good-tail, queue-on-path, good-place, good-counters}
+use Rattle.model.specs.Counters.{lock-state, fresh-counters, each-with-index, counters-after, good-count, good-counts, count-above, any-above}
+use Rattle.model.specs.Refusals.{Refusal, refusal, accepted, Test, test, lowest-bad, first-refusal, bad-domains, bad-threads, bad-parent, too-deep, no-threshold, bad-home, empty-domain, tree-tests, bad-state, bad-length, bad-entry, bad-room, bad-counter, entry-tests, schedule-tests, room-tests, counter-tests, step-tests, run-tests, tree-refusal, step-refusal, run-refusal}
+use Rattle.model.specs.Answers.{counters-behind, first-kind, first-domain, step-reply, step-answer, run-reply, run-buffer, run-answer, trace-answer}
+use Rattle.model.specs.Cases.{padded, tree, at-ticket-root, two-homes, first-entries, same-numbers, place-numbers, same-state, same-counters, same-lock, uncounted}
+use Rattle.model.specs.CounterCases.{counters, Case, leaves, run-with, step-with, two-below, one-pass, two-leaves, cases, buffer, left-so, refused-so, step-so, holds, all-hold, Counter-cases-hold}
+use Rattle.model.proofs.Tests.{and-both}
+use Rattle.model.proofs.Computing.{walked, Sized, formed-by-walks, same-formed, walked-refusal, same-refusal, state-sized, sized}
+
+-- what is refused, by walks, of a state with any counters
+unfoldable counted-refusal : TreeWords → LockState → List Test → (schedule : List ℕ) → Refusal
+counted-refusal w s xs is =
+    let t = tree-of w in
+    first-refusal ((tree-tests t ++ ((test 10 1 (λ p. not (formed-by-walks t (s .words) && good-counts t (s .counters))) ∷ []) ++ xs)) ++ counter-tests t s is)
+
+module _ (w : TreeWords) (s : LockState) (h : Sized (s .words)) where
+  abbrev t : Tree
+  t = tree-of w
+
+  same-run : (is : List ℕ) (room : ℕ) → run-refusal t s is room ≡ counted-refusal w s (schedule-tests t is ++ room-tests is room) is
+  unfolding counted-refusal run-refusal run-tests bad-state
+  same-run is room =
+      ap
+      (λ b. first-refusal ((tree-tests t ++ ((test 10 1 (λ p. not (b && good-counts t (s .counters))) ∷ []) ++ (schedule-tests t is ++ room-tests is room))) ++ counter-tests t s is))
+      (same-formed t (s .words) h)
+
+  same-step : (i : ℕ) → step-refusal t s i ≡ counted-refusal w s (entry-tests t (i ∷ [])) (i ∷ [])
+  unfolding counted-refusal step-refusal step-tests bad-state
+  same-step i =
+      ap
+      (λ b. first-refusal ((tree-tests t ++ ((test 10 1 (λ p. not (b && good-counts t (s .counters))) ∷ []) ++ entry-tests t (i ∷ []))) ++ counter-tests t s (i ∷ [])))
+      (same-formed t (s .words) h)
+
+unfoldable holds-by-walks : Case → Bool
+holds-by-walks (leaves w is c) =
+    let t = tree-of w in
+    left-so (run-reply (walked-refusal w fresh-words is (length (buffer (length is)))) (uncounted fresh-words) (run t is fresh-words) (counters-behind t is (uncounted fresh-words))) c
+holds-by-walks (run-with w c is n k p) =
+    let t = tree-of w in
+    let s = lock-state fresh-words c in
+    let r = counted-refusal w s (schedule-tests t is ++ room-tests is (length (buffer n))) is in
+    refused-so k p (run-reply r s (run t is fresh-words) (counters-behind t is s)) (run-buffer r (buffer n) (run t is fresh-words)) s n
+holds-by-walks (step-with w is c i k p) =
+    let t = tree-of w in
+    let s = lock-state (run t is fresh-words .state) c in
+    step-so k p (step-reply (counted-refusal w s (entry-tests t (i ∷ [])) (i ∷ [])) s (steps t (i ∷ []) (s .words)) (counters-behind t (i ∷ []) s)) s
+
+unfoldable all-hold-by-walks : List Case → Bool
+all-hold-by-walks [] = true
+all-hold-by-walks (c ∷ cs) = holds-by-walks c && all-hold-by-walks cs
+
+-- the words that the cases hand in are whole, and their schedules short
+unfoldable case-sized : Case → Bool
+case-sized (leaves w is c) = leb (length is) 65536
+case-sized (run-with w c is n k p) = true
+case-sized (step-with w is c i k p) = state-sized (run (tree-of w) is fresh-words .state)
+
+unfoldable all-sized : List Case → Bool
+all-sized [] = true
+all-sized (c ∷ cs) = case-sized c && all-sized cs
+
+fresh-sized : state-sized fresh-words ≡ true
+unfolding fresh-words
+fresh-sized = refl
+
+same-case : (c : Case) → case-sized c ≡ true → holds c ≡ holds-by-walks c
+unfolding holds-by-walks case-sized holds run-answer trace-answer step-answer
+same-case (leaves w is c) e = rw (same-refusal w fresh-words is (length (buffer (length is))) (leb-true _ _ e) (sized fresh-words fresh-sized))
+same-case (run-with w c is n k p) e = rw (same-run w (lock-state fresh-words c) (sized fresh-words fresh-sized) is (length (buffer n)))
+same-case (step-with w is c i k p) e = rw (same-step w (lock-state (run (tree-of w) is fresh-words .state) c) (sized (run (tree-of w) is fresh-words .state) e) i)
+
+same-cases : (cs : List Case) → all-sized cs ≡ true → all-hold cs ≡ all-hold-by-walks cs
+unfolding all-hold all-hold-by-walks all-sized
+same-cases [] e = refl
+same-cases (c ∷ cs) e =
+    let a = and-both (case-sized c) (all-sized cs) e in
+    rw (same-case c (a .0), same-cases cs (a .1))
+
+cases-sized : all-sized cases ≡ true
+unfolding any-below filter-below read-word tree-of is-ticket is-child is-leaf meets on-path child-from child own-record under bare-place plain-place place-of is-watch fresh-words is-entry prep-row swap-row link-row wait-row leave-row check-row help-row cas-row linger-row grant-row draw-row watch-row is-watched shown-members raise-row row step steps state-after run-of run counters cases first-entries two-below padded tree case-sized all-sized
+cases-sized = refl
+
+pub counter-cases-hold : Counter-cases-hold
+unfolding Counter-cases-hold any-below filter-below all-below read-word tree-of is-ticket is-child is-leaf depth-from depth level meets on-path child-from child own-record is-record is-member owner-domain under bare-place plain-place place-of is-watch is-idle is-inside fresh-words fresh-state is-kind is-entry prep-row swap-row link-row wait-row leave-row check-row help-row cas-row linger-row grant-row draw-row watch-row is-watched shown-members raise-row row step steps state-after how-many entering counts-of run-of run ended-in entries-under occurrences finds-none taken-from given starts checks-at word-to-grant told-length domain-entries domain-tenures longest-told good-tail queue-on-path good-place good-counters fresh-counters each-with-index counters-after good-count good-counts count-above any-above refusal accepted lowest-bad first-refusal bad-domains bad-threads bad-parent too-deep no-threshold bad-home empty-domain tree-tests bad-length bad-entry bad-room bad-counter counters-behind first-kind first-domain step-reply run-reply run-buffer padded tree at-ticket-root two-homes first-entries same-numbers place-numbers same-state same-counters same-lock counters two-below one-pass two-leaves cases refused-so step-so walked formed-by-walks walked-refusal counted-refusal holds-by-walks all-hold-by-walks
+counter-cases-hold = same-cases cases cases-sized ∙ refl

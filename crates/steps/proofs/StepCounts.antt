@@ -1,0 +1,373 @@
+-- What one step counts by its words is what the model counts of it: by the place that it is from. Assumes nothing.
+use mathlib.Core.Path.{_≡_, refl, sym, ap, _∙_}
+use mathlib.Core.Bool.{Bool, true, false, _&&_, _||_, not, cond, false≢true}
+use mathlib.Core.List.{List, [], _∷_}
+use mathlib.Core.Logic.{_≢_}
+use Prim.Native.Nat.{ℕ, zero, suc, _+_, _-_, _≤_, _<_, max}
+use native.Mathlib.Omega.{arith}
+use native.Mathlib.Decide.{ℕ-discrete, decLt}
+use lib.Dec.{eqb, ltb}
+use lib.ListN.{getD, length, set}
+use lib.Seq.{getD-set-same}
+use borrow.Author.Tests.{eqb-true, eqb-false, eq-eqb, ne-eqb, lt-ltb, le-ltb, ltb-true, ltb-false, not-true}
+use Rattle.model.specs.declared.TreeWords.{TreeWords}
+use Rattle.model.specs.declared.PlaceWords.{PlaceWords}
+use Rattle.model.specs.declared.Place.{Place}
+use Rattle.model.specs.declared.Place.the-variants.{Idle, Prep, Swap, Link, Wait, Inside, Check, Help, Cas, Linger, Grant, Draw, Watch, Raise, Invalid}
+use Rattle.model.specs.declared.State.{State}
+use Rattle.model.specs.declared.Counters.{Counters}
+use Rattle.model.specs.Scans.{any-below}
+use Rattle.model.specs.Trees.{Tree, tree-of, read-word, is-ticket, on-path, child-from, child, own-record, is-record, is-member}
+use Rattle.model.specs.Places.{place-words, words-of, place-of, plain-place, bare-place, is-watch}
+use Rattle.model.specs.States.{none, tail, next, status, place, wrap}
+use Rattle.model.specs.Steps.{kind-number, Row-result, acquired-place, is-watched, shown-members, prep-row, swap-row, link-row, leave-row, check-row, help-row, cas-row, grant-row, draw-row, raise-row, row, step}
+use Rattle.model.specs.WellFormed.{queue-on-path, good-place}
+use Rattle.model.specs.Refusals.{tree-refusal}
+use Rattle.model.specs.Tenures.{checks-at, domain-tenures, longest-told}
+use Rattle.model.specs.Counters.{each-with-index, counters-after}
+use Rattle.model.specs.Laws.{Formed}
+use Rattle.model.proofs.Tests.{and-both, by-test, any-same}
+use Rattle.model.proofs.Places.{words-of-place}
+use Rattle.model.proofs.Trees.Accepted.{Accepted, accepted}
+use Rattle.model.proofs.Trees.Paths.{on-path-root}
+use Rattle.model.proofs.Trees.Records.{member-record, member-small, child-inner}
+use Rattle.model.proofs.Trees.Tickets.{queue-facts}
+use Rattle.model.proofs.Laws.Facts.{well-formed-facts}
+use Rattle.model.proofs.Laws.Form.{valid}
+use Rattle.model.proofs.Laws.Given.{given-from, given-idle, given-prep, given-swap, given-link, given-wait, given-inside, given-check, given-help, given-cas, given-linger, given-grant, given-draw, given-watch, given-raise, given-invalid}
+use Rattle.refusals.specs.Arrays.{parents-in}
+use Rattle.refusals.specs.Counts.{counters-in}
+use Rattle.refusals.proofs.Reading.{home-in}
+use Rattle.steps.specs.declared.rows.Effect.{Effect}
+use Rattle.steps.specs.Effects.{apply, Does}
+use Rattle.steps.specs.Counting.{parent-in, taken-in, record-domain-in, started-in, added-at, raised-at, is-watch-in, shows-in, Marked, Entered, Counted-shown, Counted-step}
+use Rattle.steps.proofs.Children.{child-same}
+use Rattle.steps.proofs.StepEntries.{entries-counted}
+use Rattle.steps.proofs.StepTenures.{Start-of, nobody, of-thread, of-domain, start-added, start-raised, check-added, check-raised, raise-added, raise-raised}
+
+-- a place that is stored is read there
+stored-place : (ps : List PlaceWords) (i : ℕ) (q : PlaceWords) → i < length ps → getD (set ps i q) i (place-words 0 0 0 0) ≡ q
+stored-place ps i q h = getD-set-same ps i q (place-words 0 0 0 0) h
+
+three-ways : (f : Row-result → Bool) (a b : Bool) (x y z : Row-result) → f x ≡ false → f y ≡ false → f z ≡ true → f (cond a (cond b x y) z) ≡ not a
+three-ways f true true x y z p q r = p
+three-ways f true false x y z p q r = q
+three-ways f false b x y z p q r = r
+
+two-ways : (f : Row-result → Bool) (a : Bool) (x z : Row-result) → f x ≡ false → f z ≡ true → f (cond a x z) ≡ not a
+two-ways f true x z p r = p
+two-ways f false x z p r = r
+
+-- of the place behind a Swap: Link exactly where the tail was not none
+swap-after :
+    (t : Tree) (i l : ℕ) (s : State) → i < length (s .places) →
+    eqb (getD (swap-row t i l s .state .places) i (place-words 0 0 0 0) .row) 3 ≡ not (eqb (tail s l) none)
+unfolding swap-row
+swap-after t i l s h =
+    three-ways (λ r. eqb (getD (r .state .places) i (place-words 0 0 0 0) .row) 3) (eqb (tail s l) none) (eqb l 0) _ _ _ (at Inside) (at (acquired-place t l) ∙ acquired) (at (Link l (tail s l - 1)))
+  where
+    at : (p : Place) → eqb (getD (set (s .places) i (words-of p)) i (place-words 0 0 0 0) .row) 3 ≡ eqb (words-of p .row) 3
+    at p = ap (λ (q : PlaceWords). eqb (q .row) 3) (stored-place (s .places) i (words-of p) h)
+
+    acquired : eqb (words-of (acquired-place t l) .row) 3 ≡ false
+    acquired = by-test (λ p. eqb (words-of p .row) 3 ≡ false) (is-ticket t (t .parent l)) Draw (Prep (t .parent l)) (λ e. refl) (λ e. refl)
+
+draw-kind : (t : Tree) (i : ℕ) (s : State) → eqb (kind-number (draw-row t i s .kind)) 1 ≡ not (eqb (s .ticket) (s .grant))
+unfolding draw-row
+draw-kind t i s = two-ways (λ r. eqb (kind-number (r .kind)) 1) (eqb (s .ticket) (s .grant)) _ _ refl refl
+
+-- a record that a thread works with, or none, by a test
+module _ (t : Tree) (𝓐 : Accepted t) (m : ℕ) (ps : List ℕ) (same : (e : ℕ) → parents-in m ps .parent e ≡ t .parent e) where
+  pub taken-child : (i l h : ℕ) → h ≡ t .home i → taken-in m ps h l ≡ cond (eqb l (t .home i)) 0 (child t i l)
+  unfolding child
+  taken-child i l h e = rw (e, child-same 6 (parents-in m ps) t l (t .home i) same)
+
+  own-started : (b : Bool) (i l h : ℕ) → i < t .threads → on-path t i l ≡ true → h ≡ t .home i → Start-of (cond b (own-record t i l ∷ []) []) (cond (not b) 0 (taken-in m ps h l))
+  unfolding own-record
+  own-started false i l h r o e = nobody refl refl
+  own-started true i l h r o e = rw (taken-child i l h e) (by (eqb l (t .home i)) refl)
+    where
+      by : (x : Bool) → eqb l (t .home i) ≡ x → Start-of (cond x i (256 + child t i l) ∷ []) (cond x 0 (child t i l))
+      by true z = of-thread i (omega (arith, 𝓐 .few-threads)) refl refl
+      by false z = of-domain (child-inner t 𝓐 i r l o (eqb-false l (t .home i) z)) refl
+
+  -- a record that is granted
+  granted-started : (l r : ℕ) → is-member t l r ≡ true → Start-of (r ∷ []) (record-domain-in r)
+  unfolding is-record
+  granted-started l r e = by (ltb r 256) refl (member-record t 𝓐 l r e)
+    where
+      by : (x : Bool) → ltb r 256 ≡ x → cond x (ltb r (t .threads)) (ltb (r - 256) (t .domains) && not (eqb (r - 256) 0)) ≡ true → Start-of (r ∷ []) (cond x 0 (r - 256))
+      by true z y = of-thread r (ltb-true r 256 z) refl refl
+      by false z y =
+          let big = ltb-false r 256 z in
+          let n = eqb-false (r - 256) 0 (not-true (eqb (r - 256) 0) (and-both (ltb (r - 256) (t .domains)) (not (eqb (r - 256) 0)) y .1)) in
+          of-domain n (ap (λ v. v ∷ []) (omega arith))
+
+  -- a thread that watches with a domain's record
+  record-same : (j h d : ℕ) → j < t .threads → h ≡ t .home j → d ≢ 0 → eqb (taken-in m ps h 0) d ≡ eqb (own-record t j 0) (256 + d)
+  unfolding own-record
+  record-same j h d r e n = rw (taken-child j 0 h e) (by (eqb 0 (t .home j)))
+    where
+      by : (x : Bool) → eqb (cond x 0 (child t j 0)) d ≡ eqb (cond x j (256 + child t j 0)) (256 + d)
+      by true = ne-eqb 0 d (λ z. n (sym z)) ∙ sym (ne-eqb j (256 + d) (λ z. absurd (omega (arith, 𝓐 .few-threads))))
+      by false = elim (ℕ-discrete (child t j 0) d) [ yes z ↦ rw (eq-eqb (child t j 0) d z, eq-eqb (256 + child t j 0) (256 + d) (omega arith)) | no z ↦ rw (ne-eqb (child t j 0) d z, ne-eqb (256 + child t j 0) (256 + d) (λ y. z (omega arith))) ]
+
+-- whether four numbers are Watch
+not-watch : (q : PlaceWords) → eqb (q .row) 12 ≡ false → is-watch (place-of q) ≡ false
+unfolding is-watch place-of plain-place bare-place
+not-watch q e =
+    pick (eqb (q .row) 10) _ _ refl (pick (not (eqb (q .word) 0)) _ _ refl (pick (eqb (q .row) 3) _ _ refl (pick (not (eqb (q .peer) 0)) _ _ refl plain)))
+  where
+    quiet : Place → Type 0
+    quiet p = is-watch p ≡ false
+
+    pick : (b : Bool) (p r : Place) → quiet p → quiet r → quiet (cond b p r)
+    pick b p r x y = by-test quiet b p r (λ e. x) (λ e. y)
+
+    bare : quiet (bare-place (q .row))
+    bare =
+        pick (eqb (q .row) 0) _ _ refl
+        (pick (eqb (q .row) 5) _ _ refl (pick (eqb (q .row) 11) _ _ refl (by-test quiet (eqb (q .row) 12) _ _ (λ z. absurd (false≢true (sym e ∙ z))) (λ z. pick (eqb (q .row) 13) _ _ refl refl))))
+
+    plain : quiet (plain-place (q .row) (q .domain))
+    plain =
+        pick (eqb (q .row) 1) _ _ refl (pick (eqb (q .row) 2) _ _ refl (pick (eqb (q .row) 4) _ _ refl (pick (eqb (q .row) 6) _ _ refl (pick (eqb (q .row) 7) _ _ refl
+        (pick (eqb (q .row) 8) _ _ refl (pick (eqb (q .row) 9) _ _ refl (pick (eqb (q .domain) 0) _ _ bare refl)))))))
+
+watch-same : (q : PlaceWords) → is-watch-in q ≡ is-watch (place-of q)
+unfolding is-watch place-of plain-place bare-place
+watch-same q = by (eqb (q .row) 12) refl
+  where
+    three : (a b c : Bool) → a && (b && c) ≡ is-watch (cond (not c) Invalid (cond (not b) Invalid (cond a Watch Invalid)))
+    three true true true = refl
+    three true true false = refl
+    three true false true = refl
+    three true false false = refl
+    three false true true = refl
+    three false true false = refl
+    three false false true = refl
+    three false false false = refl
+
+    by : (b : Bool) → eqb (q .row) 12 ≡ b → is-watch-in q ≡ is-watch (place-of q)
+    by true e = rw (eqb-true (q .row) 12 e) (three (eqb (q .domain) 0) (eqb (q .peer) 0) (eqb (q .word) 0))
+    by false e = ap (λ (x : Bool). x && (eqb (q .domain) 0 && (eqb (q .peer) 0 && eqb (q .word) 0))) e ∙ sym (not-watch q e)
+
+-- a test that does not hang on the number stands before the scan
+any-apart : (n : ℕ) (a b : ℕ → Bool) (c : Bool) → any-below n (λ j. a j && (b j && c)) ≡ c && any-below n (λ j. a j && b j)
+unfolding any-below
+any-apart zero a b true = refl
+any-apart zero a b false = refl
+any-apart (suc n) a b c = rw (any-apart n a b c) (by c (any-below n (λ j. a j && b j)) (a n) (b n))
+  where
+    by : (c r x y : Bool) → (c && r) || (x && (y && c)) ≡ c && (r || (x && y))
+    by true true x y = refl
+    by true false true true = refl
+    by true false true false = refl
+    by true false false y = refl
+    by false r true true = refl
+    by false r true false = refl
+    by false r false y = refl
+
+-- ONE STEP of a tree that a call names
+module _ (w : TreeWords) (ok : tree-refusal (tree-of w) .number ≡ 0) (i : ℕ) (b : i < tree-of w .threads) (s : State) (f : Formed (tree-of w) s) (e : Effect) (D : Does (row (tree-of w) i (place s i) s) i e s) where
+  abbrev t : Tree
+  t = tree-of w
+
+  𝓐 : Accepted t
+  𝓐 = accepted t ok
+
+  abbrev q : PlaceWords
+  q = getD (s .places) i (place-words 0 0 0 0)
+
+  good : good-place t i (place s i) ≡ true
+  good = well-formed-facts t s f .places i .used b
+
+  words : q ≡ words-of (place s i)
+  words = sym (words-of-place q (valid t i (place s i) good))
+
+  room : i < length (s .places)
+  room = omega (arith, 𝓐 .few-threads, f .typed .places-room)
+
+  -- the place after the step
+  after : getD (step t i s .state .places) i (place-words 0 0 0 0) ≡ e .place
+  unfolding step
+  after = ap (λ (n : State). getD (n .places) i (place-words 0 0 0 0)) (sym (D .state-left)) ∙ stored-place (s .places) i (e .place) room
+
+  module _ (h : ℕ) (home : h ≡ t .home i) (shown : List Bool) (ts ts′ ls ls′ : List ℕ) (C : Counted-step (w .domains) (w .parents) h q (e .place) (e .kind) shown ts ts′ ls ls′) where
+    abbrev Both : Type 0
+    Both = (ts′ ≡ each-with-index (λ d v. v + domain-tenures t d (step t i s ∷ [])) 0 ts) × (ls′ ≡ each-with-index (λ d v. max v (longest-told t d (step t i s ∷ []))) 0 ls)
+
+    abbrev started : ℕ
+    started = started-in (w .domains) (w .parents) h q (e .place .row) (e .kind)
+
+    finish : q .row ≢ 13 → q .row ≢ 6 → Start-of (given-from t i (place s i) s) started → ((d : ℕ) → checks-at d (place s i) ≡ false) → Both
+    finish n o g u =
+        let both = C .other n o in
+        (both .0 ∙ start-added t i s started g u ts, both .1 ∙ start-raised t i s started g u ls)
+
+    -- a place from which no tenure starts
+    quiet : (p : Place) → place s i ≡ p → given-from t i p s ≡ [] → started-in (w .domains) (w .parents) h (words-of p) (e .place .row) (e .kind) ≡ 0 → words-of p .row ≢ 13 → words-of p .row ≢ 6 → ((d : ℕ) → checks-at d p ≡ false) → Both
+    quiet p z g c n o u =
+        let row : q .row ≡ words-of p .row = ap (λ (x : PlaceWords). x .row) (words ∙ ap words-of z) in
+        finish (λ y. n (sym row ∙ y)) (λ y. o (sym row ∙ y))
+        (nobody (ap (λ (x : Place). given-from t i x s) z ∙ g) (ap (λ (x : PlaceWords). started-in (w .domains) (w .parents) h x (e .place .row) (e .kind)) (words ∙ ap words-of z) ∙ c))
+        (λ d. ap (checks-at d) z ∙ u d)
+
+    -- the rows of the places from which a tenure may start
+    row-is : (p : Place) → place s i ≡ p → q ≡ words-of p
+    row-is p z = words ∙ ap words-of z
+
+    same-parents : (x : ℕ) → parents-in (w .domains) (w .parents) .parent x ≡ t .parent x
+    unfolding tree-of
+    same-parents x = refl
+
+    from-swap : (l : ℕ) → place s i ≡ Swap l → good-place t i (Swap l) ≡ true → Both
+    unfolding started-in checks-at good-place step row
+    from-swap l z g =
+        let y = row-is (Swap l) z in
+        let a : eqb (e .place .row) 3 ≡ not (eqb (tail s l) none) =
+        ap (λ (x : PlaceWords). eqb (x .row) 3) (sym after) ∙ ap (λ (p : Place). eqb (getD (row t i p s .state .places) i (place-words 0 0 0 0) .row) 3) z ∙ swap-after t i l s room in
+        let c : started ≡ cond (not (eqb (tail s l) none)) 0 (taken-in (w .domains) (w .parents) h l) = rw (y, a) in
+        finish (λ x. absurd (omega (arith, ap (λ (v : PlaceWords). v .row) y))) (λ x. absurd (omega (arith, ap (λ (v : PlaceWords). v .row) y)))
+        (rw (c, z, given-swap t i l s) (own-started t 𝓐 (w .domains) (w .parents) same-parents (eqb (tail s l) none) i l h b (queue-facts t i l g .0) home))
+        (λ d. rw z)
+
+    from-draw : place s i ≡ Draw → Both
+    unfolding started-in checks-at row
+    from-draw z =
+        let y = row-is Draw z in
+        let a : eqb (e .kind) 1 ≡ not (eqb (s .ticket) (s .grant)) = ap (λ v. eqb v 1) (D .kind-told) ∙ ap (λ (p : Place). eqb (kind-number (row t i p s .kind)) 1) z ∙ draw-kind t i s in
+        let c : started ≡ cond (not (eqb (s .ticket) (s .grant))) 0 (taken-in (w .domains) (w .parents) h 0) = rw (y, a) in
+        finish (λ x. absurd (omega (arith, ap (λ (v : PlaceWords). v .row) y))) (λ x. absurd (omega (arith, ap (λ (v : PlaceWords). v .row) y)))
+        (rw (c, z, given-draw t i s) (own-started t 𝓐 (w .domains) (w .parents) same-parents (eqb (s .ticket) (s .grant)) i 0 h b (on-path-root t 𝓐 i b) home))
+        (λ d. rw z)
+
+    from-grant : (l r v : ℕ) → place s i ≡ Grant l r v → good-place t i (Grant l r v) ≡ true → Both
+    unfolding started-in checks-at good-place
+    from-grant l r v z g =
+        let y = row-is (Grant l r v) z in
+        let c : started ≡ record-domain-in r = rw y in
+        finish (λ x. absurd (omega (arith, ap (λ (v : PlaceWords). v .row) y))) (λ x. absurd (omega (arith, ap (λ (v : PlaceWords). v .row) y)))
+        (rw (c, z, given-grant t i l r v s) (granted-started t 𝓐 (w .domains) (w .parents) same-parents l r (and-both (queue-on-path t i l) (is-member t l r) g .1)))
+        (λ d. rw z)
+
+    from-check : (l : ℕ) → place s i ≡ Check l → good-place t i (Check l) ≡ true → Both
+    unfolding good-place
+    from-check l z g =
+        let y = row-is (Check l) z in
+        let n = eqb-false l 0 (not-true (eqb l 0) (and-both (on-path t i l) (not (eqb l 0)) g .1)) in
+        let both = C .check (ap (λ (v : PlaceWords). v .row) y) in
+        let nothing : given-from t i (place s i) s ≡ [] = ap (λ (p : Place). given-from t i p s) z ∙ given-check t i l s in
+        let there : place (step t i s .state) i ≡ place-of (e .place) = ap place-of after in
+        (both .0 ∙ check-added t i l s z n nothing (e .place) there ts, both .1 ∙ ap (λ d. raised-at ls (cond (eqb (e .place .row) 10) d 0) (e .place .word)) (ap (λ (v : PlaceWords). v .domain) y) ∙ check-raised t i l s z n nothing (e .place) there ls)
+
+    from-raise : place s i ≡ Raise → ((d : ℕ) → d < 64 → d ≢ 0 → getD shown d false ≡ eqb (status s (256 + d)) (wrap (s .grant + 1)) && is-watched t s (256 + d)) → Both
+    from-raise z m =
+        let y = row-is Raise z in
+        let g = C .raise (ap (λ (v : PlaceWords). v .row) y) in
+        let given : given-from t i (place s i) s ≡ shown-members t s (wrap (s .grant + 1)) = ap (λ (p : Place). given-from t i p s) z ∙ given-raise t i s in
+        (raise-added t i s z shown given m ts ts′ ls ls′ g, raise-raised t i s z shown given m ts ts′ ls ls′ g)
+
+    by-place : (p : Place) → place s i ≡ p → good-place t i p ≡ true → (place s i ≡ Raise → (d : ℕ) → d < 64 → d ≢ 0 → getD shown d false ≡ eqb (status s (256 + d)) (wrap (s .grant + 1)) && is-watched t s (256 + d)) → Both
+    unfolding started-in checks-at good-place
+    by-place Idle z g m = quiet Idle z (given-idle t i s) refl (λ x. absurd (omega arith)) (λ x. absurd (omega arith)) (λ d. refl)
+    by-place (Prep l) z g m = quiet (Prep l) z (given-prep t i l s) refl (λ x. absurd (omega arith)) (λ x. absurd (omega arith)) (λ d. refl)
+    by-place (Link l p) z g m = quiet (Link l p) z (given-link t i l p s) refl (λ x. absurd (omega arith)) (λ x. absurd (omega arith)) (λ d. refl)
+    by-place (Wait l) z g m = quiet (Wait l) z (given-wait t i l s) refl (λ x. absurd (omega arith)) (λ x. absurd (omega arith)) (λ d. refl)
+    by-place Inside z g m = quiet Inside z (given-inside t i s) refl (λ x. absurd (omega arith)) (λ x. absurd (omega arith)) (λ d. refl)
+    by-place (Help l) z g m = quiet (Help l) z (given-help t i l s) refl (λ x. absurd (omega arith)) (λ x. absurd (omega arith)) (λ d. refl)
+    by-place (Cas l) z g m = quiet (Cas l) z (given-cas t i l s) refl (λ x. absurd (omega arith)) (λ x. absurd (omega arith)) (λ d. refl)
+    by-place (Linger l) z g m = quiet (Linger l) z (given-linger t i l s) refl (λ x. absurd (omega arith)) (λ x. absurd (omega arith)) (λ d. refl)
+    by-place Watch z g m = quiet Watch z (given-watch t i s) refl (λ x. absurd (omega arith)) (λ x. absurd (omega arith)) (λ d. refl)
+    by-place (Swap l) z g m = from-swap l z g
+    by-place (Check l) z g m = from-check l z g
+    by-place (Grant l r v) z g m = from-grant l r v z g
+    by-place Draw z g m = from-draw z
+    by-place Raise z g m = from-raise z (m z)
+    by-place Invalid z g m = absurd (false≢true g)
+
+    -- the marks, where all threads were looked at
+    marks :
+        Marked (w .domains) (w .parents) (w .homes) (s .statuses) (s .places) (wrap (s .grant + 1)) (w .threads) shown →
+        (d : ℕ) → d < 64 → d ≢ 0 → getD shown d false ≡ eqb (status s (256 + d)) (wrap (s .grant + 1)) && is-watched t s (256 + d)
+    unfolding is-watched tree-of
+    marks k d l n =
+        let v = wrap (s .grant + 1) in
+        k .marked d l
+        ∙ any-apart (w .threads) (λ j. is-watch-in (getD (s .places) j (place-words 0 0 0 0))) (λ j. eqb (taken-in (w .domains) (w .parents) (getD (w .homes) j 0) 0) d) (eqb (status s (256 + d)) v)
+        ∙ ap (λ x. eqb (status s (256 + d)) v && x)
+        (any-same (w .threads) _ _ (λ j r. rw (watch-same (getD (s .places) j (place-words 0 0 0 0)), record-same t 𝓐 (w .domains) (w .parents) same-parents j (getD (w .homes) j 0) d r (sym (home-read j r)) n)))
+      where
+        home-read : (j : ℕ) → j < w .threads → tree-of w .home j ≡ getD (w .homes) j 0
+        home-read j r = home-in (w .domains) (w .threads) (w .parents) (w .thresholds) (w .homes) j r
+
+    pub tenures-counted : (place s i ≡ Raise → Marked (w .domains) (w .parents) (w .homes) (s .statuses) (s .places) (wrap (s .grant + 1)) (w .threads) shown) → Both
+    tenures-counted k = by-place (place s i) refl good (λ z. marks (k z))
+
+    pub step-counted :
+        (es es′ : List ℕ) → Entered (parent-in (w .domains) (w .parents)) (e .kind) h es es′ →
+        (place s i ≡ Raise → Marked (w .domains) (w .parents) (w .homes) (s .statuses) (s .places) (wrap (s .grant + 1)) (w .threads) shown) →
+        counters-in es′ ts′ ls′ ≡ counters-after t (counters-in es ts ls) (step t i s ∷ [])
+    unfolding counters-after tree-of step
+    step-counted es es′ g k =
+        let both = tenures-counted k in
+        let g′ : Entered (t .parent) (e .kind) (t .home i) es es′ = rw home at g in
+        rw (both .0, both .1, entries-counted t 𝓐 i b s (e .kind) es es′ (D .kind-told) g′)
+
+-- A STAY counts nothing
+abbrev Moves : Row-result → Type 0
+Moves r = kind-number (r .kind) ≡ 0 → ⊥
+
+either : (b : Bool) (x y : Row-result) → Moves x → Moves y → Moves (cond b x y)
+either b x y p q = by-test Moves b x y (λ e. p) (λ e. q)
+
+draw-moves : (t : Tree) (i : ℕ) (s : State) → Moves (draw-row t i s)
+unfolding draw-row
+draw-moves t i s = either (eqb (s .ticket) (s .grant)) _ _ (λ z. absurd (omega arith)) (λ z. absurd (omega arith))
+
+swap-moves : (t : Tree) (i l : ℕ) (s : State) → Moves (swap-row t i l s)
+unfolding swap-row
+swap-moves t i l s = either (eqb (tail s l) none) _ _ (either (eqb l 0) _ _ (λ z. absurd (omega arith)) (λ z. absurd (omega arith))) (λ z. absurd (omega arith))
+
+prep-moves : (t : Tree) (i l : ℕ) (s : State) → Moves (prep-row t i l s)
+unfolding prep-row
+prep-moves t i l s z = absurd (omega arith)
+
+check-moves : (t : Tree) (i l : ℕ) (s : State) → Moves (check-row t i l s)
+unfolding check-row
+check-moves t i l s = either (ltb (status s (own-record t i l)) (t .threshold l) && not (eqb (next s (own-record t i l)) none)) _ _ (λ z. absurd (omega arith)) (λ z. absurd (omega arith))
+
+help-moves : (t : Tree) (i l : ℕ) (s : State) → Moves (help-row t i l s)
+unfolding help-row
+help-moves t i l s = either (eqb (next s (own-record t i l)) none) _ _ (λ z. absurd (omega arith)) (λ z. absurd (omega arith))
+
+cas-moves : (t : Tree) (i l : ℕ) (s : State) → Moves (cas-row t i l s)
+unfolding cas-row
+cas-moves t i l s = either (eqb (tail s l) (own-record t i l + 1)) _ _ (λ z. absurd (omega arith)) (λ z. absurd (omega arith))
+
+stay-gives : (t : Tree) (i : ℕ) (p : Place) (s : State) → kind-number (row t i p s .kind) ≡ 0 → (given-from t i p s ≡ []) × ((d : ℕ) → checks-at d p ≡ false)
+unfolding row checks-at link-row leave-row grant-row raise-row
+stay-gives t i Idle s z = absurd (either (is-ticket t (t .home i)) (draw-row t i s) (prep-row t i (t .home i) s) (draw-moves t i s) (prep-moves t i (t .home i) s) z)
+stay-gives t i (Prep l) s z = absurd (prep-moves t i l s z)
+stay-gives t i (Swap l) s z = absurd (swap-moves t i l s z)
+stay-gives t i (Link l p) s z = absurd (omega arith)
+stay-gives t i (Wait l) s z = (given-wait t i l s, λ d. refl)
+stay-gives t i Inside s z = absurd (omega arith)
+stay-gives t i (Check l) s z = absurd (check-moves t i l s z)
+stay-gives t i (Help l) s z = absurd (help-moves t i l s z)
+stay-gives t i (Cas l) s z = absurd (cas-moves t i l s z)
+stay-gives t i (Linger l) s z = (given-linger t i l s, λ d. refl)
+stay-gives t i (Grant l r v) s z = absurd (omega arith)
+stay-gives t i Draw s z = absurd (draw-moves t i s z)
+stay-gives t i Watch s z = (given-watch t i s, λ d. refl)
+stay-gives t i Raise s z = absurd (omega arith)
+stay-gives t i Invalid s z = (given-invalid t i s, λ d. refl)
+
+pub stay-counted :
+    (t : Tree) → tree-refusal t .number ≡ 0 → (i : ℕ) → i < t .threads → (s : State) → kind-number (row t i (place s i) s .kind) ≡ 0 → (c : Counters) →
+    c ≡ counters-after t c (step t i s ∷ [])
+unfolding counters-after step
+stay-counted t ok i b s z c =
+    let g = stay-gives t i (place s i) s z in
+    let entered : Entered (t .parent) 0 (t .home i) (c .entries) (c .entries) = record { entry = λ y. absurd (false≢true y); other = λ y. refl } in
+    rw (← entries-counted t (accepted t ok) i b s 0 (c .entries) (c .entries) (sym z) entered, ← start-added t i s 0 (nobody (g .0) refl) (g .1) (c .tenures), ← start-raised t i s 0 (nobody (g .0) refl) (g .1) (c .longest))

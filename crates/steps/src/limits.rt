@@ -1,0 +1,150 @@
+// 19: a step would push a counter of a domain past 2^63.
+ghost use mathlib.Core.Path.{_≡_};
+ghost use mathlib.Core.Bool.{true};
+ghost use Prim.Native.Nat.{_≤_};
+ghost use lib.ListN.{length};
+ghost use Rattle.model.specs.Trees.{tree-of};
+ghost use Rattle.model.specs.Counters.{lock-state, any-above};
+ghost use Rattle.model.specs.Refusals.{first-refusal, run-tests-before-19, bad-counter, counter-tests, run-refusal};
+ghost use Rattle.refusals.specs.Arrays.{told};
+ghost use Rattle.refusals.specs.Counts.{counters-in};
+ghost use Rattle.refusals.specs.Lowest.{Lowest};
+ghost use Rattle.steps.specs.Counting.{Room-told};
+use crate::run;
+use model::State;
+use model::TreeWords;
+use refusals::Refusal;
+
+// The most that a counter may be, 2^63, and the most that leaves room for the entries of any schedule.
+const MOST: u64 = 9223372036854775808;
+
+const MOST_WITH_ROOM: u64 = 9223372036854710272;
+
+// True only where every schedule has room: no counter is then looked at while it is run.
+fn has_room<'c>(entries: &'c [u64; 64], tenures: &'c [u64; 64]) -> bool
+    ensures { λ r. ⌜ Room-told (now (entries .entry)) (now (tenures .entry)) r ⌝ }
+{
+    let mut d: usize = 0;
+    while d < 64 {
+        if MOST_WITH_ROOM < entries[d] {
+            return false;
+        }
+        if MOST_WITH_ROOM < tenures[d] {
+            return false;
+        }
+        d += 1;
+    }
+    true
+}
+
+// Whether some counter is above 2^63.
+fn is_above<'c>(entries: &'c [u64; 64], tenures: &'c [u64; 64], longest: &'c [u64; 64]) -> bool
+    ensures { λ r. ⌜ r ≡ any-above (counters-in (now (entries .entry)) (now (tenures .entry)) (now (longest .entry))) ⌝ }
+{
+    let mut d: usize = 0;
+    while d < 64 {
+        if MOST < entries[d] {
+            return true;
+        }
+        if MOST < tenures[d] {
+            return true;
+        }
+        if MOST < longest[d] {
+            return true;
+        }
+        d += 1;
+    }
+    false
+}
+
+// The lowest position of a schedule behind whose step a counter is above 2^63, found by taking the steps one by one on a copy; the schedule's length where there is none.
+fn lowest_above<'c>(
+    tree: TreeWords,
+    state: State,
+    entries: &'c [u64; 64],
+    tenures: &'c [u64; 64],
+    longest: &'c [u64; 64],
+    schedule: &[u16],
+) -> u32
+    requires { ⌜ first-refusal (run-tests-before-19 (tree-of tree) (lock-state state (counters-in (now entries) (now tenures) (now longest))) (now schedule) (length (now schedule))) .number ≡ 0 ⌝ }
+    ensures { λ r. ⌜ Lowest (length (now (schedule .entry))) (bad-counter (tree-of tree) (lock-state state (counters-in (now (entries .entry)) (now (tenures .entry)) (now (longest .entry)))) (now (schedule .entry))) r ⌝ }
+{
+    let mut n = state;
+    let mut es = *entries;
+    let mut ns = *tenures;
+    let mut ls = *longest;
+    let mut k: u32 = 0;
+    while (k as usize) < schedule.len() {
+        let at = k as usize;
+        let one = [schedule[at]];
+        let mut trace = [0u16];
+        let mut kinds = [0u32; 6];
+        let mut told = [0u16; 0];
+        n = run::run_steps(
+            tree,
+            n,
+            &one,
+            &mut trace,
+            &mut kinds,
+            &mut told,
+            &mut es,
+            &mut ns,
+            &mut ls,
+        );
+        if is_above(&es, &ns, &ls) {
+            return k;
+        }
+        k += 1;
+    }
+    k
+}
+
+// 19 behind all other tests: the lowest position of a schedule behind whose step a counter is above 2^63.
+pub fn counter_refusal_of<'c>(
+    tree: TreeWords,
+    state: State,
+    entries: &'c [u64; 64],
+    tenures: &'c [u64; 64],
+    longest: &'c [u64; 64],
+    schedule: &[u16],
+) -> Refusal
+    requires { ⌜ first-refusal (run-tests-before-19 (tree-of tree) (lock-state state (counters-in (now entries) (now tenures) (now longest))) (now schedule) (length (now schedule))) .number ≡ 0 ⌝ }
+    ensures { λ r. ⌜ r ≡ told (first-refusal (counter-tests (tree-of tree) (lock-state state (counters-in (now (entries .entry)) (now (tenures .entry)) (now (longest .entry)))) (now (schedule .entry)))) ⌝ }
+{
+    if has_room(entries, tenures) {
+        return Refusal {
+            number: 0,
+            place: 0,
+        };
+    }
+    let k = lowest_above(tree, state, entries, tenures, longest, schedule);
+    if (k as usize) < schedule.len() {
+        return Refusal {
+            number: 19,
+            place: k,
+        };
+    }
+    Refusal {
+        number: 0,
+        place: 0,
+    }
+}
+
+// A run meets 4 to 9, 16, 10 to 13 and 19. A step is a run of one entry, with room for one.
+pub fn refusal_of<'c>(
+    tree: TreeWords,
+    state: State,
+    entries: &'c [u64; 64],
+    tenures: &'c [u64; 64],
+    longest: &'c [u64; 64],
+    schedule: &[u16],
+    room: usize,
+) -> Refusal
+    ensures { λ r. ⌜ r ≡ told (run-refusal (tree-of tree) (lock-state state (counters-in (now (entries .entry)) (now (tenures .entry)) (now (longest .entry)))) (now (schedule .entry)) room) ⌝ }
+{
+    let r = refusals::run_refusal_of(tree, state, entries, tenures, longest, schedule, room);
+    if r.number != 0 {
+        return r;
+    }
+    counter_refusal_of(tree, state, entries, tenures, longest, schedule)
+}
