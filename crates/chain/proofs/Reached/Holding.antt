@@ -125,11 +125,11 @@ module _ (t : Tree) (𝓐 : Accepted t) (bits : Sixteen-bit t) (s : WordState) (
   raising-fits c e y (at-shown u o) = absurd (let b = ap (λ m. words-of m .row) e in omega arith)
 
   -- so in its queue the member is behind the first
-  record Granted (c r : ℕ) : Type 0 where
-    index : ℕ
-    acting : index < moves.acts (height t c) (g .stage c)
-    queue-there : is-ticket t (ancestor t c index) ≡ false
-    behind : after (g .queue (ancestor t c index)) (record-at t c index) ≡ suc r
+  pub record Granted (c r : ℕ) : Type 0 where
+    pub index : ℕ
+    pub acting : index < moves.acts (height t c) (g .stage c)
+    pub queue-there : is-ticket t (ancestor t c index) ≡ false
+    pub behind : after (g .queue (ancestor t c index)) (record-at t c index) ≡ suc r
 
   module _ (c : ℕ) (hc : c < t .threads) where
     granted : (l r v : ℕ) → place s c ≡ Grant l r v → Granted c r
@@ -149,21 +149,21 @@ module _ (t : Tree) (𝓐 : Accepted t) (bits : Sixteen-bit t) (s : WordState) (
     abbrev pub after-step : WordState
     after-step = row t c (place s c) s .state
 
-    far : (j m : ℕ) → j < t .threads → j ≢ c → m ≤ low (height t j) (g .stage j) → record-at t j m ≢ own-record t c (place-domain (t .home c) (place s c))
+    pub far : (j m : ℕ) → j < t .threads → j ≢ c → m ≤ low (height t j) (g .stage j) → record-at t j m ≢ own-record t c (place-domain (t .home c) (place s c))
     unfolding words-in
     far j m hj n b e =
         let p = placed t 𝓐 w g c hc (q .represents .fits c hc) in
         let own : own-record t c (place-domain (t .home c) (place s c)) ≡ record-at t c (p .index) = ap (own-record t c) (p .there) ∙ own-record-at t 𝓐 c hc (p .index) (p .within) in
         other-record t 𝓐 w g c hc (others-of (q .represents) c) j (p .index) m hj n (p .low-there) b (e ∙ own)
 
-    status-same : (j m : ℕ) → j < t .threads → j ≢ c → m ≤ low (height t j) (g .stage j) → (Granted c (record-at t j m) → ⊥) → status after-step (record-at t j m) ≡ status s (record-at t j m)
+    pub status-same : (j m : ℕ) → j < t .threads → j ≢ c → m ≤ low (height t j) (g .stage j) → (Granted c (record-at t j m) → ⊥) → status after-step (record-at t j m) ≡ status s (record-at t j m)
     status-same j m hj n b never = status-kept t s c (record-at t j m) (place s c) (far j m hj n b) (λ l v e. never (granted l (record-at t j m) v e))
 
     next-same : (j m : ℕ) → j < t .threads → j ≢ c → m ≤ low (height t j) (g .stage j) → (Linking t 𝓐 bits s q c (record-at t j m) → ⊥) → next after-step (record-at t j m) ≡ next s (record-at t j m)
     next-same j m hj n b never = next-kept t s c (record-at t j m) (place s c) (far j m hj n b) (λ l e. never (linking-there t 𝓐 bits s q c l (record-at t j m) hc e))
 
     -- nobody grants a member that is first
-    not-first : (j m : ℕ) → m < low (height t j) (g .stage j) → Granted c (record-at t j m) → ⊥
+    pub not-first : (j m : ℕ) → m < low (height t j) (g .stage j) → Granted c (record-at t j m) → ⊥
     not-first j m b x =
         let r = record-at t j m in
         let f = inv .threads j .heads m b in

@@ -10,7 +10,7 @@ use Rattle.model.proofs.Lists.{same-or, first, rest, is, is-same, is-other, cou
 use Rattle.claims.proofs.Words.Represents.{Tickets}
 
 -- HOW LONG A QUEUE IS. How often the numbers below n are in a list, all together
-unfoldable total : (n : ℕ) → List ℕ → ℕ
+unfoldable pub total : (n : ℕ) → List ℕ → ℕ
 total zero q = 0
 total (suc n) q = total n q + count n q
 
@@ -32,7 +32,7 @@ total-cons (suc n) x q h =
     (λ e. omega (arith, total-beyond n x q (omega arith), count-cons n x q, is-same n x (sym e)))
     (λ e. omega (arith, total-cons n x q (omega arith), count-cons n x q, is-other n x (λ z. e (sym z))))
 
-total-length : (n : ℕ) (q : List ℕ) → ((a : ℕ) → 1 ≤ count a q → a < n) → length q ≡ total n q
+pub total-length : (n : ℕ) (q : List ℕ) → ((a : ℕ) → 1 ≤ count a q → a < n) → length q ≡ total n q
 total-length n [] h = sym (total-nil n)
 total-length n (x ∷ q) h =
     let here = h x (omega (arith, count-cons x x q, is-same x x refl)) in

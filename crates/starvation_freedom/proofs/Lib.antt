@@ -1,0 +1,17 @@
+-- The proofs.
+pub mod Situations
+pub mod Within
+pub mod Bounds
+pub mod Turns
+pub mod Says
+pub mod Releasing
+pub mod Queues
+pub mod Left
+pub mod Ready
+pub mod Tenures
+pub mod Positions
+pub mod Waiting
+pub mod First
+pub mod Acquiring
+pub mod Law
+pub mod Cases

@@ -1,0 +1,4 @@
+-- Nobody starves: the bounds, the laws under fair schedules, and computed cases.
+pub mod Bounds
+pub mod Laws
+pub mod Cases
