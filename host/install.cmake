@@ -1,4 +1,5 @@
-# What `cmake --install BUILD --prefix PREFIX` writes: headers, archive, documents, and the files by which CMake and pkg-config find them.
+# What `cmake --install BUILD --prefix PREFIX` writes: headers, archive, the command, documents, and the files by which CMake and pkg-config find
+# them.
 # These files find each other from where they stand, so the prefix may be chosen, or the whole moved, after the build.
 include(CMakePackageConfigHelpers)
 
@@ -15,6 +16,8 @@ write_basic_package_version_file(hmcsConfigVersion.cmake COMPATIBILITY SameMajor
 set(package "${CMAKE_INSTALL_LIBDIR}/cmake/hmcs")
 install(FILES include/hmcs.h include/hmcs.hpp DESTINATION "${CMAKE_INSTALL_INCLUDEDIR}")
 install(FILES "${HMCS_ARCHIVE}" DESTINATION "${CMAKE_INSTALL_LIBDIR}" RENAME libhmcs.a)
+install(TARGETS hmcs_tool RUNTIME DESTINATION "${CMAKE_INSTALL_BINDIR}")
+install(FILES ../docs/hmcs.1 DESTINATION "${CMAKE_INSTALL_MANDIR}/man1")
 install(FILES ../docs/SPECIFICATION.md ../docs/RATE.md DESTINATION "${CMAKE_INSTALL_DOCDIR}")
 install(FILES "${CMAKE_CURRENT_BINARY_DIR}/hmcs.pc" DESTINATION "${CMAKE_INSTALL_LIBDIR}/pkgconfig")
 install(FILES "${CMAKE_CURRENT_BINARY_DIR}/hmcsConfigVersion.cmake" DESTINATION "${package}")

@@ -5,8 +5,8 @@
  * globals, no locks. Link it so that a plugin does not export it: the CMake target hmcs::hmcs and the flags of pkg-config do.
  *
  * Pointers are the one thing that no function can test. A buffer must be valid for its length, and may be null where the length is 0; the
- * pointers to a state, a place or a length must be valid, aligned and not null. The buffers of one call must not overlap. Two calls may run at
- * once unless one writes what the other reads or writes. hmcs_run_file and hmcs_run_many need 192 KB of stack, every other function at most
+ * pointers to a state, a place, a length or allowances must be valid, aligned and not null. The buffers of one call must not overlap. Two calls
+ * may run at once unless one writes what the other reads or writes. hmcs_run_file and hmcs_run_many need 192 KB of stack, every other function at most
  * 64 KB beside its arguments and its result, which are up to 19 KB in the caller.
  *
  * Compare two states field by field, never by memcmp: struct hmcs_place and struct hmcs_state have padding, and so have struct hmcs_text_reply
@@ -34,6 +34,7 @@ enum {
     HMCS_DOMAINS = 64,  /* room for domains; domain 0 is the root */
     HMCS_THREADS = 256, /* room for threads */
     HMCS_RECORDS = 320, /* a thread's record has the thread's number, domain d's is 256 + d */
+    HMCS_SCHEDULE_ROOM = 32768, /* turns that no lock file's schedule has more of */
     HMCS_LISTING_ROOM = 131111 /* bytes of output in which every lock file's listing fits, so that 14 is never met: this is proved */
 };
 
@@ -272,6 +273,26 @@ hmcs_step_answer hmcs_step_in_place(hmcs_tree tree, hmcs_state *state, uint16_t 
  * the next one in the chain takes no step. */
 uint32_t hmcs_chain(hmcs_tree tree, hmcs_state state, uint16_t thread, uint16_t *chain, size_t chain_length, uint32_t *place, uint32_t *length);
 
+/* The allowances of a tree: to allowances[d] goes that of domain d, how many entries the threads under d may make while another member of its
+ * parent stands ungranted, which is the threshold of a domain without child domains and elsewhere the threshold times the largest allowance of a
+ * child domain; or UINT64_MAX where it is larger. 0 goes to the root's place, since the root is no member, and to those behind the domains.
+ * The buffer has HMCS_DOMAINS elements. Refused by 4 to 9 and 16; then it is as it came. */
+hmcs_answer hmcs_allowances(hmcs_tree tree, uint64_t *allowances);
+
+/* What the call of rounds returns: number and place, rounds and turns; refused, rounds and turns are 0. */
+typedef struct hmcs_rounds_reply {
+    uint32_t number;
+    uint32_t place;
+    uint64_t rounds;
+    uint64_t turns;
+} hmcs_rounds_reply;
+
+/* In how many rounds every thread enters. A round is a stretch of a schedule in which every thread takes a turn, or more than one: from every state
+ * that is reached from a fresh one, any reply.rounds rounds, one behind the other, have an entry of every thread. By round robin, each thread once
+ * in a round, these are reply.turns turns, the rounds times the threads. UINT64_MAX stands in place of every larger number. Fewer rounds may be
+ * enough; a turn is a step of a thread, of whatever duration. Refused by 4 to 9 and 16. */
+hmcs_rounds_reply hmcs_rounds(hmcs_tree tree);
+
 /* Numbers of a row: number, place, steps, entries, stays, root, passed and crossed, in this order, as hmcs_run_reply has them. */
 enum { HMCS_ROW_NUMBERS = 8 };
 
@@ -305,6 +326,20 @@ hmcs_journal_answer hmcs_check_journal(hmcs_tree tree, const uint8_t *journal, s
  * number; *place is its place, *length the listing's length, 0 where it is refused. Refused by 1 to 9, 16, 12 and 14; then the output is as
  * it came. With HMCS_LISTING_ROOM bytes of output 14 does not occur. */
 uint32_t hmcs_run_file(const uint8_t *file, size_t file_length, uint8_t *output, size_t output_length, uint32_t *place, uint32_t *length);
+
+/* What reading a lock file returns: number and place, how many turns its schedule has, and its tree; refused, length and all words of the tree
+ * are 0. */
+typedef struct hmcs_read_reply {
+    uint32_t number;
+    uint32_t place;
+    uint32_t length;
+    hmcs_tree tree;
+} hmcs_read_reply;
+
+/* Reads a lock file without running it: its tree, and its schedule at the front of the schedule's buffer, nothing behind it. A buffer with fewer
+ * than reply.length elements stays as it came; HMCS_SCHEDULE_ROOM of them always suffice. Refused by 1 to 3; then the buffer is as it came. A tree
+ * or a schedule that was read may still be refused by the calls above. */
+hmcs_read_reply hmcs_read_file(const uint8_t *file, size_t file_length, uint16_t *schedule, size_t schedule_length);
 
 /* Writes the lock file of a tree and a schedule at the front of the file buffer, and nothing behind it: a field is there only where its value is
  * not what its absence means, so that no lock file for them is shorter, and reading it gives the same tree, threads and schedule. A buffer of
@@ -390,8 +425,15 @@ HMCS_OFFSET(hmcs_step_reply, state, 16);
 HMCS_LAYOUT(hmcs_run_reply, 9000, 8);
 HMCS_OFFSET(hmcs_run_reply, crossed, 28);
 HMCS_OFFSET(hmcs_run_reply, state, 32);
+HMCS_LAYOUT(hmcs_rounds_reply, 24, 8);
+HMCS_OFFSET(hmcs_rounds_reply, place, 4);
+HMCS_OFFSET(hmcs_rounds_reply, rounds, 8);
+HMCS_OFFSET(hmcs_rounds_reply, turns, 16);
 HMCS_LAYOUT(hmcs_journal_answer, 16, 8);
 HMCS_OFFSET(hmcs_journal_answer, place, 8);
+HMCS_LAYOUT(hmcs_read_reply, 472, 4);
+HMCS_OFFSET(hmcs_read_reply, length, 8);
+HMCS_OFFSET(hmcs_read_reply, tree, 12);
 HMCS_LAYOUT(hmcs_text_reply, 480, 8);
 HMCS_OFFSET(hmcs_text_reply, place, 8);
 HMCS_OFFSET(hmcs_text_reply, tree, 16);

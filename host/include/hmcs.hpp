@@ -270,6 +270,37 @@ private:
     Refusal refusal_;
 };
 
+// The allowances of a tree's domains: refused, none.
+struct [[nodiscard]] AllowancesResult : Result {
+    std::vector<std::uint64_t> domains; // one for each; of the root 0, and UINT64_MAX where it is larger
+};
+
+// How many entries the threads under a domain may make while another member of its parent stands ungranted.
+inline AllowancesResult allowances(const Tree &tree) {
+    AllowancesResult result;
+    result.domains.resize(HMCS_DOMAINS);
+    const hmcs_answer answer = hmcs_allowances(tree.words(), result.domains.data());
+    result.refusal = Refusal{answer.number, answer.place};
+    result.domains.resize(result.accepted() ? tree.words().domains : 0);
+    return result;
+}
+
+// In how many rounds every thread enters, and how many turns these are by round robin: refused, 0; UINT64_MAX where it is larger.
+struct [[nodiscard]] RoundsResult : Result {
+    std::uint64_t rounds = 0;
+    std::uint64_t turns = 0;
+};
+
+// A round is a stretch of a schedule in which every thread takes a turn, or more than one.
+inline RoundsResult rounds(const Tree &tree) {
+    const hmcs_rounds_reply reply = hmcs_rounds(tree.words());
+    RoundsResult result;
+    result.refusal = Refusal{reply.number, reply.place};
+    result.rounds = reply.rounds;
+    result.turns = reply.turns;
+    return result;
+}
+
 // Of one of many schedules: refused (11, 12), the counts are 0.
 struct [[nodiscard]] Row : Result {
     Counts counts;
@@ -356,6 +387,25 @@ inline FileResult run_file(const std::uint8_t *file, std::size_t length) {
 }
 
 inline FileResult run_file(const std::vector<std::uint8_t> &file) { return run_file(file.data(), file.size()); }
+
+// What a lock file says: refused (1 to 3), a tree without domains and threads, and no schedule.
+struct [[nodiscard]] ReadResult : Result {
+    Tree tree;
+    std::vector<std::uint16_t> schedule;
+};
+
+// Reads a lock file without running it. A lock of its tree and a run of its schedule may still be refused.
+inline ReadResult read_file(const std::uint8_t *file, std::size_t length) {
+    ReadResult result;
+    result.schedule.resize(HMCS_SCHEDULE_ROOM);
+    const hmcs_read_reply reply = hmcs_read_file(file, length, result.schedule.data(), result.schedule.size());
+    result.refusal = Refusal{reply.number, reply.place};
+    result.tree = Tree::of(reply.tree);
+    result.schedule.resize(reply.length);
+    return result;
+}
+
+inline ReadResult read_file(const std::vector<std::uint8_t> &file) { return read_file(file.data(), file.size()); }
 
 struct [[nodiscard]] WriteResult : Result {
     std::vector<std::uint8_t> file; // refused, empty

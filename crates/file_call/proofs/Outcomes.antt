@@ -1,5 +1,5 @@
 -- The outcome of the file call, case by case. Assumes nothing.
-use mathlib.Core.Path.{_≡_, refl, sym, _∙_, ap}
+use mathlib.Core.Path.{_≡_, refl}
 use mathlib.Core.Bool.{Bool, true, false}
 use mathlib.Core.List.{List}
 use mathlib.Core.Logic.{_≢_}
@@ -17,7 +17,6 @@ use Rattle.lock_file.specs.Reading.{reached-refusal, tree-read, entries-at, rea
 use Rattle.printed_listing.specs.Listing.{listing, printed-length}
 use Rattle.printed_listing.proofs.Numerals.{length-first-line}
 use Rattle.printed_listing.proofs.Printing.{length-listing}
-use Rattle.lock_file.proofs.Within.{position, tree-position}
 
 pub listing-short : (ls : List ℕ) (room : ℕ) → room < length ls → listing-outcome ls room ≡ refused-by (refusal 14 0)
 unfolding listing-outcome
@@ -64,11 +63,3 @@ module _ (bs : List ℕ) (room : ℕ) (h : length bs ≤ 65536) (t : TreeRead) (
   pub file-bad : (p : ℕ) → t .reached ≡ BadMap p → file-outcome bs room ≡ refused-by (refusal 3 p)
   unfolding file-outcome file-read reading-of reading-outcome reached-refusal
   file-bad p e = rw (le-ltb 65536 (length bs) h, ← read, e)
-
-  pub place-within : (p : ℕ) → t .reached ≡ BadMap p → p ≤ length bs
-  unfolding position
-  place-within p e = rw (sym (ap (λ x. x .reached) read) ∙ e) at (tree-position bs)
-
-  pub start-within : (at : ℕ) → t .reached ≡ At at → at ≤ length bs
-  unfolding position
-  start-within at e = rw (sym (ap (λ x. x .reached) read) ∙ e) at (tree-position bs)

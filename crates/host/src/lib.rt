@@ -1,5 +1,6 @@
 // What a C or C++ host calls; host/include/hmcs.h declares it there. Numbers, arrays and structs of them alone cross.
 ghost use mathlib.Core.Path.{_≡_};
+ghost use Rattle.bounds.specs.Answers.{allowances-answer, allowances-left, rounds-answer};
 ghost use Rattle.chain.specs.Answers.{chain-answer, buffer-answer};
 ghost use Rattle.model.specs.Answers.{fresh-answer, step-answer, run-answer, trace-answer};
 ghost use Rattle.host.specs.Answers.{answer-of};
@@ -7,10 +8,13 @@ ghost use Rattle.host.specs.InPlace.{fresh-kept, fresh-left, fresh-numbe
 ghost use Rattle.file_call.specs.FileAnswers.{file-answer, output-answer};
 ghost use Rattle.file_writer.specs.Answers.{write-answer, file-buffer-answer};
 ghost use Rattle.journal.specs.Answers.{journal-answer};
+ghost use Rattle.lock_file.specs.Answers.{read-answer, schedule-answer};
 ghost use Rattle.rate.specs.Answers.{rate-answer, reply-of};
 ghost use Rattle.schedules.specs.Answers.{many-answer, rows-answer};
 ghost use Rattle.text_tree.specs.Answers.{text-answer};
+use bounds::RoundsReply;
 use journal::JournalReply;
+use lock_file::ReadReply;
 ghost use Rattle.waits.specs.Answers.{waits-answer, waits-trace, waits-rows};
 use model::FreshReply;
 use model::LockState;
@@ -133,6 +137,15 @@ pub extern "C" fn hmcs_run_file(
     r.number
 }
 
+// A lock file without its run: number and place, how many turns its schedule has, and its tree; the schedule goes to the front of the buffer. Refused, or with too little room, that buffer as it came.
+#[no_mangle]
+pub extern "C" fn hmcs_read_file(file: &[u8], schedule: &mut [u16]) -> ReadReply
+    ensures { λ r. ⌜ r ≡ read-answer (now (file .entry)) ⌝ }
+    ensures { λ r. ⌜ now (schedule .exit) ≡ schedule-answer (now (file .entry)) (now (schedule .entry)) ⌝ }
+{
+    lock_file::read_file(file, schedule)
+}
+
 // The lock file of a tree and a schedule, as short as one can be, at the front of the file's buffer; refused, that buffer as it came. The number is returned; place and length go where the host says.
 #[no_mangle]
 pub extern "C" fn hmcs_write_file(
@@ -230,4 +243,25 @@ pub extern "C" fn hmcs_chain(
     *place = reply.place;
     *length = reply.length;
     reply.number
+}
+
+// The allowances of the domains other than the root, each cut at the largest number of 64 bits, and 0 elsewhere; refused, the buffer as it came.
+#[no_mangle]
+pub extern "C" fn hmcs_allowances(tree: TreeWords, allowances: &mut [u64; 64]) -> Answer
+    ensures { λ r. ⌜ r ≡ answer-of (allowances-answer tree) ⌝ }
+    ensures { λ r. ⌜ now (allowances .exit) ≡ allowances-left tree (now (allowances .entry)) ⌝ }
+{
+    let r = bounds::allowances(tree, allowances);
+    Answer {
+        number: r.number,
+        place: r.place,
+    }
+}
+
+// In how many rounds of any fair schedule every thread enters, and how many turns these are by round robin.
+#[no_mangle]
+pub extern "C" fn hmcs_rounds(tree: TreeWords) -> RoundsReply
+    ensures { λ r. ⌜ r ≡ rounds-answer tree ⌝ }
+{
+    bounds::rounds(tree)
 }

@@ -2,6 +2,7 @@ pub mod Cases
 pub mod Positions
 pub mod Within
 pub mod Filling
+pub mod Bounded
 pub mod Bytes
 pub mod DomainEntry
 pub mod ThreadEntry

@@ -3,8 +3,10 @@ use mathlib.Core.Bool.{Bool, true, false, _&&_}
 use mathlib.Core.List.{List, [], _∷_, _++_}
 use Prim.Native.Nat.{ℕ, suc}
 use lib.Dec.{eqb}
-use lib.ListN.{replicate}
+use lib.ListN.{replicate, getD}
+use Rattle.lock_file.specs.declared.ReadReply.{ReadReply}
 use Rattle.lock_file.specs.Reading.{Reading, refused, described, file-read}
+use Rattle.lock_file.specs.Answers.{read-answer, schedule-answer}
 
 abbrev pub same : List ℕ → List ℕ → Bool
 same [] [] = true
@@ -24,6 +26,12 @@ abbrev pub gives : (domains root threads : ℕ) → (parents thresholds homes sc
 gives d k t ps hs ms js (refused r) = false
 gives d k t ps hs ms js (described w is) =
     eqb (w .domains) d && eqb (w .«ticket_root») k && eqb (w .threads) t && same (w .parents) ps && same (w .thresholds) hs && same (w .homes) ms && same is js
+
+-- a reply's number, place and length, and the domains, threads and first homes of its tree
+abbrev pub replies : (number place length domains threads home-0 home-2 : ℕ) → ReadReply → Bool
+replies n p l d t h g r =
+    eqb (r .number) n && eqb (r .place) p && eqb (r .length) l && eqb (r .tree .domains) d && eqb (r .tree .threads) t && eqb (getD (r .tree .homes) 0 9) h
+    && eqb (getD (r .tree .homes) 2 9) g
 
 -- schedule entries below 256, two bytes each
 abbrev pub pairs : List ℕ → List ℕ
@@ -68,4 +76,11 @@ cases =
     ∷ gives 127 1 0 (replicate 64 0) (0 ∷ replicate 63 16) (replicate 256 0) (258 ∷ []) (file-read ((255 ∷ replicate 126 0) ++ (0 ∷ 0 ∷ 2 ∷ 1 ∷ [])))
     ∷ gives 2 1 1 (replicate 64 0) (0 ∷ 16 ∷ replicate 62 0) (1 ∷ replicate 255 0) [] (file-read (130 ∷ 0 ∷ 1 ∷ 0 ∷ 1 ∷ 1 ∷ []))
     -- the home of the thread before, even one that is no domain
-    ∷ gives 1 0 3 (replicate 64 0) (replicate 64 0) (0 ∷ 9 ∷ 9 ∷ replicate 253 0) [] (file-read (1 ∷ 3 ∷ 0 ∷ 0 ∷ 1 ∷ 9 ∷ 0 ∷ [])) ∷ []
+    ∷ gives 1 0 3 (replicate 64 0) (replicate 64 0) (0 ∷ 9 ∷ 9 ∷ replicate 253 0) [] (file-read (1 ∷ 3 ∷ 0 ∷ 0 ∷ 1 ∷ 9 ∷ 0 ∷ []))
+    -- read without a run: the printed example, with room for its schedule and one more, and with one too little
+    ∷ replies 0 0 22 3 3 1 2 (read-answer (example 2))
+    ∷ same (schedule-answer (example 2) (replicate 23 7)) (example-schedule ++ (2 ∷ 7 ∷ []))
+    ∷ same (schedule-answer (example 2) (replicate 21 7)) (replicate 21 7)
+    -- refused: nothing of what was read before
+    ∷ replies 2 13 0 0 0 0 0 (read-answer (example-tree ++ (0 ∷ [])))
+    ∷ same (schedule-answer (example-tree ++ (0 ∷ [])) (replicate 3 7)) (replicate 3 7) ∷ []

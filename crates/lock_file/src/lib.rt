@@ -1,7 +1,9 @@
 // The lock file: its reader.
+mod answering;
 mod reading;
 
 ghost use mathlib.Core.Path.{_≡_};
+ghost use Rattle.lock_file.specs.Answers.{read-answer, schedule-answer};
 ghost use Rattle.lock_file.specs.Reading.{tree-read, entries-at, filled};
 use model::TreeWords;
 
@@ -31,6 +33,15 @@ pub struct TreeRead {
     pub tree: TreeWords,
 }
 
+// What reading a lock file returns. Number 0 is accepted; refused, the length and all words of the tree are 0.
+#[repr(C)]
+pub struct ReadReply {
+    pub number: u32,
+    pub place: u32,
+    pub length: u32,
+    pub tree: TreeWords,
+}
+
 // The whole file: the tree, and where the schedule starts.
 pub fn read_tree(file: &[u8]) -> TreeRead
     ensures { λ r. ⌜ r ≡ tree-read (now (file .entry)) ⌝ }
@@ -50,4 +61,12 @@ pub fn read_schedule(file: &[u8], at: usize, schedule: &mut [u16])
         return;
     }
     reading::read_entries(file, at, entries, schedule);
+}
+
+// A lock file without its run: the tree, how many turns its schedule has, and the schedule at the front of a buffer; refused, or with too little room for them, that buffer as it came.
+pub fn read_file(file: &[u8], schedule: &mut [u16]) -> ReadReply
+    ensures { λ r. ⌜ r ≡ read-answer (now (file .entry)) ⌝ }
+    ensures { λ r. ⌜ now (schedule .exit) ≡ schedule-answer (now (file .entry)) (now (schedule .entry)) ⌝ }
+{
+    answering::answer_file(file, schedule)
 }

@@ -1,5 +1,6 @@
 //! Programs of the hierarchical MCS lock that share no code with the crates, and what compares them.
 
+pub mod bounds;
 pub mod calls;
 pub mod chain;
 pub mod counters;
@@ -27,6 +28,7 @@ pub mod state_met;
 pub mod table;
 pub mod text_tree;
 pub mod ticket_lock;
+pub mod tool;
 pub mod turnstile;
 pub mod waits;
 pub mod words;

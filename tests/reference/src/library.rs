@@ -1,10 +1,11 @@
 //! The entries of the static library; no other Rust file declares one, and nothing checks the declarations but the comparison.
 
+use crate::bounds::{Allowances, Rounds};
 use crate::calls::Calls;
 use crate::chain::ChainCall;
 use crate::file_writer::WriteFile;
 use crate::journal::CheckJournal;
-use crate::lock_file::FileAnswer;
+use crate::lock_file::{FileAnswer, ReadFile};
 use crate::many::RunMany;
 use crate::rate::RateCall;
 use crate::text_tree::TextAnswer;
@@ -291,5 +292,82 @@ pub fn run_waits() -> Option<RunWaits> {
 
 #[cfg(not(calls))]
 pub fn run_waits() -> Option<RunWaits> {
+    None
+}
+
+/// Reading a lock file without running it, built where the calls on a caller's tree are.
+#[cfg(calls)]
+mod read_entry {
+    use crate::lock_file::ReadReply;
+
+    extern "C" {
+        fn hmcs_read_file(file: *const u8, file_len: usize, schedule: *mut u16, schedule_len: usize) -> ReadReply;
+    }
+
+    pub fn read_file(file: &[u8], schedule: &mut [u16]) -> ReadReply {
+        // The pointers are valid for their lengths, and nothing else uses what they point to during the call.
+        unsafe { hmcs_read_file(file.as_ptr(), file.len(), schedule.as_mut_ptr(), schedule.len()) }
+    }
+}
+
+/// The library's reader of lock files, if the program was built with the calls.
+#[cfg(calls)]
+pub fn read_file() -> Option<ReadFile> {
+    Some(read_entry::read_file)
+}
+
+#[cfg(not(calls))]
+pub fn read_file() -> Option<ReadFile> {
+    None
+}
+
+/// The allowances of a tree and the rounds in which every thread enters, built where the calls on a caller's tree are.
+#[cfg(calls)]
+mod bounds_entry {
+    use crate::bounds::RoundsReply;
+    use crate::table::DOMAIN_ROOM;
+    use crate::words::TreeWords;
+
+    #[repr(C)]
+    struct Answer {
+        number: u32,
+        place: u32,
+    }
+
+    extern "C" {
+        fn hmcs_allowances(tree: TreeWords, allowances: *mut u64) -> Answer;
+        fn hmcs_rounds(tree: TreeWords) -> RoundsReply;
+    }
+
+    pub fn allowances(tree: &TreeWords, buffer: &mut [u64; DOMAIN_ROOM]) -> (u32, u32) {
+        // The buffer has room for all domains, and nothing else uses it during the call.
+        let answer = unsafe { hmcs_allowances(*tree, buffer.as_mut_ptr()) };
+        (answer.number, answer.place)
+    }
+
+    pub fn rounds(tree: &TreeWords) -> RoundsReply {
+        unsafe { hmcs_rounds(*tree) }
+    }
+}
+
+/// The library's call of allowances, if the program was built with the calls.
+#[cfg(calls)]
+pub fn allowances() -> Option<Allowances> {
+    Some(bounds_entry::allowances)
+}
+
+#[cfg(not(calls))]
+pub fn allowances() -> Option<Allowances> {
+    None
+}
+
+/// The library's call of rounds, if the program was built with the calls.
+#[cfg(calls)]
+pub fn rounds() -> Option<Rounds> {
+    Some(bounds_entry::rounds)
+}
+
+#[cfg(not(calls))]
+pub fn rounds() -> Option<Rounds> {
     None
 }

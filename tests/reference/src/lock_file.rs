@@ -2,6 +2,7 @@
 
 use crate::refusals::*;
 use crate::table::*;
+use crate::words::TreeWords;
 
 pub const LONGEST_FILE: usize = 65_536;
 pub const TICKET_ROOT_BIT: u8 = 128;
@@ -103,6 +104,33 @@ pub fn read(file: &[u8]) -> Outcome<(Tree, &[u8])> {
         return refuse(2, file.len());
     }
     Ok((tree, schedule))
+}
+
+/// What reading a file without running it returns: 0 and 0 for accepted, the number of entries of its schedule and its tree; refused, 0 throughout.
+#[repr(C)]
+#[derive(Clone, Copy, Debug, PartialEq, Eq)]
+pub struct ReadReply {
+    pub number: u32,
+    pub place: u32,
+    pub length: u32,
+    pub tree: TreeWords,
+}
+
+/// The form of the call, the reference's and the library's.
+pub type ReadFile = fn(&[u8], &mut [u16]) -> ReadReply;
+
+/// The schedule goes to the front of its buffer, if it fits.
+pub fn read_file(file: &[u8], buffer: &mut [u16]) -> ReadReply {
+    match read(file) {
+        Err(Refusal { number, place }) => ReadReply { number, place, length: 0, tree: TreeWords::of(&Tree::new()) },
+        Ok((tree, schedule)) => {
+            let schedule: Vec<u16> = entries(schedule).collect();
+            if let Some(front) = buffer.get_mut(..schedule.len()) {
+                front.copy_from_slice(&schedule);
+            }
+            ReadReply { number: 0, place: 0, length: schedule.len() as u32, tree: TreeWords::of(&tree) }
+        }
+    }
 }
 
 fn push_number(line: &mut Vec<u8>, number: u32) {

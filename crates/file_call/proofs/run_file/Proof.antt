@@ -5,7 +5,8 @@ use lib.ListN.{length}
 use borrow.Author.Needs.{needs}
 use Rattle.model.specs.Refusals.{refusal}
 use Rattle.file_call.specs.FileAnswers.{outcome-reply, outcome-output, file-answer, output-answer}
-use Rattle.file_call.proofs.Outcomes.{file-long, file-at, file-ended, file-bad, place-within, start-within}
+use Rattle.file_call.proofs.Outcomes.{file-long, file-at, file-ended, file-bad}
+use Rattle.lock_file.proofs.Bounded.{place-within, start-within}
 use Rattle.file_call.proofs.run_file.Statement.{statement}
 use Rattle.file_call.proofs.run_file.Tie as tie
 
@@ -20,7 +21,7 @@ enum-known-reached : tie.Need-enum-known-reached
 enum-known-reached c = search needs
 
 run-tree-requires : tie.Need-run-tree-requires
-run-tree-requires c κs = (start-within _ 0 (omega arith) _ (c .before .before .before .before .before .read-tree .ensures) _ (c .before .before .reached .given .1), omega arith)
+run-tree-requires c κs = (start-within _ (omega arith) _ (c .before .before .before .before .before .read-tree .ensures) _ (c .before .before .reached .given .1), omega arith)
 
 enum-told : tie.Need-enum-told
 enum-told c = search needs
@@ -33,7 +34,7 @@ enum-known-reached-2 c = search needs
 
 place-word-requires-2 : tie.Need-place-word-requires-2
 place-word-requires-2 c κs =
-    let h = place-within _ 0 (omega arith) _ (c .before .before .before .before .read-tree .ensures) _ (c .before .reached2 .given .1) in
+    let h = place-within _ (omega arith) _ (c .before .before .before .before .read-tree .ensures) _ (c .before .reached2 .given .1) in
     omega arith
 
 same-length : tie.Need-same-length

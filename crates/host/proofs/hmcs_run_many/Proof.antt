@@ -1,14 +1,9 @@
 -- `host::hmcs_run_many` meets its contract: what `run_many` ensures, with its refusal as the host gets it. Assumes nothing.
 use mathlib.Core.Path.{ap}
 use borrow.Author.Needs.{needs}
-use Rattle.refusals.specs.declared.Refusal.{Refusal}
-use Rattle.host.specs.declared.Answer.{Answer}
+use Rattle.host.proofs.Told.{as-answer}
 use Rattle.host.proofs.hmcs_run_many.Statement.{statement}
 use Rattle.host.proofs.hmcs_run_many.Tie as tie
-
--- the code's refusal as the host gets it
-abbrev as-answer : Refusal → Answer
-as-answer r = record { number = r .number; place = r .place }
 
 run-many-requires : tie.Need-run-many-requires
 run-many-requires c κs = search needs

@@ -1,9 +1,10 @@
 //! Compares the library's file call with the step table's on random lock files; without the library it only counts what the files meet.
+//! Each file is read without its run, by the library where it was built with the calls, into a buffer that is a little shorter or longer than its schedule.
 //! Each file that is accepted is read, written again, by the library where it was built with the calls, and read again: the same, and never longer.
 
 use reference::file_writer::{self, wrong_when_written_again};
 use reference::library::{self, RunFile};
-use reference::lock_file::{self, FileAnswer, TICKET_ROOT_BIT};
+use reference::lock_file::{self, FileAnswer, ReadFile, ReadReply, TICKET_ROOT_BIT};
 use reference::met::Met;
 use reference::options::{conclude, Options};
 use reference::random::Random;
@@ -64,12 +65,20 @@ fn results(library: RunFile, file: &[u8], room: Room, seed: u64) -> (Result, Res
     (result(lock_file::run_file, file, buffer.clone()), result(library, file, buffer))
 }
 
+/// What reading without a run returns, and the schedule's buffer with what stands behind it.
+fn read_into(read_file: ReadFile, file: &[u8], room: usize) -> (ReadReply, Vec<u16>) {
+    let mut buffer = vec![0x5A5A; room + CANARY];
+    let reply = read_file(file, &mut buffer[..room]);
+    (reply, buffer)
+}
+
 fn main() {
     let options = Options::read(500_000, 5_000_000);
     let library = library::run_file();
     let subject = if library.is_some() { "the library's file call against the step table" } else { "no library named, files only counted" };
     println!("{subject}: {} files, seed {}", options.count, options.seed);
     let writer = library::write_file().unwrap_or(file_writer::write_file);
+    let reader = library::read_file().unwrap_or(lock_file::read_file);
     let mut random = Random::new(options.seed);
     let mut met = Met::new(&REFUSALS);
     let (mut totals, mut roots) = ([0; 6], [0_u64; 2]);
@@ -79,6 +88,12 @@ fn main() {
         if table != other {
             println!("file {number} differs");
             report(library.unwrap_or(lock_file::run_file), &file, room, seed);
+            exit(1);
+        }
+        let length = lock_file::read_file(&file, &mut []).length as usize;
+        let read_room = random.pick(&[0, length.saturating_sub(1), length, length + 1]);
+        if read_into(reader, &file, read_room) != read_into(lock_file::read_file, &file, read_room) {
+            println!("file {number}, read with room for {read_room} entries, differs: {}", hexadecimal(&file));
             exit(1);
         }
         met.count(table.answer.number);

@@ -1,0 +1,40 @@
+-- `bounds::above_of` meets its contract: the parent is the word that the tree reads. Assumes nothing.
+use native.Mathlib.Omega.{arith}
+use borrow.Author.Tests.{eq-eqb, ne-eqb}
+use borrow.Author.Needs.{needs}
+use Rattle.bounds.proofs.RoundWords.{parent-word, parent-below, few-domains}
+use Rattle.bounds.proofs.above_of.Statement.{statement}
+use Rattle.bounds.proofs.above_of.Tie as tie
+
+returns : tie.Need-returns
+returns c = rw (eq-eqb _ _ (c .if1 .taken))
+
+element-copy-out-wide : tie.Need-element-copy-out-wide
+element-copy-out-wide c =
+    let few = few-domains _ (c .before .pre .0) in
+    search (needs, few)
+
+wide-requires : tie.Need-wide-requires
+wide-requires c κs = search needs
+
+cast-p : tie.Need-cast-p
+cast-p c = search needs
+
+mul-result : tie.Need-mul-result
+mul-result c = search needs
+
+element-copy-out-result : tie.Need-element-copy-out-result
+element-copy-out-result c =
+    let s = c .before .before .before in
+    let few = few-domains _ (s .pre .0) in
+    let low = parent-below _ (s .pre .0) _ _ (omega (arith, c .before .before .if1 .left)) (s .pre .1) (c .wide .ensures) in
+    omega arith
+
+returns-2 : tie.Need-returns-2
+returns-2 c =
+    let s = c .before .before .before .before in
+    rw (ne-eqb _ _ (c .before .before .before .if1 .left), parent-word (s .args .t1) (s .args .d) (omega (arith, c .before .before .before .if1 .left)) (s .pre .1), ← c .before .wide .ensures)
+
+pub above-of-spec : {M : Type 1} → statement M
+above-of-spec =
+    tie.close (tie.spec returns element-copy-out-wide wide-requires cast-p mul-result element-copy-out-result returns-2)

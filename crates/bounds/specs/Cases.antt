@@ -1,0 +1,72 @@
+-- Cases of the calls, each in one list. Of allowances: leaves, levels, the largest child, words that are cut, the root and room that the tree lacks. Of rounds: threads in the root, leaves, levels, numbers that are cut, a refused tree. Assumes nothing: these are definitions.
+use mathlib.Core.Bool.{Bool, true, false, _&&_}
+use mathlib.Core.List.{List, [], _∷_}
+use Prim.Native.Nat.{ℕ}
+use lib.Dec.{eqb}
+use lib.ListN.{replicate}
+use Rattle.model.specs.declared.TreeWords.{TreeWords}
+use Rattle.bounds.specs.Answers.{allowances-answer, allowances-left, rounds-answer}
+
+abbrev pub same : List ℕ → List ℕ → Bool
+same [] [] = true
+same [] (y ∷ ys) = false
+same (x ∷ xs) [] = false
+same (x ∷ xs) (y ∷ ys) = eqb x y && same xs ys
+
+abbrev pub all : List Bool → Bool
+all [] = true
+all (b ∷ bs) = b && all bs
+
+abbrev pub tree : (domains threads : ℕ) → (parents thresholds homes : List ℕ) → TreeWords
+tree n m ps ts hs = record { domains = n; threads = m; parents = ps; thresholds = ts; homes = hs; «ticket_root» = 0 }
+
+-- the printed example; the root's parent and threshold, and room that the tree lacks, have words that are not read
+abbrev pub example : TreeWords
+example = tree 3 3 (9 ∷ 0 ∷ 0 ∷ 9 ∷ []) (9 ∷ 2 ∷ 16 ∷ 9 ∷ []) (1 ∷ 1 ∷ 2 ∷ [])
+
+-- below domain 1, of threshold 5, two leaves of thresholds 3 and 2
+abbrev pub two-levels : TreeWords
+two-levels = tree 4 2 (0 ∷ 0 ∷ 1 ∷ 1 ∷ []) (0 ∷ 5 ∷ 3 ∷ 2 ∷ []) (2 ∷ 3 ∷ [])
+
+-- five domains below one another, all of the largest threshold: the fifth product is beyond 64 bits
+abbrev pub deep : TreeWords
+deep = tree 6 1 (0 ∷ 0 ∷ 1 ∷ 2 ∷ 3 ∷ 4 ∷ []) (0 ∷ 65535 ∷ 65535 ∷ 65535 ∷ 65535 ∷ 65535 ∷ []) (5 ∷ [])
+
+abbrev pub answers : (words : List ℕ) → TreeWords → Bool
+answers ws w = eqb (allowances-answer w .number) 0 && same (allowances-left w []) ws
+
+unfoldable pub cases : List Bool
+cases =
+    answers (0 ∷ 2 ∷ 16 ∷ replicate 61 0) example
+    ∷ answers (0 ∷ 15 ∷ 3 ∷ 2 ∷ replicate 60 0) two-levels
+    ∷ answers (0 ∷ 18446744073709551615 ∷ 18445618199572250625 ∷ 281462092005375 ∷ 4294836225 ∷ 65535 ∷ replicate 58 0) deep
+    -- the root alone has no word
+    ∷ answers (replicate 64 0) (tree 1 1 [] [] (0 ∷ []))
+    -- refused, by 16 of domain 2: the buffer as it came
+    ∷ (eqb (allowances-answer (tree 3 1 (0 ∷ 0 ∷ 0 ∷ []) (0 ∷ 2 ∷ 2 ∷ []) (1 ∷ [])) .number) 16
+    && same (allowances-left (tree 3 1 (0 ∷ 0 ∷ 0 ∷ []) (0 ∷ 2 ∷ 2 ∷ []) (1 ∷ [])) (7 ∷ 8 ∷ [])) (7 ∷ 8 ∷ [])) ∷ []
+
+-- domain 1 and four below one another, all of the largest threshold, beside a leaf with a thread
+abbrev pub deep-beside-leaf : TreeWords
+deep-beside-leaf = tree 7 2 (0 ∷ 0 ∷ 1 ∷ 2 ∷ 3 ∷ 4 ∷ 0 ∷ []) (0 ∷ 65535 ∷ 65535 ∷ 65535 ∷ 65535 ∷ 65535 ∷ 1 ∷ []) (5 ∷ 6 ∷ [])
+
+-- the same with one level less and a lower threshold: the rounds are a number of 64 bits, the turns are not
+abbrev pub less-deep : TreeWords
+less-deep = tree 6 2 (0 ∷ 0 ∷ 1 ∷ 2 ∷ 3 ∷ 0 ∷ []) (0 ∷ 65535 ∷ 65535 ∷ 65535 ∷ 8192 ∷ 1 ∷ []) (4 ∷ 5 ∷ [])
+
+abbrev pub tells : (number place rounds turns : ℕ) → TreeWords → Bool
+tells n p r u w =
+    let a = rounds-answer w in
+    eqb (a .number) n && (eqb (a .place) p && (eqb (a .rounds) r && eqb (a .turns) u))
+
+unfoldable pub rounds-cases : List Bool
+rounds-cases =
+    -- two threads in the root
+    tells 0 0 19 38 (tree 1 2 [] [] (0 ∷ 0 ∷ []))
+    ∷ tells 0 0 177 531 example
+    ∷ tells 0 0 57 114 two-levels
+    -- a thread without others
+    ∷ tells 0 0 55 55 deep
+    ∷ tells 0 0 18446744073709551615 18446744073709551615 deep-beside-leaf
+    ∷ tells 0 0 16140162203956224052 18446744073709551615 less-deep
+    ∷ tells 16 2 0 0 (tree 3 1 (0 ∷ 0 ∷ 0 ∷ []) (0 ∷ 2 ∷ 2 ∷ []) (1 ∷ [])) ∷ []

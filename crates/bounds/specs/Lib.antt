@@ -1,0 +1,5 @@
+-- What a reader must believe about the calls of allowances and rounds. Its proofs are in proofs/.
+pub mod Answers
+pub mod Arrays
+pub mod Laws
+pub mod Cases

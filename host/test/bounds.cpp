@@ -1,0 +1,86 @@
+// The allowances of a tree and the rounds in which every thread enters, as a host asks for them: levels, the largest child, numbers beyond 64 bits, refusals, that nothing outside the buffer is touched, and that by round robin every thread enters in the turns that are told.
+#include "check.hpp"
+#include "guarded.hpp"
+#include "hmcs.hpp"
+#include "trees.hpp"
+
+#include <algorithm>
+#include <cstdio>
+#include <vector>
+
+namespace {
+
+using Numbers = std::vector<std::uint64_t>;
+
+// The example, the root alone, and a domain above two others, of which the larger counts; the kind of root does not.
+void levels() {
+    CHECK((hmcs::allowances(example_tree()).domains == Numbers{0, 2, 16}));
+    CHECK((hmcs::allowances(two_domains(hmcs::RootKind::ticket)).domains == Numbers{0, 2, 16}));
+    CHECK((hmcs::allowances(root_alone(hmcs::RootKind::queue, 2)).domains == Numbers{0}));
+    CHECK((hmcs::allowances(hmcs::read_tree("(5(3(#1) 2(#4)) 7(#1))").tree).domains == Numbers{0, 15, 3, 2, 7}));
+}
+
+// Five domains below one another: the fifth product is beyond 64 bits.
+void beyond() {
+    const hmcs::AllowancesResult deep = hmcs::allowances(hmcs::read_tree("(65535(65535(65535(65535(65535(#1))))))").tree);
+    CHECK((deep.domains == Numbers{0, UINT64_MAX, 18445618199572250625u, 281462092005375, 4294836225, 65535}));
+}
+
+// Refused as a fresh lock is, the buffer as it came; accepted, 0 behind the domains; both between guard pages.
+void buffer() {
+    hmcs::Tree empty = example_tree();
+    empty.add_domain(0, 4);
+    CHECK(hmcs::allowances(empty).refusal.number == HMCS_EMPTY_DOMAIN && hmcs::allowances(empty).refusal.place == 3 && hmcs::allowances(empty).domains.empty());
+    for (const bool at_end : {false, true}) {
+        Guarded memory(HMCS_DOMAINS * sizeof(std::uint64_t), at_end);
+        std::uint64_t *numbers = memory.as<std::uint64_t>();
+        std::fill(numbers, numbers + HMCS_DOMAINS, UINT64_C(0x5A5A));
+        CHECK(hmcs_allowances(empty.words(), numbers).number == HMCS_EMPTY_DOMAIN);
+        CHECK(std::all_of(numbers, numbers + HMCS_DOMAINS, [](std::uint64_t n) { return n == 0x5A5A; }));
+        CHECK(hmcs_allowances(example_tree().words(), numbers).number == HMCS_ACCEPTED && numbers[1] == 2 && numbers[2] == 16 && numbers[0] == 0);
+        CHECK(std::all_of(numbers + 3, numbers + HMCS_DOMAINS, [](std::uint64_t n) { return n == 0; }));
+    }
+}
+
+bool tells(const hmcs::Tree &tree, std::uint64_t rounds, std::uint64_t turns) {
+    const hmcs::RoundsResult told = hmcs::rounds(tree);
+    return told.accepted() && told.rounds == rounds && told.turns == turns;
+}
+
+// Two threads in the root, of either kind, the example and two levels; numbers beyond 64 bits, the turns alone first; and a refusal.
+void rounds() {
+    CHECK(tells(root_alone(hmcs::RootKind::queue, 2), 19, 38));
+    CHECK(tells(root_alone(hmcs::RootKind::ticket, 2), 19, 38));
+    CHECK(tells(example_tree(), 177, 531));
+    CHECK(tells(hmcs::read_tree("(5(3(#1) 2(#1)))").tree, 57, 114));
+    CHECK(tells(hmcs::read_tree("(65535(65535(65535(8192(#1)))) 1(#1))").tree, 16140162203956224052u, UINT64_MAX));
+    CHECK(tells(hmcs::read_tree("(65535(65535(65535(65535(65535(#1))))) 1(#1))").tree, UINT64_MAX, UINT64_MAX));
+    hmcs::Tree empty = example_tree();
+    empty.add_domain(0, 4);
+    const hmcs::RoundsResult refused = hmcs::rounds(empty);
+    CHECK(refused.refusal.number == HMCS_EMPTY_DOMAIN && refused.refusal.place == 3 && refused.rounds == 0 && refused.turns == 0);
+}
+
+// From a state in which thread 2 holds the lock and the others wait, by round robin.
+void everyone_enters() {
+    hmcs::Lock lock(example_tree());
+    CHECK(lock.run({2, 2, 2, 2, 2, 0, 0, 0, 0, 1, 1, 1, 1}).accepted());
+    const hmcs::RoundsResult told = hmcs::rounds(example_tree());
+    std::vector<std::uint16_t> turns;
+    for (std::uint64_t turn = 0; turn < told.turns; ++turn) turns.push_back(static_cast<std::uint16_t>(turn % 3));
+    const hmcs::RunResult ran = lock.run(turns);
+    CHECK(ran.accepted());
+    for (const std::uint16_t thread : {0, 1, 2}) CHECK(std::count(ran.trace.begin(), ran.trace.end(), thread) > 0);
+}
+
+} // namespace
+
+int main() {
+    levels();
+    beyond();
+    buffer();
+    rounds();
+    everyone_enters();
+    std::printf("bounds: %d checks, %d failures\n", checks, failures);
+    return failures == 0 ? 0 : 1;
+}

@@ -1,0 +1,54 @@
+// `chain`: why a thread waits.
+#include "places.hpp"
+#include "tool.hpp"
+
+namespace tool {
+
+namespace {
+
+// Where a thread stands, in words.
+std::string standing(const hmcs::Lock &lock, std::uint16_t thread) {
+    const hmcs_place &place = lock.state().places[thread];
+    if (place.row == HMCS_IDLE || place.row == HMCS_INSIDE) {
+        return place.row == HMCS_IDLE ? "is idle" : "is inside";
+    }
+    return std::string("is in ") + row_name(place.row) + " of domain " + std::to_string(place.domain);
+}
+
+std::string chain(const Words &words) {
+    const Input input = read_lock_file(words.others()[0]);
+    const std::uint64_t thread = number("THREAD", words.others()[1], UINT32_MAX);
+    hmcs::Lock lock(input.tree);
+    if (const hmcs::RunResult run = lock.run(input.schedule); run.refused()) {
+        refuse(words.others()[0], run.refusal);
+    }
+    const hmcs::ChainResult result = lock.chain(static_cast<std::uint32_t>(thread));
+    if (result.refused()) {
+        refuse("thread " + words.others()[1], result.refusal);
+    }
+    std::string text;
+    for (std::size_t k = 0; k < result.threads.size(); ++k) {
+        const bool last = k + 1 == result.threads.size();
+        text += "thread " + std::to_string(result.threads[k]) + " " + standing(lock, result.threads[k]);
+        text += last ? " and can move\n" : " and waits for thread " + std::to_string(result.threads[k + 1]) + "\n";
+    }
+    return text;
+}
+
+} // namespace
+
+Command chain_command() {
+    return {"chain", "why a thread waits after a lock file's run",
+            "usage: hmcs chain FILE THREAD\n"
+            "Runs the schedule of a lock file from a fresh lock and then says why the thread waits: for which\n"
+            "thread, and for which that one waits, up to one that can move. A thread that can move is the whole\n"
+            "chain.\n"
+            "\n"
+            "  hmcs chain two-sockets.lock 3\n",
+            {},
+            2,
+            2,
+            chain};
+}
+
+} // namespace tool

@@ -1,0 +1,61 @@
+// Reading and writing files. What the system cannot do is said with its own words, and a file that was written in part does not stay.
+#include "tool.hpp"
+
+#include <cerrno>
+#include <cstdio>
+#include <cstring>
+#include <filesystem>
+#include <memory>
+
+namespace tool {
+
+namespace {
+
+[[noreturn]] void fail_with_system(const std::string &path, int error) { fail(path + ": " + std::strerror(error)); }
+
+struct Closer {
+    void operator()(std::FILE *file) const { std::fclose(file); }
+};
+
+} // namespace
+
+std::string read_bytes(const std::string &path, std::size_t most) {
+    errno = 0;
+    const std::unique_ptr<std::FILE, Closer> file(std::fopen(path.c_str(), "rb"));
+    if (!file) {
+        fail_with_system(path, errno);
+    }
+    std::string bytes;
+    char piece[65536];
+    while (bytes.size() < most) {
+        const std::size_t got = std::fread(piece, 1, std::min(sizeof piece, most - bytes.size()), file.get());
+        bytes.append(piece, got);
+        if (got == 0) {
+            break;
+        }
+    }
+    if (std::ferror(file.get()) != 0) {
+        fail_with_system(path, errno);
+    }
+    return bytes;
+}
+
+void write_bytes(const std::string &path, const std::string &bytes) {
+    errno = 0;
+    std::FILE *file = std::fopen(path.c_str(), "wb");
+    if (file == nullptr) {
+        fail_with_system(path, errno);
+    }
+    const bool written = std::fwrite(bytes.data(), 1, bytes.size(), file) == bytes.size() && std::fflush(file) == 0;
+    const int error = errno;
+    const bool closed = std::fclose(file) == 0;
+    if (!written || !closed) {
+        std::error_code ignored;
+        if (std::filesystem::is_regular_file(path, ignored)) {
+            std::filesystem::remove(path, ignored);
+        }
+        fail_with_system(path, written ? errno : error);
+    }
+}
+
+} // namespace tool

@@ -1,0 +1,30 @@
+// One self-contained page: no script, no font and no picture from elsewhere, light or dark as the reader has it.
+#ifndef HMCS_HTML_HPP
+#define HMCS_HTML_HPP
+
+#include "table.hpp"
+
+namespace tool {
+
+std::string page_of(const std::string &title, const std::string &summary, const std::string &body);
+std::string section(const std::string &title, const std::string &words, const std::string &body);
+// What can be opened where a page would be long.
+std::string folded(const std::string &title, const std::string &body, bool open);
+
+// A colour of the style sheet beside what it stands for.
+struct Shade {
+    std::string name; // of a class of the style sheet
+    std::string text;
+};
+
+std::string legend(const std::vector<Shade> &shades);
+
+// How the entries split, in the order of the legend of kinds.
+std::vector<Shade> kind_shades();
+std::string share_bar(const hmcs::Counts &counts);
+// A bar as long as a number is of the largest one, with the number beside.
+std::string number_bar(const std::string &text, std::uint64_t number, std::uint64_t largest);
+
+} // namespace tool
+
+#endif

@@ -1,0 +1,79 @@
+// The command: `hmcs WORD ..`. Finds the word, reads what stands behind it, prints what it gives, and ends with 0 accepted, 1 refused or 2 not done.
+#include "tool.hpp"
+
+#include <cerrno>
+#include <csignal>
+#include <cstdio>
+#include <cstring>
+#include <exception>
+
+namespace {
+
+std::vector<tool::Command> commands() {
+    return {tool::tree_command(),  tool::make_command(),  tool::show_command(), tool::run_command(),  tool::steps_command(),  tool::waits_command(),
+            tool::tenures_command(), tool::chain_command(), tool::sweep_command(), tool::page_command(), tool::rate_command(), tool::journal_command()};
+}
+
+std::string help() {
+    std::string text = "usage: hmcs COMMAND ..\n"
+                       "Tries a hierarchical MCS lock: trees, schedules, what a run does, and which threshold to take.\n\n";
+    for (const tool::Command &command : commands()) {
+        text += "  " + std::string(command.name) + std::string(9 - std::strlen(command.name), ' ') + command.line + "\n";
+    }
+    return text + "\n`hmcs COMMAND --help` says more, with an example. `hmcs --version` says which one this is. Figures come\n"
+                  "from the proved library.\n"
+                  "Exit status: 0 accepted, 1 refused, 2 not done: wrong use, or a file that cannot be read or written.\n";
+}
+
+std::string obey(const std::vector<std::string> &words) {
+    if (words.empty()) {
+        tool::fail("a command is wanted; --help names them");
+    }
+    if (words[0] == "--help") {
+        return help();
+    }
+    if (words[0] == "--version") {
+        return "hmcs " HMCS_VERSION "\n";
+    }
+    for (const tool::Command &command : commands()) {
+        if (words[0] != command.name) {
+            continue;
+        }
+        const std::vector<std::string> behind(words.begin() + 1, words.end());
+        if (std::find(behind.begin(), behind.end(), "--help") != behind.end()) {
+            return command.help;
+        }
+        const tool::Words read(behind, command.options);
+        if (read.others().size() < command.least_words || read.others().size() > command.most_words) {
+            const std::string or_more = command.least_words < command.most_words ? " or " + std::to_string(command.most_words) : "";
+            const std::string wanted = std::to_string(command.least_words) + or_more + ", and given: " + std::to_string(read.others().size());
+            tool::fail(words[0] + ": words are wanted: " + wanted + "; `hmcs " + words[0] + " --help` says which");
+        }
+        return command.run(read);
+    }
+    tool::fail("there is no command " + words[0] + "; --help names them");
+}
+
+// What cannot be written is an error, a pipe that nobody reads any more too.
+void print(const std::string &text) {
+    errno = 0;
+    if (std::fwrite(text.data(), 1, text.size(), stdout) != text.size() || std::fflush(stdout) != 0) {
+        tool::fail(std::string("standard output: ") + std::strerror(errno));
+    }
+}
+
+} // namespace
+
+int main(int count, char **words) {
+    std::signal(SIGPIPE, SIG_IGN);
+    try {
+        print(obey(std::vector<std::string>(words + std::min(count, 1), words + count)));
+        return tool::accepted;
+    } catch (const tool::Stop &stop) {
+        std::fputs(("hmcs: " + stop.said).c_str(), stderr);
+        return stop.status;
+    } catch (const std::exception &exception) { // of the standard library, as where memory runs out
+        std::fprintf(stderr, "hmcs: %s\n", exception.what());
+        return tool::failed;
+    }
+}

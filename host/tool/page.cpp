@@ -1,0 +1,139 @@
+// `page`: a run to look at.
+#include "html.hpp"
+#include "tenures.hpp"
+#include "timeline.hpp"
+#include "tool.hpp"
+#include "trees.hpp"
+#include "waits.hpp"
+
+#include <filesystem>
+
+namespace tool {
+
+namespace {
+
+std::vector<Shade> doing_shades() {
+    return {{"idle", "idle"}, {"rising", "on its way up"}, {"waiting", "waiting"}, {"inside", "inside"}, {"releasing", "releasing"}};
+}
+
+std::string scrolled(const Table &table) { return "<div class=\"scroll\">" + table.html() + "</div>\n"; }
+
+std::string tree_section(const hmcs::Tree &tree) {
+    const std::optional<std::string> text = text_of(tree);
+    const std::uint32_t domains = tree.words().domains;
+    const std::string table = scrolled(tree_table(tree));
+    return section("The tree", text ? "As text: " + *text : "", domains <= 16 ? table : folded("All " + std::to_string(domains) + " domains", table, false));
+}
+
+std::string counts_section(const hmcs::Counts &c) {
+    const std::string words = std::to_string(c.steps) + " steps, of which " + std::to_string(c.stays) + " (" + percent(c.stays, c.steps) +
+                              ") were stays: the thread only waited. A thread got the lock " + std::to_string(c.entries) + " times: " + std::to_string(c.root) +
+                              " through the root (" + percent(c.root, c.entries) + "), " + std::to_string(c.crossed) + " crossed (" +
+                              percent(c.crossed, c.entries) + "), " + std::to_string(c.passed) + " passed (" + percent(c.passed, c.entries) + ").";
+    return section("The entries", words, share_bar(c) + legend(kind_shades()));
+}
+
+std::string timeline_section(const hmcs::Tree &tree, const Recording &recording, std::size_t from, std::size_t count) {
+    const bool gathered = are_gathered(tree, recording.turns);
+    const std::string words =
+        gathered ? "Each column stands for several turns: a thread that was inside in one of them is shown inside, else as what it did longest." : "";
+    std::string shown = section("Who did what", words, legend(doing_shades()) + lanes(tree, recording, 0, recording.turns));
+    const std::size_t to = std::min(recording.turns, from + count);
+    if (from < to && (gathered || from > 0 || to < recording.turns)) {
+        shown += section("Turns " + std::to_string(from) + " to " + std::to_string(to - 1) + ", turn by turn", "",
+                         legend(doing_shades()) + lanes(tree, recording, from, to));
+    }
+    return shown;
+}
+
+std::string entries_section(const Recording &recording) {
+    std::string lines;
+    for (const Entry &entry : recording.entries) {
+        const char *kind = entry.kind == hmcs::Kind::root_entry ? "root" : entry.kind == hmcs::Kind::crossed_entry ? "crossed" : "passed";
+        lines += "turn " + std::to_string(entry.turn) + "  thread " + std::to_string(entry.thread) + "  " + kind + "\n";
+    }
+    return folded("All " + std::to_string(recording.entries.size()) + " entries, one a line", "<pre>" + lines + "</pre>\n", false);
+}
+
+std::string waits_section(const hmcs::Tree &tree, const hmcs::WaitsResult &result) {
+    std::uint64_t largest = 1;
+    for (const hmcs::Waits &waits : result.threads) {
+        largest = std::max(largest, waits.largest);
+    }
+    std::string rows;
+    for (std::size_t thread = 0; thread < result.threads.size(); ++thread) {
+        const hmcs::Waits &waits = result.threads[thread];
+        rows += "<tr><td>" + std::to_string(thread) + "<td>" + decimal(waits.total, waits.attempts, 2) + "<td class=\"left fill\">" +
+                number_bar(std::to_string(waits.largest), waits.largest, largest) + "</td></tr>\n";
+    }
+    const std::string head = "<thead><tr><th>thread<th>mean wait<th class=left>largest wait</thead>";
+    const std::string bars = "<table class=\"wide\">" + head + "<tbody>\n" + rows + "</tbody></table>\n";
+    const bool few = result.threads.size() <= 40;
+    const std::string shown = few ? bars : folded("Of all " + std::to_string(result.threads.size()) + " threads", bars, false);
+    return section("Waits", "How many entries of others an attempt waited for.",
+                   shown + folded("The waits as a table, the means as exact fractions", scrolled(waits_table(tree, result)), false));
+}
+
+std::string tenures_section(const hmcs::Tree &tree, const hmcs::Lock &lock) {
+    std::string rows;
+    for (const Domain &domain : domains_in_order(tree)) {
+        if (domain.number == 0) {
+            continue; // the root has no tenures
+        }
+        const std::uint64_t threshold = tree.words().thresholds[domain.number];
+        const std::uint64_t longest = lock.tenures(domain.number).longest;
+        rows += "<tr><td class=left>" + std::string(2 * (domain.level - 2), ' ') + std::to_string(domain.number) + "<td class=\"left fill\">" +
+                number_bar(std::to_string(longest) + " of " + std::to_string(threshold), longest, threshold) + "</td></tr>\n";
+    }
+    const std::string head = "<thead><tr><th class=left>domain<th class=left>longest tenure, of the threshold</thead>";
+    return section("Tenures", "How many members of a domain held the lock one after another at most, of as many as its threshold allows.",
+                   "<table class=\"wide\">" + head + "<tbody>\n" + rows + "</tbody></table>\n" +
+                       folded("The tenures as a table", scrolled(tenures_table(tree, lock)), false));
+}
+
+std::string page(const Words &words) {
+    const std::string path = words.value("-o", "");
+    if (path.empty()) {
+        fail("page: -o OUT.html says where the page goes");
+    }
+    const Input input = read_lock_file(words.others()[0]);
+    const std::size_t from = number("--from", words.value("--from", "0"), UINT32_MAX);
+    const std::size_t count = number("--count", words.value("--count", "200"), UINT32_MAX);
+    if (input.schedule.empty()) {
+        fail(words.others()[0] + ": its schedule has no turn, so there is nothing to show");
+    }
+    hmcs::Lock lock(input.tree);
+    const hmcs::WaitsResult result = lock.run_waits(input.schedule);
+    const Recording recording = record(input.tree, input.schedule);
+    const std::string name = std::filesystem::path(words.others()[0]).filename().string();
+    const std::string summary = std::to_string(input.tree.words().threads) + " threads, " + std::to_string(input.tree.words().domains) + " domains, " +
+                                std::to_string(input.schedule.size()) + " turns from a fresh lock. A turn lets one thread take one step; turns are not time.";
+    const std::string html = page_of(name, summary,
+                                     tree_section(input.tree) + counts_section(result.run.counts) + timeline_section(input.tree, recording, from, count) +
+                                         entries_section(recording) + waits_section(input.tree, result) + tenures_section(input.tree, lock));
+    write_bytes(path, html);
+    return path + ": " + std::to_string(html.size()) + " bytes\n";
+}
+
+} // namespace
+
+Command page_command() {
+    return {"page", "a page that shows a lock file's run",
+            "usage: hmcs page FILE -o OUT.html [--from K] [--count N]\n"
+            "Writes one self-contained page on a lock file's run: the tree; how the entries split; a timeline,\n"
+            "one lane a thread, by home, coloured by what the thread does; the entries with their kinds; and\n"
+            "the waits. It needs no script and nothing from elsewhere. Where there are more turns than a page\n"
+            "has columns, several share one, and some turns follow one by one.\n"
+            "\n"
+            "  -o OUT.html  where the page goes\n"
+            "  --from K     the first of the turns that are shown one by one, 0 where it is not given\n"
+            "  --count N    how many, 200 where it is not given\n"
+            "\n"
+            "  hmcs page two-sockets.lock -o two-sockets.html\n",
+            {{"-o", true}, {"--from", true}, {"--count", true}},
+            1,
+            1,
+            page};
+}
+
+} // namespace tool

@@ -1,0 +1,20 @@
+// Places of the step table in words, and what a thread at one does.
+#ifndef HMCS_PLACES_HPP
+#define HMCS_PLACES_HPP
+
+#include "hmcs.hpp"
+
+namespace tool {
+
+// What a thread does, as a timeline colours it.
+enum Doing { idle, rising, waiting, inside, releasing, doings };
+
+Doing doing_at(std::uint8_t row);
+const char *doing_text(Doing doing);
+const char *row_name(std::uint8_t row);
+// What the next step of a thread there does.
+const char *row_text(std::uint8_t row);
+
+} // namespace tool
+
+#endif

@@ -1,0 +1,64 @@
+// `show`: what stands in a lock file.
+#include "tool.hpp"
+#include "trees.hpp"
+
+namespace tool {
+
+namespace {
+
+std::string numbers(const std::vector<std::uint16_t> &schedule) {
+    std::string text;
+    std::size_t column = 0;
+    for (const std::uint16_t thread : schedule) {
+        const std::string word = std::to_string(thread);
+        const bool fits = column + 1 + word.size() <= 100;
+        text += column == 0 ? "" : fits ? " " : "\n";
+        column = column == 0 || !fits ? word.size() : column + 1 + word.size();
+        text += word;
+    }
+    return schedule.empty() ? "" : text + "\n";
+}
+
+std::string show(const Words &words) {
+    const std::string &path = words.others()[0];
+    const Input input = read_lock_file(path);
+    const std::optional<std::string> text = text_of(input.tree);
+    if (words.has("--tree") && words.has("--schedule")) {
+        fail("show: one of --tree and --schedule, or neither");
+    }
+    if (words.has("--schedule")) {
+        return numbers(input.schedule);
+    }
+    if (words.has("--tree")) {
+        if (!text) {
+            fail(path + ": its tree has no text, since its domains or threads are numbered in another order");
+        }
+        return *text + "\n";
+    }
+    return "tree: " + text.value_or("no text, since domains or threads are numbered in another order") +
+           (input.tree.root() == hmcs::RootKind::ticket ? " --ticket" : "") + "\n\n" + tree_table(input.tree).text() + "\nschedule: " +
+           std::to_string(input.schedule.size()) + " turns\n" + numbers(input.schedule);
+}
+
+} // namespace
+
+Command show_command() {
+    return {"show", "the tree and the schedule of a lock file",
+            "usage: hmcs show FILE [--tree | --schedule]\n"
+            "Prints what stands in a lock file: its tree as text and as `hmcs tree` shows it, and its schedule\n"
+            "as thread numbers.\n"
+            "\n"
+            "  --tree      the tree's text alone\n"
+            "  --schedule  the thread numbers alone\n"
+            "\n"
+            "What it shows makes the same file again, where that is as short as a lock file can be:\n"
+            "\n"
+            "  hmcs show two-sockets.lock >shown\n"
+            "  hmcs make shown -o again.lock\n",
+            {{"--tree", false}, {"--schedule", false}},
+            1,
+            1,
+            show};
+}
+
+} // namespace tool

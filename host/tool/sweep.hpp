@@ -1,0 +1,47 @@
+// A sweep: one tree and some schedules, tried with several thresholds.
+#ifndef HMCS_SWEEP_HPP
+#define HMCS_SWEEP_HPP
+
+#include "table.hpp"
+
+namespace tool {
+
+// Domains that get one threshold together, and which ones are tried.
+struct Axis {
+    std::vector<std::uint32_t> domains;
+    std::vector<std::uint16_t> thresholds;
+
+    std::string name() const; // "1,4"
+};
+
+struct Schedule {
+    std::string name;
+    std::vector<std::uint16_t> turns;
+};
+
+// One run: a threshold for each axis, and one schedule.
+struct SweepRow {
+    std::vector<std::uint16_t> thresholds;
+    std::size_t schedule = 0;
+    hmcs::Refusal refusal;
+    hmcs::Counts counts;
+    hmcs::Waits waits; // of all threads together
+    std::vector<std::uint64_t> longest; // for each axis, the longest tenure of its domains
+    std::vector<std::uint64_t> allowances; // of every domain
+};
+
+struct Sweep {
+    hmcs::Tree tree;
+    std::vector<Axis> axes;
+    std::vector<Schedule> schedules;
+    std::vector<SweepRow> rows; // schedule by schedule, the last axis fastest
+};
+
+// Runs every row, several at a time; on a terminal it says how far it is where it takes long.
+void run_rows(Sweep &sweep, std::size_t jobs);
+Table sweep_table(const Sweep &sweep);
+std::string sweep_page(const Sweep &sweep);
+
+} // namespace tool
+
+#endif

@@ -1,0 +1,13 @@
+// The table of what a lock's state has counted of its domains, as `tenures` prints it and `page` shows it.
+#ifndef HMCS_TENURES_HPP
+#define HMCS_TENURES_HPP
+
+#include "table.hpp"
+
+namespace tool {
+
+Table tenures_table(const hmcs::Tree &tree, const hmcs::Lock &lock);
+
+} // namespace tool
+
+#endif

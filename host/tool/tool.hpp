@@ -1,0 +1,98 @@
+// What the files of the command share: how it ends, its words, its inputs and its output. It holds no lock logic: every figure of a lock comes
+// from an entry of hmcs.h.
+#ifndef HMCS_TOOL_HPP
+#define HMCS_TOOL_HPP
+
+#include "hmcs.hpp"
+
+#include <string>
+#include <string_view>
+#include <vector>
+
+namespace tool {
+
+// How the command ends; wrong use and files that cannot be read or written alike end with 2.
+enum Status { accepted = 0, refused = 1, failed = 2 };
+
+// Thrown where a command cannot go on: its exit status and what standard error says.
+struct Stop {
+    Status status;
+    std::string said;
+};
+
+[[noreturn]] void fail(const std::string &said);
+[[noreturn]] void refuse(const std::string &where, const hmcs::Refusal &refusal);
+
+// An option that a command knows; one without a value is there or not.
+struct Option {
+    std::string name;
+    bool has_value;
+};
+
+// The words behind a command: options by name, in their order, and the others by position.
+class Words {
+public:
+    Words(const std::vector<std::string> &words, const std::vector<Option> &known);
+
+    bool has(const std::string &name) const { return !values(name).empty(); }
+    std::vector<std::string> values(const std::string &name) const;
+    std::string value(const std::string &name, const std::string &otherwise) const; // refuses one that is given twice
+    const std::vector<std::string> &others() const { return others_; }
+
+private:
+    std::vector<std::pair<std::string, std::string>> options_;
+    std::vector<std::string> others_;
+};
+
+// A command: its name, a line on it, its whole help, the options it knows, how many other words it wants, and what it does.
+struct Command {
+    const char *name;
+    const char *line;
+    const char *help;
+    std::vector<Option> options;
+    std::size_t least_words, most_words;
+    std::string (*run)(const Words &); // what standard output gets
+};
+
+Command tree_command();
+Command make_command();
+Command show_command();
+Command run_command();
+Command steps_command();
+Command waits_command();
+Command tenures_command();
+Command chain_command();
+Command sweep_command();
+Command page_command();
+Command rate_command();
+Command journal_command();
+
+// Numbers in decimal without a sign; what is none, or too large, is wrong use, and is said with its name.
+std::uint64_t number(const std::string &name, const std::string &word, std::uint64_t largest);
+std::vector<std::string> split(const std::string &text, char at);
+
+// All bytes of a file, or its first ones.
+std::string read_bytes(const std::string &path, std::size_t most);
+void write_bytes(const std::string &path, const std::string &bytes);
+
+// A lock: its tree and, where it came from a lock file, its schedule.
+struct Input {
+    hmcs::Tree tree;
+    std::vector<std::uint16_t> schedule;
+    bool from_file = false; // a lock file, which has a schedule
+};
+
+// A lock file whose tree and schedule are accepted.
+Input read_lock_file(const std::string &path);
+// A tree as text, or a file with one, or the tree of a lock file; with a ticket root where the text is to have one.
+Input read_tree(const std::string &text_or_path, bool ticket);
+// A schedule from a file of thread numbers, or made on the spot.
+std::vector<std::uint16_t> read_schedule(const std::string &word, std::uint32_t threads);
+// Thread numbers with white space between them.
+std::vector<std::uint16_t> turns_of(const std::string &path, const std::string &text);
+// What `show` printed of a lock file; a domain or a thread that it leaves out is refused by the calls.
+Input read_shown(const std::string &path);
+
+} // namespace tool
+
+#endif

@@ -1,0 +1,28 @@
+// A tree for people: its domains in the order of its text, their levels and threads, and its text.
+#ifndef HMCS_TREES_HPP
+#define HMCS_TREES_HPP
+
+#include "table.hpp"
+
+#include <optional>
+
+namespace tool {
+
+// A domain where it stands in the tree: the root at level 1, each domain behind its parent and before what follows on the parent's level.
+struct Domain {
+    std::uint32_t number;
+    std::uint32_t level;
+};
+
+std::vector<Domain> domains_in_order(const hmcs::Tree &tree);
+std::vector<std::uint32_t> threads_at_home(const hmcs::Tree &tree, std::uint32_t domain);
+// Numbers with what follows one another as a range: "0-3 8".
+std::string ranges(const std::vector<std::uint32_t> &numbers);
+// The text that reads as this tree, where there is one: a queue root, domains in the order of their opening parentheses, threads leaf by leaf.
+std::optional<std::string> text_of(const hmcs::Tree &tree);
+// The domains of an accepted tree, indented by level.
+Table tree_table(const hmcs::Tree &tree);
+
+} // namespace tool
+
+#endif

@@ -1,0 +1,73 @@
+// The words of a command line: options and their values, numbers, and how the command says that it cannot go on.
+#include "tool.hpp"
+
+#include <charconv>
+
+namespace tool {
+
+void fail(const std::string &said) { throw Stop{failed, said + "\n"}; }
+
+void refuse(const std::string &where, const hmcs::Refusal &refusal) {
+    throw Stop{tool::refused, where + ": refused by " + std::to_string(refusal.number) + " at " + std::to_string(refusal.place) + ": " + refusal.text() + "\n"};
+}
+
+Words::Words(const std::vector<std::string> &words, const std::vector<Option> &known) {
+    for (std::size_t k = 0; k < words.size(); ++k) {
+        const std::string &word = words[k];
+        if (word.size() < 2 || word[0] != '-') {
+            others_.push_back(word);
+            continue;
+        }
+        const auto option = std::find_if(known.begin(), known.end(), [&](const Option &o) { return o.name == word; });
+        if (option == known.end()) {
+            fail("unknown option " + word + "; --help says more");
+        }
+        if (option->has_value && k + 1 == words.size()) {
+            fail(word + " wants a value; --help says more");
+        }
+        options_.emplace_back(word, option->has_value ? words[++k] : "");
+    }
+}
+
+std::vector<std::string> Words::values(const std::string &name) const {
+    std::vector<std::string> found;
+    for (const auto &[option, value] : options_) {
+        if (option == name) {
+            found.push_back(value);
+        }
+    }
+    return found;
+}
+
+std::string Words::value(const std::string &name, const std::string &otherwise) const {
+    const std::vector<std::string> found = values(name);
+    if (found.size() > 1) {
+        fail(name + " is given twice");
+    }
+    return found.empty() ? otherwise : found.front();
+}
+
+std::uint64_t number(const std::string &name, const std::string &word, std::uint64_t largest) {
+    std::uint64_t value = 0;
+    const auto [end, error] = std::from_chars(word.data(), word.data() + word.size(), value);
+    if (word.empty() || end != word.data() + word.size() || error == std::errc::invalid_argument) {
+        fail(name + " is a number, not \"" + word + "\"");
+    }
+    if (error != std::errc() || value > largest) {
+        fail(name + " is at most " + std::to_string(largest) + ", not " + word);
+    }
+    return value;
+}
+
+std::vector<std::string> split(const std::string &text, char at) {
+    std::vector<std::string> parts;
+    std::size_t from = 0;
+    for (std::size_t to = text.find(at); to != std::string::npos; to = text.find(at, from)) {
+        parts.push_back(text.substr(from, to - from));
+        from = to + 1;
+    }
+    parts.push_back(text.substr(from));
+    return parts;
+}
+
+} // namespace tool

@@ -1,0 +1,172 @@
+//! Compares the figures of the command's words with the step table's, on random lock files; HMCS_TOOL names the command.
+
+use reference::file_writer::shortest;
+use reference::options::Options;
+use reference::random::Random;
+use reference::random_file::{random_file, valid_draft};
+use reference::table::{Kind, Tree};
+use reference::tool::*;
+use std::env;
+use std::fs;
+use std::path::PathBuf;
+use std::process::{exit, Command, Output};
+
+struct Tool {
+    program: String,
+    folder: PathBuf,
+}
+
+impl Tool {
+    fn run(&self, words: &[&str]) -> Output {
+        Command::new(&self.program).current_dir(&self.folder).args(words).output().expect("the command starts")
+    }
+
+    /// What an accepted command prints.
+    fn printed(&self, words: &[&str]) -> Result<String, String> {
+        let output = self.run(words);
+        if output.status.code() != Some(0) {
+            return Err(format!("{words:?} ends with {}: {}", output.status, String::from_utf8_lossy(&output.stderr)));
+        }
+        Ok(String::from_utf8_lossy(&output.stdout).into_owned())
+    }
+
+    fn compare(&self, words: &[&str], expected: &str) -> Result<(), String> {
+        let printed = self.printed(words)?;
+        if printed == expected {
+            return Ok(());
+        }
+        Err(format!("{words:?} prints\n{printed}and by the step table it is\n{expected}"))
+    }
+
+    /// The lines behind the first one, each beginning with a text.
+    fn compare_lines(&self, words: &[&str], expected: &[String]) -> Result<(), String> {
+        let printed = self.printed(words)?;
+        let lines: Vec<&str> = printed.lines().skip(1).collect();
+        let same = lines.len() == expected.len() && lines.iter().zip(expected).all(|(line, front)| line.starts_with(front.as_str()));
+        same.then_some(()).ok_or_else(|| format!("{words:?} prints\n{printed}and by the step table it is\n{}", expected.join("\n")))
+    }
+}
+
+/// Refused with the number, the place and the status of a refusal, and nothing on standard output.
+fn compare_refused(tool: &Tool, file: &[u8], words: &[&str]) -> Result<(), String> {
+    let Err(refusal) = accept(file) else { return Ok(()) };
+    let output = tool.run(words);
+    let said = String::from_utf8_lossy(&output.stderr).into_owned();
+    let expected = format!("refused by {} at {}: ", refusal.number, refusal.place);
+    if output.status.code() == Some(1) && output.stdout.is_empty() && said.contains(&expected) {
+        return Ok(());
+    }
+    Err(format!("{words:?} ends with {} and says {said}; by the step table it is {expected}", output.status))
+}
+
+fn kind_words(kind: Kind) -> &'static str {
+    match kind {
+        Kind::Stay => "stays",
+        Kind::Move => "moves on",
+        Kind::RootEntry => "enters through the root",
+        Kind::PassedEntry => "\"enters, passed on at home\"",
+        Kind::CrossedEntry => "\"enters, passed on between home and root\"",
+        Kind::Leaving => "leaves",
+    }
+}
+
+fn compare_steps(tool: &Tool, accepted: &Accepted) -> Result<(), String> {
+    let printed = tool.printed(&["steps", "a.lock", "--csv"])?;
+    let lines: Vec<&str> = printed.lines().skip(1).collect();
+    let expected = step_lines(accepted);
+    let agrees = |(line, (front, kind, inside)): (&&str, &(String, Kind, String))| {
+        line.starts_with(front.as_str()) && line.ends_with(&format!(",{},{inside}", kind_words(*kind)))
+    };
+    let same = lines.len() == expected.len() && lines.iter().zip(&expected).all(agrees);
+    same.then_some(()).ok_or_else(|| format!("steps prints\n{printed}and by the step table it is {expected:?}"))
+}
+
+/// Some domains of the tree together, and some thresholds, each at most once.
+fn compare_sweep(tool: &Tool, random: &mut Random, accepted: &Accepted) -> Result<(), String> {
+    if accepted.tree.domains == 1 {
+        return Ok(());
+    }
+    let domains: Vec<usize> = (1..accepted.tree.domains).filter(|_| random.one_in(2)).collect();
+    let domains = if domains.is_empty() { vec![1] } else { domains };
+    let thresholds: Vec<u16> = (0..random.between(1, 4)).map(|_| random.pick(&[1, 2, 3, 5, 16, 64, 65_535])).collect();
+    let joined = |numbers: Vec<String>| numbers.join(",");
+    let domain_words = joined(domains.iter().map(|domain| domain.to_string()).collect());
+    let threshold_words = joined(thresholds.iter().map(|threshold| threshold.to_string()).collect());
+    let jobs = random.between(1, 3).to_string();
+    let words = ["sweep", "a.lock", "--domain", &domain_words, "--thresholds", &threshold_words, "--jobs", &jobs, "--csv"];
+    let printed = tool.printed(&words)?;
+    let lines: Vec<&str> = printed.lines().skip(1).collect();
+    let expected = sweep_rows(accepted, &domains, &thresholds);
+    (lines == expected).then_some(()).ok_or_else(|| format!("{words:?} prints\n{printed}and by the step table it is\n{}", expected.join("\n")))
+}
+
+/// The tree of the file with a schedule that is made on the spot is the shortest file of the two.
+fn compare_made(tool: &Tool, random: &mut Random, tree: &Tree) -> Result<(), String> {
+    let (count, seed, length) = (random.below(300), random.word(), random.pick(&[1, 2, 7, 40]));
+    let word = if length == 1 { format!("random:{count}:{seed}") } else { format!("bursts:{count}:{seed}:{length}") };
+    tool.printed(&["make", "a.lock", &word, "-o", "made.lock"])?;
+    let made = fs::read(tool.folder.join("made.lock")).expect("the file that was made");
+    let expected = shortest(tree, &bursts(count, seed, length, tree.threads));
+    (made == expected).then_some(()).ok_or_else(|| format!("make of {word} writes {made:?}, and it is {expected:?}"))
+}
+
+/// What is shown of a file makes the shortest file of its tree and schedule.
+fn compare_shown(tool: &Tool, accepted: &Accepted) -> Result<(), String> {
+    let shown = tool.printed(&["show", "a.lock"])?;
+    fs::write(tool.folder.join("shown"), &shown).expect("a folder to write to");
+    tool.printed(&["make", "shown", "-o", "made.lock"])?;
+    let made = fs::read(tool.folder.join("made.lock")).expect("the file that was made");
+    let expected = shortest(&accepted.tree, &accepted.schedule);
+    (made == expected).then_some(()).ok_or_else(|| format!("make writes {made:?}, and it is {expected:?}, of\n{shown}"))
+}
+
+fn compare_file(tool: &Tool, random: &mut Random, file: &[u8]) -> Result<bool, String> {
+    fs::write(tool.folder.join("a.lock"), file).expect("a folder to write to");
+    let Ok(accepted) = accept(file) else {
+        compare_refused(tool, file, &["waits", "a.lock"])?;
+        return Ok(false);
+    };
+    tool.compare(&["waits", "a.lock", "--csv"], &waits_table(&accepted))?;
+    tool.compare(&["tenures", "a.lock", "--csv"], &tenures_table(&accepted))?;
+    tool.compare_lines(&["run", "a.lock", "--csv"], &run_table(&accepted))?;
+    tool.compare_lines(&["tree", "a.lock", "--csv"], &tree_rows(&accepted.tree))?;
+    compare_steps(tool, &accepted)?;
+    compare_sweep(tool, random, &accepted)?;
+    compare_made(tool, random, &accepted.tree)?;
+    compare_shown(tool, &accepted)?;
+    Ok(true)
+}
+
+fn main() {
+    let options = Options::read(300, 3_000);
+    let Ok(program) = env::var("HMCS_TOOL") else {
+        println!("no command named: its comparison is left out");
+        return;
+    };
+    println!("{program} against the step table: {} files, seed {}", options.count, options.seed);
+    let folder = env::temp_dir().join(format!("hmcs-compare-{}", std::process::id()));
+    fs::create_dir_all(&folder).expect("a folder for the files");
+    let tool = Tool { program, folder };
+    let mut random = Random::new(options.seed);
+    let (mut accepted, mut wrong) = (0, None);
+    for number in 0..options.count {
+        let file = if random.one_in(3) { random_file(&mut random) } else { valid_draft(&mut random).write(&mut random) };
+        match compare_file(&tool, &mut random, &file) {
+            Ok(was_accepted) => accepted += was_accepted as usize,
+            Err(text) => {
+                wrong = Some(format!("file {number}, {} bytes: {text}", file.len()));
+                break;
+            }
+        }
+    }
+    fs::remove_dir_all(&tool.folder).expect("the folder goes");
+    if let Some(text) = wrong {
+        println!("{text}");
+        exit(1);
+    }
+    println!("{accepted} files accepted, {} refused; no difference", options.count - accepted);
+    if accepted == 0 || accepted == options.count {
+        println!("files of one kind alone");
+        exit(1);
+    }
+}
