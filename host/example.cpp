@@ -1,6 +1,6 @@
-// The 22 entries of the specification's example, stepped one by one on a lock that the host keeps: what each step did, and who holds the lock after it.
-// Then two threads of a lock with a ticket root, whose counters start at 65,535; of two more locks, why a thread waits; and what the first lock
-// has counted of each domain.
+// The 22 turns of the specification's example, stepped one by one on a lock that the host keeps: what each step did, and who holds the lock after it.
+// Then two threads of a lock with a ticket root, whose counters start at 65,535; why a thread waits, for two more locks; and what the first lock
+// has counted for each domain.
 #include "hmcs.hpp"
 
 #include <cinttypes>
@@ -28,7 +28,7 @@ static bool play(hmcs::Lock &lock, const std::vector<std::uint16_t> &schedule) {
     return true;
 }
 
-// What a thread on a chain does that does not wait.
+// What a thread on a chain does if it does not wait.
 static const char *standing(const hmcs::Lock &lock, std::uint16_t thread) {
     switch (lock.state().places[thread].row) {
     case HMCS_IDLE: return "is idle";

@@ -6,7 +6,7 @@
 
 namespace {
 
-// Turns of 16 threads in a random order that is the same everywhere.
+// Random turns of 16 threads, the same everywhere.
 std::vector<std::uint16_t> random_turns(std::size_t count) {
     std::vector<std::uint16_t> turns;
     std::uint64_t word = 1;
@@ -17,7 +17,7 @@ std::vector<std::uint16_t> random_turns(std::size_t count) {
     return turns;
 }
 
-// Two sockets of two groups of cores, four threads in each group, of which at most four hold the lock one after another.
+// Two sockets of two groups of cores, four threads in each group, at most four of which hold the lock one after another.
 hmcs::Tree two_sockets(std::uint16_t threshold) {
     hmcs::Tree tree;
     for (int socket = 0; socket < 2; ++socket) {

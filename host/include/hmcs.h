@@ -1,15 +1,15 @@
 /* Lyumadeon: a proved step model of the hierarchical MCS lock, for C (99 and later) and C++.
  *
- * The library is for x86-64 Linux, and its code has no unwind tables: no exception goes through it, and a debugger or profiler that walks the
+ * The library is for x86-64 Linux, and its code has no unwind tables: no exception can pass through it, and a debugger or profiler that walks the
  * stack may stop in it. Every function returns for every input, writes only what its description names, and keeps nothing: no allocation, no
  * globals, no locks. Link it so that a plugin does not export it: the CMake target hmcs::hmcs and the flags of pkg-config do.
  *
  * Pointers are the one thing that no function can test. A buffer must be valid for its length, and may be null where the length is 0; the
  * pointers to a state, a place, a length or allowances must be valid, aligned and not null. The buffers of one call must not overlap. Two calls
  * may run at once unless one writes what the other reads or writes. hmcs_run_file and hmcs_run_many need 192 KB of stack, every other function at most
- * 64 KB beside its arguments and its result, which are up to 19 KB in the caller.
+ * 64 KB besides its arguments and its result, which take up to 19 KB in the caller.
  *
- * Compare two states field by field, never by memcmp: struct hmcs_place and struct hmcs_state have padding, and so have struct hmcs_text_reply
+ * Compare two states field by field, never by memcmp: struct hmcs_place and struct hmcs_state have padding, and so do struct hmcs_text_reply
  * and struct hmcs_journal_answer.
  */
 #ifndef HMCS_H
@@ -18,7 +18,7 @@
 #include <stddef.h>
 #include <stdint.h>
 
-/* The version, here and nowhere else; HMCS_VERSION is it as a text, "2.0.0" or the like. */
+/* The version, here and nowhere else; HMCS_VERSION is the version as a text, such as "2.0.0". */
 #define HMCS_VERSION_MAJOR 2
 #define HMCS_VERSION_MINOR 0
 #define HMCS_VERSION_PATCH 0
@@ -34,11 +34,11 @@ enum {
     HMCS_DOMAINS = 64,  /* room for domains; domain 0 is the root */
     HMCS_THREADS = 256, /* room for threads */
     HMCS_RECORDS = 320, /* a thread's record has the thread's number, domain d's is 256 + d */
-    HMCS_SCHEDULE_ROOM = 32768, /* turns that no lock file's schedule has more of */
+    HMCS_SCHEDULE_ROOM = 32768, /* the most turns that a lock file's schedule can have */
     HMCS_LISTING_ROOM = 131111 /* bytes of output in which every lock file's listing fits, so that 14 is never met: this is proved */
 };
 
-/* A tree with its threads. Room that the tree lacks, and the root's parent and threshold, are not read. */
+/* A tree with its threads. Room that the tree does not use, and the root's parent and threshold, are not read. */
 typedef struct hmcs_tree {
     uint32_t domains;                  /* 1 to 64 */
     uint32_t threads;                  /* 1 to 256 */
@@ -61,12 +61,12 @@ enum hmcs_row {
     HMCS_CAS = 8,
     HMCS_LINGER = 9,
     HMCS_GRANT = 10,
-    HMCS_DRAW = 11,  /* at a ticket root, as the next two: takes a ticket */
+    HMCS_DRAW = 11,  /* like the next two, only at a ticket root: takes a ticket */
     HMCS_WATCH = 12, /* waits until the grant is its ticket */
     HMCS_RAISE = 13  /* shows the next ticket */
 };
 
-/* Where a thread stands. A part that the row lacks is 0. */
+/* Where a thread stands. A part that the row does not have is 0. */
 typedef struct hmcs_place {
     uint8_t row;    /* enum hmcs_row */
     uint8_t domain; /* 0 for Idle and Inside, and for Draw, Watch and Raise, which are at the root */
@@ -78,20 +78,20 @@ typedef struct hmcs_place {
 #define HMCS_MOST_COUNTED (UINT64_C(1) << 63)
 
 /* A lock state. A tail or a next is 0 for none, else a record's number + 1; ticket and grant are those of a ticket lock at the root, 0 at a
- * queue root. A tenure of a domain is its turn at the head of the queue above it (at a ticket root, the turn of its ticket), and its length is
- * how many of the domain's members, one after another, have the lock in that turn, counted when it is passed on. No step reads the counters
- * entries, tenures and longest; those of the root and of room that the tree lacks are 0. All zero is a fresh state, at a ticket root that of
+ * queue root. A tenure of a domain is a period at the head of the queue above it (at a ticket root, one in which the grant is its ticket), and its length
+ * is how many of the domain's members, one after another, have the lock in that period, counted when it is passed on. No step reads the counters
+ * entries, tenures and longest; those of the root and of room that the tree does not use are 0. All zero is a fresh state, at a ticket root that of
  * start 0. */
 typedef struct hmcs_state {
     uint16_t tails[HMCS_DOMAINS];
     uint16_t nexts[HMCS_RECORDS];
     uint64_t statuses[HMCS_RECORDS];
     hmcs_place places[HMCS_THREADS];
-    uint16_t ticket; /* the next ticket to be drawn; the one behind 65,535 is 0 */
+    uint16_t ticket; /* the next ticket to be drawn; the one after 65,535 is 0 */
     uint16_t grant;  /* the ticket that may enter */
-    uint64_t entries[HMCS_DOMAINS]; /* of each domain but the root the entries of the threads under it */
+    uint64_t entries[HMCS_DOMAINS]; /* of each domain but the root, the entries of the threads under it */
     uint64_t tenures[HMCS_DOMAINS]; /* how many tenures have started */
-    uint64_t longest[HMCS_DOMAINS]; /* the longest of them, the running one too; at most the threshold */
+    uint64_t longest[HMCS_DOMAINS]; /* the longest of them, the running one included; at most the threshold */
 } hmcs_state;
 
 /* Status words. */
@@ -101,7 +101,7 @@ typedef struct hmcs_state {
 #define HMCS_UNLOCKED UINT64_C(0) /* at the root */
 #define HMCS_LOCKED UINT64_C(1)   /* at the root */
 
-/* What an answer's number means. 0 is accepted. An answer's place is what the sentence says, else 0. */
+/* What an answer's number means; 0 means accepted. An answer's place is what the sentence says it is, and otherwise 0. */
 enum hmcs_refusal {
     HMCS_ACCEPTED = 0,
     HMCS_FILE_TOO_LONG = 1,    /* The lock file is longer than 65,536 bytes, or would be. */
@@ -111,12 +111,12 @@ enum hmcs_refusal {
     HMCS_BAD_THREADS = 5,      /* There are no threads, or more than 256. */
     HMCS_BAD_PARENT = 6,       /* A domain other than 0 has a parent not below its own number, the place being the domain. */
     HMCS_TOO_DEEP = 7,         /* A domain lies deeper than level 6, the root being level 1, the place being the domain. */
-    HMCS_NO_THRESHOLD = 8,     /* A domain other than 0 has threshold 0, the place being the domain. Of a rate: a threshold is 0, place 1 or 2. */
-    HMCS_BAD_HOME = 9,         /* A home is no domain of the tree or has child domains, the place being the thread. */
-    HMCS_BAD_STATE = 10,       /* The state handed in is not well formed (SPECIFICATION.md); or a counter of the root or of room that the tree lacks is
-                                * not 0, a longest tenure is above the threshold, or a counter above HMCS_MOST_COUNTED. */
-    HMCS_SCHEDULE_LONG = 11,   /* The schedule has more than 65,536 entries. */
-    HMCS_BAD_ENTRY = 12,       /* A schedule entry is not below the number of threads, the place being its position from 0. */
+    HMCS_NO_THRESHOLD = 8,     /* A domain other than 0 has threshold 0, the place being the domain. For a rate: a threshold is 0, place 1 or 2. */
+    HMCS_BAD_HOME = 9,         /* A home is not a domain of the tree or has child domains, the place being the thread. */
+    HMCS_BAD_STATE = 10,       /* The state handed in is not well formed (SPECIFICATION.md); or a counter of the root or of room that the tree does
+                                * not use is not 0, a longest tenure is above the threshold, or a counter is above HMCS_MOST_COUNTED. */
+    HMCS_SCHEDULE_LONG = 11,   /* The schedule has more than 65,536 turns. */
+    HMCS_BAD_ENTRY = 12,       /* A thread number is not below the number of threads, the place being its position in the schedule from 0. */
     HMCS_TRACE_SHORT = 13,     /* The trace buffer has fewer elements than the schedule. */
     HMCS_OUTPUT_SHORT = 14,    /* The output buffer is shorter than the listing. */
     HMCS_TEXT_WRONG = 15,      /* The text leaves the grammar, the place being the first byte that no text could continue with, or the length. */
@@ -126,11 +126,11 @@ enum hmcs_refusal {
     HMCS_COUNTER_FULL = 19,    /* A step would push a counter past HMCS_MOST_COUNTED, the place being its position in the schedule from 0. Tested last. */
     HMCS_CHAIN_SHORT = 20,     /* The chain buffer has fewer elements than there are threads. */
     HMCS_NO_CHAIN = 21,        /* A thread of the chain looks to nobody, to several, or to one that is already on it. */
-    HMCS_LENGTHS_WRONG = 22,   /* The schedules' lengths do not add up to the entries given. */
+    HMCS_LENGTHS_WRONG = 22,   /* The schedules' lengths do not add up to the turns given. */
     HMCS_ROWS_SHORT = 23,      /* The row buffer holds fewer rows than there are schedules. */
-    HMCS_BAD_TIME = 24,        /* A passing time isn't a number from 1/1024 to 1,048,576, the place being 1 to 3. */
-    HMCS_JOURNAL_BROKEN = 25,  /* A journal's entry is cut off or has another bit set, the place being its first byte. */
-    HMCS_OTHER_KIND = 26       /* The kind that a journal's entry names is not the step's, the place being its first byte. */
+    HMCS_BAD_TIME = 24,        /* A passing time is not a number from 1/1024 to 1,048,576, the place being 1 to 3. */
+    HMCS_JOURNAL_BROKEN = 25,  /* A journal entry is cut off or has another bit set, the place being its first byte. */
+    HMCS_OTHER_KIND = 26       /* The kind that a journal entry names is not the step's, the place being the journal entry's first byte. */
 };
 
 /* The sentence of a refusal number, for people. */
@@ -145,10 +145,10 @@ static inline const char *hmcs_refusal_text(uint32_t number) {
     case HMCS_BAD_PARENT: return "a domain other than 0 has a parent not below its own number";
     case HMCS_TOO_DEEP: return "a domain lies deeper than level 6";
     case HMCS_NO_THRESHOLD: return "a domain other than 0 has threshold 0, or a threshold of a rate is 0";
-    case HMCS_BAD_HOME: return "a home is no domain of the tree or has child domains";
+    case HMCS_BAD_HOME: return "a home is not a domain of the tree or has child domains";
     case HMCS_BAD_STATE: return "the state handed in is not well formed, or its counters are not";
-    case HMCS_SCHEDULE_LONG: return "the schedule has more than 65,536 entries";
-    case HMCS_BAD_ENTRY: return "a schedule entry is not below the number of threads";
+    case HMCS_SCHEDULE_LONG: return "the schedule has more than 65,536 turns";
+    case HMCS_BAD_ENTRY: return "a thread number is not below the number of threads";
     case HMCS_TRACE_SHORT: return "the trace buffer has fewer elements than the schedule";
     case HMCS_OUTPUT_SHORT: return "the output buffer is shorter than the listing";
     case HMCS_TEXT_WRONG: return "the text leaves the grammar of trees";
@@ -158,11 +158,11 @@ static inline const char *hmcs_refusal_text(uint32_t number) {
     case HMCS_COUNTER_FULL: return "a step would push a counter past 2^63";
     case HMCS_CHAIN_SHORT: return "the chain buffer has fewer elements than there are threads";
     case HMCS_NO_CHAIN: return "a thread of the chain looks to nobody, to several, or to one that is already on it";
-    case HMCS_LENGTHS_WRONG: return "the lengths do not add up to the entries given";
+    case HMCS_LENGTHS_WRONG: return "the lengths do not add up to the turns given";
     case HMCS_ROWS_SHORT: return "the row buffer holds fewer rows than there are schedules";
-    case HMCS_BAD_TIME: return "a passing time isn't a number from 1/1024 to 1,048,576";
-    case HMCS_JOURNAL_BROKEN: return "a journal's entry is cut off or has another bit set";
-    case HMCS_OTHER_KIND: return "the kind that a journal's entry names is not the step's";
+    case HMCS_BAD_TIME: return "a passing time is not a number from 1/1024 to 1,048,576";
+    case HMCS_JOURNAL_BROKEN: return "a journal entry is cut off or has another bit set";
+    case HMCS_OTHER_KIND: return "the kind that a journal entry names is not the step's";
     default: return "no refusal has this number";
     }
 }
@@ -197,7 +197,7 @@ static inline const char *hmcs_kind_text(uint32_t kind) {
 }
 
 /* What a step in place returns: number and place, the kind and the domain that it was at (the thread's home where it was idle or inside);
- * refused, kind 0 and domain 0. */
+ * if refused, kind 0 and domain 0. */
 typedef struct hmcs_step_answer {
     uint32_t number;
     uint32_t place;
@@ -205,7 +205,7 @@ typedef struct hmcs_step_answer {
     uint32_t domain;
 } hmcs_step_answer;
 
-/* What the fresh call returns, and what a step does: besides the state, what a step in place returns. */
+/* What the fresh call returns, and below it what a step by value returns: what a step in place does, and the state. */
 typedef struct hmcs_fresh_reply {
     uint32_t number;
     uint32_t place;
@@ -235,25 +235,25 @@ typedef struct hmcs_run_reply {
     hmcs_state state;
 } hmcs_run_reply;
 
-/* A fresh lock of the tree. At a ticket root both counters are the start, whichever number that is; at a queue root the start is not used.
- * Refused by 4 to 9 and 16. The state is fresh, accepted or refused; refused, its counters are 0. */
+/* A fresh lock of the tree. At a ticket root both counters are the start, whatever number that is; at a queue root the start is not used.
+ * Refused by 4 to 9 and 16. The state is fresh even if refused, then with start 0. */
 hmcs_fresh_reply hmcs_fresh(hmcs_tree tree, uint16_t start);
 
 /* One step of a thread. Refused by 4 to 9, 16, 10, 12 and 19; then kind and domain are 0 and the state is as it came. */
 hmcs_step_reply hmcs_step(hmcs_tree tree, hmcs_state state, uint16_t thread);
 
 /* The steps of a schedule, one after another. Refused by 4 to 9, 16, 10 to 13 and 19; then no step is taken, the counts are 0, and state and
- * trace are as they came. Accepted, the entering threads are written at the front of the trace, reply.entries of them, and nothing behind them. The trace must
+ * trace are as they came. Accepted, the entering threads are written at the front of the trace, reply.entries of them, and nothing after them. The trace must
  * have room for as many elements as the schedule has. */
 hmcs_run_reply hmcs_run(hmcs_tree tree, hmcs_state state, const uint16_t *schedule, size_t schedule_length, uint16_t *trace, size_t trace_length);
 
-/* Numbers of a row of waits: attempts finished, total wait, largest wait, and the mean's numerator and denominator, in this order. */
+/* How many numbers a row of waits has: attempts finished, total wait, largest wait, and the mean's numerator and denominator, in this order. */
 enum { HMCS_WAIT_NUMBERS = 5 };
 
 /* The steps of a schedule as hmcs_run takes them, and the waits of the attempts that begin and finish within the run. An attempt of a thread begins
  * with its Swap at home (at a ticket root that is its home, with its draw) and finishes with its next entry, which may be the same step; its wait
  * is the number of other threads' entries between the two. At the front of the rows stands a row for each thread, in their order, then one for
- * all threads together; nothing behind them is written. A mean is total over attempts in lowest terms; a row without an attempt is 0
+ * all threads together; nothing after them is written. A mean is total over attempts in lowest terms; a row without an attempt is 0
  * throughout, and a total of 0 over some attempts has the mean 0 over 1. Refused as hmcs_run is, with 18 between 13 and 19; then the counts are
  * 0, and state, trace and rows are as they came. A buffer of k numbers holds k / 5 rows, rounded down. */
 hmcs_run_reply hmcs_run_waits(hmcs_tree tree, hmcs_state state, const uint16_t *schedule, size_t schedule_length, uint16_t *trace, size_t trace_length, uint64_t *rows, size_t rows_length);
@@ -264,22 +264,22 @@ hmcs_answer hmcs_fresh_in_place(hmcs_tree tree, hmcs_state *state, uint16_t star
 /* One step of the state that the host keeps, in place: the same as hmcs_step. Refused, the state is as it was. */
 hmcs_step_answer hmcs_step_in_place(hmcs_tree tree, hmcs_state *state, uint16_t thread);
 
-/* Why a thread waits: the chain of threads that it waits for, itself first, at the front of the chain buffer, and nothing behind it. Waiting in a
+/* Why a thread waits: the chain of threads that it waits for, itself first, at the front of the chain buffer, and nothing after it. Waiting in a
  * queue, a thread looks to whoever acts for the record ahead of its own; lingering, to whoever is in Link with its record; watching, to whoever
- * acts at the root with the ticket one lower (SPECIFICATION.md, "Why a thread waits"). The chain ends at a thread whose next step is not a
- * stay, so of a thread that can move it is that thread alone. The buffer must have room for as many elements as there are threads. Returns the
- * number; *place is its place, *length the chain's length, 0 where it is refused. Refused by 4 to 9, 16, 10, 12, 20 and 21; then the buffer is
+ * acts at the root with the ticket just before its own (SPECIFICATION.md, "Why a thread waits"). The chain ends at a thread whose next step is not a
+ * stay, so for a thread that can move it is that thread alone. The buffer must have room for as many elements as there are threads. Returns the
+ * number; *place is its place, *length the chain's length, 0 if refused. Refused by 4 to 9, 16, 10, 12, 20 and 21; then the buffer is
  * as it came. No state that is reached from a fresh one is refused by 21, and from such a state each thread of the chain can only stay while
  * the next one in the chain takes no step. */
 uint32_t hmcs_chain(hmcs_tree tree, hmcs_state state, uint16_t thread, uint16_t *chain, size_t chain_length, uint32_t *place, uint32_t *length);
 
-/* The allowances of a tree: to allowances[d] goes that of domain d, how many entries the threads under d may make while another member of its
- * parent stands ungranted, which is the threshold of a domain without child domains and elsewhere the threshold times the largest allowance of a
- * child domain; or UINT64_MAX where it is larger. 0 goes to the root's place, since the root is no member, and to those behind the domains.
+/* The allowances of a tree: allowances[d] becomes that of domain d, how many entries the threads under d may make while another member of its
+ * parent stands ungranted: the threshold for a domain without child domains, and otherwise the threshold times the largest allowance of a
+ * child domain; or UINT64_MAX where it is larger. The root's becomes 0, since the root is not a member, and so do those after the last domain.
  * The buffer has HMCS_DOMAINS elements. Refused by 4 to 9 and 16; then it is as it came. */
 hmcs_answer hmcs_allowances(hmcs_tree tree, uint64_t *allowances);
 
-/* What the call of rounds returns: number and place, rounds and turns; refused, rounds and turns are 0. */
+/* What hmcs_rounds returns: number and place, rounds and turns; if refused, rounds and turns are 0. */
 typedef struct hmcs_rounds_reply {
     uint32_t number;
     uint32_t place;
@@ -288,20 +288,20 @@ typedef struct hmcs_rounds_reply {
 } hmcs_rounds_reply;
 
 /* In how many rounds every thread enters. A round is a stretch of a schedule in which every thread takes a turn, or more than one: from every state
- * that is reached from a fresh one, any reply.rounds rounds, one behind the other, have an entry of every thread. By round robin, each thread once
- * in a round, these are reply.turns turns, the rounds times the threads. UINT64_MAX stands in place of every larger number. Fewer rounds may be
+ * that is reached from a fresh one, any reply.rounds rounds, one after the other, have an entry of every thread. By round robin, each thread once
+ * in a round, these are reply.turns turns, the rounds times the threads. UINT64_MAX also stands for any larger number. Fewer rounds may be
  * enough; a turn is a step of a thread, of whatever duration. Refused by 4 to 9 and 16. */
 hmcs_rounds_reply hmcs_rounds(hmcs_tree tree);
 
-/* Numbers of a row: number, place, steps, entries, stays, root, passed and crossed, in this order, as hmcs_run_reply has them. */
+/* How many numbers a row has: number, place, steps, entries, stays, root, passed and crossed, in this order, as hmcs_run_reply has them. */
 enum { HMCS_ROW_NUMBERS = 8 };
 
-/* Many schedules on one tree, their entries behind one another: lengths_length schedules, the first of lengths[0] entries, and so on. Each runs
- * from its own fresh lock (of start 0), and what hmcs_run would answer of it alone, with a trace buffer of its length, is its row, in the order of the
- * schedules at the front of the rows; nothing behind them is written, and no trace is kept. A schedule with more than 65,536 entries (11) or
- * with an entry that is no thread (12, the place being its position in that schedule) has this in its row, with counts 0, and the others run
+/* Many schedules on one tree, their turns one after another in entries: lengths_length schedules, the first of lengths[0] turns, and so on. Each runs
+ * from its own fresh lock (of start 0), and what hmcs_run would answer for it alone, with a trace buffer of its length, is its row, in the order of the
+ * schedules at the front of the rows; nothing after them is written, and no trace is kept. A schedule with more than 65,536 turns (11) or
+ * with a turn that names no thread (12, the place being its position in that schedule) has this in its row, with counts 0, and the others run
  * all the same. The whole call is refused by 4 to 9 and 16, then by 22, then by 23; then the rows are as they came. A buffer of k numbers
- * holds k / 8 rows, rounded down. No schedules and no entries is accepted. */
+ * holds k / 8 rows, rounded down. No schedules and no turns are accepted too. */
 hmcs_answer hmcs_run_many(hmcs_tree tree, const uint32_t *lengths, size_t lengths_length, const uint16_t *entries, size_t entries_length, uint32_t *rows, size_t rows_length);
 
 /* What the check of a journal returns: number and place. The place is a position in the journal, however long that is. */
@@ -310,24 +310,24 @@ typedef struct hmcs_journal_answer {
     size_t place;
 } hmcs_journal_answer;
 
-/* Bits of an entry's bit map. */
+/* Bits of a journal entry's bit map. */
 enum {
-    HMCS_JOURNAL_THREAD = 1, /* two bytes follow, low first: the thread; else it is that of the entry before, 0 at first */
+    HMCS_JOURNAL_THREAD = 1, /* two bytes follow, low first: the thread; else it is that of the journal entry before, 0 at first */
     HMCS_JOURNAL_KIND = 2    /* then one byte follows: the step's kind, HMCS_STAY to HMCS_LEAVING; else it is HMCS_STAY */
 };
 
-/* Checks a journal that a host wrote of its own steps, one entry a step: a bit map and the fields whose bit is set. It is accepted exactly if
- * the named threads, stepped one after another from a fresh lock (of start 0), give the named kinds; one without entries is accepted. Refused by 4 to
- * 9 and 16 for the tree; then at the first entry that is refused, the place being that entry's first byte: by 25 where it is cut off or has
- * another bit set, else by 12 where its thread is none of the tree, else by 26 where its kind is not the step's. The journal may have any length. */
+/* Checks a journal that a host wrote of its own steps, one journal entry for each: a bit map and the fields whose bit is set. It is accepted exactly if
+ * the named threads, stepped one after another from a fresh lock (of start 0), give the named kinds; an empty one is accepted. Refused by 4 to
+ * 9 and 16 for the tree; then at the first wrong journal entry, the place being its first byte: by 25 where it is cut off or has
+ * another bit set, else by 12 where its thread is not one of the tree, else by 26 where its kind is not the step's. The journal may have any length. */
 hmcs_journal_answer hmcs_check_journal(hmcs_tree tree, const uint8_t *journal, size_t journal_length);
 
 /* The file call: reads a lock file, runs its schedule from a fresh lock (of start 0), and writes the listing at the front of the output. Returns the
- * number; *place is its place, *length the listing's length, 0 where it is refused. Refused by 1 to 9, 16, 12 and 14; then the output is as
+ * number; *place is its place, *length the listing's length, 0 if refused. Refused by 1 to 9, 16, 12 and 14; then the output is as
  * it came. With HMCS_LISTING_ROOM bytes of output 14 does not occur. */
 uint32_t hmcs_run_file(const uint8_t *file, size_t file_length, uint8_t *output, size_t output_length, uint32_t *place, uint32_t *length);
 
-/* What reading a lock file returns: number and place, how many turns its schedule has, and its tree; refused, length and all words of the tree
+/* What reading a lock file returns: number and place, how many turns its schedule has, and its tree; if refused, length and all words of the tree
  * are 0. */
 typedef struct hmcs_read_reply {
     uint32_t number;
@@ -336,18 +336,18 @@ typedef struct hmcs_read_reply {
     hmcs_tree tree;
 } hmcs_read_reply;
 
-/* Reads a lock file without running it: its tree, and its schedule at the front of the schedule's buffer, nothing behind it. A buffer with fewer
+/* Reads a lock file without running it: its tree, and its schedule at the front of the schedule's buffer, nothing after it. A buffer with fewer
  * than reply.length elements stays as it came; HMCS_SCHEDULE_ROOM of them always suffice. Refused by 1 to 3; then the buffer is as it came. A tree
  * or a schedule that was read may still be refused by the calls above. */
 hmcs_read_reply hmcs_read_file(const uint8_t *file, size_t file_length, uint16_t *schedule, size_t schedule_length);
 
-/* Writes the lock file of a tree and a schedule at the front of the file buffer, and nothing behind it: a field is there only where its value is
- * not what its absence means, so that no lock file for them is shorter, and reading it gives the same tree, threads and schedule. A buffer of
- * 65,536 bytes is always long enough. Returns the number; *place is its place, *length the file's length, 0 where it is refused. Refused by 4 to
+/* Writes the lock file of a tree and a schedule at the front of the file buffer, and nothing after it: a field is there only where its value is
+ * not what its absence means, so no lock file for them is shorter, and reading it gives the same tree, threads and schedule. A buffer of
+ * 65,536 bytes is always long enough. Returns the number; *place is its place, *length the file's length, 0 if refused. Refused by 4 to
  * 9, 16, 11 and 12, then by 1 where the file would be longer than 65,536 bytes, then by 17; then the buffer is as it came. */
 uint32_t hmcs_write_file(hmcs_tree tree, const uint16_t *schedule, size_t schedule_length, uint8_t *file, size_t file_length, uint32_t *place, uint32_t *length);
 
-/* What reading a text returns: number and place, and the tree; refused, all its words are 0. The place is a position in the text, however
+/* What reading a text returns: number and place, and the tree; if refused, all its words are 0. The place is a position in the text, however
  * long that is. */
 typedef struct hmcs_text_reply {
     uint32_t number;
@@ -355,21 +355,21 @@ typedef struct hmcs_text_reply {
     hmcs_tree tree;
 } hmcs_text_reply;
 
-/* Reads a tree from its text, as `(2(#2) 16(#1))`: in parentheses either `#` and a thread count, or domains separated by one space, each a
- * threshold and again such parentheses, down to level 6. Numbers are decimal from 1 without leading zeros, thresholds at most 65,535.
- * Domains count in the order of their opening parenthesis, threads leaf by leaf. No byte stands before the tree and none behind it, no line
- * feed either. The root is a queue. Refused by 15, 4 and 5, in this order; an accepted tree passes 4 to 9 and 16. */
+/* Reads a tree from its text, such as `(2(#2) 16(#1))`: parentheses hold either `#` and a thread count, or domains separated by one space, each a
+ * threshold and again such parentheses, down to level 6. Numbers are decimal, from 1, without leading zeros, thresholds at most 65,535.
+ * Domains are numbered in the order of their opening parentheses, threads leaf by leaf. No byte stands before the tree and none after it, not even
+ * a line feed. The root is a queue. Refused by 15, 4 and 5, in this order; an accepted tree passes 4 to 9 and 16. */
 hmcs_text_reply hmcs_read_text(const uint8_t *text, size_t text_length);
 
 /* How long it takes to pass the lock on in a tree of three levels: p1 between two threads of one home, p2 between two homes below one domain,
- * p3 between two such domains, across the root. All three in one unit, whichever; each from 1/1024 to 1,048,576. */
+ * p3 between two such domains, across the root. All three are in one unit, whichever it is; each is from 1/1024 to 1,048,576. */
 typedef struct hmcs_passing_times {
     double p1;
     double p2;
     double p3;
 } hmcs_passing_times;
 
-/* The rate is in entries for one unit of the times; 0 where it is refused. */
+/* The rate is in entries per unit of the times; 0 if refused. */
 typedef struct hmcs_rate_reply {
     uint32_t number;
     uint32_t place;

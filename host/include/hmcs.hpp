@@ -1,4 +1,4 @@
-// Lyumadeon for C++17: a lock that the host keeps and steps, runs and lock files. No exceptions are thrown but by the allocator.
+// Lyumadeon for C++17: a lock that the host keeps and steps, runs, and lock files. Only the allocator throws exceptions.
 #ifndef HMCS_HPP
 #define HMCS_HPP
 
@@ -15,10 +15,10 @@
 
 namespace hmcs {
 
-// Number and place of an answer; 0 and 0 for accepted. It is no bool, so that nobody reads it the wrong way round.
+// Number and place of an answer; 0 and 0 for accepted. It is not a bool, so that nobody reads it the wrong way round.
 struct [[nodiscard]] Refusal {
     std::uint32_t number = 0;
-    std::size_t place = 0; // of 15, 25 and 26 a position in a text or a journal of any length
+    std::size_t place = 0; // for 15, 25 and 26 a position in a text or a journal of any length
 
     bool accepted() const { return number == 0; }
     bool refused() const { return number != 0; }
@@ -50,7 +50,7 @@ inline bool same(const hmcs_state &a, const hmcs_state &b) {
 // What stands at the root of a tree.
 enum class RootKind { queue, ticket };
 
-// A tree that grows domain by domain and thread by thread, with a queue at its root where nothing else is said. What does not fit the room is
+// A tree that grows domain by domain and thread by thread, with a queue at its root unless another kind is given. What does not fit is
 // counted and not stored, so that the calls refuse it.
 class Tree {
 public:
@@ -63,7 +63,7 @@ public:
 
     RootKind root() const { return words_.ticket_root != 0 ? RootKind::ticket : RootKind::queue; }
 
-    // A domain below another; its number. A parent above 255 is refused as one (6), and a domain that gets no
+    // Adds a domain below another and returns its number. A parent above 255 is refused as 255 is (6), and a domain that gets no
     // thread, in it or below it, by 16.
     std::uint32_t add_domain(std::uint32_t parent, std::uint16_t threshold) {
         const std::uint32_t d = words_.domains++;
@@ -74,7 +74,7 @@ public:
         return d;
     }
 
-    // A thread in a domain; its number. A home above 255 is refused as one (9).
+    // Adds a thread in a domain and returns its number. A home above 255 is refused as 255 is (9).
     std::uint32_t add_thread(std::uint32_t home) {
         const std::uint32_t i = words_.threads++;
         if (i < HMCS_THREADS) {
@@ -85,7 +85,7 @@ public:
 
     const hmcs_tree &words() const { return words_; }
 
-    // The tree that some words are.
+    // The tree that has these words.
     static Tree of(const hmcs_tree &words) {
         Tree tree;
         tree.words_ = words;
@@ -93,7 +93,7 @@ public:
     }
 
 private:
-    // No domain has the number 255, so that a number which does not fit is refused and not cut.
+    // No domain has the number 255, so a number that does not fit is refused and not cut.
     static std::uint8_t byte_of(std::uint32_t domain) { return static_cast<std::uint8_t>(std::min<std::uint32_t>(domain, 255)); }
 
     hmcs_tree words_;
@@ -118,7 +118,7 @@ struct Waits {
     std::uint64_t denominator = 0;
 };
 
-// A run with waits: refused, no rows.
+// A run with waits; if refused, no rows.
 struct [[nodiscard]] WaitsResult {
     RunResult run;
     std::vector<Waits> threads; // one for each thread
@@ -140,35 +140,35 @@ enum class Kind : std::uint32_t {
 
 inline const char *text(Kind kind) { return hmcs_kind_text(static_cast<std::uint32_t>(kind)); }
 
-// What a step said: refused, kind stay and domain 0.
+// What a step did; if refused, kind stay and domain 0.
 struct [[nodiscard]] StepResult : Result {
     Kind kind = Kind::stay;
     std::uint32_t domain = 0; // where it was; the thread's home where it was idle or inside
 };
 
-// Why a thread waits: refused, no threads.
+// Why a thread waits; if refused, no threads.
 struct [[nodiscard]] ChainResult : Result {
     std::vector<std::uint16_t> threads; // the thread itself first; each waits for the next, and the last can move
 };
 
-// What a lock has counted of a domain. A tenure is a domain's turn at the head of the queue above it, and its length how many of the domain's
-// members have the lock in it, one after another.
+// What a lock has counted for a domain. A tenure is a domain's period at the head of the queue above it, and its length is how many of the
+// domain's members have the lock in it, one after another.
 struct Tenures {
     std::uint64_t entries = 0; // of the threads under the domain
     std::uint64_t tenures = 0; // that have started
-    std::uint64_t longest = 0; // of them, the running one too; at most the domain's threshold
+    std::uint64_t longest = 0; // of them, the running one included; at most the domain's threshold
 };
 
-// A lock that the host keeps: a tree and a state, stepped where it stands.
+// A lock that the host keeps: a tree and a state, stepped in place.
 class Lock {
 public:
-    // A fresh lock, the counters of a ticket root at the start. refusal() tells whether the tree was accepted; refused, the state is fresh as
-    // well, and every step is refused.
+    // A fresh lock, with the counters of a ticket root at the start. refusal() tells whether the tree was accepted; if refused, the state is fresh
+    // as well, and every step is refused.
     explicit Lock(const Tree &tree, std::uint16_t start = 0) : tree_(tree.words()), state_{} {
         refusal_ = of(hmcs_fresh_in_place(tree_, &state_, start));
     }
 
-    // A lock whose state was kept. It is tested by a run without entries: a state that is not well formed is refused by 10, and then every
+    // A lock whose state was kept. It is tested by a run without turns: a state that is not well formed is refused by 10, and then every
     // step is refused as well.
     static Lock saved(const Tree &tree, const hmcs_state &state) {
         Lock lock(tree);
@@ -184,13 +184,13 @@ public:
     const hmcs_state &state() const { return state_; }
     const hmcs_tree &tree() const { return tree_; }
 
-    // One step of a thread. Refused, the state is as it was. A thread above 65,535 is no thread, as 65,535 is none.
+    // One step of a thread. If refused, the state is as it was. A number above 65,535 is refused as 65,535 is.
     StepResult step(std::uint32_t thread) {
         const hmcs_step_answer a = hmcs_step_in_place(tree_, &state_, static_cast<std::uint16_t>(std::min<std::uint32_t>(thread, 65535)));
         return StepResult{{Refusal{a.number, a.place}}, static_cast<Kind>(a.kind), a.domain};
     }
 
-    // A schedule. Refused, the state is as it was and no step is taken.
+    // Runs a schedule. If refused, the state is as it was and no step is taken.
     RunResult run(const std::uint16_t *schedule, std::size_t length) {
         RunResult result;
         result.trace.resize(std::min<std::size_t>(length, 65536)); // a longer schedule is refused (11) before the trace is looked at
@@ -201,7 +201,7 @@ public:
 
     RunResult run(const std::vector<std::uint16_t> &schedule) { return run(schedule.data(), schedule.size()); }
 
-    // A schedule, and the waits of its attempts. Refused, the state is as it was and no step is taken.
+    // Runs a schedule, and gives the waits of its attempts. If refused, the state is as it was and no step is taken.
     WaitsResult run_waits(const std::uint16_t *schedule, std::size_t length) {
         WaitsResult result;
         std::vector<std::uint64_t> numbers((HMCS_THREADS + 1) * HMCS_WAIT_NUMBERS);
@@ -222,8 +222,8 @@ public:
 
     WaitsResult run_waits(const std::vector<std::uint16_t> &schedule) { return run_waits(schedule.data(), schedule.size()); }
 
-    // The chain of threads that a thread waits for. A thread above 65,535 is no thread, as 65,535 is none. A state that was reached by steps and
-    // runs has a chain for each of its threads.
+    // The chain of threads that a thread waits for. A number above 65,535 is refused as 65,535 is. A state that was reached by steps and runs
+    // has a chain for each of its threads.
     ChainResult chain(std::uint32_t thread) const {
         ChainResult result;
         result.threads.resize(HMCS_THREADS);
@@ -236,7 +236,7 @@ public:
         return result;
     }
 
-    // What has been counted of a domain. Of the root nothing is counted: all three are 0, as for a number that is no domain of the tree.
+    // What has been counted for a domain. For the root nothing is counted: all three are 0, as for a number that is not a domain of the tree.
     Tenures tenures(std::uint32_t domain) const {
         if (domain == 0 || domain >= tree_.domains || domain >= HMCS_DOMAINS) {
             return Tenures{};
@@ -244,7 +244,7 @@ public:
         return Tenures{state_.entries[domain], state_.tenures[domain], state_.longest[domain]};
     }
 
-    // The thread that is Inside, where there is one.
+    // The thread that is Inside, if there is one.
     std::optional<std::uint16_t> holder() const {
         for (std::size_t i = 0; i < HMCS_THREADS; ++i) {
             if (state_.places[i].row == HMCS_INSIDE) {
@@ -270,9 +270,9 @@ private:
     Refusal refusal_;
 };
 
-// The allowances of a tree's domains: refused, none.
+// The allowances of a tree's domains; if refused, none.
 struct [[nodiscard]] AllowancesResult : Result {
-    std::vector<std::uint64_t> domains; // one for each; of the root 0, and UINT64_MAX where it is larger
+    std::vector<std::uint64_t> domains; // one for each; 0 for the root, and UINT64_MAX where it is larger
 };
 
 // How many entries the threads under a domain may make while another member of its parent stands ungranted.
@@ -285,7 +285,7 @@ inline AllowancesResult allowances(const Tree &tree) {
     return result;
 }
 
-// In how many rounds every thread enters, and how many turns these are by round robin: refused, 0; UINT64_MAX where it is larger.
+// In how many rounds every thread enters, and how many turns these are by round robin; 0 if refused, UINT64_MAX where it is larger.
 struct [[nodiscard]] RoundsResult : Result {
     std::uint64_t rounds = 0;
     std::uint64_t turns = 0;
@@ -301,12 +301,12 @@ inline RoundsResult rounds(const Tree &tree) {
     return result;
 }
 
-// Of one of many schedules: refused (11, 12), the counts are 0.
+// The row of one of many schedules; if refused (11, 12), the counts are 0.
 struct [[nodiscard]] Row : Result {
     Counts counts;
 };
 
-// Of the whole call, which the tree refuses: then there are no rows.
+// The result of the whole call; if the tree is refused, there are no rows.
 struct [[nodiscard]] ManyResult : Result {
     std::vector<Row> rows; // one for each schedule, in their order
 };
@@ -335,7 +335,7 @@ inline ManyResult run_many(const Tree &tree, const std::vector<std::vector<std::
     return result;
 }
 
-// Checks a journal against steps from a fresh lock. The place is a position in it, or that of 4 to 9 and 16 in the tree.
+// Checks a journal against steps from a fresh lock. The place is a position in it, or for 4 to 9 and 16 one in the tree.
 inline Refusal check_journal(const Tree &tree, const std::uint8_t *journal, std::size_t length) {
     const hmcs_journal_answer answer = hmcs_check_journal(tree.words(), journal, length);
     return Refusal{answer.number, answer.place};
@@ -345,7 +345,8 @@ inline Refusal check_journal(const Tree &tree, const std::vector<std::uint8_t> &
     return check_journal(tree, journal.data(), journal.size());
 }
 
-// Writes a journal, one entry a step, and leaves out what the entry means without it. A debug build adds each step that it takes of a fresh lock.
+// Writes a journal, one journal entry for each step, without the fields that it can leave out. A debug build adds each step that it takes from a
+// fresh lock.
 class JournalWriter {
 public:
     void add(std::uint16_t thread, Kind kind) {
@@ -366,7 +367,7 @@ public:
 
 private:
     std::vector<std::uint8_t> bytes_;
-    std::uint16_t thread_ = 0; // of the entry before
+    std::uint16_t thread_ = 0; // of the journal entry before
 };
 
 struct [[nodiscard]] FileResult : Result {
@@ -388,7 +389,7 @@ inline FileResult run_file(const std::uint8_t *file, std::size_t length) {
 
 inline FileResult run_file(const std::vector<std::uint8_t> &file) { return run_file(file.data(), file.size()); }
 
-// What a lock file says: refused (1 to 3), a tree without domains and threads, and no schedule.
+// What a lock file holds; if refused (1 to 3), a tree without domains and threads, and no schedule.
 struct [[nodiscard]] ReadResult : Result {
     Tree tree;
     std::vector<std::uint16_t> schedule;
@@ -408,7 +409,7 @@ inline ReadResult read_file(const std::uint8_t *file, std::size_t length) {
 inline ReadResult read_file(const std::vector<std::uint8_t> &file) { return read_file(file.data(), file.size()); }
 
 struct [[nodiscard]] WriteResult : Result {
-    std::vector<std::uint8_t> file; // refused, empty
+    std::vector<std::uint8_t> file; // empty if refused
 };
 
 // The lock file of a tree and a schedule, as short as one can be.
@@ -427,7 +428,7 @@ inline WriteResult write_file(const Tree &tree, const std::vector<std::uint16_t>
 using PassingTimes = hmcs_passing_times;
 
 struct [[nodiscard]] RateResult : Result {
-    double rate = 0; // entries for one unit of the times; 0 where it is refused
+    double rate = 0; // entries per unit of the times; 0 if refused
 };
 
 // The rate of a busy three-level lock whose threads' homes have threshold h1 and the domains between them and the root h2.
@@ -436,15 +437,15 @@ inline RateResult rate(std::uint16_t h1, std::uint16_t h2, const PassingTimes &t
     return RateResult{{Refusal{reply.number, reply.place}}, reply.rate};
 }
 
-// A tree from its text. Of 15 the place is a position in the text.
+// A tree from its text. For 15 the place is a position in the text.
 struct [[nodiscard]] TextResult : Result {
-    Tree tree;           // refused, a tree without domains and threads
-    std::string message; // refused, for people: what is wrong and, of 15, the text with a mark below the byte
+    Tree tree;           // if refused, a tree without domains and threads
+    std::string message; // if refused, for people: what is wrong and, for 15, the text with a mark below the byte
 };
 
 namespace detail {
 
-// Some bytes of a text on a line, each other than a printable one as a dot, and a mark below the place.
+// Some bytes of a text on a line, with a dot for each that is not printable, and a mark below the place.
 inline std::string marked(std::string_view text, std::size_t place) {
     constexpr std::size_t around = 30;
     const std::size_t from = place > around ? place - around : 0;
@@ -471,7 +472,7 @@ inline std::string text_message(const Refusal &refusal, std::string_view text) {
 
 } // namespace detail
 
-// A tree from its text, as `(2(#2) 16(#1))`; its root is a queue. A line feed behind it belongs to the file and not to the text.
+// A tree from its text, such as `(2(#2) 16(#1))`; its root is a queue. A line feed after it belongs to the file and not to the text.
 inline TextResult read_tree(std::string_view text) {
     const hmcs_text_reply reply = hmcs_read_text(reinterpret_cast<const std::uint8_t *>(text.data()), text.size());
     TextResult result;

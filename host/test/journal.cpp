@@ -124,7 +124,7 @@ void buffers() {
     const hmcs::Refusal refusal = hmcs::check_journal(hmcs::Tree::of(bad), Bytes{255});
     CHECK(refusal.number == HMCS_EMPTY_DOMAIN && refusal.place == 2);
     CHECK(std::string(hmcs_refusal_text(HMCS_JOURNAL_BROKEN)) != hmcs_refusal_text(HMCS_OTHER_KIND));
-    CHECK(std::string(hmcs_refusal_text(HMCS_OTHER_KIND)) == "the kind that a journal's entry names is not the step's");
+    CHECK(std::string(hmcs_refusal_text(HMCS_OTHER_KIND)) == "the kind that a journal entry names is not the step's");
 }
 
 } // namespace

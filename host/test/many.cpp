@@ -45,7 +45,7 @@ void wrapper() {
     CHECK((numbers_of(result.rows[4]) == Numbers{HMCS_BAD_ENTRY, 22}));
     CHECK((numbers_of(result.rows[5]) == Numbers{HMCS_SCHEDULE_LONG}));
     CHECK(numbers_of(result.rows[6]) == numbers_of(result.rows[0]));
-    CHECK(std::string(result.rows[4].refusal.text()) == "a schedule entry is not below the number of threads");
+    CHECK(std::string(result.rows[4].refusal.text()) == "a thread number is not below the number of threads");
     hmcs::Tree empty;
     const hmcs::ManyResult refused = hmcs::run_many(empty, schedules);
     CHECK(refused.refusal.number == HMCS_BAD_THREADS && refused.rows.empty());

@@ -148,7 +148,7 @@ void wrapper() {
     late.push_back(3);
     const hmcs::RunResult refused = lock.run(late);
     CHECK(refused.refusal.number == 12 && refused.refusal.place == 22 && refused.trace.empty() && same(lock.state(), before));
-    CHECK(std::string(refused.refusal.text()) == "a schedule entry is not below the number of threads");
+    CHECK(std::string(refused.refusal.text()) == "a thread number is not below the number of threads");
     // as long a file as may be, of the lock that enters most often: one thread at a ticket root, every third step an entry
     std::vector<std::uint8_t> longest = {129, 1, 0, 0};
     longest.resize(65536, 0);

@@ -40,9 +40,9 @@ std::string chain(const Words &words) {
 Command chain_command() {
     return {"chain", "why a thread waits after a lock file's run",
             "usage: hmcs chain FILE THREAD\n"
-            "Runs the schedule of a lock file from a fresh lock and then says why the thread waits: for which\n"
-            "thread, and for which that one waits, up to one that can move. A thread that can move is the whole\n"
-            "chain.\n"
+            "Runs the schedule of a lock file from a fresh lock and then says why the thread waits: which thread\n"
+            "it waits for, which one that waits for, and so on, up to one that can move. A thread that can move\n"
+            "is the whole chain.\n"
             "\n"
             "  hmcs chain two-sockets.lock 3\n",
             {},

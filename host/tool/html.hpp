@@ -11,7 +11,7 @@ std::string section(const std::string &title, const std::string &words, const st
 // What can be opened where a page would be long.
 std::string folded(const std::string &title, const std::string &body, bool open);
 
-// A colour of the style sheet beside what it stands for.
+// A colour of the style sheet and what it stands for.
 struct Shade {
     std::string name; // of a class of the style sheet
     std::string text;
@@ -22,7 +22,7 @@ std::string legend(const std::vector<Shade> &shades);
 // How the entries split, in the order of the legend of kinds.
 std::vector<Shade> kind_shades();
 std::string share_bar(const hmcs::Counts &counts);
-// A bar as long as a number is of the largest one, with the number beside.
+// A bar whose length is the number's share of the largest one, with the number next to it.
 std::string number_bar(const std::string &text, std::uint64_t number, std::uint64_t largest);
 
 } // namespace tool

@@ -21,9 +21,9 @@ std::string journal(const Words &words) {
 Command journal_command() {
     return {"journal", "checks a journal that a plugin wrote of its steps",
             "usage: hmcs journal TREE FILE [--ticket]\n"
-            "Checks a journal, one entry a step, against steps from a fresh lock of the tree. TREE is as for\n"
-            "`hmcs tree`. A journal that does not agree is refused at the first byte of the first entry that is\n"
-            "wrong.\n"
+            "Checks a journal, one journal entry for each step, against steps from a fresh lock of the tree. TREE\n"
+            "is as for `hmcs tree`. A journal that does not agree is refused at the first byte of its first wrong\n"
+            "entry.\n"
             "\n"
             "  --ticket  the root of a text is a ticket lock\n"
             "\n"

@@ -1,4 +1,4 @@
-// The command: `hmcs WORD ..`. Finds the word, reads what stands behind it, prints what it gives, and ends with 0 accepted, 1 refused or 2 not done.
+// The command: `hmcs WORD ..`. Finds the word, reads what follows it, prints what it gives, and ends with 0 accepted, 1 refused or 2 not done.
 #include "tool.hpp"
 
 #include <cerrno>
@@ -20,14 +20,14 @@ std::string help() {
     for (const tool::Command &command : commands()) {
         text += "  " + std::string(command.name) + std::string(9 - std::strlen(command.name), ' ') + command.line + "\n";
     }
-    return text + "\n`hmcs COMMAND --help` says more, with an example. `hmcs --version` says which one this is. Figures come\n"
+    return text + "\n`hmcs COMMAND --help` says more, with an example. `hmcs --version` prints the version. Figures come\n"
                   "from the proved library.\n"
-                  "Exit status: 0 accepted, 1 refused, 2 not done: wrong use, or a file that cannot be read or written.\n";
+                  "Exit status: 0 accepted, 1 refused, 2 not done: wrong usage, or a file that cannot be read or written.\n";
 }
 
 std::string obey(const std::vector<std::string> &words) {
     if (words.empty()) {
-        tool::fail("a command is wanted; --help names them");
+        tool::fail("no command is given; --help names them");
     }
     if (words[0] == "--help") {
         return help();
@@ -46,15 +46,15 @@ std::string obey(const std::vector<std::string> &words) {
         const tool::Words read(behind, command.options);
         if (read.others().size() < command.least_words || read.others().size() > command.most_words) {
             const std::string or_more = command.least_words < command.most_words ? " or " + std::to_string(command.most_words) : "";
-            const std::string wanted = std::to_string(command.least_words) + or_more + ", and given: " + std::to_string(read.others().size());
-            tool::fail(words[0] + ": words are wanted: " + wanted + "; `hmcs " + words[0] + " --help` says which");
+            const std::string wanted = std::to_string(command.least_words) + or_more + ", given: " + std::to_string(read.others().size());
+            tool::fail(words[0] + ": words wanted: " + wanted + "; `hmcs " + words[0] + " --help` says which");
         }
         return command.run(read);
     }
     tool::fail("there is no command " + words[0] + "; --help names them");
 }
 
-// What cannot be written is an error, a pipe that nobody reads any more too.
+// What cannot be written is an error, and so is a pipe that nobody reads any more.
 void print(const std::string &text) {
     errno = 0;
     if (std::fwrite(text.data(), 1, text.size(), stdout) != text.size() || std::fflush(stdout) != 0) {

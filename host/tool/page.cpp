@@ -121,13 +121,13 @@ Command page_command() {
     return {"page", "a page that shows a lock file's run",
             "usage: hmcs page FILE -o OUT.html [--from K] [--count N]\n"
             "Writes one self-contained page on a lock file's run: the tree; how the entries split; a timeline,\n"
-            "one lane a thread, by home, coloured by what the thread does; the entries with their kinds; and\n"
-            "the waits. It needs no script and nothing from elsewhere. Where there are more turns than a page\n"
-            "has columns, several share one, and some turns follow one by one.\n"
+            "one lane per thread, by home, coloured by what the thread does; the entries with their kinds; and\n"
+            "the waits. It needs no script and nothing from elsewhere. If there are more turns than the page\n"
+            "has columns, several share a column, and some turns are shown one by one as well.\n"
             "\n"
             "  -o OUT.html  where the page goes\n"
-            "  --from K     the first of the turns that are shown one by one, 0 where it is not given\n"
-            "  --count N    how many, 200 where it is not given\n"
+            "  --from K     the first of the turns that are shown one by one, 0 if not given\n"
+            "  --count N    how many of them, 200 if not given\n"
             "\n"
             "  hmcs page two-sockets.lock -o two-sockets.html\n",
             {{"-o", true}, {"--from", true}, {"--count", true}},

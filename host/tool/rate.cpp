@@ -11,7 +11,7 @@ double passing_time(const std::string &name, const std::string &word) {
     double value = 0;
     const auto [end, error] = std::from_chars(word.data(), word.data() + word.size(), value);
     if (word.empty() || end != word.data() + word.size() || error != std::errc()) {
-        fail(name + " is a number, not \"" + word + "\"");
+        fail(name + " must be a number, not \"" + word + "\"");
     }
     return value;
 }

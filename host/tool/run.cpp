@@ -47,10 +47,10 @@ std::string run(const Words &words) {
 Command run_command() {
     return {"run", "what a lock file's run counts",
             "usage: hmcs run FILE [--trace | --csv]\n"
-            "Runs the schedule of a lock file from a fresh lock and prints its counts: steps and those that\n"
+            "Runs the schedule of a lock file from a fresh lock and prints its counts: steps, how many of them\n"
             "were stays, entries and how they split.\n"
             "\n"
-            "  --trace  the entering threads instead, one a line\n"
+            "  --trace  the entering threads instead, one per line\n"
             "  --csv    for a spreadsheet\n"
             "\n"
             "  hmcs run two-sockets.lock\n",

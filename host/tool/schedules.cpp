@@ -1,4 +1,4 @@
-// Schedules: a file of thread numbers, or made on the spot, the same from the same words on every machine.
+// Schedules: a file of thread numbers, or made here, the same from the same words on every machine.
 #include "tool.hpp"
 
 #include <charconv>
@@ -52,7 +52,7 @@ std::vector<std::uint16_t> made(const std::vector<std::string> &parts, std::uint
     const std::uint64_t seed = number("the seed of a schedule", parts[2], UINT64_MAX);
     const std::uint64_t length = parts[0] == "random" ? 1 : number("the length of a burst", parts[3], UINT32_MAX);
     if (length == 0) {
-        fail("the length of a burst is at least 1");
+        fail("the length of a burst must be at least 1");
     }
     return bursts(count, seed, length, threads);
 }
@@ -68,9 +68,9 @@ std::vector<std::uint16_t> turns_of(const std::string &path, const std::string &
         std::uint64_t thread = 0;
         const auto [behind, error] = std::from_chars(bytes.data() + at, bytes.data() + end, thread);
         if (behind != bytes.data() + end || error == std::errc::invalid_argument) {
-            fail(path + ": turn " + std::to_string(schedule.size()) + " is a thread number, not \"" + word + "\"");
+            fail(path + ": turn " + std::to_string(schedule.size()) + " must be a thread number, not \"" + word + "\"");
         }
-        // above 65,535 it is no thread, as 65,535 is none
+        // a number above 65,535 is refused as 65,535 is
         schedule.push_back(static_cast<std::uint16_t>(error == std::errc() ? std::min<std::uint64_t>(thread, 65535) : 65535));
         at = end;
     }
@@ -84,7 +84,7 @@ std::vector<std::uint16_t> read_schedule(const std::string &word, std::uint32_t 
         return turns_of(word, read_bytes(word, SIZE_MAX));
     }
     if (parts.size() != wanted) {
-        fail("the schedule " + word + ": it is turns:COUNT, random:COUNT:SEED or bursts:COUNT:SEED:LENGTH");
+        fail("the schedule " + word + " must be turns:COUNT, random:COUNT:SEED or bursts:COUNT:SEED:LENGTH");
     }
     return made(parts, threads);
 }

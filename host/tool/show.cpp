@@ -1,4 +1,4 @@
-// `show`: what stands in a lock file.
+// `show`: what is in a lock file.
 #include "tool.hpp"
 #include "trees.hpp"
 
@@ -45,13 +45,13 @@ std::string show(const Words &words) {
 Command show_command() {
     return {"show", "the tree and the schedule of a lock file",
             "usage: hmcs show FILE [--tree | --schedule]\n"
-            "Prints what stands in a lock file: its tree as text and as `hmcs tree` shows it, and its schedule\n"
+            "Prints what is in a lock file: its tree as text and as `hmcs tree` shows it, and its schedule\n"
             "as thread numbers.\n"
             "\n"
             "  --tree      the tree's text alone\n"
             "  --schedule  the thread numbers alone\n"
             "\n"
-            "What it shows makes the same file again, where that is as short as a lock file can be:\n"
+            "What it shows makes the same file again, if that is as short as a lock file can be:\n"
             "\n"
             "  hmcs show two-sockets.lock >shown\n"
             "  hmcs make shown -o again.lock\n",

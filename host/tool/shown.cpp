@@ -1,4 +1,4 @@
-// What `show` printed, read again: the table of the tree, one domain a line, and the schedule behind it.
+// What `show` printed, read again: the table of the tree, one domain per line, and the schedule after it.
 #include "tool.hpp"
 
 #include <sstream>
@@ -7,9 +7,9 @@ namespace tool {
 
 namespace {
 
-[[noreturn]] void fail_at(const std::string &path, const std::string &line) { fail(path + ": this is no line that `show` prints: " + line); }
+[[noreturn]] void fail_at(const std::string &path, const std::string &line) { fail(path + ": `show` prints no such line: " + line); }
 
-// Threads as ranges, "0-3 8", which are at home in a domain.
+// The threads at home in a domain, as ranges: "0-3 8".
 void add_threads(const std::string &path, const std::string &word, std::uint32_t domain, hmcs_tree &words) {
     const std::vector<std::string> ends = split(word, '-');
     const std::uint64_t first = number(path + ": a thread", ends.front(), HMCS_THREADS - 1);
@@ -20,7 +20,7 @@ void add_threads(const std::string &path, const std::string &word, std::uint32_t
     }
 }
 
-// One line of the table: the domain indented by its level, and behind it level, threshold, allowance and threads. The path has the domain of each level.
+// One line of the table: the domain indented by its level, and after it level, threshold, allowance and threads. The path has the domain of each level.
 void add_domain(const std::string &path, const std::string &line, std::vector<std::uint32_t> &above, hmcs_tree &words) {
     std::istringstream parts(line);
     std::string name, level, threshold, allowance, thread;
@@ -64,7 +64,7 @@ Input read_shown(const std::string &path) {
         add_domain(path, line, above, words);
     }
     if (words.domains == 0 || !std::getline(lines, line) || line.rfind("schedule: ", 0) != 0) {
-        fail(path + ": this is not what `show` prints; a schedule is wanted behind the tree");
+        fail(path + ": this is not what `show` prints; a schedule must follow the tree");
     }
     const std::string turns((std::istreambuf_iterator<char>(lines)), std::istreambuf_iterator<char>());
     return Input{hmcs::Tree::of(words), turns_of(path, turns), true};

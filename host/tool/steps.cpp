@@ -1,4 +1,4 @@
-// `steps`: one line a step.
+// `steps`: one line for each step.
 #include "places.hpp"
 #include "table.hpp"
 #include "tool.hpp"

@@ -13,7 +13,7 @@ std::vector<std::uint32_t> domains_of(const std::string &word, const hmcs::Tree 
     for (const std::string &part : split(word, ',')) {
         const auto domain = static_cast<std::uint32_t>(number("--domain", part, UINT32_MAX));
         if (domain == 0 || domain >= tree.words().domains) {
-            fail("--domain: " + part + (domain == 0 ? " is the root, which has no threshold" : " is no domain of the tree; `hmcs tree` shows them"));
+            fail("--domain: " + part + (domain == 0 ? " is the root, which has no threshold" : " is not a domain of the tree; `hmcs tree` shows them"));
         }
         domains.push_back(domain);
     }
@@ -35,7 +35,7 @@ std::vector<Axis> axes_of(const Words &words, const hmcs::Tree &tree) {
         fail("sweep: --domain and --thresholds say what is tried; --help has an example");
     }
     if (thresholds.size() != 1 && thresholds.size() != domains.size()) {
-        fail("sweep: --thresholds is given once for all --domain, or once for each");
+        fail("sweep: --thresholds must be given once for all --domain, or once for each");
     }
     std::vector<Axis> axes;
     std::vector<bool> named(tree.words().domains);
@@ -105,7 +105,7 @@ std::string sweep(const Words &words) {
     sweep.rows = rows_of(sweep);
     const std::uint64_t jobs = number("--jobs", words.value("--jobs", "1"), 1024);
     if (jobs == 0) {
-        fail("--jobs is at least 1");
+        fail("--jobs must be at least 1");
     }
     run_rows(sweep, jobs);
     for (const SweepRow &row : sweep.rows) {
@@ -179,20 +179,21 @@ Command sweep_command() {
             "                       [--jobs N] [--csv] [--page OUT.html] [--ticket]\n"
             "Runs schedules on a tree with one threshold after another, each from a fresh lock, and prints a\n"
             "row for each: entries and how they split (root, crossed, passed), stays, the largest and the mean\n"
-            "wait of all threads, in entries of others, the longest tenure of the domains, and the allowances of the root's members, which say how\n"
-            "many entries each may make while another waits. TREE and S are as for `hmcs make`; of a lock file,\n"
-            "its own schedule is run where none is named.\n"
+            "wait of all threads, in other threads' entries, the longest tenure of the domains, and the\n"
+            "allowances of the root's members, which say how many entries the threads under each may make while\n"
+            "another waits. TREE and S are as for `hmcs make`; a lock file's own schedule is run if none is\n"
+            "named.\n"
             "\n"
-            "  --domain D[,D..]   domains that all get the threshold; given again, every combination is tried\n"
+            "  --domain D[,D..]   domains that all get the threshold; if given again, every combination is tried\n"
             "  --thresholds N,N.. which thresholds; once for all --domain, or once for each, in their order\n"
-            "  --schedule S       what is run; given again, each threshold has a row for each\n"
-            "  --jobs N           so many runs at a time\n"
+            "  --schedule S       what is run; if given again, each threshold has a row for each\n"
+            "  --jobs N           how many runs at a time\n"
             "  --csv              for a spreadsheet\n"
             "  --page OUT.html    writes a page with charts as well\n"
             "  --ticket           the root of a text is a ticket lock\n"
             "\n"
-            "The sockets of a two-socket machine are domains 1 and 4 here; a larger threshold takes the lock\n"
-            "from socket to socket less often, and lets a thread wait longer:\n"
+            "The sockets of a two-socket machine are domains 1 and 4 here; with a larger threshold the lock goes\n"
+            "from socket to socket less often, and a thread may wait longer:\n"
             "\n"
             "  hmcs sweep '(16(4(#4) 4(#4)) 16(4(#4) 4(#4)))' --domain 1,4 --thresholds 1,2,4,8,16 --schedule random:65536:1\n",
             {{"--domain", true},

@@ -59,7 +59,7 @@ public:
         changed_.notify_one();
     }
 
-    // Waits for so many jobs; after two seconds it says on a terminal how far they are.
+    // Waits until this many jobs have ended; after two seconds it says on a terminal how far they are.
     void await(std::size_t jobs) {
         const bool shown = isatty(STDERR_FILENO) != 0;
         std::unique_lock<std::mutex> held(mutex_);

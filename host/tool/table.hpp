@@ -14,7 +14,7 @@ enum class Side { left, right };
 class Table {
 public:
     void column(const std::string &name, Side side = Side::right);
-    void mean_column(const std::string &name); // an exact fraction with a decimal beside; three columns for a spreadsheet
+    void mean_column(const std::string &name); // an exact fraction and a decimal; three columns for a spreadsheet
 
     void row() { rows_.emplace_back(); }
     void cell(const std::string &text) { rows_.back().push_back({text, {text}}); }
@@ -39,7 +39,7 @@ private:
     std::vector<std::vector<Cell>> rows_;
 };
 
-// A fraction with so many digits behind the point; what is over 0 is 0.
+// A fraction with that many digits after the point; 0 if the denominator is 0.
 std::string decimal(std::uint64_t numerator, std::uint64_t denominator, int digits);
 // A share in percent.
 std::string percent(std::uint64_t part, std::uint64_t whole);

@@ -18,7 +18,7 @@ std::size_t columns_of(const hmcs::Tree &tree, std::size_t turns) {
     return std::min(turns, std::min<std::size_t>(1200, std::max<std::size_t>(300, 100000 / tree.words().threads)));
 }
 
-// Some turns of a run in so many columns.
+// Some turns of a run, and in how many columns.
 struct Window {
     std::size_t from, to, columns;
 
@@ -75,7 +75,7 @@ private:
     std::size_t lane_ = 0, end_ = 0;
 };
 
-// Lanes stretched over the width of the page, each so many pixels high.
+// Lanes stretched over the width of the page, each this many pixels high.
 std::string picture(const std::string &paths, const std::string &title, std::size_t columns, std::size_t count, std::size_t height) {
     return "<svg viewBox=\"0 0 " + std::to_string(columns) + " " + std::to_string(count) + "\" height=\"" + std::to_string(count * height) +
            "\" preserveAspectRatio=\"none\" fill=\"none\" stroke-width=\".82\" role=\"img\"><title>" + escaped(title) + "</title>" + paths + "</svg>";

@@ -14,7 +14,7 @@ struct Entry {
     hmcs::Kind kind;
 };
 
-// From a turn on a thread does something else.
+// From this turn on, a thread does something else.
 struct Change {
     std::size_t turn;
     Doing doing;
@@ -31,7 +31,7 @@ Recording record(const hmcs::Tree &tree, const std::vector<std::uint16_t> &sched
 
 // The lanes of some turns: three for the kinds of entry, then one for each thread, by home.
 std::string lanes(const hmcs::Tree &tree, const Recording &recording, std::size_t from, std::size_t to);
-// Whether so many turns are more than lanes have columns, so that several share one.
+// Whether there are more turns than lanes have columns, so that several share one.
 bool are_gathered(const hmcs::Tree &tree, std::size_t turns);
 
 } // namespace tool

@@ -1,5 +1,5 @@
 // What the files of the command share: how it ends, its words, its inputs and its output. It holds no lock logic: every figure of a lock comes
-// from an entry of hmcs.h.
+// from a function of hmcs.h.
 #ifndef HMCS_TOOL_HPP
 #define HMCS_TOOL_HPP
 
@@ -11,7 +11,7 @@
 
 namespace tool {
 
-// How the command ends; wrong use and files that cannot be read or written alike end with 2.
+// How the command ends; wrong usage and files that cannot be read or written both end with 2.
 enum Status { accepted = 0, refused = 1, failed = 2 };
 
 // Thrown where a command cannot go on: its exit status and what standard error says.
@@ -29,7 +29,7 @@ struct Option {
     bool has_value;
 };
 
-// The words behind a command: options by name, in their order, and the others by position.
+// The words after a command: options by name, in their order, and the others by position.
 class Words {
 public:
     Words(const std::vector<std::string> &words, const std::vector<Option> &known);
@@ -67,7 +67,7 @@ Command page_command();
 Command rate_command();
 Command journal_command();
 
-// Numbers in decimal without a sign; what is none, or too large, is wrong use, and is said with its name.
+// Numbers in decimal without a sign; what is not one, or is too large, is wrong usage, and is reported with its name.
 std::uint64_t number(const std::string &name, const std::string &word, std::uint64_t largest);
 std::vector<std::string> split(const std::string &text, char at);
 
@@ -86,7 +86,7 @@ struct Input {
 Input read_lock_file(const std::string &path);
 // A tree as text, or a file with one, or the tree of a lock file; with a ticket root where the text is to have one.
 Input read_tree(const std::string &text_or_path, bool ticket);
-// A schedule from a file of thread numbers, or made on the spot.
+// A schedule from a file of thread numbers, or made here.
 std::vector<std::uint16_t> read_schedule(const std::string &word, std::uint32_t threads);
 // Thread numbers with white space between them.
 std::vector<std::uint16_t> turns_of(const std::string &path, const std::string &text);

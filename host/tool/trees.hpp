@@ -8,7 +8,7 @@
 
 namespace tool {
 
-// A domain where it stands in the tree: the root at level 1, each domain behind its parent and before what follows on the parent's level.
+// A domain where it stands in the tree: the root at level 1, each domain after its parent and before what follows on the parent's level.
 struct Domain {
     std::uint32_t number;
     std::uint32_t level;
@@ -16,7 +16,7 @@ struct Domain {
 
 std::vector<Domain> domains_in_order(const hmcs::Tree &tree);
 std::vector<std::uint32_t> threads_at_home(const hmcs::Tree &tree, std::uint32_t domain);
-// Numbers with what follows one another as a range: "0-3 8".
+// Numbers, with consecutive ones as a range: "0-3 8".
 std::string ranges(const std::vector<std::uint32_t> &numbers);
 // The text that reads as this tree, where there is one: a queue root, domains in the order of their opening parentheses, threads leaf by leaf.
 std::optional<std::string> text_of(const hmcs::Tree &tree);

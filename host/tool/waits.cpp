@@ -1,4 +1,4 @@
-// `waits`: how long threads waited, in entries of others.
+// `waits`: how long threads waited, in other threads' entries.
 #include "tool.hpp"
 #include "waits.hpp"
 
@@ -48,8 +48,8 @@ Command waits_command() {
     return {"waits", "how long each thread of a lock file waited",
             "usage: hmcs waits FILE [--csv]\n"
             "Runs the schedule of a lock file from a fresh lock and prints for each thread, and for all\n"
-            "together, how many attempts it finished and how long these waited, in entries of other threads:\n"
-            "the total, the largest and the mean, as an exact fraction with a decimal beside. An attempt begins\n"
+            "together, how many attempts were finished and how long they waited, in other threads' entries:\n"
+            "the total, the largest, and the mean as an exact fraction and as a decimal. An attempt begins\n"
             "when the thread joins the queue of its home and ends when it is inside.\n"
             "\n"
             "  --csv  for a spreadsheet, the mean as numerator, denominator and decimal\n"

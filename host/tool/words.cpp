@@ -23,7 +23,7 @@ Words::Words(const std::vector<std::string> &words, const std::vector<Option> &k
             fail("unknown option " + word + "; --help says more");
         }
         if (option->has_value && k + 1 == words.size()) {
-            fail(word + " wants a value; --help says more");
+            fail(word + " needs a value; --help says more");
         }
         options_.emplace_back(word, option->has_value ? words[++k] : "");
     }
@@ -51,10 +51,10 @@ std::uint64_t number(const std::string &name, const std::string &word, std::uint
     std::uint64_t value = 0;
     const auto [end, error] = std::from_chars(word.data(), word.data() + word.size(), value);
     if (word.empty() || end != word.data() + word.size() || error == std::errc::invalid_argument) {
-        fail(name + " is a number, not \"" + word + "\"");
+        fail(name + " must be a number, not \"" + word + "\"");
     }
     if (error != std::errc() || value > largest) {
-        fail(name + " is at most " + std::to_string(largest) + ", not " + word);
+        fail(name + " must be at most " + std::to_string(largest) + ", not " + word);
     }
     return value;
 }
