@@ -6,8 +6,8 @@
  *
  * Pointers are the one thing that no function can test. A buffer must be valid for its length, and may be null where the length is 0; the
  * pointers to a state, a place, a length or allowances must be valid, aligned and not null. The buffers of one call must not overlap. Two calls
- * may run at once unless one writes what the other reads or writes. hmcs_run_file and hmcs_run_many need 192 KB of stack, every other function at most
- * 64 KB besides its arguments and its result, which take up to 19 KB in the caller.
+ * may run at once unless one writes what the other reads or writes. hmcs_run_file and hmcs_run_many need 200 KB of stack, every other function at most
+ * 72 KB besides its arguments and its result, which take up to 19 KB in the caller.
  *
  * Compare two states field by field, never by memcmp: struct hmcs_place and struct hmcs_state have padding, and so do struct hmcs_text_reply
  * and struct hmcs_journal_answer.

@@ -32,7 +32,7 @@ use Rattle.refusals.proofs.Joining.{first-decides, other-decides, state-numbere
 use Rattle.refusals.proofs.RunTests.{told-not, told-zero}
 use Rattle.steps.proofs.SoFar.{counts-kinds, thread-at, below}
 use Rattle.steps.proofs.ToldStep.{code-kind, domain-told}
-use Rattle.steps.specs.Effects.{row-domain}
+use Rattle.steps.specs.Rows.{row-domain}
 use Rattle.steps.specs.Running.{kinds-of, counts-by, trace-front, step-code, told-front}
 
 -- a run that is not refused passes the tests before 19

@@ -1,6 +1,6 @@
 -- What the functions that count say of arrays of counters, index by index. Assumes nothing.
 use mathlib.Core.Path.{_≡_, refl, sym, ap, _∙_}
-use mathlib.Core.Bool.{Bool, true, false, _&&_, not, cond}
+use mathlib.Core.Bool.{Bool, true, false, _&&_, not, cond, false≢true}
 use mathlib.Core.List.{List, [], _∷_}
 use mathlib.Core.Logic.{_≢_, _⊎_, inl, inr}
 use Prim.Native.Nat.{ℕ, zero, suc, _+_, _≤_, _<_, max}
@@ -15,7 +15,8 @@ use Rattle.model.specs.Counters.{each-with-index}
 use Rattle.model.proofs.Counted.{indexed-same, indexed-kept, indexed-twice}
 use Rattle.model.specs.declared.PlaceWords.{PlaceWords}
 use Rattle.refusals.specs.Arrays.{Lower}
-use Rattle.steps.specs.Counting.{parent-in, Room-above, added-at, raised-at, is-watch-in, taken-in, marked-in, Climbed, at-root, one-up, started-in, is-shown, Counted-shown, Counted-step}
+use Rattle.steps.specs.Counting.{parent-in, Room-above, added-at, raised-at, is-watch-in, taken-in, marked-in, Climbed, at-root, one-up, Started, record-domain-in, Entered, started-in, is-shown, Counted-shown, Counted-step}
+use Rattle.steps.specs.Running.{is-entry-number}
 
 -- a stored word that stood there already
 pub set-same : (vs : List ℕ) (d v : ℕ) → v ≡ getD vs d 0 → set vs d v ≡ vs
@@ -238,3 +239,18 @@ module _ (m : ℕ) (ps : List ℕ) (h : ℕ) (before after : PlaceWords) (kind :
       ls′ ≡ raised-at ls d 1 → Counted-step m ps h before after kind shown ts ts′ ls ls′
   other-counted ts′ ls ls′ n o d f a r =
       record { raise = λ z. absurd (n z); check = λ z. absurd (o z); other = λ x y. (a ∙ ap (added-at ts) f, r ∙ ap (λ v. raised-at ls v 1) f) }
+
+-- AN ENTRY by the kind that is told
+pub entered : (p : ℕ → ℕ) (k h : ℕ) (es es′ : List ℕ) → is-entry-number k ≡ true → Climbed p h es es′ → Entered p k h es es′
+entered p k h es es′ e c = record { entry = λ z. c; other = λ z. absurd (false≢true (sym z ∙ e)) }
+
+pub not-entered : (p : ℕ → ℕ) (k h : ℕ) (es : List ℕ) → is-entry-number k ≡ false → Entered p k h es es
+not-entered p k h es e = record { entry = λ z. absurd (false≢true (sym e ∙ z)); other = λ z. refl }
+
+-- a thread's own record starts no tenure
+pub nothing-started : {ts ts′ ls ls′ : List ℕ} (k : ℕ) {r : ℕ} → r < 256 → Started (cond (eqb k 1) 0 (record-domain-in r)) ts ts′ ls ls′ → Started 0 ts ts′ ls ls′
+nothing-started k {r} h g = rw (none (eqb k 1)) at g
+  where
+    none : (b : Bool) → cond b 0 (record-domain-in r) ≡ 0
+    none true = refl
+    none false = rw (lt-ltb r 256 h)

@@ -1,8 +1,7 @@
 pub mod Children
+pub mod Taken
 pub mod Leaving
 pub mod RowPlaces
-pub mod WordsRead
-pub mod Deciding
 pub mod SoFar
 pub mod Typing
 pub mod Turns
@@ -11,6 +10,7 @@ pub mod Telling
 pub mod Answering
 pub mod Starting
 pub mod Counts
+pub mod Shown
 pub mod Above
 pub mod StepEntries
 pub mod StepTenures
@@ -19,3 +19,4 @@ pub mod Tallying
 pub mod Looking
 pub mod Trying
 pub mod CounterLimits
+pub mod StepTaken

@@ -6,9 +6,9 @@ use mathlib.Core.Logic.{_≢_}
 use Prim.Native.Nat.{ℕ, zero, suc, _+_, _≤_, _<_}
 use native.Mathlib.Omega.{arith}
 use native.Mathlib.Numerals.{add-one}
-use native.Mathlib.Decide.{ℕ-discrete}
+use native.Mathlib.Decide.{ℕ-discrete, decLt}
 use lib.Dec.{eqb}
-use lib.ListN.{getD, length, take, set, replicate, length-set, length-replicate}
+use lib.ListN.{getD, length, take, set, length-set}
 use lib.Seq.{getD-set-same, getD-set-other, length-take-le}
 use borrow.Author.Tests.{eqb-false, eq-eqb, ne-eqb, not-true}
 use Rattle.model.specs.declared.TreeWords.{TreeWords}
@@ -33,19 +33,15 @@ use Rattle.model.proofs.Trees.Accepted.{Accepted, accepted, sixteen-bit}
 use Rattle.model.proofs.Trees.Paths.{on-path-root, path-real}
 use Rattle.model.proofs.Trees.Records.{member-small, on-path-child}
 use Rattle.model.proofs.Laws.Facts.{well-formed-facts}
-use Rattle.model.proofs.Laws.Form.{valid, replicate-all}
+use Rattle.model.proofs.Laws.Form.{valid}
 use Rattle.model.proofs.Laws.Calls.{Good-run}
 use Rattle.model.proofs.Laws.Counters.{counts-most, entries-left, tenures-left}
 use Rattle.refusals.specs.Arrays.{parents-in}
 use Rattle.refusals.specs.Counts.{counters-in}
 use Rattle.refusals.proofs.Reading.{home-in}
-use Rattle.steps.specs.Counting.{Room-above, taken-in, is-watch-in, marked-in, shows-in, Marked, Shown-left, Clear}
-use Rattle.steps.proofs.StepCounts.{taken-child}
+use Rattle.steps.specs.Counting.{Room-above, taken-in, is-watch-in, marked-in, shows-in, Marked, Shown-left, Clear, Looked, Shown-for}
+use Rattle.steps.proofs.Taken.{taken-child}
 use Rattle.steps.proofs.Tallying.{Tallied}
-
--- no mark
-pub clear-none : Clear (replicate 64 false)
-clear-none = record { room = length-replicate {A = Bool} 64 false; none = λ d h. replicate-all (λ (x : Bool). x ≡ false) 64 d false refl }
 
 -- ROOM. Counters that 10 let pass have room for every schedule
 module _ (t : Tree) (bits : Sixteen-bit t) (s₀ : LockState) (is : List ℕ) (room : ℕ) (R : Good-run t s₀ is room) (c : Counters) (k : ℕ) (h : k ≤ length is) (g : Tallied t is (s₀ .words) (s₀ .counters) c k) where
@@ -111,6 +107,28 @@ place-small t ok i b s f =
 pub raise-row-is : (q : PlaceWords) → place-of q ≢ Invalid → place-of q ≡ Raise → q .row ≡ 13
 raise-row-is q v z = ap (λ (x : PlaceWords). x .row) (sym (words-of-place q v) ∙ ap words-of z)
 
+-- a thread that is looked at is one of the tree
+pub looked-real : {row : ℕ} {vs : List ℕ} {n v m l j : ℕ} → Looked row vs n v m l → j < l → j < m
+looked-real {row = row} {m = m} {l = l} e h =
+    elim (ℕ-discrete row 13) [
+      | yes z ↦ let y : l ≡ m = e .all z (λ x. absurd (omega arith)) in omega arith
+      | no z ↦ absurd (omega (arith, e .other z))
+    ]
+
+-- a raise looks at all threads, or at none where no domain's record holds the ticket
+looked-cases :
+    {row : ℕ} {vs : List ℕ} {n v m l : ℕ} (C : Type 0) → Looked row vs n v m l → row ≡ 13 → (l ≡ m → C) → (l ≡ 0 → ((d : ℕ) → d < n → getD vs (256 + d) 0 ≢ v) → C) → C
+looked-cases {m = m} {l = l} C e r all none =
+    elim (ℕ-discrete l m) [
+      | yes z ↦ all z
+      | no z ↦ elim (ℕ-discrete l 0) [ yes y ↦ none y (e .nobody r z) | no y ↦ absurd (z (e .all r y)) ]
+    ]
+
+none-below : (n : ℕ) (f : ℕ → Bool) → ((j : ℕ) → j < n → f j ≡ false) → any-below n f ≡ false
+unfolding any-below
+none-below zero f h = refl
+none-below (suc n) f h = rw (none-below n f (λ j r. h j (omega arith)), h n (omega arith))
+
 -- MARKS
 module _ (w : TreeWords) (ok : tree-refusal (tree-of w) .number ≡ 0) where
   𝓐 : Accepted (tree-of w)
@@ -124,33 +142,81 @@ module _ (w : TreeWords) (ok : tree-refusal (tree-of w) .number ≡ 0) where
   unfolding tree-of
   home-small j r = rw (home-of j r) at (𝓐 .home-real j r)
 
-  taken-small : (j : ℕ) → j < w .threads → taken-in (w .domains) (w .parents) (getD (w .homes) j 0) 0 < 64
+  taken-real : (j : ℕ) → j < w .threads → taken-in (w .domains) (w .parents) (getD (w .homes) j 0) 0 < w .domains
   unfolding tree-of
-  taken-small j r =
+  taken-real j r =
       let t = tree-of w in
-      let e = taken-child t 𝓐 (w .domains) (w .parents) (λ x. refl) j 0 (getD (w .homes) j 0) (sym (home-of j r)) in
+      let e = taken-child t (w .domains) (w .parents) (λ x. refl) j 0 (getD (w .homes) j 0) (sym (home-of j r)) in
       rw e (by (eqb 0 (t .home j)) refl)
     where
-      by : (x : Bool) → eqb 0 (tree-of w .home j) ≡ x → cond x 0 (child (tree-of w) j 0) < 64
-      by true z = omega arith
-      by false z = omega (arith, path-real (tree-of w) 𝓐 j r (child (tree-of w) j 0) (on-path-child (tree-of w) 𝓐 j r 0 (on-path-root (tree-of w) 𝓐 j r) (eqb-false 0 (tree-of w .home j) z)), 𝓐 .few-domains)
+      by : (x : Bool) → eqb 0 (tree-of w .home j) ≡ x → cond x 0 (child (tree-of w) j 0) < tree-of w .domains
+      by true z = 𝓐 .some-domain
+      by false z = path-real (tree-of w) 𝓐 j r (child (tree-of w) j 0) (on-path-child (tree-of w) 𝓐 j r 0 (on-path-root (tree-of w) 𝓐 j r) (eqb-false 0 (tree-of w .home j) z))
+
+  taken-small : (j : ℕ) → j < w .threads → taken-in (w .domains) (w .parents) (getD (w .homes) j 0) 0 < 64
+  unfolding tree-of
+  taken-small j r = omega (arith, taken-real j r, 𝓐 .few-domains)
 
   module _ (vs : List ℕ) (qs : List PlaceWords) (v : ℕ) where
     pub marked-start : (bs : List Bool) → Clear bs → Marked (w .domains) (w .parents) (w .homes) vs qs v 0 bs
     unfolding any-below
     marked-start bs g = record { room = g .room; marked = g .none }
 
+    -- a thread shows nothing of a domain that the tree has not, nor of one whose record does not hold the ticket
+    shows-none : (d j : ℕ) → j < w .threads → (d < w .domains → getD vs (256 + d) 0 ≢ v) → shows-in (w .domains) (w .parents) (w .homes) vs qs v d j ≡ false
+    shows-none d j r n =
+        elim (decLt d (w .domains)) [
+          | yes p ↦ rw (ne-eqb (getD vs (256 + d) 0) v (n p)) (last (is-watch-in (getD qs j (place-words 0 0 0 0))) (eqb c d))
+          | no p ↦ rw (ne-eqb c d (λ z. absurd (omega (arith, taken-real j r, p)))) (first (is-watch-in (getD qs j (place-words 0 0 0 0))))
+        ]
+      where
+        c : ℕ
+        c = taken-in (w .domains) (w .parents) (getD (w .homes) j 0) 0
+
+        first : (a : Bool) → a && false ≡ false
+        first true = refl
+        first false = refl
+
+        last : (a b : Bool) → a && (b && false) ≡ false
+        last a true = first a
+        last a false = first a
+
+    -- where no domain's record holds the ticket, the threads show nothing, so that the marks of none are those of all
+    pub marked-all :
+        (bs : List Bool) → ((d : ℕ) → d < w .domains → getD vs (256 + d) 0 ≢ v) → Marked (w .domains) (w .parents) (w .homes) vs qs v 0 bs →
+        Marked (w .domains) (w .parents) (w .homes) vs qs v (w .threads) bs
+    unfolding any-below
+    marked-all bs n g =
+        record { room = g .room; marked = λ d h. g .marked d h ∙ sym (none-below (w .threads) (shows-in (w .domains) (w .parents) (w .homes) vs qs v d) (λ j r. shows-none d j r (n d))) }
+
     -- a step that is no raise looks at nobody, and leaves no domain marked; nor does a raise
     pub marks-cleared :
-        (q : PlaceWords) (j : ℕ) (bs bs′ : List Bool) → j ≤ cond (eqb (q .row) 13) (w .threads) 0 → Marked (w .domains) (w .parents) (w .homes) vs qs v j bs → Shown-left q bs bs′ → Clear bs′
+        (q : PlaceWords) (j l : ℕ) (bs bs′ : List Bool) → Looked (q .row) vs (w .domains) v (w .threads) l → j ≤ l → Marked (w .domains) (w .parents) (w .homes) vs qs v j bs →
+        Shown-left q bs bs′ → Clear bs′
     unfolding any-below
-    marks-cleared q j bs bs′ few g left =
+    marks-cleared q j l bs bs′ e few g left =
         elim (ℕ-discrete (q .row) 13) [
-          | yes z ↦ rw (left .raise z) clear-none
+          | yes z ↦ left .raise z
           | no z ↦
-              let none : j ≡ 0 = omega (arith, rw (ne-eqb (q .row) 13 z) at few) in
+              let none : j ≡ 0 = omega (arith, e .other z) in
               rw (left .other z) (record { room = g .room; none = λ d h. g .marked d h ∙ ap (λ k. any-below k (shows-in (w .domains) (w .parents) (w .homes) vs qs v d)) none })
         ]
+
+    -- the marks by all threads that are looked at: none where there are none, and none beyond the tree's domains
+    pub shown-for :
+        (row j l : ℕ) (bs : List Bool) → Looked row vs (w .domains) v (w .threads) l → j ≤ l → l ≤ j → Marked (w .domains) (w .parents) (w .homes) vs qs v j bs →
+        Shown-for l (w .domains) bs
+    unfolding any-below
+    shown-for row j l bs e few all g =
+        record {
+          room = g .room;
+          nobody = λ z d h.
+              let none : j ≡ 0 = omega arith in
+              g .marked d h ∙ ap (λ k. any-below k (shows-in (w .domains) (w .parents) (w .homes) vs qs v d)) none;
+          beyond = λ d n h.
+              g .marked d h
+              ∙ none-below j (shows-in (w .domains) (w .parents) (w .homes) vs qs v d) (λ k r. shows-none d k (looked-real e (omega (arith, r))) (λ p. absurd (omega arith)));
+        }
 
     pub marked-next :
         (j : ℕ) (bs bs′ : List Bool) → j < w .threads → Marked (w .domains) (w .parents) (w .homes) vs qs v j bs →
@@ -202,27 +268,19 @@ module _ (w : TreeWords) (ok : tree-refusal (tree-of w) .number ≡ 0) where
             }
         by false b p q = record { room = g .room; marked = λ d h. rw p (g .marked d h ∙ sym (right (any-below j (f d)) true)) }
 
--- a thread that is looked at is one of the tree, and only a raise looks at any
-pub looked-real : (b : Bool) (m l j : ℕ) → l ≡ cond b m 0 → j < l → j < m
-looked-real true m l j e h = omega arith
-looked-real false m l j e h = absurd (omega arith)
-
-pub looked-all : (r m l j : ℕ) → l ≡ cond (eqb r 13) m 0 → j ≤ l → l ≤ j → r ≡ 13 → j ≡ m
-looked-all r m l j e a b z = let y : l ≡ m = e ∙ rw (eq-eqb r 13 z) in omega arith
-
 module _ (w : TreeWords) (ok : tree-refusal (tree-of w) .number ≡ 0) (i : ℕ) (b : i < tree-of w .threads) where
   pub home-is : getD (w .homes) i 0 ≡ tree-of w .home i
   unfolding tree-of
   home-is = sym (home-in (w .domains) (w .threads) (w .parents) (w .thresholds) (w .homes) i b)
 
-  -- where the step is a raise, all threads were looked at
+  -- where the step is a raise, the marks are those of all threads
   module _ (s : State) (f : Formed (tree-of w) s) (l j : ℕ) (shown : List Bool) where
     pub raise-marked :
-        l ≡ cond (eqb (getD (s .places) i (place-words 0 0 0 0) .row) 13) (w .threads) 0 → j ≤ l → l ≤ j → place s i ≡ Raise → {v : ℕ} →
+        {v : ℕ} → Looked (getD (s .places) i (place-words 0 0 0 0) .row) (s .statuses) (w .domains) v (w .threads) l → j ≤ l → l ≤ j → place s i ≡ Raise →
         Marked (w .domains) (w .parents) (w .homes) (s .statuses) (s .places) v j shown → Marked (w .domains) (w .parents) (w .homes) (s .statuses) (s .places) v (w .threads) shown
-    raise-marked e a n z g =
+    raise-marked {v} e a n z g =
         let q = getD (s .places) i (place-words 0 0 0 0) in
         let good : good-place (tree-of w) i (place s i) ≡ true = well-formed-facts (tree-of w) s f .places i .used b in
-        let r = raise-row-is q (valid (tree-of w) i (place s i) good) z in
-        let y = looked-all (q .row) (w .threads) l j e a n r in
-        rw y at g
+        looked-cases _ e (raise-row-is q (valid (tree-of w) i (place s i) good) z)
+        (λ y. let x : j ≡ w .threads = omega arith in rw x at g)
+        (λ y none. let x : j ≡ 0 = omega arith in marked-all w ok (s .statuses) (s .places) v shown none (rw x at g))

@@ -8,21 +8,18 @@ use native.Mathlib.Nat.{add-zero}
 use native.Mathlib.Numerals.{add-one}
 use lib.ListN.{getD, length, take, drop, set, length-set, length-append}
 use lib.Seq.{length-take-le, take-suc, take-all, drop-cons, set-append-seam}
-use Rattle.model.specs.declared.PlaceWords.{PlaceWords}
 use Rattle.model.specs.declared.State.{State}
 use Rattle.model.specs.Trees.{Tree}
-use Rattle.model.specs.Places.{place-words}
 use Rattle.model.specs.States.{place}
 use Rattle.model.specs.Refusals.{tree-refusal}
 use Rattle.model.specs.Steps.{Kind, stay, other, root-entry, passed-entry, crossed-entry, leaving, kind-number, is-kind, is-entry, Step, row, step}
 use Rattle.model.specs.Runs.{steps, state-after, how-many, entering, counts-of, run-of, run}
-use Rattle.model.specs.Laws.{All-threads, Sixteen-bit, Formed, Form-law, Kind-law}
+use Rattle.model.specs.Laws.{All-threads, Sixteen-bit, Formed, Form-law}
 use Rattle.model.proofs.Trees.Accepted.{accepted}
 use Rattle.model.proofs.Laws.Runs.{steps-join, steps-length, how-many-join, entering-join, state-after-join, entries-all}
 use Rattle.model.proofs.Laws.Form.{form-law}
-use Rattle.model.proofs.Laws.Kinds.{kind-law}
-use Rattle.steps.specs.declared.rows.Effect.{Effect}
-use Rattle.steps.specs.Effects.{apply, Does}
+use Rattle.steps.specs.declared.rows.Moved.{Moved}
+use Rattle.steps.specs.Rows.{with-place-words, Done}
 use Rattle.steps.specs.Running.{kinds-of, counted, counts-by, is-entry-number, traced-at, trace-front}
 
 -- KINDS by their numbers
@@ -42,14 +39,6 @@ entry-number root-entry = refl
 entry-number passed-entry = refl
 entry-number crossed-entry = refl
 entry-number leaving = refl
-
-zero-stay : (k : Kind) → kind-number k ≡ 0 → k ≡ stay
-zero-stay stay e = refl
-zero-stay other e = absurd (omega arith)
-zero-stay root-entry e = absurd (omega arith)
-zero-stay passed-entry e = absurd (omega arith)
-zero-stay crossed-entry e = absurd (omega arith)
-zero-stay leaving e = absurd (omega arith)
 
 -- COUNTS by kinds. One step more is counted in
 count-kind :
@@ -190,27 +179,27 @@ module _ (t : Tree) (is b₀ : List ℕ) (s₀ : State) where
 
   -- the kind of a step has its number, and no kind has more steps than entries are done
   pub kind-room :
-      (b : List ℕ) (s : State) (kinds : List ℕ) (entries k : ℕ) (e : Effect) → So-far b s kinds entries k →
-      Does (row t (getD is k 0) (place s (getD is k 0)) s) (getD is k 0) e s → k < length is → length is ≤ 65536 →
-      (e .kind < 6) × (getD kinds (e .kind) 0 < 65536)
-  kind-room b s kinds entries k e g D h short =
+      (b : List ℕ) (s : State) (kinds : List ℕ) (entries k : ℕ) (m : Moved) (left : State) → So-far b s kinds entries k →
+      Done (row t (getD is k 0) (place s (getD is k 0)) s) (getD is k 0) m left → k < length is → length is ≤ 65536 →
+      (m .kind < 6) × (getD kinds (m .kind) 0 < 65536)
+  kind-room b s kinds entries k m left g D h short =
       let x = row t (getD is k 0) (place s (getD is k 0)) s .kind in
       let few : how-many (is-kind x) (first-steps k) ≤ k = omega (arith, few-kinds (is-kind x) (first-steps k), steps-length t (take k is) s₀, length-take-le k is (g .within)) in
-      let at : getD kinds (e .kind) 0 ≡ how-many (is-kind x) (first-steps k) = ap (λ v. getD v (e .kind) 0) (g .kinds-are) ∙ ap (λ v. getD (kinds-of (first-steps k)) v 0) (D .kind-told) ∙ kind-at x (first-steps k) in
+      let at : getD kinds (m .kind) 0 ≡ how-many (is-kind x) (first-steps k) = ap (λ v. getD v (m .kind) 0) (g .kinds-are) ∙ ap (λ v. getD (kinds-of (first-steps k)) v 0) (D .kind-told) ∙ kind-at x (first-steps k) in
       (omega (arith, D .kind-told, kind-small x), omega (arith, at, few))
 
   -- one turn of the loop
   pub turn :
-      (b : List ℕ) (s : State) (kinds : List ℕ) (entries k : ℕ) (e : Effect) (b′ : List ℕ) (s′ : State) (entries′ : ℕ) →
+      (b : List ℕ) (s : State) (kinds : List ℕ) (entries k : ℕ) (m : Moved) (left : State) (b′ : List ℕ) (s′ : State) (entries′ : ℕ) →
       tree-refusal t .number ≡ 0 → Sixteen-bit t → All-threads t is → length is ≤ length b₀ → k < length is → So-far b s kinds entries k →
-      Does (row t (getD is k 0) (place s (getD is k 0)) s) (getD is k 0) e s → s′ ≡ apply (getD is k 0) e s →
-      entries′ ≡ entries + cond (is-entry-number (e .kind)) 1 0 → b′ ≡ traced-at b entries (e .kind) (getD is k 0) →
-      So-far b′ s′ (counted kinds (e .kind)) entries′ (k + 1)
+      Done (row t (getD is k 0) (place s (getD is k 0)) s) (getD is k 0) m left → s′ ≡ with-place-words (getD is k 0) (m .place) left →
+      entries′ ≡ entries + cond (is-entry-number (m .kind)) 1 0 → b′ ≡ traced-at b entries (m .kind) (getD is k 0) →
+      So-far b′ s′ (counted kinds (m .kind)) entries′ (k + 1)
   unfolding run run-of steps step state-after how-many entering Form-law
-  turn b s kinds entries k e b′ s′ entries′ accepted sixteen all room h g D es ee eb =
+  turn b s kinds entries k m left b′ s′ entries′ accepted sixteen all room h g D es ee eb =
       let i = getD is k 0 in
       let x = step t i s in
-      let kind : e .kind ≡ kind-number (x .kind) = D .kind-told in
+      let kind : m .kind ≡ kind-number (x .kind) = D .kind-told in
       let after : s′ ≡ x .state = es ∙ D .state-left in
       let c = at-most (is-entry (x .kind)) in
       let n : entries′ ≡ entries + cond (is-entry (x .kind)) 1 0 = ee ∙ ap (λ v. entries + cond v 1 0) (ap is-entry-number kind ∙ entry-number (x .kind)) in
@@ -219,28 +208,17 @@ module _ (t : Tree) (is b₀ : List ℕ) (s₀ : State) where
       let traces : entering (first-steps (k + 1)) ≡ entering xs ++ (cond (is-entry (x .kind)) (i ∷ []) [] ++ []) = ap entering joined ∙ entering-join xs (x ∷ []) in
       record {
         within = omega arith;
-        long = rw eb (traced-long b entries (e .kind) i) ∙ g .long;
+        long = rw eb (traced-long b entries (m .kind) i) ∙ g .long;
         formed = rw after (form-law t sixteen accepted .of-step i s (thread-at t is all k h) (g .formed));
         state-is = after ∙ sym (ap (state-after s₀) joined ∙ state-after-join s₀ xs (x ∷ []));
-        kinds-are = ap (λ v. counted v (e .kind)) (g .kinds-are) ∙ ap (counted (kinds-of xs)) kind ∙ sym (ap kinds-of joined ∙ kinds-next xs x);
+        kinds-are = ap (λ v. counted v (m .kind)) (g .kinds-are) ∙ ap (counted (kinds-of xs)) kind ∙ sym (ap kinds-of joined ∙ kinds-next xs x);
         entries-are = n ∙ rw (traces, length-append, one-long (is-entry (x .kind)) i) (ap (λ v. v + cond (is-entry (x .kind)) 1 0) (g .entries-are));
         entries-fit = omega (arith, g .entries-fit);
         trace-is =
-            eb ∙ ap (λ v. traced-at v entries (e .kind) i) (g .trace-is) ∙ ap (λ v. traced-at (trace-front b₀ (run t (take k is) s₀)) entries v i) kind
+            eb ∙ ap (λ v. traced-at v entries (m .kind) i) (g .trace-is) ∙ ap (λ v. traced-at (trace-front b₀ (run t (take k is) s₀)) entries v i) kind
             ∙ front-kind (x .kind) (entering xs) b₀ entries i (g .entries-are) (omega (arith, g .entries-fit))
             ∙ sym (ap (λ v. v ++ drop (length v) b₀) traces);
       }
-
-  -- a turn that stays: nothing is stored
-  pub turn-stay :
-      (b : List ℕ) (s : State) (kinds : List ℕ) (entries k : ℕ) (e : Effect) → tree-refusal t .number ≡ 0 → Sixteen-bit t → All-threads t is →
-      length is ≤ length b₀ → k < length is → So-far b s kinds entries k →
-      Does (row t (getD is k 0) (place s (getD is k 0)) s) (getD is k 0) e s → e .kind ≡ 0 →
-      So-far b s (counted kinds (e .kind)) entries (k + 1)
-  unfolding Kind-law step
-  turn-stay b s kinds entries k e accepted sixteen all room h g D z =
-      let same = kind-law t (getD is k 0) s accepted (thread-at t is all k h) (g .formed) .stays-exactly .0 (zero-stay _ (sym (D .kind-told) ∙ z)) in
-      turn b s kinds entries k e b s entries accepted sixteen all room h g D (sym (D .state-left ∙ same)) (rw z (sym (add-zero entries))) (rw z)
 
   -- the end
   module _ (b : List ℕ) (s : State) (kinds : List ℕ) (entries k : ℕ) (g : So-far b s kinds entries k) (h : length is ≤ k) where

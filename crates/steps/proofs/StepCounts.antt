@@ -3,24 +3,23 @@ use mathlib.Core.Path.{_≡_, refl, sym, ap, _∙_}
 use mathlib.Core.Bool.{Bool, true, false, _&&_, _||_, not, cond, false≢true}
 use mathlib.Core.List.{List, [], _∷_}
 use mathlib.Core.Logic.{_≢_}
-use Prim.Native.Nat.{ℕ, zero, suc, _+_, _-_, _≤_, _<_, max}
+use Prim.Native.Nat.{ℕ, zero, suc, _+_, _-_, _<_, max}
 use native.Mathlib.Omega.{arith}
-use native.Mathlib.Decide.{ℕ-discrete, decLt}
+use native.Mathlib.Decide.{ℕ-discrete}
 use lib.Dec.{eqb, ltb}
 use lib.ListN.{getD, length, set}
 use lib.Seq.{getD-set-same}
-use borrow.Author.Tests.{eqb-true, eqb-false, eq-eqb, ne-eqb, lt-ltb, le-ltb, ltb-true, ltb-false, not-true}
+use borrow.Author.Tests.{eqb-true, eqb-false, eq-eqb, ne-eqb, ltb-true, ltb-false, not-true}
 use Rattle.model.specs.declared.TreeWords.{TreeWords}
 use Rattle.model.specs.declared.PlaceWords.{PlaceWords}
 use Rattle.model.specs.declared.Place.{Place}
 use Rattle.model.specs.declared.Place.the-variants.{Idle, Prep, Swap, Link, Wait, Inside, Check, Help, Cas, Linger, Grant, Draw, Watch, Raise, Invalid}
 use Rattle.model.specs.declared.State.{State}
-use Rattle.model.specs.declared.Counters.{Counters}
 use Rattle.model.specs.Scans.{any-below}
-use Rattle.model.specs.Trees.{Tree, tree-of, read-word, is-ticket, on-path, child-from, child, own-record, is-record, is-member}
+use Rattle.model.specs.Trees.{Tree, tree-of, is-ticket, on-path, child, own-record, is-record, is-member}
 use Rattle.model.specs.Places.{place-words, words-of, place-of, plain-place, bare-place, is-watch}
-use Rattle.model.specs.States.{none, tail, next, status, place, wrap}
-use Rattle.model.specs.Steps.{kind-number, Row-result, acquired-place, is-watched, shown-members, prep-row, swap-row, link-row, leave-row, check-row, help-row, cas-row, grant-row, draw-row, raise-row, row, step}
+use Rattle.model.specs.States.{none, tail, status, place, wrap}
+use Rattle.model.specs.Steps.{kind-number, Row-result, acquired-place, is-watched, shown-members, swap-row, draw-row, row, step}
 use Rattle.model.specs.WellFormed.{queue-on-path, good-place}
 use Rattle.model.specs.Refusals.{tree-refusal}
 use Rattle.model.specs.Tenures.{checks-at, domain-tenures, longest-told}
@@ -30,18 +29,18 @@ use Rattle.model.proofs.Tests.{and-both, by-test, any-same}
 use Rattle.model.proofs.Places.{words-of-place}
 use Rattle.model.proofs.Trees.Accepted.{Accepted, accepted}
 use Rattle.model.proofs.Trees.Paths.{on-path-root}
-use Rattle.model.proofs.Trees.Records.{member-record, member-small, child-inner}
+use Rattle.model.proofs.Trees.Records.{member-record, child-inner}
 use Rattle.model.proofs.Trees.Tickets.{queue-facts}
 use Rattle.model.proofs.Laws.Facts.{well-formed-facts}
 use Rattle.model.proofs.Laws.Form.{valid}
-use Rattle.model.proofs.Laws.Given.{given-from, given-idle, given-prep, given-swap, given-link, given-wait, given-inside, given-check, given-help, given-cas, given-linger, given-grant, given-draw, given-watch, given-raise, given-invalid}
+use Rattle.model.proofs.Laws.Given.{given-from, given-idle, given-prep, given-swap, given-link, given-wait, given-inside, given-check, given-help, given-cas, given-linger, given-grant, given-draw, given-watch, given-raise}
 use Rattle.refusals.specs.Arrays.{parents-in}
 use Rattle.refusals.specs.Counts.{counters-in}
 use Rattle.refusals.proofs.Reading.{home-in}
-use Rattle.steps.specs.declared.rows.Effect.{Effect}
-use Rattle.steps.specs.Effects.{apply, Does}
-use Rattle.steps.specs.Counting.{parent-in, taken-in, record-domain-in, started-in, added-at, raised-at, is-watch-in, shows-in, Marked, Entered, Counted-shown, Counted-step}
-use Rattle.steps.proofs.Children.{child-same}
+use Rattle.steps.specs.declared.rows.Moved.{Moved}
+use Rattle.steps.specs.Rows.{Done}
+use Rattle.steps.specs.Counting.{parent-in, taken-in, record-domain-in, started-in, raised-at, is-watch-in, Marked, Entered, Counted-step}
+use Rattle.steps.proofs.Taken.{taken-child}
 use Rattle.steps.proofs.StepEntries.{entries-counted}
 use Rattle.steps.proofs.StepTenures.{Start-of, nobody, of-thread, of-domain, start-added, start-raised, check-added, check-raised, raise-added, raise-raised}
 
@@ -78,14 +77,10 @@ draw-kind t i s = two-ways (λ r. eqb (kind-number (r .kind)) 1) (eqb (s .ticket
 
 -- a record that a thread works with, or none, by a test
 module _ (t : Tree) (𝓐 : Accepted t) (m : ℕ) (ps : List ℕ) (same : (e : ℕ) → parents-in m ps .parent e ≡ t .parent e) where
-  pub taken-child : (i l h : ℕ) → h ≡ t .home i → taken-in m ps h l ≡ cond (eqb l (t .home i)) 0 (child t i l)
-  unfolding child
-  taken-child i l h e = rw (e, child-same 6 (parents-in m ps) t l (t .home i) same)
-
   own-started : (b : Bool) (i l h : ℕ) → i < t .threads → on-path t i l ≡ true → h ≡ t .home i → Start-of (cond b (own-record t i l ∷ []) []) (cond (not b) 0 (taken-in m ps h l))
   unfolding own-record
   own-started false i l h r o e = nobody refl refl
-  own-started true i l h r o e = rw (taken-child i l h e) (by (eqb l (t .home i)) refl)
+  own-started true i l h r o e = rw (taken-child t m ps same i l h e) (by (eqb l (t .home i)) refl)
     where
       by : (x : Bool) → eqb l (t .home i) ≡ x → Start-of (cond x i (256 + child t i l) ∷ []) (cond x 0 (child t i l))
       by true z = of-thread i (omega (arith, 𝓐 .few-threads)) refl refl
@@ -106,7 +101,7 @@ module _ (t : Tree) (𝓐 : Accepted t) (m : ℕ) (ps : List ℕ) (same : (e : �
   -- a thread that watches with a domain's record
   record-same : (j h d : ℕ) → j < t .threads → h ≡ t .home j → d ≢ 0 → eqb (taken-in m ps h 0) d ≡ eqb (own-record t j 0) (256 + d)
   unfolding own-record
-  record-same j h d r e n = rw (taken-child j 0 h e) (by (eqb 0 (t .home j)))
+  record-same j h d r e n = rw (taken-child t m ps same j 0 h e) (by (eqb 0 (t .home j)))
     where
       by : (x : Bool) → eqb (cond x 0 (child t j 0)) d ≡ eqb (cond x j (256 + child t j 0)) (256 + d)
       by true = ne-eqb 0 d (λ z. n (sym z)) ∙ sym (ne-eqb j (256 + d) (λ z. absurd (omega (arith, 𝓐 .few-threads))))
@@ -169,7 +164,7 @@ any-apart (suc n) a b c = rw (any-apart n a b c) (by c (any-below n (λ j. a j &
     by false r false y = refl
 
 -- ONE STEP of a tree that a call names
-module _ (w : TreeWords) (ok : tree-refusal (tree-of w) .number ≡ 0) (i : ℕ) (b : i < tree-of w .threads) (s : State) (f : Formed (tree-of w) s) (e : Effect) (D : Does (row (tree-of w) i (place s i) s) i e s) where
+module _ (w : TreeWords) (ok : tree-refusal (tree-of w) .number ≡ 0) (i : ℕ) (b : i < tree-of w .threads) (s : State) (f : Formed (tree-of w) s) (said : Moved) (left : State) (same : left .places ≡ s .places) (D : Done (row (tree-of w) i (place s i) s) i said left) where
   abbrev t : Tree
   t = tree-of w
 
@@ -189,16 +184,16 @@ module _ (w : TreeWords) (ok : tree-refusal (tree-of w) .number ≡ 0) (i : ℕ)
   room = omega (arith, 𝓐 .few-threads, f .typed .places-room)
 
   -- the place after the step
-  after : getD (step t i s .state .places) i (place-words 0 0 0 0) ≡ e .place
+  after : getD (step t i s .state .places) i (place-words 0 0 0 0) ≡ said .place
   unfolding step
-  after = ap (λ (n : State). getD (n .places) i (place-words 0 0 0 0)) (sym (D .state-left)) ∙ stored-place (s .places) i (e .place) room
+  after = ap (λ (n : State). getD (n .places) i (place-words 0 0 0 0)) (sym (D .state-left)) ∙ ap (λ (ps : List PlaceWords). getD (set ps i (said .place)) i (place-words 0 0 0 0)) same ∙ stored-place (s .places) i (said .place) room
 
-  module _ (h : ℕ) (home : h ≡ t .home i) (shown : List Bool) (ts ts′ ls ls′ : List ℕ) (C : Counted-step (w .domains) (w .parents) h q (e .place) (e .kind) shown ts ts′ ls ls′) where
+  module _ (h : ℕ) (home : h ≡ t .home i) (shown : List Bool) (ts ts′ ls ls′ : List ℕ) (C : Counted-step (w .domains) (w .parents) h q (said .place) (said .kind) shown ts ts′ ls ls′) where
     abbrev Both : Type 0
     Both = (ts′ ≡ each-with-index (λ d v. v + domain-tenures t d (step t i s ∷ [])) 0 ts) × (ls′ ≡ each-with-index (λ d v. max v (longest-told t d (step t i s ∷ []))) 0 ls)
 
     abbrev started : ℕ
-    started = started-in (w .domains) (w .parents) h q (e .place .row) (e .kind)
+    started = started-in (w .domains) (w .parents) h q (said .place .row) (said .kind)
 
     finish : q .row ≢ 13 → q .row ≢ 6 → Start-of (given-from t i (place s i) s) started → ((d : ℕ) → checks-at d (place s i) ≡ false) → Both
     finish n o g u =
@@ -206,11 +201,11 @@ module _ (w : TreeWords) (ok : tree-refusal (tree-of w) .number ≡ 0) (i : ℕ)
         (both .0 ∙ start-added t i s started g u ts, both .1 ∙ start-raised t i s started g u ls)
 
     -- a place from which no tenure starts
-    quiet : (p : Place) → place s i ≡ p → given-from t i p s ≡ [] → started-in (w .domains) (w .parents) h (words-of p) (e .place .row) (e .kind) ≡ 0 → words-of p .row ≢ 13 → words-of p .row ≢ 6 → ((d : ℕ) → checks-at d p ≡ false) → Both
+    quiet : (p : Place) → place s i ≡ p → given-from t i p s ≡ [] → started-in (w .domains) (w .parents) h (words-of p) (said .place .row) (said .kind) ≡ 0 → words-of p .row ≢ 13 → words-of p .row ≢ 6 → ((d : ℕ) → checks-at d p ≡ false) → Both
     quiet p z g c n o u =
         let row : q .row ≡ words-of p .row = ap (λ (x : PlaceWords). x .row) (words ∙ ap words-of z) in
         finish (λ y. n (sym row ∙ y)) (λ y. o (sym row ∙ y))
-        (nobody (ap (λ (x : Place). given-from t i x s) z ∙ g) (ap (λ (x : PlaceWords). started-in (w .domains) (w .parents) h x (e .place .row) (e .kind)) (words ∙ ap words-of z) ∙ c))
+        (nobody (ap (λ (x : Place). given-from t i x s) z ∙ g) (ap (λ (x : PlaceWords). started-in (w .domains) (w .parents) h x (said .place .row) (said .kind)) (words ∙ ap words-of z) ∙ c))
         (λ d. ap (checks-at d) z ∙ u d)
 
     -- the rows of the places from which a tenure may start
@@ -225,7 +220,7 @@ module _ (w : TreeWords) (ok : tree-refusal (tree-of w) .number ≡ 0) (i : ℕ)
     unfolding started-in checks-at good-place step row
     from-swap l z g =
         let y = row-is (Swap l) z in
-        let a : eqb (e .place .row) 3 ≡ not (eqb (tail s l) none) =
+        let a : eqb (said .place .row) 3 ≡ not (eqb (tail s l) none) =
         ap (λ (x : PlaceWords). eqb (x .row) 3) (sym after) ∙ ap (λ (p : Place). eqb (getD (row t i p s .state .places) i (place-words 0 0 0 0) .row) 3) z ∙ swap-after t i l s room in
         let c : started ≡ cond (not (eqb (tail s l) none)) 0 (taken-in (w .domains) (w .parents) h l) = rw (y, a) in
         finish (λ x. absurd (omega (arith, ap (λ (v : PlaceWords). v .row) y))) (λ x. absurd (omega (arith, ap (λ (v : PlaceWords). v .row) y)))
@@ -236,7 +231,7 @@ module _ (w : TreeWords) (ok : tree-refusal (tree-of w) .number ≡ 0) (i : ℕ)
     unfolding started-in checks-at row
     from-draw z =
         let y = row-is Draw z in
-        let a : eqb (e .kind) 1 ≡ not (eqb (s .ticket) (s .grant)) = ap (λ v. eqb v 1) (D .kind-told) ∙ ap (λ (p : Place). eqb (kind-number (row t i p s .kind)) 1) z ∙ draw-kind t i s in
+        let a : eqb (said .kind) 1 ≡ not (eqb (s .ticket) (s .grant)) = ap (λ v. eqb v 1) (D .kind-told) ∙ ap (λ (p : Place). eqb (kind-number (row t i p s .kind)) 1) z ∙ draw-kind t i s in
         let c : started ≡ cond (not (eqb (s .ticket) (s .grant))) 0 (taken-in (w .domains) (w .parents) h 0) = rw (y, a) in
         finish (λ x. absurd (omega (arith, ap (λ (v : PlaceWords). v .row) y))) (λ x. absurd (omega (arith, ap (λ (v : PlaceWords). v .row) y)))
         (rw (c, z, given-draw t i s) (own-started t 𝓐 (w .domains) (w .parents) same-parents (eqb (s .ticket) (s .grant)) i 0 h b (on-path-root t 𝓐 i b) home))
@@ -258,8 +253,8 @@ module _ (w : TreeWords) (ok : tree-refusal (tree-of w) .number ≡ 0) (i : ℕ)
         let n = eqb-false l 0 (not-true (eqb l 0) (and-both (on-path t i l) (not (eqb l 0)) g .1)) in
         let both = C .check (ap (λ (v : PlaceWords). v .row) y) in
         let nothing : given-from t i (place s i) s ≡ [] = ap (λ (p : Place). given-from t i p s) z ∙ given-check t i l s in
-        let there : place (step t i s .state) i ≡ place-of (e .place) = ap place-of after in
-        (both .0 ∙ check-added t i l s z n nothing (e .place) there ts, both .1 ∙ ap (λ d. raised-at ls (cond (eqb (e .place .row) 10) d 0) (e .place .word)) (ap (λ (v : PlaceWords). v .domain) y) ∙ check-raised t i l s z n nothing (e .place) there ls)
+        let there : place (step t i s .state) i ≡ place-of (said .place) = ap place-of after in
+        (both .0 ∙ check-added t i l s z n nothing (said .place) there ts, both .1 ∙ ap (λ d. raised-at ls (cond (eqb (said .place .row) 10) d 0) (said .place .word)) (ap (λ (v : PlaceWords). v .domain) y) ∙ check-raised t i l s z n nothing (said .place) there ls)
 
     from-raise : place s i ≡ Raise → ((d : ℕ) → d < 64 → d ≢ 0 → getD shown d false ≡ eqb (status s (256 + d)) (wrap (s .grant + 1)) && is-watched t s (256 + d)) → Both
     from-raise z m =
@@ -305,69 +300,11 @@ module _ (w : TreeWords) (ok : tree-refusal (tree-of w) .number ≡ 0) (i : ℕ)
     tenures-counted k = by-place (place s i) refl good (λ z. marks (k z))
 
     pub step-counted :
-        (es es′ : List ℕ) → Entered (parent-in (w .domains) (w .parents)) (e .kind) h es es′ →
+        (es es′ : List ℕ) → Entered (parent-in (w .domains) (w .parents)) (said .kind) h es es′ →
         (place s i ≡ Raise → Marked (w .domains) (w .parents) (w .homes) (s .statuses) (s .places) (wrap (s .grant + 1)) (w .threads) shown) →
         counters-in es′ ts′ ls′ ≡ counters-after t (counters-in es ts ls) (step t i s ∷ [])
     unfolding counters-after tree-of step
     step-counted es es′ g k =
         let both = tenures-counted k in
-        let g′ : Entered (t .parent) (e .kind) (t .home i) es es′ = rw home at g in
-        rw (both .0, both .1, entries-counted t 𝓐 i b s (e .kind) es es′ (D .kind-told) g′)
-
--- A STAY counts nothing
-abbrev Moves : Row-result → Type 0
-Moves r = kind-number (r .kind) ≡ 0 → ⊥
-
-either : (b : Bool) (x y : Row-result) → Moves x → Moves y → Moves (cond b x y)
-either b x y p q = by-test Moves b x y (λ e. p) (λ e. q)
-
-draw-moves : (t : Tree) (i : ℕ) (s : State) → Moves (draw-row t i s)
-unfolding draw-row
-draw-moves t i s = either (eqb (s .ticket) (s .grant)) _ _ (λ z. absurd (omega arith)) (λ z. absurd (omega arith))
-
-swap-moves : (t : Tree) (i l : ℕ) (s : State) → Moves (swap-row t i l s)
-unfolding swap-row
-swap-moves t i l s = either (eqb (tail s l) none) _ _ (either (eqb l 0) _ _ (λ z. absurd (omega arith)) (λ z. absurd (omega arith))) (λ z. absurd (omega arith))
-
-prep-moves : (t : Tree) (i l : ℕ) (s : State) → Moves (prep-row t i l s)
-unfolding prep-row
-prep-moves t i l s z = absurd (omega arith)
-
-check-moves : (t : Tree) (i l : ℕ) (s : State) → Moves (check-row t i l s)
-unfolding check-row
-check-moves t i l s = either (ltb (status s (own-record t i l)) (t .threshold l) && not (eqb (next s (own-record t i l)) none)) _ _ (λ z. absurd (omega arith)) (λ z. absurd (omega arith))
-
-help-moves : (t : Tree) (i l : ℕ) (s : State) → Moves (help-row t i l s)
-unfolding help-row
-help-moves t i l s = either (eqb (next s (own-record t i l)) none) _ _ (λ z. absurd (omega arith)) (λ z. absurd (omega arith))
-
-cas-moves : (t : Tree) (i l : ℕ) (s : State) → Moves (cas-row t i l s)
-unfolding cas-row
-cas-moves t i l s = either (eqb (tail s l) (own-record t i l + 1)) _ _ (λ z. absurd (omega arith)) (λ z. absurd (omega arith))
-
-stay-gives : (t : Tree) (i : ℕ) (p : Place) (s : State) → kind-number (row t i p s .kind) ≡ 0 → (given-from t i p s ≡ []) × ((d : ℕ) → checks-at d p ≡ false)
-unfolding row checks-at link-row leave-row grant-row raise-row
-stay-gives t i Idle s z = absurd (either (is-ticket t (t .home i)) (draw-row t i s) (prep-row t i (t .home i) s) (draw-moves t i s) (prep-moves t i (t .home i) s) z)
-stay-gives t i (Prep l) s z = absurd (prep-moves t i l s z)
-stay-gives t i (Swap l) s z = absurd (swap-moves t i l s z)
-stay-gives t i (Link l p) s z = absurd (omega arith)
-stay-gives t i (Wait l) s z = (given-wait t i l s, λ d. refl)
-stay-gives t i Inside s z = absurd (omega arith)
-stay-gives t i (Check l) s z = absurd (check-moves t i l s z)
-stay-gives t i (Help l) s z = absurd (help-moves t i l s z)
-stay-gives t i (Cas l) s z = absurd (cas-moves t i l s z)
-stay-gives t i (Linger l) s z = (given-linger t i l s, λ d. refl)
-stay-gives t i (Grant l r v) s z = absurd (omega arith)
-stay-gives t i Draw s z = absurd (draw-moves t i s z)
-stay-gives t i Watch s z = (given-watch t i s, λ d. refl)
-stay-gives t i Raise s z = absurd (omega arith)
-stay-gives t i Invalid s z = (given-invalid t i s, λ d. refl)
-
-pub stay-counted :
-    (t : Tree) → tree-refusal t .number ≡ 0 → (i : ℕ) → i < t .threads → (s : State) → kind-number (row t i (place s i) s .kind) ≡ 0 → (c : Counters) →
-    c ≡ counters-after t c (step t i s ∷ [])
-unfolding counters-after step
-stay-counted t ok i b s z c =
-    let g = stay-gives t i (place s i) s z in
-    let entered : Entered (t .parent) 0 (t .home i) (c .entries) (c .entries) = record { entry = λ y. absurd (false≢true y); other = λ y. refl } in
-    rw (← entries-counted t (accepted t ok) i b s 0 (c .entries) (c .entries) (sym z) entered, ← start-added t i s 0 (nobody (g .0) refl) (g .1) (c .tenures), ← start-raised t i s 0 (nobody (g .0) refl) (g .1) (c .longest))
+        let g′ : Entered (t .parent) (said .kind) (t .home i) es es′ = rw home at g in
+        rw (both .0, both .1, entries-counted t 𝓐 i b s (said .kind) es es′ (D .kind-told) g′)

@@ -20,8 +20,8 @@ use Rattle.model.proofs.Laws.Facts.{well-formed-facts}
 use Rattle.model.proofs.Laws.Form.{valid}
 use Rattle.model.proofs.Laws.Runs.{steps-length}
 use Rattle.model.proofs.Places.{words-of-place}
-use Rattle.steps.specs.declared.rows.Effect.{Effect}
-use Rattle.steps.specs.Effects.{Does}
+use Rattle.steps.specs.declared.rows.Moved.{Moved}
+use Rattle.steps.specs.Rows.{Done}
 use Rattle.steps.specs.Running.{code-of, step-code, told-at, told-front}
 use Rattle.steps.proofs.SoFar.{next-step, thread-at}
 
@@ -64,17 +64,17 @@ module _ (t : Tree) (is : List ℕ) (s₀ : State) (b₀ : List ℕ) where
 
   -- one turn of the loop: the step's number is that of its kind and of the words of its place
   pub told-turn :
-      (b : List ℕ) (s : State) (k : ℕ) (e : Effect) (b′ : List ℕ) → All-threads t is → k < length is → Formed t s → s ≡ state-after s₀ (steps t (take k is) s₀) →
-      Does (row t (getD is k 0) (place s (getD is k 0)) s) (getD is k 0) e s → Told b k →
-      (let q = getD (s .places) (getD is k 0) (place-words 0 0 0 0) in b′ ≡ told-at b k (code-of (e .kind) (q .row) (q .domain))) → Told b′ (k + 1)
+      (b : List ℕ) (s : State) (k : ℕ) (m : Moved) (left : State) (b′ : List ℕ) → All-threads t is → k < length is → Formed t s → s ≡ state-after s₀ (steps t (take k is) s₀) →
+      Done (row t (getD is k 0) (place s (getD is k 0)) s) (getD is k 0) m left → Told b k →
+      (let q = getD (s .places) (getD is k 0) (place-words 0 0 0 0) in b′ ≡ told-at b k (code-of (m .kind) (q .row) (q .domain))) → Told b′ (k + 1)
   unfolding step step-code
-  told-turn b s k e b′ all h f st D g eb =
+  told-turn b s k m left b′ all h f st D g eb =
       let i = getD is k 0 in
       let q = getD (s .places) i (place-words 0 0 0 0) in
       let x = step t i s in
       let xs = steps t (take k is) s₀ in
       let words : words-of (place-of q) ≡ q = words-of-place q (valid t i (place s i) (well-formed-facts t s f .places i .used (thread-at t is all k h))) in
-      let code : code-of (e .kind) (q .row) (q .domain) ≡ step-code x = ap (λ v. code-of v (q .row) (q .domain)) (D .kind-told) ∙ ap (λ (w : PlaceWords). code-of (kind-number (x .kind)) (w .row) (w .domain)) (sym words) in
+      let code : code-of (m .kind) (q .row) (q .domain) ≡ step-code x = ap (λ v. code-of v (q .row) (q .domain)) (D .kind-told) ∙ ap (λ (w : PlaceWords). code-of (kind-number (x .kind)) (w .row) (w .domain)) (sym words) in
       let long : k ≡ length xs = sym (steps-length t (take k is) s₀ ∙ length-take-le k is (omega arith)) in
       let joined : steps t (take (k + 1) is) s₀ ≡ xs ++ (x ∷ []) = next-step t is [] s₀ k h ∙ ap (λ v. xs ++ (step t i v ∷ [])) (sym st) in
       record {

@@ -18,12 +18,12 @@ use Rattle.model.specs.Steps.{kind-number, Step, step}
 use Rattle.model.specs.WellFormed.{good-tail, good-next, good-status, good-place, good-watch, good-thread, good-counters, well-formed}
 use Rattle.model.proofs.Laws.Form.{valid}
 use Rattle.model.proofs.Tests.{and-both, all-each}
-use Rattle.steps.specs.Effects.{row-domain}
+use Rattle.steps.specs.Rows.{row-domain}
 use Rattle.steps.specs.Running.{step-code}
 use Rattle.steps.proofs.SoFar.{kind-small}
 
 -- the domain of a place by the row and the domain of its words
-place-by-row : (h : ℕ) (p : Place) → p ≢ Invalid → row-domain h (words-of p .row) (words-of p .domain) ≡ place-domain h p
+pub place-by-row : (h : ℕ) (p : Place) → p ≢ Invalid → row-domain h (words-of p .row) (words-of p .domain) ≡ place-domain h p
 place-by-row h Idle n = refl
 place-by-row h (Prep l) n = refl
 place-by-row h (Swap l) n = refl

@@ -1,10 +1,9 @@
 -- What each turn of the run's loop needs. Assumes nothing.
-use mathlib.Core.Path.{_≡_}
 use mathlib.Core.List.{List}
 use Prim.Native.Nat.{ℕ, _<_}
 use native.Mathlib.Omega.{arith}
 use native.Mathlib.Nat.{mod-lt}
-use lib.ListN.{getD, length, set}
+use lib.ListN.{getD, length}
 use Rattle.model.specs.declared.TreeWords.{TreeWords}
 use Rattle.model.specs.declared.State.{State}
 use Rattle.model.specs.declared.LockState.{LockState}
@@ -13,8 +12,6 @@ use Rattle.model.specs.Trees.{Tree, tree-of, read-word}
 use Rattle.model.specs.Laws.{Sixteen-bit, Formed}
 use Rattle.model.proofs.Laws.Facts.{well-formed-facts}
 use Rattle.model.proofs.Laws.Calls.{Good-run}
-use Rattle.steps.specs.declared.rows.Effect.{Effect}
-use Rattle.steps.specs.Effects.{stored, counter-stored, apply, state-in}
 use Rattle.steps.specs.Running.{Ready}
 use Rattle.steps.proofs.SoFar.{thread-at, below}
 
@@ -30,10 +27,3 @@ pub ready : (t : Tree) (s₀ : LockState) (s : State) (is : List ℕ) (room k : 
 ready t s₀ s is room k R f h =
     let i = thread-at t is (R .threads) k h in
     record { tree = R .tree; thread = i; place = well-formed-facts t s f .places (getD is k 0) .used i }
-
--- three stores and a place are an effect
-pub all-stored :
-    (i : ℕ) (e : Effect) (s : State) (ts ns vs : List ℕ) (v g : ℕ) → ts ≡ stored 64 (s .tails) (e .domain) (e .tail) →
-    ns ≡ stored 320 (s .nexts) (e .linked) (e .next) → vs ≡ stored 320 (s .statuses) (e .marked) (e .status) →
-    v ≡ counter-stored (s .ticket) (e .ticket) → g ≡ counter-stored (s .grant) (e .grant) → state-in ts ns vs v g (set (s .places) i (e .place)) ≡ apply i e s
-all-stored i e s ts ns vs v g a b c d f = rw (a, b, c, d, f)

@@ -50,6 +50,11 @@ pub data Climbed (parent : ℕ → ℕ) : (from : ℕ) → (before after : List 
   at-root : (vs : List ℕ) → Climbed parent 0 vs vs
   one-up : (c : ℕ) (vs ws : List ℕ) → c ≢ 0 → Climbed parent (parent c) (set vs c (getD vs c 0 + 1)) ws → Climbed parent c vs ws
 
+-- one tenure more of a domain, of length 1; of 0 none
+pub record Started (domain : ℕ) (tenures tenures-left longest longest-left : List ℕ) : Type 0 where
+  pub added : tenures-left ≡ added-at tenures domain
+  pub raised : longest-left ≡ raised-at longest domain 1
+
 -- an entry counts from the home up, any other step nothing
 pub record Entered (parent : ℕ → ℕ) (kind home : ℕ) (before after : List ℕ) : Type 0 where
   pub entry : is-entry-number kind ≡ true → Climbed parent home before after
@@ -87,15 +92,31 @@ pub record Counted-step (domains : ℕ) (parents : List ℕ) (home : ℕ) (befor
       before .row ≢ 13 → before .row ≢ 6 →
       (tenures-left ≡ added-at tenures (started-in domains parents home before (after .row) kind)) × (longest-left ≡ raised-at longest (started-in domains parents home before (after .row) kind) 1)
 
--- what a step leaves of the marks: a raise none, any other step those that there were
-pub record Shown-left (before : PlaceWords) (shown left : List Bool) : Type 0 where
-  pub raise : before .row ≡ 13 → left ≡ replicate 64 false
-  pub other : before .row ≢ 13 → left ≡ shown
-
 -- no domain is marked
 pub record Clear (shown : List Bool) : Type 0 where
   pub room : length shown ≡ 64
   pub none : (d : ℕ) → d < 64 → getD shown d false ≡ false
+
+-- what a step leaves of the marks: a raise none, any other step those that there were
+pub record Shown-left (before : PlaceWords) (shown left : List Bool) : Type 0 where
+  pub raise : before .row ≡ 13 → Clear left
+  pub other : before .row ≢ 13 → left ≡ shown
+
+-- an answer that is false only where no record of so many domains holds a ticket
+pub record Holding (statuses : List ℕ) (domains ticket : ℕ) (answer : Bool) : Type 0 where
+  pub none-holds : answer ≡ false → (d : ℕ) → d < domains → getD statuses (256 + d) 0 ≢ ticket
+
+-- how many threads a step looks at that shows a ticket: a raise all, or none where no record of a domain holds it; any other step none
+pub record Looked (row : ℕ) (statuses : List ℕ) (domains ticket threads looked : ℕ) : Type 0 where
+  pub other : row ≢ 13 → looked ≡ 0
+  pub all : row ≡ 13 → looked ≢ 0 → looked ≡ threads
+  pub nobody : row ≡ 13 → looked ≢ threads → (d : ℕ) → d < domains → getD statuses (256 + d) 0 ≢ ticket
+
+-- marks by threads that were looked at: none where there were none, and none beyond the tree's domains
+pub record Shown-for (looked domains : ℕ) (shown : List Bool) : Type 0 where
+  pub room : length shown ≡ 64
+  pub nobody : looked ≡ 0 → (d : ℕ) → d < 64 → getD shown d false ≡ false
+  pub beyond : (d : ℕ) → domains ≤ d → d < 64 → getD shown d false ≡ false
 
 -- an answer that is true only where 65,536 more leave every counter at most 2^63
 pub record Room-told (entries tenures : List ℕ) (answer : Bool) : Type 0 where

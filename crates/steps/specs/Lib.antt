@@ -1,4 +1,4 @@
 -- What the functions behind the calls say of the words that they read and store.
-pub mod Effects
+pub mod Rows
 pub mod Running
 pub mod Counting

@@ -1,4 +1,4 @@
--- A run by its effects: what is decided, stored, counted and traced. Assumes nothing: these are definitions.
+-- A run by its steps: what is done, counted and traced. Assumes nothing: these are definitions.
 use mathlib.Core.Path.{_≡_}
 use mathlib.Core.Bool.{Bool, true, _||_, not, cond}
 use mathlib.Core.List.{List, [], _∷_, _++_}
@@ -15,8 +15,8 @@ use Rattle.model.specs.declared.Counts.{Counts}
 use Rattle.model.specs.Steps.{stay, other, root-entry, passed-entry, crossed-entry, leaving, kind-number, is-kind, Step, row, step}
 use Rattle.model.specs.Runs.{how-many, Run}
 use Rattle.model.specs.WellFormed.{good-place}
-use Rattle.steps.specs.declared.rows.Effect.{Effect}
-use Rattle.steps.specs.Effects.{Does, state-in}
+use Rattle.steps.specs.declared.rows.Moved.{Moved}
+use Rattle.steps.specs.Rows.{Done, state-in}
 
 -- an accepted tree, a thread of it, and a good place of that thread
 pub record Ready (t : Tree) (i : ℕ) (q : PlaceWords) : Type 0 where
@@ -24,9 +24,9 @@ pub record Ready (t : Tree) (i : ℕ) (q : PlaceWords) : Type 0 where
   pub thread : i < t .threads
   pub place : good-place t i (place-of q) ≡ true
 
--- the effect of the row of a place, whatever the places of the other threads are
-pub record Decided (t : Tree) (i : ℕ) (q : PlaceWords) (tails nexts statuses : List ℕ) (ticket grant : ℕ) (e : Effect) : Type 0 where
-  pub does : (ps : List PlaceWords) → getD ps i (place-words 0 0 0 0) ≡ q → Does (row t i (place-of q) (state-in tails nexts statuses ticket grant ps)) i e (state-in tails nexts statuses ticket grant ps)
+-- the row of a place is done, whatever the places of the other threads are
+pub record Taken (t : Tree) (i : ℕ) (q : PlaceWords) (tails tails-left nexts nexts-left statuses statuses-left : List ℕ) (ticket ticket-left grant grant-left : ℕ) (m : Moved) : Type 0 where
+  pub does : (ps : List PlaceWords) → getD ps i (place-words 0 0 0 0) ≡ q → Done (row t i (place-of q) (state-in tails nexts statuses ticket grant ps)) i m (state-in tails-left nexts-left statuses-left ticket-left grant-left ps)
 
 -- how many of some steps are of each kind, in the order of the kinds' numbers
 unfoldable pub kinds-of : List Step → List ℕ

@@ -6,9 +6,11 @@ ghost use Rattle.steps.specs.Running.{fresh-from};
 
 mod counting;
 pub mod limits;
+mod members;
 mod places;
 mod rows;
 pub mod run;
+mod taking;
 
 use model::Counts;
 use model::LockState;

@@ -2,8 +2,8 @@
 ghost use mathlib.Core.Path.{_≡_};
 ghost use mathlib.Core.Logic.{_≢_};
 ghost use Rattle.model.specs.declared.Place.the-variants.{Invalid};
-ghost use Rattle.model.specs.Places.{place-words, words-of, place-of, place-domain};
-ghost use Rattle.steps.specs.Effects.{acquire-at, release-at, done-at};
+ghost use Rattle.model.specs.Places.{place-words, words-of, place-of};
+ghost use Rattle.steps.specs.Rows.{acquire-at, release-at, done-at, row-domain};
 use model::Place;
 use model::PlaceWords;
 
@@ -104,27 +104,17 @@ pub(crate) fn done_place_at(home: u8, l: u8, child: u8) -> Place
     }
 }
 
-// The domain of a place; Idle and Inside are at home.
-pub(crate) fn domain_at(home: u8, p: Place) -> u8
-    ensures { λ r. ⌜ r ≡ place-domain home p ⌝ }
+// The domain of a place by its row and the domain that it names; Idle and Inside are at home.
+pub(crate) fn domain_by_row(home: u8, row: u8, l: u8) -> u8
+    ensures { λ r. ⌜ r ≡ row-domain home row l ⌝ }
 {
-    match p {
-        Place::Idle => home,
-        Place::Prep(l) => l,
-        Place::Swap(l) => l,
-        Place::Link(l, _) => l,
-        Place::Wait(l) => l,
-        Place::Inside => home,
-        Place::Check(l) => l,
-        Place::Help(l) => l,
-        Place::Cas(l) => l,
-        Place::Linger(l) => l,
-        Place::Grant(l, _, _) => l,
-        Place::Draw => 0,
-        Place::Watch => 0,
-        Place::Raise => 0,
-        Place::Invalid => home,
+    if row == 0 {
+        return home;
     }
+    if row == 5 {
+        return home;
+    }
+    l
 }
 
 pub(crate) fn wide(x: u8) -> u32

@@ -1,100 +1,39 @@
-// What a row of the step table does, decided from the words that it reads.
+// What a row of the step table stores and what it says of its step: it writes into the arrays that the run lends, and counts what it starts.
 ghost use mathlib.Core.Path.{_≡_};
-ghost use Prim.Native.Nat.{_+_, _<_, _≤_};
-ghost use Rattle.model.specs.States.{root-word, wrap};
+ghost use mathlib.Core.Bool.{false, cond};
+ghost use mathlib.Core.Logic.{_≢_};
+ghost use lib.Dec.{eqb};
+ghost use lib.ListN.{getD};
+ghost use Prim.Native.Nat.{_+_, _%_, _<_, _≤_};
+ghost use Rattle.model.specs.States.{root-word, wrap, next, status, with-ticket, with-grant};
 ghost use Rattle.model.specs.Places.{words-of};
-ghost use Rattle.model.specs.Search.{search-from};
-ghost use Rattle.model.specs.Refusals.{tree-refusal};
 ghost use Rattle.model.specs.Steps.{prep-row, swap-row, link-row, wait-row, leave-row, check-row, help-row, cas-row, linger-row, grant-row, draw-row, watch-row, raise-row};
-ghost use Rattle.refusals.specs.Arrays.{parents-in, Lower};
-ghost use Rattle.steps.specs.Effects.{moved, Effect-of, Inner-effect-of, Within, start-row, tree-at, Read};
-ghost use Rattle.steps.specs.Running.{Ready, Decided};
+ghost use Rattle.refusals.specs.Arrays.{Lower};
+ghost use Rattle.steps.specs.Counting.{parent-in, Room-above, record-domain-in, raised-at, Entered, Started};
+ghost use Rattle.steps.specs.Running.{is-entry-number};
+ghost use Rattle.steps.specs.Rows.{moved, Row-done, with-tails, with-nexts, with-statuses, Stands, Within, start-row, place-at, Above, Root-is, Check-reads};
+use crate::counting;
+use crate::members::Member;
 use crate::places;
-use model::Found;
 use model::Place;
 use model::PlaceWords;
 
-// What a row reads: of its thread, of its domain, of the thread's record there and of the domain's child on the thread's path, and of a ticket lock at the root.
-pub(crate) struct Words {
-    pub home: u8,
-    pub domain: u8,
-    pub child: u8,
-    pub own: u16,
-    pub parent: u8,
-    pub threshold: u16,
-    pub tail: u16,
-    pub next: u16,
-    pub status: u64,
-    pub place: PlaceWords,
-    pub ticket_root: u32,
-    pub ticket: u16,
-    pub grant: u16,
-}
-
-// What a row does: its kind, the thread's place, the tail of a domain, the next of a record, the status of a record and the two counters. An index beyond the array, or a number beyond a counter, is no store.
-pub(crate) struct Effect {
+// What a row says of its step: its kind, and the thread's place after it.
+pub(crate) struct Moved {
     pub kind: u8,
-    pub domain: u8,
-    pub tail: u16,
-    pub linked: u16,
-    pub next: u16,
-    pub marked: u16,
-    pub status: u64,
-    pub ticket: u32,
-    pub grant: u32,
     pub place: PlaceWords,
 }
 
-// The search for the child of a domain on the path from a home up, level by level: it leaves as soon as it has the child, and says how many domains it looked at.
-pub(crate) fn search_at(parents: &[u8; 64], domains: u32, home: u8, l: u8) -> Found
-    requires { ⌜ domains ≤ 64 ⌝ }
-    requires { ⌜ Lower domains (now parents) ⌝ }
-    requires { ⌜ home < domains ⌝ }
-    ensures { λ r. ⌜ r ≡ search-from 6 (parents-in domains (now (parents .entry))) l home 0 ⌝ }
-    ensures { λ r. ⌜ r .child < 64 ⌝ }
-{
-    let mut c = home;
-    let mut looked: u32 = 0;
-    let child = loop {
-        if looked == 6 {
-            break c;
-        }
-        looked += 1;
-        if c == 0 {
-            break c;
-        }
-        let at = c as usize;
-        let p = parents[at];
-        if p == l {
-            break c;
-        }
-        c = p;
-    };
-    Found { child, looked }
-}
-
-fn effect_at(kind: u8, place: PlaceWords) -> Effect
+pub(crate) fn at_place(kind: u8, place: PlaceWords) -> Moved
     ensures { λ r. ⌜ r ≡ moved kind place ⌝ }
 {
-    Effect {
-        kind,
-        domain: 64,
-        tail: 0,
-        linked: 320,
-        next: 0,
-        marked: 320,
-        status: 0,
-        ticket: 65536,
-        grant: 65536,
-        place,
-    }
+    Moved { kind, place }
 }
 
-// Another place, and no store.
-fn moves(kind: u8, p: Place) -> Effect
+fn moves(kind: u8, p: Place) -> Moved
     ensures { λ r. ⌜ r ≡ moved kind (words-of p) ⌝ }
 {
-    effect_at(kind, places::words_at(p))
+    at_place(kind, places::words_at(p))
 }
 
 // A word of the root's, or another.
@@ -104,135 +43,161 @@ fn root_word_at(l: u8, at_root: u64, elsewhere: u64) -> u64
     if l == 0 { at_root } else { elsewhere }
 }
 
-fn prep(w: Words) -> Effect
+pub(crate) fn prep(w: Member, nexts: &mut [u16; 320], statuses: &mut [u64; 320]) -> Moved
     requires { ⌜ Within w ⌝ }
-    ensures { λ r. ⌜ Effect-of w (λ t i s. prep-row t i (w .domain) s) r ⌝ }
+    ensures { λ r. ⌜ Row-done (λ t i s. Stands t i w) (λ t i s. prep-row t i (w .domain) s) r (λ s. with-nexts (now (nexts .entry)) (with-statuses (now (statuses .entry)) s)) (λ s. with-nexts (now (nexts .exit)) (with-statuses (now (statuses .exit)) s)) ⌝ }
+    ensures { λ r. ⌜ is-entry-number (r .kind) ≡ false ⌝ }
 {
     let l = w.domain;
-    let v = root_word_at(l, model::LOCKED, model::WAIT);
-    let mut e = moves(model::OTHER_MOVE, Place::Swap(l));
-    e.linked = w.own;
-    e.marked = w.own;
-    e.status = v;
-    e
+    let r = w.own as usize;
+    nexts[r] = 0;
+    statuses[r] = root_word_at(l, model::LOCKED, model::WAIT);
+    moves(model::OTHER_MOVE, Place::Swap(l))
 }
 
-fn swap(w: Words) -> Effect
-    requires { ⌜ Within w ⌝ }
-    ensures { λ r. ⌜ Effect-of w (λ t i s. swap-row t i (w .domain) s) r ⌝ }
+pub(crate) fn swap(
+    parents: &[u8; 64],
+    domains: u32,
+    ticket_root: u32,
+    w: Member,
+    tails: &mut [u16; 64],
+    statuses: &mut [u64; 320],
+    entries: &mut [u64; 64],
+    tenures: &mut [u64; 64],
+    longest: &mut [u64; 64],
+) -> Moved
+    requires { ⌜ domains ≤ 64 ⌝ }
+    requires { ⌜ Lower domains (now parents) ⌝ }
+    requires { ⌜ (w .home < domains) × Within w ⌝ }
+    requires { ⌜ Room-above (now entries) × Room-above (now tenures) ⌝ }
+    ensures { λ r. ⌜ Row-done (λ t i s. Stands t i w × Above t «ticket_root» (w .domain) (getD (now (parents .entry)) (w .domain) 0)) (λ t i s. swap-row t i (w .domain) s) r (λ s. with-tails (now (tails .entry)) (with-statuses (now (statuses .entry)) s)) (λ s. with-tails (now (tails .exit)) (with-statuses (now (statuses .exit)) s)) ⌝ }
+    ensures { λ r. ⌜ Entered (parent-in domains (now (parents .entry))) (r .kind) (w .home) (now (entries .entry)) (now (entries .exit)) ⌝ }
+    ensures { λ r. ⌜ Started (cond (eqb (r .place .row) 3) 0 (record-domain-in (w .own))) (now (tenures .entry)) (now (tenures .exit)) (now (longest .entry)) (now (longest .exit)) ⌝ }
 {
     let l = w.domain;
-    let old = w.tail;
     let own = w.own;
+    let d = l as usize;
+    let r = own as usize;
+    let old = tails[d];
+    tails[d] = own + 1;
     if old != 0 {
-        let mut e = moves(model::OTHER_MOVE, Place::Link(l, old - 1));
-        e.domain = l;
-        e.tail = own + 1;
-        return e;
+        return moves(model::OTHER_MOVE, Place::Link(l, old - 1));
     }
+    counting::count_given(own, tenures, longest);
     if l == 0 {
-        let mut e = moves(model::ROOT_ENTRY, Place::Inside);
-        e.domain = l;
-        e.tail = own + 1;
-        e.marked = own;
-        e.status = model::UNLOCKED;
-        return e;
+        statuses[r] = model::UNLOCKED;
+        counting::count_entry(parents, domains, w.home, entries);
+        return moves(model::ROOT_ENTRY, Place::Inside);
     }
-    let p = w.parent;
-    let mut e = moves(
+    statuses[r] = model::COHORT_START;
+    let parent = parents[d];
+    moves(
         model::OTHER_MOVE,
-        places::acquire_place_at(w.ticket_root, p),
-    );
-    e.domain = l;
-    e.tail = own + 1;
-    e.marked = own;
-    e.status = model::COHORT_START;
-    e
+        places::acquire_place_at(ticket_root, parent),
+    )
 }
 
-fn link(w: Words, before: u16) -> Effect
+pub(crate) fn link(w: Member, before: u16, nexts: &mut [u16; 320]) -> Moved
     requires { ⌜ Within w ⌝ }
     requires { ⌜ before < 320 ⌝ }
-    ensures { λ r. ⌜ Effect-of w (λ t i s. link-row t i (w .domain) before s) r ⌝ }
+    ensures { λ r. ⌜ Row-done (λ t i s. Stands t i w) (λ t i s. link-row t i (w .domain) before s) r (λ s. with-nexts (now (nexts .entry)) s) (λ s. with-nexts (now (nexts .exit)) s) ⌝ }
+    ensures { λ r. ⌜ is-entry-number (r .kind) ≡ false ⌝ }
 {
-    let l = w.domain;
-    let own = w.own;
-    let mut e = moves(model::OTHER_MOVE, Place::Wait(l));
-    e.linked = before;
-    e.next = own + 1;
-    e
+    let r = before as usize;
+    nexts[r] = w.own + 1;
+    moves(model::OTHER_MOVE, Place::Wait(w.domain))
 }
 
-fn wait(w: Words) -> Effect
-    requires { ⌜ Within w ⌝ }
-    ensures { λ r. ⌜ Effect-of w (λ t i s. wait-row t i (w .domain) s) r ⌝ }
+pub(crate) fn wait(
+    parents: &[u8; 64],
+    domains: u32,
+    ticket_root: u32,
+    w: Member,
+    place: PlaceWords,
+    statuses: &mut [u64; 320],
+    entries: &mut [u64; 64],
+) -> Moved
+    requires { ⌜ domains ≤ 64 ⌝ }
+    requires { ⌜ Lower domains (now parents) ⌝ }
+    requires { ⌜ (w .home < domains) × Within w ⌝ }
+    requires { ⌜ Room-above (now entries) ⌝ }
+    ensures { λ r. ⌜ Row-done (λ t i s. Stands t i w × (Above t «ticket_root» (w .domain) (getD (now (parents .entry)) (w .domain) 0) × place ≡ place-at s i)) (λ t i s. wait-row t i (w .domain) s) r (λ s. with-statuses (now (statuses .entry)) s) (λ s. with-statuses (now (statuses .exit)) s) ⌝ }
+    ensures { λ r. ⌜ Entered (parent-in domains (now (parents .entry))) (r .kind) (w .home) (now (entries .entry)) (now (entries .exit)) ⌝ }
 {
     let l = w.domain;
-    let v = w.status;
-    let place = w.place;
+    let r = w.own as usize;
+    let v = statuses[r];
     if l == 0 {
         if v == model::LOCKED {
-            return effect_at(model::STAY, place);
+            return at_place(model::STAY, place);
         }
+        counting::count_entry(parents, domains, w.home, entries);
         return moves(model::ROOT_ENTRY, Place::Inside);
     }
     if v == model::WAIT {
-        return effect_at(model::STAY, place);
+        return at_place(model::STAY, place);
     }
     if v == model::ACQUIRE_PARENT {
-        let p = w.parent;
-        let mut e = moves(
+        statuses[r] = model::COHORT_START;
+        let d = l as usize;
+        let parent = parents[d];
+        return moves(
             model::OTHER_MOVE,
-            places::acquire_place_at(w.ticket_root, p),
+            places::acquire_place_at(ticket_root, parent),
         );
-        e.marked = w.own;
-        e.status = model::COHORT_START;
-        return e;
     }
+    counting::count_entry(parents, domains, w.home, entries);
     if l == w.home {
         return moves(model::PASSED_ENTRY, Place::Inside);
     }
     moves(model::CROSSED_ENTRY, Place::Inside)
 }
 
-fn leave(w: Words) -> Effect
-    ensures { λ r. ⌜ Effect-of w (λ t i s. leave-row t i s) r ⌝ }
+pub(crate) fn leave(ticket_root: u32, home: u8) -> Moved
+    ensures { λ r. ⌜ Row-done (λ t i s. (home ≡ t .home i) × Root-is t «ticket_root») leave-row r (λ s. s) (λ s. s) ⌝ }
+    ensures { λ r. ⌜ is-entry-number (r .kind) ≡ false ⌝ }
 {
-    let home = w.home;
-    moves(
-        model::LEAVING,
-        places::release_place_at(w.ticket_root, home),
-    )
+    moves(model::LEAVING, places::release_place_at(ticket_root, home))
 }
 
-fn check(w: Words) -> Effect
-    ensures { λ r. ⌜ Inner-effect-of w (λ t i s. check-row t i (w .domain) s) r ⌝ }
+// Never at the root. A Check that will grant tells the word as the length of the domain's tenure.
+pub(crate) fn check(
+    ticket_root: u32,
+    w: Member,
+    parent: u8,
+    threshold: u16,
+    n: u16,
+    v: u64,
+    longest: &mut [u64; 64],
+) -> Moved
+    requires { ⌜ Within w ⌝ }
+    ensures { λ r. ⌜ Row-done (λ t i s. Check-reads t i s w «ticket_root» parent threshold n v) (λ t i s. check-row t i (w .domain) s) r (λ s. s) (λ s. s) ⌝ }
+    ensures { λ r. ⌜ is-entry-number (r .kind) ≡ false ⌝ }
+    ensures { λ r. ⌜ now (longest .exit) ≡ raised-at (now (longest .entry)) (cond (eqb (r .place .row) 10) (w .domain) 0) (r .place .word) ⌝ }
 {
     let l = w.domain;
-    let v = w.status;
-    let n = w.next;
-    let parent = w.parent;
-    let h = w.threshold as u64;
+    let h = threshold as u64;
     if h <= v {
         return moves(
             model::OTHER_MOVE,
-            places::release_place_at(w.ticket_root, parent),
+            places::release_place_at(ticket_root, parent),
         );
     }
     if n == 0 {
         return moves(
             model::OTHER_MOVE,
-            places::release_place_at(w.ticket_root, parent),
+            places::release_place_at(ticket_root, parent),
         );
     }
+    counting::count_length(longest, l, v + 1);
     moves(model::OTHER_MOVE, Place::Grant(l, n - 1, v + 1))
 }
 
-fn help(w: Words) -> Effect
-    ensures { λ r. ⌜ Effect-of w (λ t i s. help-row t i (w .domain) s) r ⌝ }
+pub(crate) fn help(w: Member, n: u16) -> Moved
+    ensures { λ r. ⌜ Row-done (λ t i s. Stands t i w × (n ≡ next s (w .own))) (λ t i s. help-row t i (w .domain) s) r (λ s. s) (λ s. s) ⌝ }
+    ensures { λ r. ⌜ is-entry-number (r .kind) ≡ false ⌝ }
 {
     let l = w.domain;
-    let n = w.next;
     if n == 0 {
         return moves(model::OTHER_MOVE, Place::Cas(l));
     }
@@ -240,234 +205,169 @@ fn help(w: Words) -> Effect
     moves(model::OTHER_MOVE, Place::Grant(l, n - 1, v))
 }
 
-fn cas(w: Words) -> Effect
+pub(crate) fn cas(w: Member, tails: &mut [u16; 64]) -> Moved
     requires { ⌜ Within w ⌝ }
-    ensures { λ r. ⌜ Effect-of w (λ t i s. cas-row t i (w .domain) s) r ⌝ }
+    ensures { λ r. ⌜ Row-done (λ t i s. Stands t i w) (λ t i s. cas-row t i (w .domain) s) r (λ s. with-tails (now (tails .entry)) s) (λ s. with-tails (now (tails .exit)) s) ⌝ }
+    ensures { λ r. ⌜ is-entry-number (r .kind) ≡ false ⌝ }
 {
     let l = w.domain;
-    let old = w.tail;
+    let d = l as usize;
+    let old = tails[d];
     let mine = w.own + 1;
     if old != mine {
         return moves(model::OTHER_MOVE, Place::Linger(l));
     }
-    let mut e = moves(model::OTHER_MOVE, places::done_place_at(w.home, l, w.child));
-    e.domain = l;
-    e
+    tails[d] = 0;
+    moves(model::OTHER_MOVE, places::done_place_at(w.home, l, w.child))
 }
 
-fn linger(w: Words) -> Effect
-    ensures { λ r. ⌜ Effect-of w (λ t i s. linger-row t i (w .domain) s) r ⌝ }
+pub(crate) fn linger(w: Member, n: u16, place: PlaceWords) -> Moved
+    ensures { λ r. ⌜ Row-done (λ t i s. Stands t i w × ((n ≡ next s (w .own)) × (place ≡ place-at s i))) (λ t i s. linger-row t i (w .domain) s) r (λ s. s) (λ s. s) ⌝ }
+    ensures { λ r. ⌜ is-entry-number (r .kind) ≡ false ⌝ }
 {
     let l = w.domain;
-    let n = w.next;
-    let place = w.place;
     if n == 0 {
-        return effect_at(model::STAY, place);
+        return at_place(model::STAY, place);
     }
     let v = root_word_at(l, model::UNLOCKED, model::ACQUIRE_PARENT);
     moves(model::OTHER_MOVE, Place::Grant(l, n - 1, v))
 }
 
-fn grant(w: Words, to: u16, word: u64) -> Effect
+pub(crate) fn grant(
+    w: Member,
+    to: u16,
+    word: u64,
+    statuses: &mut [u64; 320],
+    tenures: &mut [u64; 64],
+    longest: &mut [u64; 64],
+) -> Moved
     requires { ⌜ to < 320 ⌝ }
-    ensures { λ r. ⌜ Effect-of w (λ t i s. grant-row t i (w .domain) to word s) r ⌝ }
+    requires { ⌜ Room-above (now tenures) ⌝ }
+    ensures { λ r. ⌜ Row-done (λ t i s. Stands t i w) (λ t i s. grant-row t i (w .domain) to word s) r (λ s. with-statuses (now (statuses .entry)) s) (λ s. with-statuses (now (statuses .exit)) s) ⌝ }
+    ensures { λ r. ⌜ is-entry-number (r .kind) ≡ false ⌝ }
+    ensures { λ r. ⌜ Started (record-domain-in to) (now (tenures .entry)) (now (tenures .exit)) (now (longest .entry)) (now (longest .exit)) ⌝ }
 {
-    let l = w.domain;
-    let mut e = moves(model::OTHER_MOVE, places::done_place_at(w.home, l, w.child));
-    e.marked = to;
-    e.status = word;
-    e
+    let r = to as usize;
+    statuses[r] = word;
+    counting::count_given(to, tenures, longest);
+    moves(
+        model::OTHER_MOVE,
+        places::done_place_at(w.home, w.domain, w.child),
+    )
 }
 
 // One more, from 65,535 to 0.
-pub(crate) fn next_number(v: u16) -> u32
+pub(crate) fn next_number(v: u16) -> u16
     ensures { λ r. ⌜ r ≡ wrap (v + 1) ⌝ }
 {
-    std::num::wrapping_add_u16(v, 1) as u32
+    std::num::wrapping_add_u16(v, 1)
 }
 
 // The thread draws the root's ticket: Inside where it is the one shown, else it watches.
-fn draw(w: Words) -> Effect
-    requires { ⌜ Within w ⌝ }
-    requires { ⌜ w .domain ≡ 0 ⌝ }
-    ensures { λ r. ⌜ Effect-of w (λ t i s. draw-row t i s) r ⌝ }
+pub(crate) fn draw(
+    parents: &[u8; 64],
+    domains: u32,
+    w: Member,
+    granted: u16,
+    ticket: &mut u16,
+    statuses: &mut [u64; 320],
+    entries: &mut [u64; 64],
+    tenures: &mut [u64; 64],
+    longest: &mut [u64; 64],
+) -> Moved
+    requires { ⌜ domains ≤ 64 ⌝ }
+    requires { ⌜ Lower domains (now parents) ⌝ }
+    requires { ⌜ (w .home < domains) × (Within w × (w .domain ≡ 0)) ⌝ }
+    requires { ⌜ Room-above (now entries) × Room-above (now tenures) ⌝ }
+    ensures { λ r. ⌜ Row-done (λ t i s. Stands t i w × (granted ≡ s .grant)) draw-row r (λ s. with-ticket (now (ticket .entry)) (with-statuses (now (statuses .entry)) s)) (λ s. with-ticket (now (ticket .exit)) (with-statuses (now (statuses .exit)) s)) ⌝ }
+    ensures { λ r. ⌜ Entered (parent-in domains (now (parents .entry))) (r .kind) (w .home) (now (entries .entry)) (now (entries .exit)) ⌝ }
+    ensures { λ r. ⌜ Started (cond (eqb (r .kind) 1) 0 (record-domain-in (w .own))) (now (tenures .entry)) (now (tenures .exit)) (now (longest .entry)) (now (longest .exit)) ⌝ }
 {
-    let v = w.ticket;
-    let next = next_number(v);
-    if v == w.grant {
-        let mut e = moves(model::ROOT_ENTRY, Place::Inside);
-        e.marked = w.own;
-        e.status = v as u64;
-        e.ticket = next;
-        return e;
+    let v = *ticket;
+    let r = w.own as usize;
+    *ticket = next_number(v);
+    statuses[r] = v as u64;
+    if v != granted {
+        return moves(model::OTHER_MOVE, Place::Watch);
     }
-    let mut e = moves(model::OTHER_MOVE, Place::Watch);
-    e.marked = w.own;
-    e.status = v as u64;
-    e.ticket = next;
-    e
+    counting::count_given(w.own, tenures, longest);
+    counting::count_entry(parents, domains, w.home, entries);
+    moves(model::ROOT_ENTRY, Place::Inside)
 }
 
-fn watch(w: Words) -> Effect
-    requires { ⌜ w .domain ≡ 0 ⌝ }
-    ensures { λ r. ⌜ Effect-of w (λ t i s. watch-row t i s) r ⌝ }
+pub(crate) fn watch(
+    parents: &[u8; 64],
+    domains: u32,
+    w: Member,
+    v: u64,
+    granted: u16,
+    place: PlaceWords,
+    entries: &mut [u64; 64],
+) -> Moved
+    requires { ⌜ domains ≤ 64 ⌝ }
+    requires { ⌜ Lower domains (now parents) ⌝ }
+    requires { ⌜ (w .home < domains) × (w .domain ≡ 0) ⌝ }
+    requires { ⌜ Room-above (now entries) ⌝ }
+    ensures { λ r. ⌜ Row-done (λ t i s. Stands t i w × ((v ≡ status s (w .own)) × ((granted ≡ s .grant) × (place ≡ place-at s i)))) watch-row r (λ s. s) (λ s. s) ⌝ }
+    ensures { λ r. ⌜ Entered (parent-in domains (now (parents .entry))) (r .kind) (w .home) (now (entries .entry)) (now (entries .exit)) ⌝ }
 {
-    let v = w.status;
-    let place = w.place;
-    if v == w.grant as u64 {
-        return moves(model::ROOT_ENTRY, Place::Inside);
+    if v != granted as u64 {
+        return at_place(model::STAY, place);
     }
-    effect_at(model::STAY, place)
+    counting::count_entry(parents, domains, w.home, entries);
+    moves(model::ROOT_ENTRY, Place::Inside)
 }
 
-fn raise(w: Words) -> Effect
+pub(crate) fn raise(w: Member, granted: &mut u16) -> Moved
     requires { ⌜ w .domain ≡ 0 ⌝ }
-    ensures { λ r. ⌜ Effect-of w (λ t i s. raise-row t i s) r ⌝ }
+    ensures { λ r. ⌜ Row-done (λ t i s. Stands t i w) raise-row r (λ s. with-grant (now (granted .entry)) s) (λ s. with-grant (now (granted .exit)) s) ⌝ }
+    ensures { λ r. ⌜ is-entry-number (r .kind) ≡ false ⌝ }
 {
-    let l = w.domain;
-    let next = next_number(w.grant);
-    let mut e = moves(model::OTHER_MOVE, places::done_place_at(w.home, l, w.child));
-    e.grant = next;
-    e
+    let v = *granted;
+    *granted = next_number(v);
+    moves(
+        model::OTHER_MOVE,
+        places::done_place_at(w.home, w.domain, w.child),
+    )
 }
 
-// A thread at home draws where its home is a ticket root, else it prepares.
-fn start(w: Words) -> Effect
-    requires { ⌜ Within w ⌝ }
-    ensures { λ r. ⌜ Effect-of w (λ t i s. start-row t i (w .domain) s) r ⌝ }
+// A thread at home draws where its home is a ticket root, else it prepares. No tenure starts: the record is the thread's own.
+pub(crate) fn start(
+    parents: &[u8; 64],
+    domains: u32,
+    ticket_root: u32,
+    w: Member,
+    granted: u16,
+    ticket: &mut u16,
+    nexts: &mut [u16; 320],
+    statuses: &mut [u64; 320],
+    entries: &mut [u64; 64],
+    tenures: &mut [u64; 64],
+    longest: &mut [u64; 64],
+) -> Moved
+    requires { ⌜ domains ≤ 64 ⌝ }
+    requires { ⌜ Lower domains (now parents) ⌝ }
+    requires { ⌜ (w .home < domains) × (Within w × (w .own < 256)) ⌝ }
+    requires { ⌜ Room-above (now entries) × Room-above (now tenures) ⌝ }
+    ensures { λ r. ⌜ Row-done (λ t i s. Stands t i w × (Root-is t «ticket_root» × (granted ≡ s .grant))) (λ t i s. start-row t i (w .domain) s) r (λ s. with-ticket (now (ticket .entry)) (with-nexts (now (nexts .entry)) (with-statuses (now (statuses .entry)) s))) (λ s. with-ticket (now (ticket .exit)) (with-nexts (now (nexts .exit)) (with-statuses (now (statuses .exit)) s))) ⌝ }
+    ensures { λ r. ⌜ Entered (parent-in domains (now (parents .entry))) (r .kind) (w .home) (now (entries .entry)) (now (entries .exit)) ⌝ }
+    ensures { λ r. ⌜ Started 0 (now (tenures .entry)) (now (tenures .exit)) (now (longest .entry)) (now (longest .exit)) ⌝ }
 {
     if w.domain != 0 {
-        return prep(w);
+        return prep(w, nexts, statuses);
     }
-    if w.ticket_root == 0 {
-        return prep(w);
+    if ticket_root == 0 {
+        return prep(w, nexts, statuses);
     }
-    draw(w)
-}
-
-// The words of a thread's row at a domain.
-fn words_at<'t, 's>(
-    parents: &'t [u8; 64],
-    thresholds: &'t [u16; 64],
-    homes: &'t [u8; 256],
-    domains: u32,
-    threads: u32,
-    tails: &'s [u16; 64],
-    nexts: &'s [u16; 320],
-    statuses: &'s [u64; 320],
-    i: u16,
-    l: u8,
-    place: PlaceWords,
-    ticket_root: u32,
-    ticket: u16,
-    granted: u16,
-) -> Words
-    requires { ⌜ tree-refusal (tree-at «ticket_root» domains threads (now parents) (now thresholds) (now homes)) .number ≡ 0 ⌝ }
-    requires { ⌜ (i < threads) × (l < domains) ⌝ }
-    ensures { λ r. ⌜ Read (tree-at «ticket_root» domains threads (now (parents .entry)) (now (thresholds .entry)) (now (homes .entry))) i l place (now (tails .entry)) (now (nexts .entry)) (now (statuses .entry)) ticket granted r ⌝ }
-{
-    let k = i as usize;
-    let home = homes[k];
-    let d = l as usize;
-    let parent = parents[d];
-    let threshold = thresholds[d];
-    let tail = tails[d];
-    if l == home {
-        let next = nexts[k];
-        let status = statuses[k];
-        return Words {
-            home,
-            domain: l,
-            child: 0,
-            own: i,
-            parent,
-            threshold,
-            tail,
-            next,
-            status,
-            place,
-            ticket_root,
-            ticket,
-            grant: granted,
-        };
-    }
-    let found = search_at(parents, domains, home, l);
-    let child = found.child;
-    let own = 256 + child as u16;
-    let r = own as usize;
-    let next = nexts[r];
-    let status = statuses[r];
-    Words {
-        home,
-        domain: l,
-        child,
-        own,
-        parent,
-        threshold,
-        tail,
-        next,
-        status,
-        place,
-        ticket_root,
-        ticket,
-        grant: granted,
-    }
-}
-
-// What a step of a thread does.
-pub(crate) fn decide<'t, 's>(
-    parents: &'t [u8; 64],
-    thresholds: &'t [u16; 64],
-    homes: &'t [u8; 256],
-    domains: u32,
-    threads: u32,
-    tails: &'s [u16; 64],
-    nexts: &'s [u16; 320],
-    statuses: &'s [u64; 320],
-    i: u16,
-    place: PlaceWords,
-    ticket_root: u32,
-    ticket: u16,
-    granted: u16,
-) -> Effect
-    requires { ⌜ Ready (tree-at «ticket_root» domains threads (now parents) (now thresholds) (now homes)) i place ⌝ }
-    ensures { λ r. ⌜ Decided (tree-at «ticket_root» domains threads (now (parents .entry)) (now (thresholds .entry)) (now (homes .entry))) i place (now (tails .entry)) (now (nexts .entry)) (now (statuses .entry)) ticket granted r ⌝ }
-{
-    let k = i as usize;
-    let home = homes[k];
-    let p = places::place_by_row(place);
-    let l = places::domain_at(home, p);
-    let w = words_at(
+    draw(
         parents,
-        thresholds,
-        homes,
         domains,
-        threads,
-        tails,
-        nexts,
-        statuses,
-        i,
-        l,
-        place,
-        ticket_root,
-        ticket,
+        w,
         granted,
-    );
-    match p {
-        Place::Idle => start(w),
-        Place::Prep(_) => prep(w),
-        Place::Swap(_) => swap(w),
-        Place::Link(_, b) => link(w, b),
-        Place::Wait(_) => wait(w),
-        Place::Inside => leave(w),
-        Place::Check(_) => check(w),
-        Place::Help(_) => help(w),
-        Place::Cas(_) => cas(w),
-        Place::Linger(_) => linger(w),
-        Place::Grant(_, r, v) => grant(w, r, v),
-        Place::Draw => draw(w),
-        Place::Watch => watch(w),
-        Place::Raise => raise(w),
-        Place::Invalid => effect_at(model::STAY, place),
-    }
+        ticket,
+        statuses,
+        entries,
+        tenures,
+        longest,
+    )
 }

@@ -1,4 +1,4 @@
-// Effects stored into a state, and the run's loop.
+// The run's loop.
 ghost use mathlib.Core.Path.{_≡_};
 ghost use mathlib.Core.Bool.{cond};
 ghost use Prim.Native.Nat.{_+_, _*_, _/_, _%_, _<_, _≤_};
@@ -8,54 +8,14 @@ ghost use Rattle.model.specs.Counters.{lock-state, counters-after};
 ghost use Rattle.model.specs.Refusals.{first-refusal, run-tests-before-19};
 ghost use Rattle.refusals.specs.Counts.{counters-in};
 ghost use Rattle.model.specs.Runs.{steps, run};
-ghost use Rattle.steps.specs.Effects.{stored, counter-stored, row-domain};
+ghost use Rattle.steps.specs.Rows.{row-domain};
 ghost use Rattle.steps.specs.Running.{kinds-of, counted, counts-by, is-entry-number, traced-at, trace-front, code-of, told-at, told-front};
 use crate::counting;
 use crate::places;
-use crate::rows;
+use crate::taking;
 use model::Counts;
 use model::State;
 use model::TreeWords;
-
-fn store_tail(tails: &mut [u16; 64], d: u8, v: u16)
-    ensures { λ r. ⌜ now (tails .exit) ≡ stored 64 (now (tails .entry)) d v ⌝ }
-{
-    let at = d as usize;
-    if 64 <= at {
-        return;
-    }
-    tails[at] = v;
-}
-
-fn store_next(nexts: &mut [u16; 320], r: u16, v: u16)
-    ensures { λ q. ⌜ now (nexts .exit) ≡ stored 320 (now (nexts .entry)) r v ⌝ }
-{
-    let at = r as usize;
-    if 320 <= at {
-        return;
-    }
-    nexts[at] = v;
-}
-
-fn store_status(statuses: &mut [u64; 320], r: u16, v: u64)
-    ensures { λ q. ⌜ now (statuses .exit) ≡ stored 320 (now (statuses .entry)) r v ⌝ }
-{
-    let at = r as usize;
-    if 320 <= at {
-        return;
-    }
-    statuses[at] = v;
-}
-
-// A counter of a ticket lock; a number beyond 16 bits is no store.
-fn store_counter(counter: &mut u16, v: u32)
-    ensures { λ q. ⌜ now (counter .exit) ≡ counter-stored (now (counter .entry)) v ⌝ }
-{
-    if 65536 <= v {
-        return;
-    }
-    *counter = v as u16;
-}
 
 // One step of a kind more, where the steps of each kind are counted.
 fn count_in(kinds: &mut [u32; 6], kind: u8)
@@ -140,7 +100,7 @@ pub fn domain_told(home: u8, code: u16) -> u32
     (code / 128) as u32
 }
 
-// The steps of a schedule, stored one after another into one state, which is copied at the start and at the end alone. How many of them are of each kind, what each of the first was, as many as there is room for, and the counters of the domains are written where the caller lends room, so that the state alone is returned.
+// The steps of a schedule, stored one after another into one state, which is copied at the start and at the end alone: its arrays stand by themselves, so that a row writes what it stores into them. How many of them are of each kind, what each of the first was, as many as there is room for, and the counters of the domains are written where the caller lends room, so that the state alone is returned.
 pub fn run_steps(
     tree: TreeWords,
     state: State,
@@ -159,7 +119,12 @@ pub fn run_steps(
     ensures { λ r. ⌜ now (told .exit) ≡ told-front (now (told .entry)) (steps (tree-of tree) (now (schedule .entry)) state) ⌝ }
     ensures { λ r. ⌜ counters-in (now (entries .exit)) (now (tenures .exit)) (now (longest .exit)) ≡ counters-after (tree-of tree) (counters-in (now (entries .entry)) (now (tenures .entry)) (now (longest .entry))) (steps (tree-of tree) (now (schedule .entry)) state) ⌝ }
 {
-    let mut n = state;
+    let mut tails = state.tails;
+    let mut nexts = state.nexts;
+    let mut statuses = state.statuses;
+    let mut standing = state.places;
+    let mut ticket = state.ticket;
+    let mut granted = state.grant;
     let mut tally = [0u32; 6];
     let mut shown = [false; 64];
     let mut entered: u32 = 0;
@@ -168,72 +133,61 @@ pub fn run_steps(
         let position = k as usize;
         let i = schedule[position];
         let at = i as usize;
-        let before = n.places[at];
-        let e = rows::decide(
-            &tree.parents,
-            &tree.thresholds,
-            &tree.homes,
-            tree.domains,
-            tree.threads,
-            &n.tails,
-            &n.nexts,
-            &n.statuses,
-            i,
-            before,
-            tree.ticket_root,
-            n.ticket,
-            n.grant,
-        );
+        let before = standing[at];
         let row = before.row;
         let domain = before.domain;
-        let kind = e.kind;
-        count_in(&mut tally, kind);
-        if kind == model::STAY {
-            tell(told, position, kind, row, domain);
-            k += 1;
-            continue;
-        }
-        let place = e.place;
-        let home = tree.homes[at];
-        let looked = counting::looked_at(row, tree.threads);
+        let looked = counting::looked_at(row, &statuses, tree.domains, granted, tree.threads);
         let mut j: u32 = 0;
         while j < looked {
             let other = j as usize;
-            let q = n.places[other];
+            let q = standing[other];
             let its_home = tree.homes[other];
             counting::mark_shown(
                 &tree.parents,
                 tree.domains,
                 its_home,
-                &n.statuses,
+                &statuses,
                 q,
-                n.grant,
+                granted,
                 &mut shown,
             );
             j += 1;
         }
-        counting::count_step(
+        let m = taking::take(
             &tree.parents,
+            &tree.thresholds,
+            &tree.homes,
             tree.domains,
-            home,
+            tree.threads,
+            tree.ticket_root,
+            i,
             before,
-            place,
-            kind,
+            looked,
+            &mut tails,
+            &mut nexts,
+            &mut statuses,
+            &mut ticket,
+            &mut granted,
             &mut shown,
             entries,
             tenures,
             longest,
         );
-        store_tail(&mut n.tails, e.domain, e.tail);
-        store_next(&mut n.nexts, e.linked, e.next);
-        store_status(&mut n.statuses, e.marked, e.status);
-        store_counter(&mut n.ticket, e.ticket);
-        store_counter(&mut n.grant, e.grant);
-        n.places[at] = place;
+        let kind = m.kind;
+        let place = m.place;
+        count_in(&mut tally, kind);
+        standing[at] = place;
         entered = trace_at(trace, entered, kind, i);
         tell(told, position, kind, row, domain);
         k += 1;
     }
     *kinds = tally;
-    n
+    State {
+        tails,
+        nexts,
+        statuses,
+        places: standing,
+        ticket,
+        grant: granted,
+    }
 }

@@ -1,11 +1,20 @@
--- `steps::rows::cas` meets its contract. Assumes nothing.
+-- `steps::rows::cas` does Cas. Assumes nothing.
 use mathlib.Core.Path.{refl}
-use borrow.Author.Tests.{eq-eqb, ne-eqb, lt-ltb}
+use borrow.Author.Tests.{eq-eqb, ne-eqb}
 use Rattle.model.specs.Steps.{cas-row}
 use Rattle.steps.proofs.Leaving.{done-is}
 use borrow.Author.Needs.{needs}
 use Rattle.steps.proofs.rows.cas.Statement.{statement}
 use Rattle.steps.proofs.rows.cas.Tie as tie
+
+cast-d : tie.Need-cast-d
+cast-d c = search needs
+
+mul-old : tie.Need-mul-old
+mul-old c = search needs
+
+element-copy-out-old : tie.Need-element-copy-out-old
+element-copy-out-old c = search needs
 
 add-mine : tie.Need-add-mine
 add-mine c = search needs
@@ -15,11 +24,13 @@ moves-requires c κs = search needs
 
 returns : tie.Need-returns
 unfolding cas-row
-returns c =
-    record {
-      does = λ t i s R.
-          rw (c .moves .ensures, ← R .own-is, ← R .tail-is, ne-eqb _ _ (c .before .if1 .taken)) (record { kind-told = refl; state-left = refl });
-    }
+returns c = (record { does = λ t i s S. rw (c .moves .ensures, ← S .own-is, ne-eqb _ _ (c .before .if1 .taken)) (record { kind-told = refl; state-left = refl }) }, rw (c .moves .ensures) refl)
+
+mul-tails : tie.Need-mul-tails
+mul-tails c = search needs
+
+element-write-tails : tie.Need-element-write-tails
+element-write-tails c = search needs
 
 done-place-at-requires : tie.Need-done-place-at-requires
 done-place-at-requires c κs = search needs
@@ -29,14 +40,20 @@ moves-requires-2 c κs = search needs
 
 returns-2 : tie.Need-returns-2
 unfolding cas-row
-returns-2 c =
-    record {
-      does = λ t i s R.
-          rw (c .moves2 .ensures, c .before .done-place-at .ensures, done-is t i s _ R, ← R .own-is, ← R .tail-is, eq-eqb _ _ (c .before .before .if1 .left))
-          (record { kind-told = refl; state-left = rw (lt-ltb _ _ (c .before .before .before .before .pre .domain-fits)) });
-    }
+returns-2 c = (record { does = λ t i s S. rw (c .moves2 .ensures, c .before .done-place-at .ensures, done-is t i _ S, ← S .own-is, eq-eqb _ _ (c .before .before .if1 .left)) (record { kind-told = refl; state-left = refl }) }, rw (c .moves2 .ensures) refl)
 
 pub cas-spec : {M : Type 1} → statement M
 cas-spec =
     tie.close
-    (tie.spec add-mine moves-requires returns done-place-at-requires moves-requires-2 returns-2)
+    (tie.spec
+    cast-d
+    mul-old
+    element-copy-out-old
+    add-mine
+    moves-requires
+    returns
+    mul-tails
+    element-write-tails
+    done-place-at-requires
+    moves-requires-2
+    returns-2)

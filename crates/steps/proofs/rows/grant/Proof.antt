@@ -1,11 +1,19 @@
--- `steps::rows::grant` meets its contract. Assumes nothing.
+-- `steps::rows::grant` does Grant. Assumes nothing.
 use mathlib.Core.Path.{refl}
-use borrow.Author.Tests.{lt-ltb}
 use Rattle.model.specs.Steps.{grant-row}
 use Rattle.steps.proofs.Leaving.{done-is}
 use borrow.Author.Needs.{needs}
 use Rattle.steps.proofs.rows.grant.Statement.{statement}
 use Rattle.steps.proofs.rows.grant.Tie as tie
+
+mul-statuses : tie.Need-mul-statuses
+mul-statuses c = search needs
+
+element-write-statuses : tie.Need-element-write-statuses
+element-write-statuses c = search needs
+
+count-given-requires : tie.Need-count-given-requires
+count-given-requires c κs = search needs
 
 done-place-at-requires : tie.Need-done-place-at-requires
 done-place-at-requires c κs = search needs
@@ -15,11 +23,15 @@ moves-requires c κs = search needs
 
 returns : tie.Need-returns
 unfolding grant-row
-returns c =
-    record {
-      does = λ t i s R.
-          rw (c .moves .ensures, c .before .done-place-at .ensures, done-is t i s _ R) (record { kind-told = refl; state-left = rw (lt-ltb _ _ (c .before .before .pre)) });
-    }
+returns c = (record { does = λ t i s S. rw (c .moves .ensures, c .before .done-place-at .ensures, done-is t i _ S) (record { kind-told = refl; state-left = refl }) }, (rw (c .moves .ensures) refl, c .before .before .count-given .ensures))
 
 pub grant-spec : {M : Type 1} → statement M
-grant-spec = tie.close (tie.spec done-place-at-requires moves-requires returns)
+grant-spec =
+    tie.close
+    (tie.spec
+    mul-statuses
+    element-write-statuses
+    count-given-requires
+    done-place-at-requires
+    moves-requires
+    returns)

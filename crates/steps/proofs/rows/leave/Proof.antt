@@ -1,8 +1,8 @@
--- `steps::rows::leave` meets its contract. Assumes nothing.
+-- `steps::rows::leave` leaves. Assumes nothing.
 use mathlib.Core.Path.{refl}
 use Rattle.model.specs.Steps.{leave-row}
-use borrow.Author.Needs.{needs}
 use Rattle.steps.proofs.Leaving.{release-is}
+use borrow.Author.Needs.{needs}
 use Rattle.steps.proofs.rows.leave.Statement.{statement}
 use Rattle.steps.proofs.rows.leave.Tie as tie
 
@@ -14,11 +14,7 @@ moves-requires c κs = search needs
 
 returns : tie.Need-returns
 unfolding leave-row
-returns c =
-    record {
-      does = λ t i s R.
-          rw (c .moves .ensures, c .before .release-place-at .ensures, release-is t i s _ R _, ← R .home-is) (record { kind-told = refl; state-left = refl });
-    }
+returns c = (record { does = λ t i s S. rw (c .moves .ensures, c .before .release-place-at .ensures, release-is t _ (S .1) _, ← S .0) (record { kind-told = refl; state-left = refl }) }, rw (c .moves .ensures) refl)
 
 pub leave-spec : {M : Type 1} → statement M
 leave-spec = tie.close (tie.spec release-place-at-requires moves-requires returns)

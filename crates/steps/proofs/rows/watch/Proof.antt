@@ -1,40 +1,33 @@
--- `steps::rows::watch` meets its contract. Assumes nothing.
-use mathlib.Core.Path.{refl, sym, _∙_}
-use borrow.Author.Tests.{eq-eqb, ne-eqb}
+-- `steps::rows::watch` does Watch. Assumes nothing.
+use mathlib.Core.Path.{_≡_, refl}
+use mathlib.Core.Bool.{false}
+use lib.Dec.{eqb}
 use Rattle.model.specs.States.{status}
+use Rattle.model.specs.Trees.{own-record}
+use borrow.Author.Tests.{eq-eqb, ne-eqb}
 use Rattle.model.specs.Steps.{watch-row}
 use Rattle.steps.proofs.Leaving.{unmoved, root-own}
+use Rattle.steps.proofs.Counts.{entered, not-entered}
 use borrow.Author.Needs.{needs}
 use Rattle.steps.proofs.rows.watch.Statement.{statement}
 use Rattle.steps.proofs.rows.watch.Tie as tie
 
-cast-if1 : tie.Need-cast-if1
-cast-if1 c = search needs
+at-place-requires : tie.Need-at-place-requires
+at-place-requires c κs = search needs
+
+returns : tie.Need-returns
+unfolding watch-row
+returns c = (record { does = λ t i s S. let e : eqb (status s (own-record t i 0)) (s .grant) ≡ false = rw (root-own t i _ (S .0) (c .before .before .pre .1 .1 .0 .1), ← S .1 .0, ← S .1 .1 .0) (ne-eqb _ _ (c .before .if1 .taken)) in rw (c .at-place .ensures, e) (record { kind-told = refl; state-left = unmoved s i _ (S .1 .1 .1) }) }, rw (c .at-place .ensures) (not-entered _ 0 _ _ refl))
+
+count-entry-requires : tie.Need-count-entry-requires
+count-entry-requires c κs = search needs
 
 moves-requires : tie.Need-moves-requires
 moves-requires c κs = search needs
 
-returns : tie.Need-returns
-unfolding watch-row
-returns c =
-    let b = c .before .before .before .before in
-    record {
-      does = λ t i s R.
-          rw (c .moves .ensures, root-own t i s _ R (b .pre), ← R .status-is, ← R .grant-is, eq-eqb _ _ (c .before .if1 .taken)) (record { kind-told = refl; state-left = refl });
-    }
-
-effect-at-requires : tie.Need-effect-at-requires
-effect-at-requires c κs = search needs
-
 returns-2 : tie.Need-returns-2
 unfolding watch-row
-returns-2 c =
-    let b = c .before .before .before .before in
-    record {
-      does = λ t i s R.
-          let other = ne-eqb (status s (b .args .w .own)) (s .grant) (λ z. c .before .if1 .left (R .status-is ∙ z ∙ sym (R .grant-is))) in
-          rw (c .effect-at .ensures, root-own t i s _ R (b .pre), other) (record { kind-told = refl; state-left = unmoved s i 0 _ (R .place-is) });
-    }
+returns-2 c = (record { does = λ t i s S. rw (c .moves .ensures, root-own t i _ (S .0) (c .before .before .before .before .pre .1 .1 .0 .1), ← S .1 .0, ← S .1 .1 .0, eq-eqb _ _ (c .before .before .before .if1 .left)) (record { kind-told = refl; state-left = refl }) }, rw (c .moves .ensures) (entered _ 2 _ _ _ refl (c .before .count-entry .ensures)))
 
 pub watch-spec : {M : Type 1} → statement M
-watch-spec = tie.close (tie.spec cast-if1 moves-requires returns effect-at-requires returns-2)
+watch-spec = tie.close (tie.spec at-place-requires returns count-entry-requires moves-requires returns-2)

@@ -1,4 +1,4 @@
--- `steps::rows::search_at` meets its contract: from the domain reached on, with the levels left and the domains looked at, the search gives what the whole gives. Assumes nothing.
+-- `steps::members::search_at` meets its contract: from the domain reached on, with the levels left and the domains looked at, the search gives what the whole gives. Assumes nothing.
 use mathlib.Core.Path.{_≡_, refl, sym, _∙_}
 use Prim.Native.Nat.{_+_, _-_, _≤_, _<_}
 use native.Mathlib.Omega.{arith}
@@ -6,8 +6,8 @@ use Rattle.model.specs.Search.{search-from}
 use Rattle.refusals.specs.Arrays.{parents-in}
 use Rattle.steps.proofs.Children.{search-root, search-hit, search-up, search-end}
 use borrow.Author.Needs.{needs}
-use Rattle.steps.proofs.rows.search_at.Statement.{statement}
-use Rattle.steps.proofs.rows.search_at.Tie as tie
+use Rattle.steps.proofs.members.search_at.Statement.{statement}
+use Rattle.steps.proofs.members.search_at.Tie as tie
 
 abbrev Inv-loop : tie.InvT-loop
 Inv-loop parents domains home l c₀ looked₀ c looked =

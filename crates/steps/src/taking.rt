@@ -1,0 +1,111 @@
+// One step of a thread: the row of its place.
+ghost use mathlib.Core.Path.{_≡_};
+ghost use lib.ListN.{getD};
+ghost use Rattle.steps.specs.Counting.{parent-in, Room-above, Entered, Counted-step, Shown-left, Shown-for};
+ghost use Rattle.steps.specs.Rows.{tree-at};
+ghost use Rattle.steps.specs.Running.{Ready, Taken};
+use crate::counting;
+use crate::members;
+use crate::places;
+use crate::rows;
+use crate::rows::Moved;
+use model::Place;
+use model::PlaceWords;
+
+// The step that a thread takes from a place. The arrays and the counters are lent, and only what the row stores is written.
+pub(crate) fn take<'t>(
+    parents: &'t [u8; 64],
+    thresholds: &'t [u16; 64],
+    homes: &'t [u8; 256],
+    domains: u32,
+    threads: u32,
+    ticket_root: u32,
+    i: u16,
+    place: PlaceWords,
+    looked: u32,
+    tails: &mut [u16; 64],
+    nexts: &mut [u16; 320],
+    statuses: &mut [u64; 320],
+    ticket: &mut u16,
+    granted: &mut u16,
+    shown: &mut [bool; 64],
+    entries: &mut [u64; 64],
+    tenures: &mut [u64; 64],
+    longest: &mut [u64; 64],
+) -> Moved
+    requires { ⌜ Ready (tree-at «ticket_root» domains threads (now parents) (now thresholds) (now homes)) i place ⌝ }
+    requires { ⌜ Room-above (now entries) × Room-above (now tenures) ⌝ }
+    requires { ⌜ Shown-for looked domains (now shown) ⌝ }
+    ensures { λ r. ⌜ Taken (tree-at «ticket_root» domains threads (now (parents .entry)) (now (thresholds .entry)) (now (homes .entry))) i place (now (tails .entry)) (now (tails .exit)) (now (nexts .entry)) (now (nexts .exit)) (now (statuses .entry)) (now (statuses .exit)) (now (ticket .entry)) (now (ticket .exit)) (now (granted .entry)) (now (granted .exit)) r ⌝ }
+    ensures { λ r. ⌜ Entered (parent-in domains (now (parents .entry))) (r .kind) (getD (now (homes .entry)) i 0) (now (entries .entry)) (now (entries .exit)) ⌝ }
+    ensures { λ r. ⌜ Counted-step domains (now (parents .entry)) (getD (now (homes .entry)) i 0) place (r .place) (r .kind) (now (shown .entry)) (now (tenures .entry)) (now (tenures .exit)) (now (longest .entry)) (now (longest .exit)) ⌝ }
+    ensures { λ r. ⌜ Shown-left place (now (shown .entry)) (now (shown .exit)) ⌝ }
+{
+    let k = i as usize;
+    let home = homes[k];
+    let p = places::place_by_row(place);
+    let l = places::domain_by_row(home, place.row, place.domain);
+    let w = members::member_at(parents, domains, i, home, l);
+    let d = l as usize;
+    let r = w.own as usize;
+    match p {
+        Place::Idle => rows::start(
+            parents,
+            domains,
+            ticket_root,
+            w,
+            *granted,
+            ticket,
+            nexts,
+            statuses,
+            entries,
+            tenures,
+            longest,
+        ),
+        Place::Prep(_) => rows::prep(w, nexts, statuses),
+        Place::Swap(_) => rows::swap(
+            parents,
+            domains,
+            ticket_root,
+            w,
+            tails,
+            statuses,
+            entries,
+            tenures,
+            longest,
+        ),
+        Place::Link(_, b) => rows::link(w, b, nexts),
+        Place::Wait(_) => rows::wait(parents, domains, ticket_root, w, place, statuses, entries),
+        Place::Inside => rows::leave(ticket_root, home),
+        Place::Check(_) => rows::check(
+            ticket_root,
+            w,
+            parents[d],
+            thresholds[d],
+            nexts[r],
+            statuses[r],
+            longest,
+        ),
+        Place::Help(_) => rows::help(w, nexts[r]),
+        Place::Cas(_) => rows::cas(w, tails),
+        Place::Linger(_) => rows::linger(w, nexts[r], place),
+        Place::Grant(_, to, v) => rows::grant(w, to, v, statuses, tenures, longest),
+        Place::Draw => rows::draw(
+            parents,
+            domains,
+            w,
+            *granted,
+            ticket,
+            statuses,
+            entries,
+            tenures,
+            longest,
+        ),
+        Place::Watch => { rows::watch(parents, domains, w, statuses[r], *granted, place, entries) }
+        Place::Raise => {
+            counting::count_shown(looked, domains, shown, tenures, longest);
+            rows::raise(w, granted)
+        }
+        Place::Invalid => rows::at_place(model::STAY, place),
+    }
+}
