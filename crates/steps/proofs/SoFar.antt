@@ -14,10 +14,11 @@ use Rattle.model.specs.States.{place}
 use Rattle.model.specs.Refusals.{tree-refusal}
 use Rattle.model.specs.Steps.{Kind, stay, other, root-entry, passed-entry, crossed-entry, leaving, kind-number, is-kind, is-entry, Step, row, step}
 use Rattle.model.specs.Runs.{steps, state-after, how-many, entering, counts-of, run-of, run}
-use Rattle.model.specs.Laws.{All-threads, Sixteen-bit, Formed, Form-law}
+use Rattle.model.specs.Laws.{All-threads, Sixteen-bit, Formed, Form-law, Kind-law}
 use Rattle.model.proofs.Trees.Accepted.{accepted}
 use Rattle.model.proofs.Laws.Runs.{steps-join, steps-length, how-many-join, entering-join, state-after-join, entries-all}
 use Rattle.model.proofs.Laws.Form.{form-law}
+use Rattle.model.proofs.Laws.Kinds.{kind-law}
 use Rattle.steps.specs.declared.rows.Moved.{Moved}
 use Rattle.steps.specs.Rows.{with-place-words, Done}
 use Rattle.steps.specs.Running.{kinds-of, counted, counts-by, is-entry-number, traced-at, trace-front}
@@ -39,6 +40,14 @@ entry-number root-entry = refl
 entry-number passed-entry = refl
 entry-number crossed-entry = refl
 entry-number leaving = refl
+
+zero-stay : (k : Kind) → kind-number k ≡ 0 → k ≡ stay
+zero-stay stay e = refl
+zero-stay other e = absurd (omega arith)
+zero-stay root-entry e = absurd (omega arith)
+zero-stay passed-entry e = absurd (omega arith)
+zero-stay crossed-entry e = absurd (omega arith)
+zero-stay leaving e = absurd (omega arith)
 
 -- COUNTS by kinds. One step more is counted in
 count-kind :
@@ -139,6 +148,17 @@ thread-at t (i ∷ is) a (suc k) h = thread-at t is (a .1) k (omega arith)
 
 pub below : (t : Tree) (is : List ℕ) → tree-refusal t .number ≡ 0 → All-threads t is → (k : ℕ) → k < length is → getD is k 0 < 256
 below t is z a k h = omega (arith, accepted t z .few-threads, thread-at t is a k h)
+
+-- a step that stays leaves the thread's place, which need not be stored
+pub stay-placed :
+    (t : Tree) (is : List ℕ) (s : State) (k : ℕ) (m : Moved) (left : State) → tree-refusal t .number ≡ 0 → All-threads t is → k < length is → Formed t s →
+    Done (row t (getD is k 0) (place s (getD is k 0)) s) (getD is k 0) m left → left .places ≡ s .places → m .kind ≡ 0 →
+    s .places ≡ set (s .places) (getD is k 0) (m .place)
+unfolding Kind-law step
+stay-placed t is s k m left accepted all h f D same z =
+    let i = getD is k 0 in
+    let stays : row t i (place s i) s .state ≡ s = kind-law t i s accepted (thread-at t is all k h) f .stays-exactly .0 (zero-stay _ (sym (D .kind-told) ∙ z)) in
+    sym (ap (λ qs. set qs i (m .place)) (sym same) ∙ ap (λ (x : State). x .places) (D .state-left ∙ stays))
 
 module _ (t : Tree) (is b₀ : List ℕ) (s₀ : State) where
   -- the steps of the first k entries

@@ -176,7 +176,9 @@ pub fn run_steps(
         let kind = m.kind;
         let place = m.place;
         count_in(&mut tally, kind);
-        standing[at] = place;
+        if kind != model::STAY {
+            standing[at] = place;
+        }
         entered = trace_at(trace, entered, kind, i);
         tell(told, position, kind, row, domain);
         k += 1;

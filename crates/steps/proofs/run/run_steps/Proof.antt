@@ -1,5 +1,6 @@
 -- `steps::run::run_steps` takes the steps of a schedule: the entries done so far have given the state, the trace, how many steps are of each kind and the counters of the domains. Assumes nothing.
 use mathlib.Core.Path.{_≡_, refl, sym, ap, _∙_}
+use mathlib.Core.Logic.{⊎-elim}
 use Prim.Native.Nat.{_+_, _-_, _≤_}
 use native.Mathlib.Omega.{arith}
 use lib.ListN.{length, getD}
@@ -10,7 +11,7 @@ use Rattle.refusals.specs.Counts.{counters-in}
 use Rattle.refusals.proofs.Passing.{shape-of}
 use Rattle.steps.specs.Rows.{state-in}
 use Rattle.steps.specs.Counting.{Marked, Clear}
-use Rattle.steps.proofs.SoFar.{So-far, start, kind-room, turn, state-ends, trace-ends, kinds-end, thread-at}
+use Rattle.steps.proofs.SoFar.{So-far, start, kind-room, stay-placed, turn, state-ends, trace-ends, kinds-end, thread-at}
 use Rattle.steps.proofs.Telling.{Told, told-start, told-turn, told-ends}
 use Rattle.steps.proofs.Tallying.{Tallied, tallied-start, tallied-turn, tallied-ends}
 use Rattle.steps.proofs.Typing.{typed}
@@ -125,47 +126,48 @@ count-in-requires c κs =
     kind-room _ _ _ _ _ n _ _ _ _ _ (l .inv .0) (c .before .before .take .ensures .0 .does (l .standing) refl) (c .before .before .before .before .before .before .before .before .before .before .before .before .before .before .before .before .before .before .before .before .before .before .loop-test .taken) ((early-facts _ _ _ _ (c .before .before .before .before .before .before .before .before .before .before .before .before .before .before .before .before .before .before .before .before .before .before .before .before .before .before .before .before .before .before .before .pre)) .short)
 
 mul-standing : tie.Need-mul-standing Inv-loop2 μ-loop2 Inv-loop μ-loop
-mul-standing c = omega (arith, thread-small _ _ _ _ _ (early-facts _ _ _ _ (c .before .before .before .before .before .before .before .before .before .before .before .before .before .before .before .before .before .before .before .before .before .before .before .before .before .before .before .before .before .before .before .before .pre)) (c .before .before .before .before .before .before .before .before .before .before .before .before .before .before .before .before .before .before .before .before .before .before .before .loop-test .taken))
+mul-standing c = omega (arith, thread-small _ _ _ _ _ (early-facts _ _ _ _ (c .before .before .before .before .before .before .before .before .before .before .before .before .before .before .before .before .before .before .before .before .before .before .before .before .before .before .before .before .before .before .before .before .before .pre)) (c .before .before .before .before .before .before .before .before .before .before .before .before .before .before .before .before .before .before .before .before .before .before .before .before .loop-test .taken))
 
 array-set-from-standing : tie.Need-array-set-from-standing Inv-loop2 μ-loop2 Inv-loop μ-loop
-array-set-from-standing c = omega (arith, thread-small _ _ _ _ _ (early-facts _ _ _ _ (c .before .before .before .before .before .before .before .before .before .before .before .before .before .before .before .before .before .before .before .before .before .before .before .before .before .before .before .before .before .before .before .before .pre)) (c .before .before .before .before .before .before .before .before .before .before .before .before .before .before .before .before .before .before .before .before .before .before .before .loop-test .taken))
+array-set-from-standing c = omega (arith, thread-small _ _ _ _ _ (early-facts _ _ _ _ (c .before .before .before .before .before .before .before .before .before .before .before .before .before .before .before .before .before .before .before .before .before .before .before .before .before .before .before .before .before .before .before .before .before .pre)) (c .before .before .before .before .before .before .before .before .before .before .before .before .before .before .before .before .before .before .before .before .before .before .before .before .loop-test .taken))
 
 trace-at-requires : tie.Need-trace-at-requires Inv-loop2 μ-loop2 Inv-loop μ-loop
 trace-at-requires c κs =
-    let g = c .before .before .before .before .before .before .before .before .before .before .before .before .before .before .before .before .before .before .before .before .before .before .before .before .before .loop .inv .0 in
-    let r = (early-facts _ _ _ _ (c .before .before .before .before .before .before .before .before .before .before .before .before .before .before .before .before .before .before .before .before .before .before .before .before .before .before .before .before .before .before .before .before .before .pre)) in
-    (omega (arith, c .before .before .before .before .before .before .before .before .before .before .before .before .before .before .before .before .before .before .before .before .before .before .before .before .loop-test .taken, g .entries-fit, g .long, r .fits), omega (arith, c .before .before .before .before .before .before .before .before .before .before .before .before .before .before .before .before .before .before .before .before .before .before .before .before .loop-test .taken, g .entries-fit, r .short))
+    let g = c .before .before .before .before .before .before .before .before .before .before .before .before .before .before .before .before .before .before .before .before .before .before .before .before .before .before .loop .inv .0 in
+    let r = (early-facts _ _ _ _ (c .before .before .before .before .before .before .before .before .before .before .before .before .before .before .before .before .before .before .before .before .before .before .before .before .before .before .before .before .before .before .before .before .before .before .pre)) in
+    (omega (arith, c .before .before .before .before .before .before .before .before .before .before .before .before .before .before .before .before .before .before .before .before .before .before .before .before .before .loop-test .taken, g .entries-fit, g .long, r .fits), omega (arith, c .before .before .before .before .before .before .before .before .before .before .before .before .before .before .before .before .before .before .before .before .before .before .before .before .before .loop-test .taken, g .entries-fit, r .short))
 
 tell-requires : tie.Need-tell-requires Inv-loop2 μ-loop2 Inv-loop μ-loop
 tell-requires c κs = search needs
 
 add-k : tie.Need-add-k Inv-loop2 μ-loop2 Inv-loop μ-loop
-add-k c = omega (arith, c .before .before .before .before .before .before .before .before .before .before .before .before .before .before .before .before .before .before .before .before .before .before .before .before .before .before .before .before .before .before .before .loop-test .taken, (early-facts _ _ _ _ (c .before .before .before .before .before .before .before .before .before .before .before .before .before .before .before .before .before .before .before .before .before .before .before .before .before .before .before .before .before .before .before .before .before .before .before .before .before .before .before .before .pre)) .short)
+add-k c = omega (arith, c .before .before .before .before .before .before .before .before .before .before .before .before .before .before .before .before .before .before .before .before .before .before .before .before .before .before .before .before .before .before .before .before .loop-test .taken, (early-facts _ _ _ _ (c .before .before .before .before .before .before .before .before .before .before .before .before .before .before .before .before .before .before .before .before .before .before .before .before .before .before .before .before .before .before .before .before .before .before .before .before .before .before .before .before .before .pre)) .short)
 
 loop-less : tie.Need-loop-less Inv-loop2 μ-loop2 Inv-loop μ-loop
-loop-less c = omega (arith, c .before .before .before .before .before .before .before .before .before .before .before .before .before .before .before .before .before .before .before .before .before .before .before .before .before .before .before .before .before .before .before .loop-test .taken)
+loop-less c = omega (arith, c .before .before .before .before .before .before .before .before .before .before .before .before .before .before .before .before .before .before .before .before .before .before .before .before .before .before .before .before .before .before .before .before .loop-test .taken)
 
 loop-again : tie.Need-loop-again Inv-loop2 μ-loop2 Inv-loop μ-loop
 unfolding tree-of
 loop-again c =
-    let l = c .before .before .before .before .before .before .before .before .before .before .before .before .before .before .before .before .before .before .before .before .before .before .before .before .before .before .before .before .before .before .before .before .loop in
-    let test = c .before .before .before .before .before .before .before .before .before .before .before .before .before .before .before .before .before .before .before .before .before .before .before .before .before .before .before .before .before .before .before .loop-test .taken in
-    let look = c .before .before .before .before .before .before .before .before .before .before .before .before .before .before .before .before .before .before .before .before .before .before .before .before .before .before .before .looked-at .ensures in
-    let marks = c .before .before .before .before .before .before .before .before .before .before .before .before .before .before .before .before .before .before .before .before .before .before .before .before .before .before .loop2 .inv in
-    let done = c .before .before .before .before .before .before .before .before .before .before .before .before .before .before .before .before .before .before .before .before .before .before .before .before .before .«loop2-test» .left in
-    let took = c .before .before .before .before .before .before .before .before .before .before .before .take in
-    let tallied = c .before .before .before .before .before .before .before .before .count-in .ensures in
+    let l = c .before .before .before .before .before .before .before .before .before .before .before .before .before .before .before .before .before .before .before .before .before .before .before .before .before .before .before .before .before .before .before .before .before .loop in
+    let test = c .before .before .before .before .before .before .before .before .before .before .before .before .before .before .before .before .before .before .before .before .before .before .before .before .before .before .before .before .before .before .before .before .loop-test .taken in
+    let look = c .before .before .before .before .before .before .before .before .before .before .before .before .before .before .before .before .before .before .before .before .before .before .before .before .before .before .before .before .looked-at .ensures in
+    let marks = c .before .before .before .before .before .before .before .before .before .before .before .before .before .before .before .before .before .before .before .before .before .before .before .before .before .before .before .loop2 .inv in
+    let done = c .before .before .before .before .before .before .before .before .before .before .before .before .before .before .before .before .before .before .before .before .before .before .before .before .before .before .«loop2-test» .left in
+    let took = c .before .before .before .before .before .before .before .before .before .before .before .before .take in
+    let tallied = c .before .before .before .before .before .before .before .before .before .count-in .ensures in
     let traced = c .before .before .before .before .before .before .trace-at .ensures in
     let told = c .before .before .tell .ensures in
-    let w = c .before .before .before .before .before .before .before .before .before .before .before .before .before .before .before .before .before .before .before .before .before .before .before .before .before .before .before .before .before .before .before .before .before .before .before .before .before .before .before .before .args .t1 in
-    let r = early-facts _ _ _ _ (c .before .before .before .before .before .before .before .before .before .before .before .before .before .before .before .before .before .before .before .before .before .before .before .before .before .before .before .before .before .before .before .before .before .before .before .before .before .before .before .before .pre) in
+    let w = c .before .before .before .before .before .before .before .before .before .before .before .before .before .before .before .before .before .before .before .before .before .before .before .before .before .before .before .before .before .before .before .before .before .before .before .before .before .before .before .before .before .args .t1 in
+    let r = early-facts _ _ _ _ (c .before .before .before .before .before .before .before .before .before .before .before .before .before .before .before .before .before .before .before .before .before .before .before .before .before .before .before .before .before .before .before .before .before .before .before .before .before .before .before .before .before .pre) in
     let n = state-in (l .tails) (l .nexts) (l .statuses) (l .ticket) (l .granted) (l .standing) in
     let m = took .result in
     let does = took .ensures .0 .does (l .standing) refl in
     let th = thread-at _ _ (r .threads) _ test in
     let so-far = l .inv .0 in
+    let placed = ⊎-elim (λ w. w .1) (λ w. w .1 ∙ stay-placed _ _ n _ m _ (r .tree) (r .threads) test (so-far .formed) does refl (w .0 .left)) (c .before .before .before .before .before .before .before .before .if1 .came) in
     let counts = step-counted w (r .tree) _ th n (so-far .formed) m _ refl does _ (home-is w (r .tree) _ th) _ _ _ _ _ (took .ensures .1 .1 .0) _ _ (took .ensures .1 .0) (λ z. raise-marked w (r .tree) _ th n (so-far .formed) _ _ _ look (marks .0) done z (marks .1)) in
-    (rw tallied (turn _ _ _ _ _ n _ _ _ m _ _ _ _ (r .tree) (sixteen w) (r .threads) (r .fits) test so-far does refl (traced .0) (traced .1)), told-turn _ _ _ _ _ n _ m _ _ (r .threads) test (so-far .formed) (so-far .state-is) does (l .inv .1) told, tallied-turn _ _ _ _ _ _ n _ test (so-far .state-is) (l .inv .2) counts, marks-cleared w (r .tree) _ _ _ _ _ _ _ _ look (marks .0) (marks .1) (took .ensures .1 .1 .1))
+    (rw tallied (turn _ _ _ _ _ n _ _ _ m _ _ _ _ (r .tree) (sixteen w) (r .threads) (r .fits) test so-far does (rw placed) (traced .0) (traced .1)), told-turn _ _ _ _ _ n _ m _ _ (r .threads) test (so-far .formed) (so-far .state-is) does (l .inv .1) told, tallied-turn _ _ _ _ _ _ n _ test (so-far .state-is) (l .inv .2) counts, marks-cleared w (r .tree) _ _ _ _ _ _ _ _ look (marks .0) (marks .1) (took .ensures .1 .1 .1))
 
 same-length : tie.Need-same-length Inv-loop2 μ-loop2 Inv-loop μ-loop
 same-length c = c .before .loop .inv .0 .long
