@@ -35,7 +35,8 @@ use Rattle.journal.specs.Reading.{position-after, Stretch, Piece-read}
 use Rattle.journal.specs.Answers.{fresh-lock, checked, journal-refusal, replied, journal-answer}
 use Rattle.journal.specs.Laws.{kind-numbers}
 use Rattle.journal.proofs.Stepping.{stretch-threads, stretch-moves, Same-kinds, goes-on, stops-here, stopped-by, ended}
-use Rattle.steps.specs.Running.{step-code, told-front, other-kind-told, fresh-from}
+use Rattle.steps.specs.Running.{step-code, told-front, fresh-from}
+use Rattle.journal.specs.Reading.{other-kind-told}
 use Rattle.steps.proofs.Starting.{fresh-from-zero}
 use Rattle.steps.proofs.ToldStep.{code-kind}
 

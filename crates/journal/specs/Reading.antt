@@ -1,6 +1,6 @@
 -- The journal read by positions, as the reader reads it; proofs/ shows that this is the relation of Entries. Assumes nothing: these are definitions.
 use mathlib.Core.Path.{_≡_}
-use mathlib.Core.Bool.{cond}
+use mathlib.Core.Bool.{Bool, not, cond}
 use mathlib.Core.List.{List, [], _∷_}
 use Prim.Native.Nat.{ℕ, zero, suc, _+_, _-_, _*_, _%_, _/_, _≤_, _<_}
 use lib.Dec.{eqb, ltb}
@@ -61,3 +61,7 @@ pub record Piece-read (known : ℕ) (bytes : List ℕ) (position before : ℕ) (
   pub read : Stretch known bytes position before (take (piece .count) threads) (take (piece .count) kinds) (piece .position) (piece .before)
   pub stops : Stops known bytes (piece .position) (piece .before) (piece .number)
   pub full : piece .number ≡ 0 → piece .position < length bytes → (room : ℕ) → room ≤ length threads → room ≤ length kinds → room ≤ piece .count
+
+-- the kind that an entry names is not the one told of its step: a step's number has its kind in the lowest three bits
+abbrev pub other-kind-told : (kinds told : List ℕ) → (entry : ℕ) → Bool
+other-kind-told ks cs j = not (eqb (getD ks j 0) (getD cs j 0 % 8))

@@ -19,9 +19,9 @@ use Rattle.model.proofs.Laws.Calls.{Good-run, run-facts, early-accepted}
 use Rattle.refusals.specs.declared.Refusal.{Refusal}
 use Rattle.refusals.specs.Counts.{counters-in}
 use Rattle.refusals.specs.Arrays.{threads-in, told, schedule-room-tests}
-use Rattle.schedules.specs.Rows.{alone, row-of}
+use Rattle.schedules.specs.Rows.{alone, row-of, row-numbers}
 use Rattle.schedules.proofs.Alone.{schedule-decides}
-use Rattle.steps.specs.Running.{kinds-of, counts-by, trace-front, row-numbers}
+use Rattle.steps.specs.Running.{kinds-of, counts-by, trace-front}
 use Rattle.steps.proofs.Answering.{run-refuses, run-passes, kinds-few, run-answered}
 
 -- eight stores behind one another

@@ -1,8 +1,8 @@
 -- A run by its steps: what is done, counted and traced. Assumes nothing: these are definitions.
 use mathlib.Core.Path.{_≡_}
-use mathlib.Core.Bool.{Bool, true, _||_, not, cond}
+use mathlib.Core.Bool.{Bool, true, _||_, cond}
 use mathlib.Core.List.{List, [], _∷_, _++_}
-use Prim.Native.Nat.{ℕ, _+_, _*_, _%_, _<_}
+use Prim.Native.Nat.{ℕ, _+_, _*_, _<_}
 use lib.Dec.{eqb, ltb}
 use lib.ListN.{getD, set, length, drop}
 use Rattle.model.specs.declared.PlaceWords.{PlaceWords}
@@ -37,12 +37,6 @@ kinds-of xs =
 -- one step of a kind more
 abbrev pub counted : (kinds : List ℕ) → (kind : ℕ) → List ℕ
 counted ks k = set ks k (getD ks k 0 + 1)
-
--- those of one list of steps and of another behind it
-abbrev pub kinds-added : (kinds more : List ℕ) → List ℕ
-kinds-added a b =
-    (getD a 0 0 + getD b 0 0) ∷ (getD a 1 0 + getD b 1 0) ∷ (getD a 2 0 + getD b 2 0) ∷ (getD a 3 0 + getD b 3 0) ∷ (getD a 4 0 + getD b 4 0)
-    ∷ (getD a 5 0 + getD b 5 0) ∷ []
 
 -- what a run counts, by how many of its steps are of each kind
 abbrev pub counts-by : (kinds : List ℕ) → Counts
@@ -85,10 +79,6 @@ told-front [] xs = []
 told-front (b ∷ bs) [] = b ∷ bs
 told-front (b ∷ bs) (x ∷ xs) = step-code x ∷ told-front bs xs
 
--- the kind that an entry names is not the one told of its step: a step's number has its kind in the lowest three bits
-abbrev pub other-kind-told : (kinds told : List ℕ) → (entry : ℕ) → Bool
-other-kind-told ks cs j = not (eqb (getD ks j 0) (getD cs j 0 % 8))
-
 -- a fresh state by the number at which its counters start
 abbrev pub fresh-from : (first : ℕ) → State
 fresh-from v = with-grant v (with-ticket v fresh-words)
@@ -96,7 +86,3 @@ fresh-from v = with-grant v (with-ticket v fresh-words)
 -- that number, by a refusal's number, the number that names the kind of root, and the start that is given
 abbrev pub first-number : (number kind start : ℕ) → ℕ
 first-number n k v = cond (eqb n 0) (cond (eqb k 0) 0 v) 0
-
--- the numbers of a row, by number, place and counts
-abbrev pub row-numbers : (number place : ℕ) → Counts → List ℕ
-row-numbers n p c = n ∷ p ∷ c .steps ∷ c .entries ∷ c .stays ∷ c .root ∷ c .passed ∷ c .crossed ∷ []

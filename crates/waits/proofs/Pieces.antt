@@ -28,8 +28,8 @@ use Rattle.model.proofs.Laws.Calls.{Good-run, run-facts, run-counted, early-acc
 use Rattle.waits.specs.Rows.{all-rows}
 use Rattle.waits.specs.Tallies.{Tallies, rows-by}
 use Rattle.waits.proofs.Tables.{start, fits, rows-end}
-use Rattle.steps.specs.Running.{kinds-of, kinds-added, counts-by, trace-front, step-code, told-front}
-use Rattle.waits.specs.Waiting.{Counting, Countable, Counted, Small}
+use Rattle.steps.specs.Running.{kinds-of, counts-by, trace-front, step-code, told-front}
+use Rattle.waits.specs.Waiting.{kinds-added, Counting, Countable, Counted, Small}
 use Rattle.steps.proofs.SoFar.{few-kinds, counts-kinds}
 use Rattle.steps.proofs.Turns.{sixteen}
 

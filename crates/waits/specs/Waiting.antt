@@ -1,7 +1,7 @@
 -- Counting attempts after a piece of a run, by what its steps were told to be. Assumes nothing: these are definitions.
 use mathlib.Core.Path.{_≡_}
 use mathlib.Core.Bool.{Bool, not, _&&_}
-use mathlib.Core.List.{List, _++_}
+use mathlib.Core.List.{List, [], _∷_, _++_}
 use Prim.Native.Nat.{ℕ, _+_, _≤_, _<_}
 use lib.Dec.{eqb}
 use lib.ListN.{length, getD, take}
@@ -53,3 +53,9 @@ pub record Counted (t : Tree) (schedule told marks attempts totals longest : Lis
 -- the numbers of a table are at most 65,536
 pub record Small (table : List ℕ) : Type 0 where
   pub small : (i : ℕ) → i < 256 → getD table i 0 ≤ 65536
+
+-- those of one list of steps and of another behind it
+abbrev pub kinds-added : (kinds more : List ℕ) → List ℕ
+kinds-added a b =
+    (getD a 0 0 + getD b 0 0) ∷ (getD a 1 0 + getD b 1 0) ∷ (getD a 2 0 + getD b 2 0) ∷ (getD a 3 0 + getD b 3 0) ∷ (getD a 4 0 + getD b 4 0)
+    ∷ (getD a 5 0 + getD b 5 0) ∷ []

@@ -11,8 +11,8 @@ ghost use Rattle.model.specs.Refusals.{run-refusal};
 ghost use Rattle.refusals.specs.Counts.{counters-in};
 ghost use Rattle.waits.specs.Rows.{row-with, all-rows};
 ghost use Rattle.waits.specs.Tallies.{begins-number, mark-with, finishes, wait-of, noted, rows-by};
-ghost use Rattle.steps.specs.Running.{kinds-of, kinds-added, counts-by, trace-front};
-ghost use Rattle.waits.specs.Waiting.{ticket-home, mark-at, Fits, Countable, Counted, Small};
+ghost use Rattle.steps.specs.Running.{kinds-of, counts-by, trace-front};
+ghost use Rattle.waits.specs.Waiting.{kinds-added, ticket-home, mark-at, Fits, Countable, Counted, Small};
 use model::State;
 use model::TreeWords;
 

@@ -5,7 +5,7 @@ use Prim.Native.Nat.{ℕ, _≤_, _<_, _-_}
 use native.Mathlib.Omega.{arith}
 use borrow.Author.Tests.{eq-eqb, ne-eqb}
 use Rattle.refusals.proofs.Scanning.{one-more}
-use Rattle.steps.specs.Running.{other-kind-told}
+use Rattle.journal.specs.Reading.{other-kind-told}
 use borrow.Author.Needs.{needs}
 use Rattle.journal.proofs.journals.first_difference.Statement.{statement}
 use Rattle.journal.proofs.journals.first_difference.Tie as tie
