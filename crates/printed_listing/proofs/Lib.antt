@@ -3,4 +3,5 @@ pub mod Numerals
 pub mod Writing
 pub mod Printing
 pub mod NumeralLaw
+pub mod OneNumeral
 pub mod Lengths

@@ -13,7 +13,7 @@ use Rattle.printed_listing.specs.Listing.{digit, numeral}
 use Rattle.printed_listing.specs.ListingLaws.{value-from, Decimal, Numeral-law}
 use Rattle.printed_listing.proofs.Numerals.{numeral-small, numeral-large}
 
-value-last : (v : ℕ) (xs : List ℕ) (b : ℕ) → value-from v (xs ++ (b ∷ [])) ≡ 10 * value-from v xs + (b - 48)
+pub value-last : (v : ℕ) (xs : List ℕ) (b : ℕ) → value-from v (xs ++ (b ∷ [])) ≡ 10 * value-from v xs + (b - 48)
 unfolding value-from
 value-last v [] b = refl
 value-last v (x ∷ xs) b = value-last (10 * v + (x - 48)) xs b

@@ -22,6 +22,10 @@ pub record Decimal (v : ℕ) (bytes : List ℕ) : Type 0 where
 unfoldable pub Numeral-law : Type 0
 Numeral-law = (v : ℕ) → Decimal v (numeral v)
 
+-- and of a value above 0 no other bytes are so
+unfoldable pub One-numeral-law : Type 0
+One-numeral-law = (v : ℕ) (bytes : List ℕ) → v ≢ 0 → Decimal v bytes → bytes ≡ numeral v
+
 -- counts of at most five digits
 pub record Five-digits (c : Counts) : Type 0 where
   pub steps : c .steps < 100000
