@@ -1,13 +1,14 @@
 -- Cases of the file call, in one list: the printed example, 4 and 5, 9, 16, 12 and 14 at their places. Assumes nothing: these are definitions.
 use mathlib.Core.Bool.{Bool, _&&_}
 use mathlib.Core.List.{List, [], _∷_, _++_}
-use Prim.Native.Nat.{ℕ}
+use Prim.Native.Nat.{ℕ, _+_, _*_}
 use lib.Dec.{eqb}
 use lib.ListN.{replicate}
 use Rattle.lock_file.specs.Cases.{same, pairs, example, plain}
 use Rattle.file_call.specs.declared.FileReply.{FileReply}
 use Rattle.printed_listing.specs.Cases.{example-listing}
 use Rattle.file_call.specs.FileAnswers.{file-answer, output-answer}
+use Rattle.file_call.specs.FileLaws.{listing-room}
 
 abbrev pub replies : (number place length : ℕ) → FileReply → Bool
 replies n p l r = eqb (r .number) n && eqb (r .place) p && eqb (r .length) l
@@ -40,4 +41,6 @@ cases =
     -- a leaf without threads, also where a schedule entry is no thread
     ∷ replies 16 2 0 (file-answer (3 ∷ 0 ∷ 0 ∷ 1 ∷ 0 ∷ 1 ∷ 1 ∷ 9 ∷ 0 ∷ []) [])
     -- an empty schedule's listing "ok 0 0 0 0 0 0"
-    ∷ same (output-answer (1 ∷ 1 ∷ 0 ∷ 0 ∷ []) (replicate 15 0)) (111 ∷ 107 ∷ 32 ∷ 48 ∷ 32 ∷ 48 ∷ 32 ∷ 48 ∷ 32 ∷ 48 ∷ 32 ∷ 48 ∷ 32 ∷ 48 ∷ 10 ∷ []) ∷ []
+    ∷ same (output-answer (1 ∷ 1 ∷ 0 ∷ 0 ∷ []) (replicate 15 0)) (111 ∷ 107 ∷ 32 ∷ 48 ∷ 32 ∷ 48 ∷ 32 ∷ 48 ∷ 32 ∷ 48 ∷ 32 ∷ 48 ∷ 32 ∷ 48 ∷ 10 ∷ [])
+    -- the room that always suffices, which hmcs.h names: 39 bytes for the first line and 4 for each of 32,768 entries
+    ∷ eqb listing-room (39 + 4 * 32768) ∷ []
