@@ -4,11 +4,10 @@ ghost use Prim.Native.Nat.{_+_, _*_, _≤_};
 ghost use lib.ListN.{length};
 ghost use lib.Seq.{sets};
 ghost use Rattle.model.specs.Trees.{tree-of};
-ghost use Rattle.model.specs.States.{fresh-words};
 ghost use Rattle.model.specs.Refusals.{tree-refusal};
 ghost use Rattle.schedules.specs.Rows.{total, cut, alone, row-of, row-numbers, all-rows};
 use model::Counts;
-use model::State;
+use model::PlaceWords;
 use model::TreeWords;
 
 fn wide(x: u32) -> usize
@@ -33,16 +32,8 @@ fn put_row(rows: &mut [u32], at: usize, number: u32, place: u32, counts: Counts)
 }
 
 // The row of one schedule, run from a fresh lock. The tree and the fresh words pass their tests, so the schedule alone is tested; neither the state after it nor the trace is kept.
-fn run_row(
-    tree: TreeWords,
-    fresh: State,
-    schedule: &[u16],
-    trace: &mut [u16],
-    rows: &mut [u32],
-    at: usize,
-)
+fn run_row(tree: TreeWords, schedule: &[u16], trace: &mut [u16], rows: &mut [u32], at: usize)
     requires { ⌜ tree-refusal (tree-of tree) .number ≡ 0 ⌝ }
-    requires { ⌜ fresh ≡ fresh-words ⌝ }
     requires { ⌜ length (now trace) ≡ 65536 ⌝ }
     requires { ⌜ at + 8 ≤ length (now rows) ⌝ }
     ensures { λ r. ⌜ now (rows .exit) ≡ sets (now (rows .entry)) at (row-of (alone tree (now (schedule .entry)))) ⌝ }
@@ -57,9 +48,26 @@ fn run_row(
     let mut entries = [0u64; 64];
     let mut tenures = [0u64; 64];
     let mut longest = [0u64; 64];
-    let after = steps::run::run_steps(
+    let mut tails = [0u16; 64];
+    let mut nexts = [0u16; 320];
+    let mut statuses = [0u64; 320];
+    let idle = PlaceWords {
+        row: 0,
+        domain: 0,
+        peer: 0,
+        word: 0,
+    };
+    let places = [idle; 256];
+    let mut ticket: u16 = 0;
+    let mut granted: u16 = 0;
+    let after = steps::run::run_lent(
         tree,
-        fresh,
+        &mut tails,
+        &mut nexts,
+        &mut statuses,
+        places,
+        &mut ticket,
+        &mut granted,
         schedule,
         trace,
         &mut kinds,
@@ -71,7 +79,7 @@ fn run_row(
     put_row(rows, at, 0, 0, steps::run::counts_of(&kinds));
 }
 
-// The rows of all schedules, one behind another, with one lent trace buffer and one fresh state for all of them: each run copies it.
+// The rows of all schedules, one behind another, with one lent trace buffer for all of them.
 pub(crate) fn run_rows(
     tree: TreeWords,
     lengths: &[u32],
@@ -85,13 +93,12 @@ pub(crate) fn run_rows(
     requires { ⌜ length (now trace) ≡ 65536 ⌝ }
     ensures { λ r. ⌜ now (rows .exit) ≡ sets (now (rows .entry)) 0 (all-rows tree (cut (now (lengths .entry)) (now (entries .entry)))) ⌝ }
 {
-    let fresh = steps::fresh_state(0);
     let mut k: usize = 0;
     let mut from: usize = 0;
     let mut at: usize = 0;
     while k < lengths.len() {
         let end = from + wide(lengths[k]);
-        run_row(tree, fresh, &entries[from..end], trace, rows, at);
+        run_row(tree, &entries[from..end], trace, rows, at);
         from = end;
         at += 8;
         k += 1;

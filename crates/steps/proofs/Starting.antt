@@ -3,7 +3,14 @@ use mathlib.Core.Path.{_≡_, refl, sym, ap, _∙_}
 use mathlib.Core.Bool.{Bool, true, false, not, cond}
 use Prim.Native.Nat.{ℕ, _%_, _<_}
 use native.Mathlib.Nat.{mod-eq-of-lt}
+use native.Mathlib.Omega.{arith}
 use lib.Dec.{eqb}
+use lib.ListN.{replicate, length-replicate}
+use Rattle.model.specs.declared.PlaceWords.{PlaceWords}
+use Rattle.model.specs.Places.{place-words}
+use Rattle.model.specs.Laws.{Typed}
+use Rattle.model.proofs.Laws.Form.{replicate-all}
+use Rattle.steps.specs.Rows.{state-in}
 use Rattle.model.specs.declared.TreeWords.{TreeWords}
 use Rattle.model.specs.Trees.{tree-of}
 use Rattle.model.specs.States.{wrap, fresh-words, fresh-state}
@@ -26,3 +33,21 @@ fresh-is w n v h = ap fresh-from (first-is n (w .«ticket_root») v h)
 pub fresh-from-zero : fresh-from 0 ≡ fresh-words
 unfolding fresh-words
 fresh-from-zero = refl
+
+-- arrays of zeros and idle places are the fresh words, and fit their types
+pub zeros-fresh : state-in (replicate 64 0) (replicate 320 0) (replicate 320 0) 0 0 (replicate 256 (place-words 0 0 0 0)) ≡ fresh-words
+unfolding fresh-words
+zeros-fresh = refl
+
+pub zeros-typed : Typed (state-in (replicate 64 0) (replicate 320 0) (replicate 320 0) 0 0 (replicate 256 (place-words 0 0 0 0)))
+zeros-typed =
+    record {
+      tails-room = length-replicate {A = ℕ} 64 0;
+      nexts-room = length-replicate {A = ℕ} 320 0;
+      statuses-room = length-replicate {A = ℕ} 320 0;
+      places-room = length-replicate {A = PlaceWords} 256 (place-words 0 0 0 0);
+      statuses-fit = λ k. replicate-all (λ (x : ℕ). x < 18446744073709551616) 320 k 0 (omega arith);
+      ticket-fits = omega arith;
+      grant-fits = omega arith;
+      words-fit = λ k. replicate-all (λ (q : PlaceWords). q .word < 18446744073709551616) 256 k (place-words 0 0 0 0) (omega arith);
+    }

@@ -8,12 +8,14 @@ ghost use Rattle.model.specs.Counters.{lock-state, counters-after};
 ghost use Rattle.model.specs.Refusals.{first-refusal, run-tests-before-19};
 ghost use Rattle.refusals.specs.Counts.{counters-in};
 ghost use Rattle.model.specs.Runs.{steps, run};
-ghost use Rattle.steps.specs.Rows.{row-domain};
+ghost use Rattle.model.specs.Laws.{Typed};
+ghost use Rattle.steps.specs.Rows.{row-domain, state-in};
 ghost use Rattle.steps.specs.Running.{kinds-of, counted, counts-by, is-entry-number, traced-at, trace-front, code-of, told-at, told-front};
 use crate::counting;
 use crate::places;
 use crate::taking;
 use model::Counts;
+use model::PlaceWords;
 use model::State;
 use model::TreeWords;
 
@@ -100,7 +102,104 @@ pub fn domain_told(home: u8, code: u16) -> u32
     (code / 128) as u32
 }
 
-// The steps of a schedule, stored one after another into one state, which is copied at the start and at the end alone: its arrays stand by themselves, so that a row writes what it stores into them. How many of them are of each kind, what each of the first was, as many as there is room for, and the counters of the domains are written where the caller lends room, so that the state alone is returned.
+// The places of all threads, as a run leaves them.
+pub struct Places {
+    pub places: [PlaceWords; 256],
+}
+
+// The steps of a schedule, stored one after another into the arrays that are lent; the places alone, which cannot be lent, are taken and returned. How many steps are of each kind, what each of the first was, as many as there is room for, and the counters of the domains are written where the caller lends room.
+pub fn run_lent(
+    tree: TreeWords,
+    tails: &mut [u16; 64],
+    nexts: &mut [u16; 320],
+    statuses: &mut [u64; 320],
+    places: [PlaceWords; 256],
+    ticket: &mut u16,
+    granted: &mut u16,
+    schedule: &[u16],
+    trace: &mut [u16],
+    kinds: &mut [u32; 6],
+    told: &mut [u16],
+    entries: &mut [u64; 64],
+    tenures: &mut [u64; 64],
+    longest: &mut [u64; 64],
+) -> Places
+    requires { ⌜ Typed (state-in (now tails) (now nexts) (now statuses) (now ticket) (now granted) places) ⌝ }
+    requires { ⌜ first-refusal (run-tests-before-19 (tree-of tree) (lock-state (state-in (now tails) (now nexts) (now statuses) (now ticket) (now granted) places) (counters-in (now entries) (now tenures) (now longest))) (now schedule) (length (now trace))) .number ≡ 0 ⌝ }
+    ensures { λ r. ⌜ state-in (now (tails .exit)) (now (nexts .exit)) (now (statuses .exit)) (now (ticket .exit)) (now (granted .exit)) (r .places) ≡ run (tree-of tree) (now (schedule .entry)) (state-in (now (tails .entry)) (now (nexts .entry)) (now (statuses .entry)) (now (ticket .entry)) (now (granted .entry)) places) .state ⌝ }
+    ensures { λ r. ⌜ now (trace .exit) ≡ trace-front (now (trace .entry)) (run (tree-of tree) (now (schedule .entry)) (state-in (now (tails .entry)) (now (nexts .entry)) (now (statuses .entry)) (now (ticket .entry)) (now (granted .entry)) places)) ⌝ }
+    ensures { λ r. ⌜ now (kinds .exit) ≡ kinds-of (steps (tree-of tree) (now (schedule .entry)) (state-in (now (tails .entry)) (now (nexts .entry)) (now (statuses .entry)) (now (ticket .entry)) (now (granted .entry)) places)) ⌝ }
+    ensures { λ r. ⌜ now (told .exit) ≡ told-front (now (told .entry)) (steps (tree-of tree) (now (schedule .entry)) (state-in (now (tails .entry)) (now (nexts .entry)) (now (statuses .entry)) (now (ticket .entry)) (now (granted .entry)) places)) ⌝ }
+    ensures { λ r. ⌜ counters-in (now (entries .exit)) (now (tenures .exit)) (now (longest .exit)) ≡ counters-after (tree-of tree) (counters-in (now (entries .entry)) (now (tenures .entry)) (now (longest .entry))) (steps (tree-of tree) (now (schedule .entry)) (state-in (now (tails .entry)) (now (nexts .entry)) (now (statuses .entry)) (now (ticket .entry)) (now (granted .entry)) places)) ⌝ }
+{
+    let mut standing = places;
+    let mut drawn = *ticket;
+    let mut raised = *granted;
+    let mut tally = [0u32; 6];
+    let mut shown = [false; 64];
+    let mut entered: u32 = 0;
+    let mut k: u32 = 0;
+    while (k as usize) < schedule.len() {
+        let position = k as usize;
+        let i = schedule[position];
+        let at = i as usize;
+        let before = standing[at];
+        let row = before.row;
+        let domain = before.domain;
+        let looked = counting::looked_at(row, statuses, tree.domains, raised, tree.threads);
+        let mut j: u32 = 0;
+        while j < looked {
+            let other = j as usize;
+            let q = standing[other];
+            let its_home = tree.homes[other];
+            counting::mark_shown(
+                &tree.parents,
+                tree.domains,
+                its_home,
+                statuses,
+                q,
+                raised,
+                &mut shown,
+            );
+            j += 1;
+        }
+        let m = taking::take(
+            &tree.parents,
+            &tree.thresholds,
+            &tree.homes,
+            tree.domains,
+            tree.threads,
+            tree.ticket_root,
+            i,
+            before,
+            looked,
+            tails,
+            nexts,
+            statuses,
+            &mut drawn,
+            &mut raised,
+            &mut shown,
+            entries,
+            tenures,
+            longest,
+        );
+        let kind = m.kind;
+        let place = m.place;
+        count_in(&mut tally, kind);
+        if kind != model::STAY {
+            standing[at] = place;
+        }
+        entered = trace_at(trace, entered, kind, i);
+        tell(told, position, kind, row, domain);
+        k += 1;
+    }
+    *kinds = tally;
+    *ticket = drawn;
+    *granted = raised;
+    Places { places: standing }
+}
+
+// The steps of a schedule on a state: it is taken apart, so that its arrays can be lent, and put together again. How many of them are of each kind, what each of the first was, as many as there is room for, and the counters of the domains are written where the caller lends room.
 pub fn run_steps(
     tree: TreeWords,
     state: State,
@@ -122,74 +221,32 @@ pub fn run_steps(
     let mut tails = state.tails;
     let mut nexts = state.nexts;
     let mut statuses = state.statuses;
-    let mut standing = state.places;
     let mut ticket = state.ticket;
-    let mut granted = state.grant;
-    let mut tally = [0u32; 6];
-    let mut shown = [false; 64];
-    let mut entered: u32 = 0;
-    let mut k: u32 = 0;
-    while (k as usize) < schedule.len() {
-        let position = k as usize;
-        let i = schedule[position];
-        let at = i as usize;
-        let before = standing[at];
-        let row = before.row;
-        let domain = before.domain;
-        let looked = counting::looked_at(row, &statuses, tree.domains, granted, tree.threads);
-        let mut j: u32 = 0;
-        while j < looked {
-            let other = j as usize;
-            let q = standing[other];
-            let its_home = tree.homes[other];
-            counting::mark_shown(
-                &tree.parents,
-                tree.domains,
-                its_home,
-                &statuses,
-                q,
-                granted,
-                &mut shown,
-            );
-            j += 1;
-        }
-        let m = taking::take(
-            &tree.parents,
-            &tree.thresholds,
-            &tree.homes,
-            tree.domains,
-            tree.threads,
-            tree.ticket_root,
-            i,
-            before,
-            looked,
-            &mut tails,
-            &mut nexts,
-            &mut statuses,
-            &mut ticket,
-            &mut granted,
-            &mut shown,
-            entries,
-            tenures,
-            longest,
-        );
-        let kind = m.kind;
-        let place = m.place;
-        count_in(&mut tally, kind);
-        if kind != model::STAY {
-            standing[at] = place;
-        }
-        entered = trace_at(trace, entered, kind, i);
-        tell(told, position, kind, row, domain);
-        k += 1;
-    }
-    *kinds = tally;
+    let mut grant = state.grant;
+    let standing = state.places;
+    let after = run_lent(
+        tree,
+        &mut tails,
+        &mut nexts,
+        &mut statuses,
+        standing,
+        &mut ticket,
+        &mut grant,
+        schedule,
+        trace,
+        kinds,
+        told,
+        entries,
+        tenures,
+        longest,
+    );
+    let places = after.places;
     State {
         tails,
         nexts,
         statuses,
-        places: standing,
+        places,
         ticket,
-        grant: granted,
+        grant,
     }
 }

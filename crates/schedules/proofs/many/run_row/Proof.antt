@@ -1,7 +1,8 @@
--- `schedules::many::run_row` meets its contract. Assumes nothing.
+-- `schedules::many::run_row` runs one schedule from fresh arrays, and writes its row. Assumes nothing.
 use mathlib.Core.Path.{_≡_, ap, _∙_}
 use native.Mathlib.Omega.{arith}
 use lib.Seq.{sets}
+use Rattle.steps.proofs.Starting.{zeros-fresh, zeros-typed}
 use Rattle.schedules.proofs.FreshRow.{row-refuses, steps-pass, kinds-of-row, row-answered}
 use borrow.Author.Needs.{needs}
 use Rattle.schedules.proofs.many.run_row.Statement.{statement}
@@ -22,31 +23,29 @@ same-length c = search needs
 returns : tie.Need-returns
 returns c =
     let counted = c .before .before .before in
-    let refused = counted .before .before .before in
-    let start = refused .before .before .before .before .before .before in
-    c .before .before .put-row .ensures
-    ∙ ap (sets (start .args .rows .now) (start .args .at))
-    (row-refuses (start .args .tree) (start .pre .0) (start .args .schedule .now) _ (refused .before .before .schedule-refusal-of .ensures) _ (refused .if1 .taken) (counted .counts-of .ensures))
+    let refused = c .before .before .before .before .before .before in
+    let start = c .before .before .before .before .before .before .before .before .before .before .before .before in
+    c .before .before .put-row .ensures ∙ ap (sets (start .args .rows .now) (start .args .at)) (row-refuses (start .args .tree) (start .pre .0) (start .args .schedule .now) _ (c .before .before .before .before .before .before .before .before .schedule-refusal-of .ensures) _ (refused .if1 .taken) (counted .counts-of .ensures))
 
-slice-aggregate-run-steps : tie.Need-slice-aggregate-run-steps
-slice-aggregate-run-steps c = search needs
+slice-aggregate-run-lent : tie.Need-slice-aggregate-run-lent
+slice-aggregate-run-lent c = search needs
 
-run-steps-requires : tie.Need-run-steps-requires
-run-steps-requires c κs =
-    let passed = c .before .before .before .before .before .before in
-    let start = passed .before .before .before .before .before .before in
-    steps-pass (start .args .tree) (start .pre .0) (start .args .schedule .now) _ (passed .before .before .schedule-refusal-of .ensures) (passed .if1 .left) _ (start .pre .1 .0) _ (omega (arith, start .pre .1 .1))
+run-lent-requires : tie.Need-run-lent-requires
+run-lent-requires c κs =
+    let passed = c .before .before .before .before .before .before .before .before .before .before .before in
+    let start = c .before .before .before .before .before .before .before .before .before .before .before .before .before .before .before .before .before in
+    (zeros-typed, steps-pass (start .args .tree) (start .pre .0) (start .args .schedule .now) _ (c .before .before .before .before .before .before .before .before .before .before .before .before .before .schedule-refusal-of .ensures) (passed .if1 .left) _ zeros-fresh _ (omega (arith, start .pre .1 .0)))
 
 counts-of-requires-2 : tie.Need-counts-of-requires-2
 counts-of-requires-2 c κs =
     let ran = c .before .before .before .before .before in
-    let passed = ran .before .before .before .before .before .before .before in
-    let start = passed .before .before .before .before .before .before in
-    kinds-of-row (start .args .tree) (start .pre .0) (start .args .schedule .now) _ (passed .before .before .schedule-refusal-of .ensures) (passed .if1 .left) _ (start .pre .1 .0) _ (ran .run-steps .ensures .1 .1 .0)
+    let passed = c .before .before .before .before .before .before .before .before .before .before .before .before .before .before .before .before .before in
+    let start = c .before .before .before .before .before .before .before .before .before .before .before .before .before .before .before .before .before .before .before .before .before .before .before in
+    kinds-of-row (start .args .tree) (start .pre .0) (start .args .schedule .now) _ (c .before .before .before .before .before .before .before .before .before .before .before .before .before .before .before .before .before .before .before .schedule-refusal-of .ensures) (passed .if1 .left) _ zeros-fresh _ (ran .run-lent .ensures .1 .1 .0)
 
 put-row-requires-2 : tie.Need-put-row-requires-2
 put-row-requires-2 c κs =
-    let start = c .before .before .before .before .before .before .before .before .before .before .before .before .before .before .before .before .before .before .before in
+    let start = c .before .before .before .before .before .before .before .before .before .before .before .before .before .before .before .before .before .before .before .before .before .before .before .before in
     omega (arith, start .pre .1 .1)
 
 same-length-2 : tie.Need-same-length-2
@@ -58,12 +57,10 @@ same-length-3 c = search needs
 returns-2 : tie.Need-returns-2
 returns-2 c =
     let counted = c .before .before .before in
-    let ran = counted .before .before .before .before .before .before in
-    let passed = ran .before .before .before .before .before .before .before in
-    let start = passed .before .before .before .before .before .before in
-    c .before .before .put-row2 .ensures
-    ∙ ap (sets (start .args .rows .now) (start .args .at))
-    (row-answered (start .args .tree) (start .pre .0) (start .args .schedule .now) _ (passed .before .before .schedule-refusal-of .ensures) (passed .if1 .left) _ (start .pre .1 .0) _ (ran .run-steps .ensures .1 .1 .0) _ (counted .counts-of2 .ensures))
+    let ran = c .before .before .before .before .before .before .before .before .before in
+    let passed = c .before .before .before .before .before .before .before .before .before .before .before .before .before .before .before .before .before .before .before .before .before in
+    let start = c .before .before .before .before .before .before .before .before .before .before .before .before .before .before .before .before .before .before .before .before .before .before .before .before .before .before .before in
+    c .before .before .put-row2 .ensures ∙ ap (sets (start .args .rows .now) (start .args .at)) (row-answered (start .args .tree) (start .pre .0) (start .args .schedule .now) _ (c .before .before .before .before .before .before .before .before .before .before .before .before .before .before .before .before .before .before .before .before .before .before .before .schedule-refusal-of .ensures) (passed .if1 .left) _ zeros-fresh _ (ran .run-lent .ensures .1 .1 .0) _ (counted .counts-of2 .ensures))
 
 pub run-row-spec : {M : Type 1} → statement M
 run-row-spec =
@@ -74,8 +71,8 @@ run-row-spec =
     put-row-requires
     same-length
     returns
-    slice-aggregate-run-steps
-    run-steps-requires
+    slice-aggregate-run-lent
+    run-lent-requires
     counts-of-requires-2
     put-row-requires-2
     same-length-2

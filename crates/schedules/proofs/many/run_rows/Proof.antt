@@ -3,23 +3,19 @@ use mathlib.Core.Path.{_≡_, refl, sym, ap, _∙_}
 use Prim.Native.Nat.{_+_, _-_, _≤_}
 use native.Mathlib.Omega.{arith}
 use lib.ListN.{length, take, drop, getD}
-use Rattle.steps.proofs.Starting.{fresh-from-zero}
 use Rattle.schedules.proofs.Storing.{So-far, start, next-fits, turn, ends}
 use borrow.Author.Needs.{needs}
 use Rattle.schedules.proofs.many.run_rows.Statement.{statement}
 use Rattle.schedules.proofs.many.run_rows.Tie as tie
 
 abbrev Inv-loop : tie.InvT-loop
-Inv-loop tree lengths entries trace₀ rows₀ fresh k₀ from₀ at₀ trace rows k from at = So-far tree lengths entries rows₀ rows k from at × (length trace ≡ length trace₀)
+Inv-loop tree lengths entries trace₀ rows₀ k₀ from₀ at₀ trace rows k from at = So-far tree lengths entries rows₀ rows k from at × (length trace ≡ length trace₀)
 
 abbrev μ-loop : tie.MeasureT-loop
-μ-loop tree lengths entries trace₀ rows₀ fresh k₀ from₀ at₀ trace rows k from at = length lengths - k
-
-fresh-state-requires : tie.Need-fresh-state-requires Inv-loop μ-loop
-fresh-state-requires c κs = search needs
+μ-loop tree lengths entries trace₀ rows₀ k₀ from₀ at₀ trace rows k from at = length lengths - k
 
 loop-holds : tie.Need-loop-holds Inv-loop μ-loop
-loop-holds c = (start _ _ _ _ (c .before .before .before .before .before .pre .1 .0), refl)
+loop-holds c = (start _ _ _ _ (c .before .before .before .before .pre .1 .0), refl)
 
 mul-wide : tie.Need-mul-wide Inv-loop μ-loop
 mul-wide c = omega arith
@@ -48,21 +44,18 @@ part-run-row-end c = let h = next-fits _ _ _ _ _ _ _ _ (c .before .before .befor
 run-row-requires : tie.Need-run-row-requires Inv-loop μ-loop
 run-row-requires c κs =
     let l = c .before .before .before .before .before .before in
-    let begin = l .before .before .before .before .before .before in (
+    let begin = l .before .before .before .before .before in (
       begin .pre .0,
       (
-        l .before .fresh-state .ensures ∙ fresh-from-zero,
-        (
-          omega (arith, l .loop .inv .1, begin .pre .1),
-          omega (arith, l .loop .inv .0 .row-place, l .loop .inv .0 .long, c .before .before .before .before .before .loop-test .taken, begin .pre .1),
-        ),
+        omega (arith, l .loop .inv .1, begin .pre .1),
+        omega (arith, l .loop .inv .0 .row-place, l .loop .inv .0 .long, c .before .before .before .before .before .loop-test .taken, begin .pre .1),
       ),
     )
 
 add-at : tie.Need-add-at Inv-loop μ-loop
 add-at c =
     let l = c .before .before .before .before .before .before .before .before .before .before .before in
-    omega (arith, l .loop .inv .0 .row-place, c .before .before .before .before .before .before .before .before .before .before .loop-test .taken, l .before .before .before .before .before .before .pre .1)
+    omega (arith, l .loop .inv .0 .row-place, c .before .before .before .before .before .before .before .before .before .before .loop-test .taken, l .before .before .before .before .before .pre .1)
 
 add-k : tie.Need-add-k Inv-loop μ-loop
 add-k c = omega arith
@@ -75,11 +68,11 @@ loop-again c =
     let ran = c .before .before .before .before in
     let read = ran .before .before .before .before in
     let l = read .before .before .before in
-    let begin = l .before .before .before .before .before .before in
+    let begin = l .before .before .before .before .before in
     let n : read .wide .result ≡ getD (begin .args .lengths .now) (l .loop .k) 0 = read .wide .ensures in
     let part : l .loop .from + read .wide .result - l .loop .from ≡ getD (begin .args .lengths .now) (l .loop .k) 0 = omega arith in (
       rw n (turn _ _ _ _ _ _ _ _ (l .loop .inv .0) (read .before .before .loop-test .taken) _ _ (ap (λ m. take m (drop (l .loop .from) (begin .args .entries .now))) part) (ran .run-row .ensures)),
-      ran .run-row .kept .1 .1 .1 .0 ∙ l .loop .inv .1,
+      ran .run-row .kept .1 .1 .0 ∙ l .loop .inv .1,
     )
 
 same-length : tie.Need-same-length Inv-loop μ-loop
@@ -97,7 +90,6 @@ run-rows-spec =
     (tie.spec
     Inv-loop
     μ-loop
-    fresh-state-requires
     loop-holds
     mul-wide
     shared-slice-read-wide

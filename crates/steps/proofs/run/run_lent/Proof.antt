@@ -1,0 +1,217 @@
+-- `steps::run::run_lent` takes the steps of a schedule: the entries done so far have given the state, the trace, how many steps are of each kind and the counters of the domains. Assumes nothing.
+use mathlib.Core.Path.{_≡_, refl, sym, ap, _∙_}
+use mathlib.Core.Logic.{⊎-elim}
+use Prim.Native.Nat.{_+_, _-_, _≤_}
+use native.Mathlib.Omega.{arith}
+use lib.ListN.{length, getD}
+use Rattle.model.specs.Trees.{tree-of}
+use Rattle.model.specs.States.{wrap}
+use Rattle.model.proofs.Laws.Calls.{early-facts}
+use Rattle.refusals.specs.Counts.{counters-in}
+use Rattle.refusals.proofs.Passing.{shape-of}
+use Rattle.steps.specs.Rows.{state-in}
+use Rattle.steps.specs.Counting.{Marked, Clear}
+use Rattle.steps.proofs.SoFar.{So-far, start, kind-room, stay-placed, turn, state-ends, trace-ends, kinds-end, thread-at}
+use Rattle.steps.proofs.Telling.{Told, told-start, told-turn, told-ends}
+use Rattle.steps.proofs.Tallying.{Tallied, tallied-start, tallied-turn, tallied-ends}
+use Rattle.steps.proofs.Turns.{sixteen, thread-small, ready}
+use Rattle.steps.proofs.Shown.{clear-none}
+use Rattle.steps.proofs.StepCounts.{step-counted}
+use Rattle.steps.proofs.Looking.{entries-room, tenures-room, home-small, marked-start, marked-next, marks-cleared, shown-for, looked-real, home-is, raise-marked}
+use borrow.Author.Needs.{needs}
+use Rattle.steps.proofs.run.run_lent.Statement.{statement}
+use Rattle.steps.proofs.run.run_lent.Tie as tie
+
+abbrev Inv-loop2 : tie.InvT-loop2
+Inv-loop2 tails nexts statuses ticket granted schedule trace kinds told entries tenures longest tree standing drawn raised tally shown₀ entered k position i at before row domain looked j₀ shown j = (j ≤ looked) × Marked (tree .domains) (tree .parents) (tree .homes) statuses standing (wrap (raised + 1)) j shown
+
+abbrev μ-loop2 : tie.MeasureT-loop2
+μ-loop2 tails nexts statuses ticket granted schedule trace kinds told entries tenures longest tree standing drawn raised tally shown₀ entered k position i at before row domain looked j₀ shown j = looked - j
+
+abbrev Inv-loop : tie.InvT-loop
+Inv-loop tails₀ nexts₀ statuses₀ ticket granted schedule trace₀ kinds told₀ entries₀ tenures₀ longest₀ tree standing₀ drawn₀ raised₀ tally₀ shown₀ entered₀ k₀ tails nexts statuses trace told entries tenures longest standing drawn raised tally shown entered k =
+    So-far (tree-of tree) schedule trace₀ (state-in tails₀ nexts₀ statuses₀ drawn₀ raised₀ standing₀) trace (state-in tails nexts statuses drawn raised standing) tally entered k
+    × Told (tree-of tree) schedule (state-in tails₀ nexts₀ statuses₀ drawn₀ raised₀ standing₀) told₀ told k
+    × Tallied (tree-of tree) schedule (state-in tails₀ nexts₀ statuses₀ drawn₀ raised₀ standing₀) (counters-in entries₀ tenures₀ longest₀) (counters-in entries tenures longest) k
+    × Clear shown
+
+abbrev μ-loop : tie.MeasureT-loop
+μ-loop tails₀ nexts₀ statuses₀ ticket granted schedule trace₀ kinds told₀ entries₀ tenures₀ longest₀ tree standing₀ drawn₀ raised₀ tally₀ shown₀ entered₀ k₀ tails nexts statuses trace told entries tenures longest standing drawn raised tally shown entered k = length schedule - k
+
+loop-holds : tie.Need-loop-holds Inv-loop2 μ-loop2 Inv-loop μ-loop
+loop-holds c = (start _ _ _ _ (record { typed = c .before .before .before .before .before .pre .0; form = (early-facts _ _ _ _ (c .before .before .before .before .before .pre .1)) .form }), told-start _ _ _ _, tallied-start _ _ _ _, clear-none)
+
+cast-loop : tie.Need-cast-loop Inv-loop2 μ-loop2 Inv-loop μ-loop
+cast-loop c = omega arith
+
+cast-position : tie.Need-cast-position Inv-loop2 μ-loop2 Inv-loop μ-loop
+cast-position c = omega arith
+
+mul-i : tie.Need-mul-i Inv-loop2 μ-loop2 Inv-loop μ-loop
+mul-i c = omega arith
+
+shared-slice-read-i : tie.Need-shared-slice-read-i Inv-loop2 μ-loop2 Inv-loop μ-loop
+shared-slice-read-i c = omega arith
+
+cast-at : tie.Need-cast-at Inv-loop2 μ-loop2 Inv-loop μ-loop
+cast-at c = omega (arith, thread-small _ _ _ _ _ (early-facts _ _ _ _ (c .before .before .before .before .before .before .before .before .pre .1)) (c .before .loop-test .taken))
+
+mul-before : tie.Need-mul-before Inv-loop2 μ-loop2 Inv-loop μ-loop
+mul-before c = omega (arith, thread-small _ _ _ _ _ (early-facts _ _ _ _ (c .before .before .before .before .before .before .before .before .pre .1)) (c .before .loop-test .taken))
+
+array-copy-out-before : tie.Need-array-copy-out-before Inv-loop2 μ-loop2 Inv-loop μ-loop
+array-copy-out-before c = omega (arith, thread-small _ _ _ _ _ (early-facts _ _ _ _ (c .before .before .before .before .before .before .before .before .pre .1)) (c .before .loop-test .taken))
+
+looked-at-requires : tie.Need-looked-at-requires Inv-loop2 μ-loop2 Inv-loop μ-loop
+looked-at-requires c κs = shape-of (c .before .before .before .before .before .before .before .before .before .before .args .t1) ((early-facts _ _ _ _ (c .before .before .before .before .before .before .before .before .before .before .pre .1)) .tree) .few-domains
+
+loop2-holds : tie.Need-loop2-holds Inv-loop2 μ-loop2 Inv-loop μ-loop
+loop2-holds c = (search needs, marked-start _ ((early-facts _ _ _ _ (c .before .before .before .before .before .before .before .before .before .before .before .pre .1)) .tree) _ _ _ _ (c .before .before .before .before .before .loop .inv .3))
+
+cast-other : tie.Need-cast-other Inv-loop2 μ-loop2 Inv-loop μ-loop
+cast-other c = omega (arith, looked-real (c .before .before .looked-at .ensures) (c .«loop2-test» .taken), shape-of (c .before .before .before .before .before .before .before .before .before .before .before .before .before .args .t1) ((early-facts _ _ _ _ (c .before .before .before .before .before .before .before .before .before .before .before .before .before .pre .1)) .tree) .few-threads)
+
+mul-q : tie.Need-mul-q Inv-loop2 μ-loop2 Inv-loop μ-loop
+mul-q c = omega (arith, looked-real (c .before .before .looked-at .ensures) (c .«loop2-test» .taken), shape-of (c .before .before .before .before .before .before .before .before .before .before .before .before .before .args .t1) ((early-facts _ _ _ _ (c .before .before .before .before .before .before .before .before .before .before .before .before .before .pre .1)) .tree) .few-threads)
+
+array-copy-out-q : tie.Need-array-copy-out-q Inv-loop2 μ-loop2 Inv-loop μ-loop
+array-copy-out-q c = omega (arith, looked-real (c .before .before .looked-at .ensures) (c .«loop2-test» .taken), shape-of (c .before .before .before .before .before .before .before .before .before .before .before .before .before .args .t1) ((early-facts _ _ _ _ (c .before .before .before .before .before .before .before .before .before .before .before .before .before .pre .1)) .tree) .few-threads)
+
+element-copy-out-its-home : tie.Need-element-copy-out-its-home Inv-loop2 μ-loop2 Inv-loop μ-loop
+element-copy-out-its-home c = omega (arith, looked-real (c .before .before .before .looked-at .ensures) (c .before .«loop2-test» .taken), shape-of (c .before .before .before .before .before .before .before .before .before .before .before .before .before .before .args .t1) ((early-facts _ _ _ _ (c .before .before .before .before .before .before .before .before .before .before .before .before .before .before .pre .1)) .tree) .few-threads)
+
+mark-shown-requires : tie.Need-mark-shown-requires Inv-loop2 μ-loop2 Inv-loop μ-loop
+mark-shown-requires c κs =
+    let w = c .before .before .before .before .before .before .before .before .before .before .before .before .before .before .before .before .before .before .before .args .t1 in
+    let r = early-facts _ _ _ _ (c .before .before .before .before .before .before .before .before .before .before .before .before .before .before .before .before .before .before .before .pre .1) in
+    let k = shape-of w (r .tree) in
+    (k .few-domains, (k .low, home-small w (r .tree) (c .before .before .before .before .before .before .before .loop2 .j) (looked-real (c .before .before .before .before .before .before .before .before .looked-at .ensures) (c .before .before .before .before .before .before .«loop2-test» .taken))))
+
+add-j : tie.Need-add-j Inv-loop2 μ-loop2 Inv-loop μ-loop
+add-j c = omega (arith, looked-real (c .before .before .before .before .before .before .before .before .before .looked-at .ensures) (c .before .before .before .before .before .before .before .«loop2-test» .taken), shape-of (c .before .before .before .before .before .before .before .before .before .before .before .before .before .before .before .before .before .before .before .before .args .t1) ((early-facts _ _ _ _ (c .before .before .before .before .before .before .before .before .before .before .before .before .before .before .before .before .before .before .before .before .pre .1)) .tree) .few-threads)
+
+loop2-less : tie.Need-loop2-less Inv-loop2 μ-loop2 Inv-loop μ-loop
+loop2-less c = omega arith
+
+loop2-again : tie.Need-loop2-again Inv-loop2 μ-loop2 Inv-loop μ-loop
+loop2-again c =
+    let w = c .before .before .before .before .before .before .before .before .before .before .before .before .before .before .before .before .before .before .before .before .args .t1 in
+    let r = early-facts _ _ _ _ (c .before .before .before .before .before .before .before .before .before .before .before .before .before .before .before .before .before .before .before .before .pre .1) in
+    (omega arith, marked-next w (r .tree) _ _ _ _ _ _ (looked-real (c .before .before .before .before .before .before .before .before .before .looked-at .ensures) (c .before .before .before .before .before .before .before .«loop2-test» .taken)) (c .before .before .before .before .before .before .before .before .loop2 .inv .1) (c .mark-shown .ensures))
+
+take-requires : tie.Need-take-requires Inv-loop2 μ-loop2 Inv-loop μ-loop
+unfolding tree-of
+take-requires c κs =
+    let l = c .before .before .before .before .before .before .before .before .before .before .before .before .before .before .before .before .before .before .before .before .loop in
+    let test = c .before .before .before .before .before .before .before .before .before .before .before .before .before .before .before .before .before .before .before .loop-test .taken in
+    let look = c .before .before .before .before .before .before .before .before .before .before .before .before .before .before .before .looked-at .ensures in
+    let marks = c .before .before .before .before .before .before .before .before .before .before .before .before .before .before .loop2 .inv in
+    let done = c .before .before .before .before .before .before .before .before .before .before .before .before .before .«loop2-test» .left in
+    let w = c .before .before .before .before .before .before .before .before .before .before .before .before .before .before .before .before .before .before .before .before .before .before .before .before .before .before .args .t1 in
+    let r = early-facts _ _ _ _ (c .before .before .before .before .before .before .before .before .before .before .before .before .before .before .before .before .before .before .before .before .before .before .before .before .before .before .pre .1) in
+    let n = state-in (l .tails) (l .nexts) (l .statuses) (l .drawn) (l .raised) (l .standing) in
+    let entered = entries-room _ (sixteen w) _ _ _ r _ _ (l .inv .0 .within) (l .inv .2) in
+    let held = tenures-room _ (sixteen w) _ _ _ r _ _ (l .inv .0 .within) (l .inv .2) in
+    (ready _ _ n _ _ _ r (l .inv .0 .formed) test, ((entered, held), shown-for w (r .tree) _ _ _ _ _ _ _ look (marks .0) done (marks .1)))
+
+count-in-requires : tie.Need-count-in-requires Inv-loop2 μ-loop2 Inv-loop μ-loop
+count-in-requires c κs =
+    let l = c .before .before .before .before .before .before .before .before .before .before .before .before .before .before .before .before .before .before .before .before .before .before .before .loop in
+    let n = state-in (l .tails) (l .nexts) (l .statuses) (l .drawn) (l .raised) (l .standing) in
+    kind-room _ _ _ _ _ n _ _ _ _ _ (l .inv .0) (c .before .before .take .ensures .0 .does (l .standing) refl) (c .before .before .before .before .before .before .before .before .before .before .before .before .before .before .before .before .before .before .before .before .before .before .loop-test .taken) ((early-facts _ _ _ _ (c .before .before .before .before .before .before .before .before .before .before .before .before .before .before .before .before .before .before .before .before .before .before .before .before .before .before .before .before .before .pre .1)) .short)
+
+mul-standing : tie.Need-mul-standing Inv-loop2 μ-loop2 Inv-loop μ-loop
+mul-standing c = omega (arith, thread-small _ _ _ _ _ (early-facts _ _ _ _ (c .before .before .before .before .before .before .before .before .before .before .before .before .before .before .before .before .before .before .before .before .before .before .before .before .before .before .before .before .before .before .before .pre .1)) (c .before .before .before .before .before .before .before .before .before .before .before .before .before .before .before .before .before .before .before .before .before .before .before .before .loop-test .taken))
+
+array-set-from-standing : tie.Need-array-set-from-standing Inv-loop2 μ-loop2 Inv-loop μ-loop
+array-set-from-standing c = omega (arith, thread-small _ _ _ _ _ (early-facts _ _ _ _ (c .before .before .before .before .before .before .before .before .before .before .before .before .before .before .before .before .before .before .before .before .before .before .before .before .before .before .before .before .before .before .before .pre .1)) (c .before .before .before .before .before .before .before .before .before .before .before .before .before .before .before .before .before .before .before .before .before .before .before .before .loop-test .taken))
+
+trace-at-requires : tie.Need-trace-at-requires Inv-loop2 μ-loop2 Inv-loop μ-loop
+trace-at-requires c κs =
+    let g = c .before .before .before .before .before .before .before .before .before .before .before .before .before .before .before .before .before .before .before .before .before .before .before .before .before .before .loop .inv .0 in
+    let r = (early-facts _ _ _ _ (c .before .before .before .before .before .before .before .before .before .before .before .before .before .before .before .before .before .before .before .before .before .before .before .before .before .before .before .before .before .before .before .before .pre .1)) in
+    (omega (arith, c .before .before .before .before .before .before .before .before .before .before .before .before .before .before .before .before .before .before .before .before .before .before .before .before .before .loop-test .taken, g .entries-fit, g .long, r .fits), omega (arith, c .before .before .before .before .before .before .before .before .before .before .before .before .before .before .before .before .before .before .before .before .before .before .before .before .before .loop-test .taken, g .entries-fit, r .short))
+
+tell-requires : tie.Need-tell-requires Inv-loop2 μ-loop2 Inv-loop μ-loop
+tell-requires c κs = search needs
+
+add-k : tie.Need-add-k Inv-loop2 μ-loop2 Inv-loop μ-loop
+add-k c = omega (arith, c .before .before .before .before .before .before .before .before .before .before .before .before .before .before .before .before .before .before .before .before .before .before .before .before .before .before .before .before .before .before .before .before .loop-test .taken, (early-facts _ _ _ _ (c .before .before .before .before .before .before .before .before .before .before .before .before .before .before .before .before .before .before .before .before .before .before .before .before .before .before .before .before .before .before .before .before .before .before .before .before .before .before .before .pre .1)) .short)
+
+loop-less : tie.Need-loop-less Inv-loop2 μ-loop2 Inv-loop μ-loop
+loop-less c = omega (arith, c .before .before .before .before .before .before .before .before .before .before .before .before .before .before .before .before .before .before .before .before .before .before .before .before .before .before .before .before .before .before .before .before .loop-test .taken)
+
+loop-again : tie.Need-loop-again Inv-loop2 μ-loop2 Inv-loop μ-loop
+unfolding tree-of
+loop-again c =
+    let l = c .before .before .before .before .before .before .before .before .before .before .before .before .before .before .before .before .before .before .before .before .before .before .before .before .before .before .before .before .before .before .before .before .before .loop in
+    let test = c .before .before .before .before .before .before .before .before .before .before .before .before .before .before .before .before .before .before .before .before .before .before .before .before .before .before .before .before .before .before .before .before .loop-test .taken in
+    let look = c .before .before .before .before .before .before .before .before .before .before .before .before .before .before .before .before .before .before .before .before .before .before .before .before .before .before .before .before .looked-at .ensures in
+    let marks = c .before .before .before .before .before .before .before .before .before .before .before .before .before .before .before .before .before .before .before .before .before .before .before .before .before .before .before .loop2 .inv in
+    let done = c .before .before .before .before .before .before .before .before .before .before .before .before .before .before .before .before .before .before .before .before .before .before .before .before .before .before .«loop2-test» .left in
+    let took = c .before .before .before .before .before .before .before .before .before .before .before .before .take in
+    let tallied = c .before .before .before .before .before .before .before .before .before .count-in .ensures in
+    let traced = c .before .before .before .before .before .before .trace-at .ensures in
+    let told = c .before .before .tell .ensures in
+    let w = c .before .before .before .before .before .before .before .before .before .before .before .before .before .before .before .before .before .before .before .before .before .before .before .before .before .before .before .before .before .before .before .before .before .before .before .before .before .before .before .args .t1 in
+    let r = early-facts _ _ _ _ (c .before .before .before .before .before .before .before .before .before .before .before .before .before .before .before .before .before .before .before .before .before .before .before .before .before .before .before .before .before .before .before .before .before .before .before .before .before .before .before .pre .1) in
+    let n = state-in (l .tails) (l .nexts) (l .statuses) (l .drawn) (l .raised) (l .standing) in
+    let m = took .result in
+    let does = took .ensures .0 .does (l .standing) refl in
+    let th = thread-at _ _ (r .threads) _ test in
+    let so-far = l .inv .0 in
+    let placed = ⊎-elim (λ w. w .1) (λ w. w .1 ∙ stay-placed _ _ n _ m _ (r .tree) (r .threads) test (so-far .formed) does refl (w .0 .left)) (c .before .before .before .before .before .before .before .before .if1 .came) in
+    let counts = step-counted w (r .tree) _ th n (so-far .formed) m _ refl does _ (home-is w (r .tree) _ th) _ _ _ _ _ (took .ensures .1 .1 .0) _ _ (took .ensures .1 .0) (λ z. raise-marked w (r .tree) _ th n (so-far .formed) _ _ _ look (marks .0) done z (marks .1)) in
+    (rw tallied (turn _ _ _ _ _ n _ _ _ m _ _ _ _ (r .tree) (sixteen w) (r .threads) (r .fits) test so-far does (rw placed) (traced .0) (traced .1)), told-turn _ _ _ _ _ n _ m _ _ (r .threads) test (so-far .formed) (so-far .state-is) does (l .inv .1) told, tallied-turn _ _ _ _ _ _ n _ test (so-far .state-is) (l .inv .2) counts, marks-cleared w (r .tree) _ _ _ _ _ _ _ _ look (marks .0) (marks .1) (took .ensures .1 .1 .1))
+
+same-length : tie.Need-same-length Inv-loop2 μ-loop2 Inv-loop μ-loop
+same-length c = c .before .loop .inv .0 .long
+
+same-length-2 : tie.Need-same-length-2 Inv-loop2 μ-loop2 Inv-loop μ-loop
+same-length-2 c = c .before .loop .inv .1 .told-room
+
+returns : tie.Need-returns Inv-loop2 μ-loop2 Inv-loop μ-loop
+returns c =
+    let l = c .before .loop in
+    let g = l .inv .0 in
+    let e = c .loop-test .left in
+    (state-ends _ _ _ _ _ _ _ _ _ g e, (trace-ends _ _ _ _ _ _ _ _ _ g e, (kinds-end _ _ _ _ _ _ _ _ _ g e, (told-ends _ _ _ _ _ _ (l .inv .1) e, tallied-ends _ _ _ _ _ _ (l .inv .2) e))))
+
+pub run-lent-spec : {M : Type 1} → statement M
+run-lent-spec =
+    tie.close
+    (tie.spec
+    Inv-loop2
+    μ-loop2
+    Inv-loop
+    μ-loop
+    loop-holds
+    cast-loop
+    cast-position
+    mul-i
+    shared-slice-read-i
+    cast-at
+    mul-before
+    array-copy-out-before
+    looked-at-requires
+    loop2-holds
+    cast-other
+    mul-q
+    array-copy-out-q
+    element-copy-out-its-home
+    mark-shown-requires
+    add-j
+    loop2-less
+    loop2-again
+    take-requires
+    count-in-requires
+    mul-standing
+    array-set-from-standing
+    trace-at-requires
+    tell-requires
+    add-k
+    loop-less
+    loop-again
+    same-length
+    same-length-2
+    returns)
