@@ -24,12 +24,7 @@ domain-by-row-requires : tie.Need-domain-by-row-requires
 domain-by-row-requires c κs = search needs
 
 member-at-requires : tie.Need-member-at-requires
-member-at-requires c κs =
-    let r = turn-of _ _ _ _ _ _ _ _ (c .before .before .before .pre .0) in
-    let a = c .before .place-by-row .ensures in
-    let b = c .domain-by-row .ensures in
-    let f = fits r in
-    (f .few-domains, (f .low, (omega (arith, f .real, f .few-threads), (f .home-real, real r a b))))
+member-at-requires c κs = let r = turn-of _ _ _ _ _ _ _ _ (c .before .before .before .pre .0) in let a = c .before .place-by-row .ensures in let b = c .domain-by-row .ensures in let f = fits r in (f .few-domains, (f .low, (omega (arith, f .real, f .few-threads), (f .home-real, real r a b))))
 
 cast-d : tie.Need-cast-d
 cast-d c = search needs
@@ -73,23 +68,13 @@ enum-known-p : tie.Need-enum-known-p
 enum-known-p c = search needs
 
 link-requires : tie.Need-link-requires
-link-requires c κs =
-    let r = turn-of _ _ _ _ _ _ _ _ (c .before .before .before .before .before .before .before .before .before .pre .0) in
-    let a = c .before .before .before .before .before .before .before .place-by-row .ensures in
-    ((c .before .before .before .before .before .member-at .ensures) .within, link-fits r a _ _ (c .before .before .p .given .1))
+link-requires c κs = let r = turn-of _ _ _ _ _ _ _ _ (c .before .before .before .before .before .before .before .before .before .pre .0) in let a = c .before .before .before .before .before .before .before .place-by-row .ensures in ((c .before .before .before .before .before .member-at .ensures) .within, link-fits r a _ _ (c .before .before .p .given .1))
 
 enum-told-4 : tie.Need-enum-told-4
 enum-told-4 c = search needs
 
 wait-requires : tie.Need-wait-requires
-wait-requires c κs =
-    let r = turn-of _ _ _ _ _ _ _ _ (c .before .before .before .before .before .before .before .before .before .pre .0) in
-    let a = c .before .before .before .before .before .before .before .place-by-row .ensures in
-    let b = c .before .before .before .before .before .before .domain-by-row .ensures in
-    let M = c .before .before .before .before .before .member-at .ensures in
-    let f = fits r in
-    let p = c .before .before .before .before .before .before .before .before .before .pre in
-    (f .few-domains, (f .low, ((rw (M .home-is) (f .home-real), M .within), p .1 .0 .0)))
+wait-requires c κs = let r = turn-of _ _ _ _ _ _ _ _ (c .before .before .before .before .before .before .before .before .before .pre .0) in let a = c .before .before .before .before .before .before .before .place-by-row .ensures in let b = c .before .before .before .before .before .before .domain-by-row .ensures in let M = c .before .before .before .before .before .member-at .ensures in let f = fits r in let p = c .before .before .before .before .before .before .before .before .before .pre in (f .few-domains, (f .low, ((rw (M .home-is) (f .home-real), M .within), p .1 .0 .0)))
 
 enum-told-5 : tie.Need-enum-told-5
 enum-told-5 c = search needs
@@ -101,21 +86,13 @@ enum-told-6 : tie.Need-enum-told-6
 enum-told-6 c = search needs
 
 element-copy-out-check : tie.Need-element-copy-out-check
-element-copy-out-check c =
-    let r = turn-of _ _ _ _ _ _ _ _ (c .before .before .before .before .before .before .before .pre .0) in
-    let a = c .before .before .before .before .before .place-by-row .ensures in
-    let b = c .before .before .before .before .domain-by-row .ensures in
-    omega (arith, small r a b)
+element-copy-out-check c = let r = turn-of _ _ _ _ _ _ _ _ (c .before .before .before .before .before .before .before .pre .0) in let a = c .before .before .before .before .before .place-by-row .ensures in let b = c .before .before .before .before .domain-by-row .ensures in omega (arith, small r a b)
 
 mul-check : tie.Need-mul-check
 mul-check c = search needs
 
 element-copy-out-check-2 : tie.Need-element-copy-out-check-2
-element-copy-out-check-2 c =
-    let r = turn-of _ _ _ _ _ _ _ _ (c .before .before .before .before .before .before .before .before .pre .0) in
-    let a = c .before .before .before .before .before .before .place-by-row .ensures in
-    let b = c .before .before .before .before .before .domain-by-row .ensures in
-    omega (arith, small r a b)
+element-copy-out-check-2 c = let r = turn-of _ _ _ _ _ _ _ _ (c .before .before .before .before .before .before .before .before .pre .0) in let a = c .before .before .before .before .before .before .place-by-row .ensures in let b = c .before .before .before .before .before .domain-by-row .ensures in omega (arith, small r a b)
 
 mul-check-2 : tie.Need-mul-check-2
 mul-check-2 c = search needs
@@ -166,10 +143,7 @@ enum-known-p-2 : tie.Need-enum-known-p-2
 enum-known-p-2 c = search needs
 
 grant-requires : tie.Need-grant-requires
-grant-requires c κs =
-    let r = turn-of _ _ _ _ _ _ _ _ (c .before .before .before .before .before .before .before .before .before .before .before .pre .0) in
-    let a = c .before .before .before .before .before .before .before .before .before .place-by-row .ensures in
-    (grant-fits r a _ _ _ (c .before .before .before .before .p2 .given .1), c .before .before .before .before .before .before .before .before .before .before .before .pre .1 .0 .1)
+grant-requires c κs = let r = turn-of _ _ _ _ _ _ _ _ (c .before .before .before .before .before .before .before .before .before .before .before .pre .0) in let a = c .before .before .before .before .before .before .before .before .before .place-by-row .ensures in (grant-fits r a _ _ _ (c .before .before .before .before .p2 .given .1), c .before .before .before .before .before .before .before .before .before .before .before .pre .1 .0 .1)
 
 enum-told-10 : tie.Need-enum-told-10
 enum-told-10 c = search needs
@@ -194,30 +168,16 @@ element-copy-out-watch : tie.Need-element-copy-out-watch
 element-copy-out-watch c = omega (arith, (c .before .before .before .member-at .ensures) .within .own-fits)
 
 watch-requires : tie.Need-watch-requires
-watch-requires c κs =
-    let r = turn-of _ _ _ _ _ _ _ _ (c .before .before .before .before .before .before .before .before .before .before .pre .0) in
-    let a = c .before .before .before .before .before .before .before .before .place-by-row .ensures in
-    let b = c .before .before .before .before .before .before .before .domain-by-row .ensures in
-    let M = c .before .before .before .before .before .before .member-at .ensures in
-    let f = fits r in
-    let p = c .before .before .before .before .before .before .before .before .before .before .pre in
-    (f .few-domains, (f .low, ((rw (M .home-is) (f .home-real), at-root r a b M Watch (c .before .before .before .enum-told11 .given .1) refl), p .1 .0 .0)))
+watch-requires c κs = let r = turn-of _ _ _ _ _ _ _ _ (c .before .before .before .before .before .before .before .before .before .before .pre .0) in let a = c .before .before .before .before .before .before .before .before .place-by-row .ensures in let b = c .before .before .before .before .before .before .before .domain-by-row .ensures in let M = c .before .before .before .before .before .before .member-at .ensures in let f = fits r in let p = c .before .before .before .before .before .before .before .before .before .before .pre in (f .few-domains, (f .low, ((rw (M .home-is) (f .home-real), at-root r a b M Watch (c .before .before .before .enum-told11 .given .1) refl), p .1 .0 .0)))
 
 enum-told-12 : tie.Need-enum-told-12
 enum-told-12 c = search needs
 
 count-shown-requires : tie.Need-count-shown-requires
-count-shown-requires c κs =
-    let r = turn-of _ _ _ _ _ _ _ _ (c .before .before .before .before .before .before .before .before .before .before .pre .0) in
-    (fits r .few-domains, (c .before .before .before .before .before .before .before .before .before .before .pre .1 .1, c .before .before .before .before .before .before .before .before .before .before .pre .1 .0 .1))
+count-shown-requires c κs = let r = turn-of _ _ _ _ _ _ _ _ (c .before .before .before .before .before .before .before .before .before .before .pre .0) in (fits r .few-domains, (c .before .before .before .before .before .before .before .before .before .before .pre .1 .1, c .before .before .before .before .before .before .before .before .before .before .pre .1 .0 .1))
 
 raise-requires : tie.Need-raise-requires
-raise-requires c κs =
-    let r = turn-of _ _ _ _ _ _ _ _ (c .before .before .before .before .before .before .before .before .before .before .before .before .pre .0) in
-    let a = c .before .before .before .before .before .before .before .before .before .before .place-by-row .ensures in
-    let b = c .before .before .before .before .before .before .before .before .before .domain-by-row .ensures in
-    let M = c .before .before .before .before .before .before .before .before .member-at .ensures in
-    at-root r a b M Raise (c .before .before .before .before .before .enum-told12 .given .1) refl
+raise-requires c κs = let r = turn-of _ _ _ _ _ _ _ _ (c .before .before .before .before .before .before .before .before .before .before .before .before .pre .0) in let a = c .before .before .before .before .before .before .before .before .before .before .place-by-row .ensures in let b = c .before .before .before .before .before .before .before .before .before .domain-by-row .ensures in let M = c .before .before .before .before .before .before .before .before .member-at .ensures in at-root r a b M Raise (c .before .before .before .before .before .enum-told12 .given .1) refl
 
 enum-told-13 : tie.Need-enum-told-13
 enum-told-13 c = search needs
