@@ -1,7 +1,7 @@
 -- What the counting of a step asks, and the marks of the threads that watch. Assumes nothing.
 use mathlib.Core.Path.{_≡_, refl, sym, ap, _∙_}
-use mathlib.Core.Bool.{Bool, true, false, _&&_, _||_, not, cond, false≢true}
-use mathlib.Core.List.{List, []}
+use mathlib.Core.Bool.{Bool, true, false, _&&_, _||_, not, cond}
+use mathlib.Core.List.{List}
 use mathlib.Core.Logic.{_≢_}
 use Prim.Native.Nat.{ℕ, zero, suc, _+_, _≤_, _<_}
 use native.Mathlib.Omega.{arith}
@@ -10,34 +10,30 @@ use native.Mathlib.Decide.{ℕ-discrete, decLt}
 use lib.Dec.{eqb}
 use lib.ListN.{getD, length, take, set, length-set}
 use lib.Seq.{getD-set-same, getD-set-other, length-take-le}
-use borrow.Author.Tests.{eqb-false, eq-eqb, ne-eqb, not-true}
+use borrow.Author.Tests.{eqb-false, eq-eqb, ne-eqb}
 use Rattle.model.specs.declared.TreeWords.{TreeWords}
 use Rattle.model.specs.declared.PlaceWords.{PlaceWords}
 use Rattle.model.specs.declared.Place.{Place}
-use Rattle.model.specs.declared.Place.the-variants.{Idle, Prep, Swap, Link, Wait, Inside, Check, Help, Cas, Linger, Grant, Draw, Watch, Raise, Invalid}
+use Rattle.model.specs.declared.Place.the-variants.{Raise, Invalid}
 use Rattle.model.specs.declared.State.{State}
 use Rattle.model.specs.declared.Counters.{Counters}
 use Rattle.model.specs.declared.LockState.{LockState}
 use Rattle.model.specs.Scans.{any-below}
-use Rattle.model.specs.Trees.{Tree, tree-of, on-path, child, is-member}
+use Rattle.model.specs.Trees.{Tree, tree-of, child}
 use Rattle.model.specs.Places.{place-words, words-of, place-of}
 use Rattle.model.specs.States.{place}
 use Rattle.model.specs.Runs.{steps}
-use Rattle.model.specs.WellFormed.{queue-on-path, good-place}
+use Rattle.model.specs.WellFormed.{good-place}
 use Rattle.model.specs.Refusals.{tree-refusal}
-use Rattle.model.specs.Counters.{lock-state, counters-after}
 use Rattle.model.specs.Laws.{Sixteen-bit, Formed}
-use Rattle.model.proofs.Tests.{and-both}
 use Rattle.model.proofs.Places.{words-of-place}
-use Rattle.model.proofs.Trees.Accepted.{Accepted, accepted, sixteen-bit}
+use Rattle.model.proofs.Trees.Accepted.{Accepted, accepted}
 use Rattle.model.proofs.Trees.Paths.{on-path-root, path-real}
-use Rattle.model.proofs.Trees.Records.{member-small, on-path-child}
+use Rattle.model.proofs.Trees.Records.{on-path-child}
 use Rattle.model.proofs.Laws.Facts.{well-formed-facts}
 use Rattle.model.proofs.Laws.Form.{valid}
 use Rattle.model.proofs.Laws.Calls.{Good-run}
 use Rattle.model.proofs.Laws.Counters.{counts-most, entries-left, tenures-left}
-use Rattle.refusals.specs.Arrays.{parents-in}
-use Rattle.refusals.specs.Counts.{counters-in}
 use Rattle.refusals.proofs.Reading.{home-in}
 use Rattle.steps.specs.Counting.{Room-above, taken-in, is-watch-in, marked-in, shows-in, Marked, Shown-left, Clear, Looked, Shown-for}
 use Rattle.steps.proofs.Taken.{taken-child}
@@ -53,55 +49,6 @@ module _ (t : Tree) (bits : Sixteen-bit t) (s₀ : LockState) (is : List ℕ) (r
 
   pub tenures-room : Room-above (c .tenures)
   tenures-room = record { room = λ d b. let z = ap (λ (x : Counters). getD (x .tenures) d 0) (g .counters-are) in omega (arith, z, tenures-left t bits (s₀ .counters) (take k is) (s₀ .words) d, counts-most t (s₀ .counters) (R .counts) d b .1, short, R .short) }
-
--- A GOOD PLACE. Its record in Grant, its domain in Check
-module _ (t : Tree) (𝓐 : Accepted t) (i : ℕ) (b : i < t .threads) where
-  check-small : (p : Place) → good-place t i p ≡ true → words-of p .row ≡ 6 → words-of p .domain < 64
-  unfolding good-place
-  check-small Idle g z = absurd (omega arith)
-  check-small (Prep l) g z = absurd (omega arith)
-  check-small (Swap l) g z = absurd (omega arith)
-  check-small (Link l p) g z = absurd (omega arith)
-  check-small (Wait l) g z = absurd (omega arith)
-  check-small Inside g z = absurd (omega arith)
-  check-small (Check l) g z = omega (arith, path-real t 𝓐 i b l (and-both (on-path t i l) (not (eqb l 0)) g .0), 𝓐 .few-domains)
-  check-small (Help l) g z = absurd (omega arith)
-  check-small (Cas l) g z = absurd (omega arith)
-  check-small (Linger l) g z = absurd (omega arith)
-  check-small (Grant l r v) g z = absurd (omega arith)
-  check-small Draw g z = absurd (omega arith)
-  check-small Watch g z = absurd (omega arith)
-  check-small Raise g z = absurd (omega arith)
-  check-small Invalid g z = absurd (omega arith)
-
-  grant-small : (p : Place) → good-place t i p ≡ true → words-of p .row ≡ 10 → words-of p .peer < 320
-  unfolding good-place
-  grant-small Idle g z = absurd (omega arith)
-  grant-small (Prep l) g z = absurd (omega arith)
-  grant-small (Swap l) g z = absurd (omega arith)
-  grant-small (Link l p) g z = absurd (omega arith)
-  grant-small (Wait l) g z = absurd (omega arith)
-  grant-small Inside g z = absurd (omega arith)
-  grant-small (Check l) g z = absurd (omega arith)
-  grant-small (Help l) g z = absurd (omega arith)
-  grant-small (Cas l) g z = absurd (omega arith)
-  grant-small (Linger l) g z = absurd (omega arith)
-  grant-small (Grant l r v) g z = member-small t 𝓐 l r (and-both (queue-on-path t i l) (is-member t l r) g .1)
-  grant-small Draw g z = absurd (omega arith)
-  grant-small Watch g z = absurd (omega arith)
-  grant-small Raise g z = absurd (omega arith)
-  grant-small Invalid g z = absurd (omega arith)
-
-pub place-small :
-    (t : Tree) → tree-refusal t .number ≡ 0 → (i : ℕ) → i < t .threads → (s : State) → Formed t s →
-    (let q = getD (s .places) i (place-words 0 0 0 0) in (q .row ≡ 10 → q .peer < 320) × (q .row ≡ 6 → q .domain < 64))
-place-small t ok i b s f =
-    let q = getD (s .places) i (place-words 0 0 0 0) in
-    let good : good-place t i (place s i) ≡ true = well-formed-facts t s f .places i .used b in
-    let words : words-of (place s i) ≡ q = words-of-place q (valid t i (place s i) good) in (
-      λ z. rw (ap (λ (x : PlaceWords). x .peer) words) at (grant-small t (accepted t ok) i b (place s i) good (ap (λ (x : PlaceWords). x .row) words ∙ z)),
-      λ z. rw (ap (λ (x : PlaceWords). x .domain) words) at (check-small t (accepted t ok) i b (place s i) good (ap (λ (x : PlaceWords). x .row) words ∙ z)),
-    )
 
 -- a place in row 13 is Raise, and a Raise is in row 13
 pub raise-row-is : (q : PlaceWords) → place-of q ≢ Invalid → place-of q ≡ Raise → q .row ≡ 13
