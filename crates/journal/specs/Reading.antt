@@ -1,6 +1,6 @@
 -- The journal read by positions, as the reader reads it; proofs/ shows that this is the relation of Entries. Assumes nothing: these are definitions.
 use mathlib.Core.Path.{_≡_}
-use mathlib.Core.Bool.{Bool, not, cond}
+use mathlib.Core.Bool.{Bool, false, not, cond}
 use mathlib.Core.List.{List, [], _∷_}
 use Prim.Native.Nat.{ℕ, zero, suc, _+_, _-_, _*_, _%_, _/_, _≤_, _<_}
 use lib.Dec.{eqb, ltb}
@@ -65,3 +65,7 @@ pub record Piece-read (known : ℕ) (bytes : List ℕ) (position before : ℕ) (
 -- the kind that an entry names is not the one told of its step: a step's number has its kind in the lowest three bits
 abbrev pub other-kind-told : (kinds told : List ℕ) → (entry : ℕ) → Bool
 other-kind-told ks cs j = not (eqb (getD ks j 0) (getD cs j 0 % 8))
+
+-- so many entries name the kinds that were told of their steps
+abbrev pub All-as-told : (kinds told : List ℕ) → (count : ℕ) → Type 0
+All-as-told ks cs n = (j : ℕ) → j < n → other-kind-told ks cs j ≡ false
