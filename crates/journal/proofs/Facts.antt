@@ -2,19 +2,35 @@
 use mathlib.Core.Path.{_≡_, refl, subst}
 use mathlib.Core.Bool.{Bool, true, false, cond}
 use mathlib.Core.List.{List}
-use Prim.Native.Nat.{ℕ, _+_, _-_, _≤_, _<_}
+use Prim.Native.Nat.{ℕ, zero, suc, _+_, _-_, _*_, _≤_, _<_}
 use native.Mathlib.Omega.{arith}
-use lib.Dec.{ltb}
+use lib.Dec.{eqb, ltb}
 use lib.ListN.{length, getD}
 use borrow.Author.Tests.{lt-ltb, le-ltb, ltb-true, ltb-false}
 use Rattle.journal.specs.declared.Entry.{Entry}
 use Rattle.journal.specs.declared.Entry.the-variants.{Named, Broken, End}
-use Rattle.journal.specs.Reading.{entry-size, entry-thread, entry-kind, entry-at}
+use Rattle.journal.specs.Reading.{entry-size, entry-thread, entry-kind, entry-of, entry-at}
+
+-- one of two numbers by a bit: the sum of their products with it and with what it leaves of 1
+pub by-product : (g a b : ℕ) → g ≤ 1 → g * a + (1 - g) * b ≡ cond (eqb g 1) a b
+by-product zero a b h = omega arith
+by-product (suc zero) a b h = omega arith
+by-product (suc (suc g)) a b h = absurd (omega arith)
+
+pub by-product-small : (g a b n : ℕ) → g ≤ 1 → a < n → b < n → g * a + (1 - g) * b < n
+by-product-small zero a b n h k l = omega arith
+by-product-small (suc zero) a b n h k l = omega arith
+by-product-small (suc (suc g)) a b n h k l = absurd (omega arith)
+
+pub by-factor : (g a : ℕ) → g ≤ 1 → g * a ≡ cond (eqb g 1) a 0
+by-factor zero a h = omega arith
+by-factor (suc zero) a h = omega arith
+by-factor (suc (suc g)) a h = absurd (omega arith)
 
 -- a bit map without another bit, and bytes enough behind it
 pub whole-entry :
     (bs : List ℕ) (p b m : ℕ) → p < length bs → getD bs p 0 ≡ m → m ≤ 3 → entry-size m ≤ length bs - p →
-    entry-at bs p b ≡ Named (entry-thread bs p b m) (entry-kind bs p m) (p + entry-size m)
+    entry-at bs p b ≡ entry-of bs p b m
 whole-entry bs p b m h e k f = rw (lt-ltb p (length bs) h, e, le-ltb 3 m k, le-ltb (length bs - p) (entry-size m) f)
 
 -- what follows a whole entry is behind it, and within the journal; the end is behind every byte
@@ -27,7 +43,7 @@ pub ahead : (bs : List ℕ) (p b : ℕ) → Ahead bs p (entry-at bs p b)
 ahead bs p b = by (ltb p (length bs)) (ltb 3 (getD bs p 0)) (ltb (length bs - p) (entry-size (getD bs p 0))) refl refl
   where
     by : (x y z : Bool) → ltb p (length bs) ≡ x → ltb (length bs - p) (entry-size (getD bs p 0)) ≡ z
-        → Ahead bs p (cond x (cond y Broken (cond z Broken (Named (entry-thread bs p b (getD bs p 0)) (entry-kind bs p (getD bs p 0)) (p + entry-size (getD bs p 0))))) End)
+        → Ahead bs p (cond x (cond y Broken (cond z Broken (entry-of bs p b (getD bs p 0)))) End)
     by false y z e f = ltb-false p (length bs) e
     by true true z e f = tt
     by true false true e f = tt

@@ -19,11 +19,15 @@ entry-thread bs p b m = cond (eqb (m % 2) 1) (getD bs (p + 1) 0 + 256 * getD bs 
 abbrev pub entry-kind : (bytes : List ℕ) → (position bits : ℕ) → ℕ
 entry-kind bs p m = cond (eqb (m / 2) 1) (getD bs (p + (1 + 2 * (m % 2))) 0) 0
 
+-- the entry of a bit map, with bytes enough behind it
+abbrev pub entry-of : (bytes : List ℕ) → (position before bits : ℕ) → Entry
+entry-of bs p b m = Named (entry-thread bs p b m) (entry-kind bs p m) (p + entry-size m)
+
 -- what stands at a position, where the entry before names a thread
 abbrev pub entry-by : (bytes : List ℕ) → (position before bits : ℕ) → Entry
 entry-by bs p b m =
     cond (ltb 3 m) Broken
-    (cond (ltb (length bs - p) (entry-size m)) Broken (Named (entry-thread bs p b m) (entry-kind bs p m) (p + entry-size m)))
+    (cond (ltb (length bs - p) (entry-size m)) Broken (entry-of bs p b m))
 
 abbrev pub entry-at : (bytes : List ℕ) → (position before : ℕ) → Entry
 entry-at bs p b = cond (ltb p (length bs)) (entry-by bs p b (getD bs p 0)) End

@@ -1,8 +1,10 @@
 // The journal of document 02, (xiv): a reader that holds the lent bytes and a position in them, what is read with it, and the steps that it names.
 ghost use mathlib.Core.Path.{_≡_};
+ghost use mathlib.Core.Bool.{cond};
 ghost use Prim.Native.Nat.{_+_, _*_, _≤_};
+ghost use lib.Dec.{eqb};
 ghost use lib.ListN.{length};
-ghost use Rattle.journal.specs.Reading.{entry-size, entry-at, position-after, piece-of, Piece-read};
+ghost use Rattle.journal.specs.Reading.{entry-size, entry-of, entry-at, position-after, piece-of, Piece-read};
 ghost use Rattle.journal.specs.Answers.{journal-answer};
 
 mod journals;
@@ -59,6 +61,45 @@ fn size_of(bits: u8) -> usize
     }
 }
 
+fn wide(x: u8) -> usize
+    ensures { λ r. ⌜ r ≡ x ⌝ }
+{
+    x as usize
+}
+
+// A thread that is given, or that of the entry before; by a product and not by a branch, since nothing foretells which it is.
+fn thread_by(given: u16, there: u16, before: u16) -> u16
+    requires { ⌜ given ≤ 1 ⌝ }
+    ensures { λ r. ⌜ r ≡ cond (eqb given 1) there before ⌝ }
+{
+    given * there + (1 - given) * before
+}
+
+// A kind that is given, or 0.
+fn kind_by(given: u8, there: u8) -> u8
+    requires { ⌜ given ≤ 1 ⌝ }
+    ensures { λ r. ⌜ r ≡ cond (eqb given 1) there 0 ⌝ }
+{
+    given * there
+}
+
+// The entry of a bit map, where four bytes are left, which hold every entry: all that it may have is read, and what it has is taken.
+fn whole_entry(journal: &[u8], position: usize, before: u16, bits: usize) -> Entry
+    requires { ⌜ bits ≤ 3 ⌝ }
+    requires { ⌜ position + 4 ≤ length (now journal) ⌝ }
+    ensures { λ r. ⌜ r ≡ entry-of (now (journal .entry)) position before bits ⌝ }
+{
+    let thread_given = bits % 2;
+    let kind_given = bits / 2;
+    let kind_at = position + (1 + 2 * thread_given);
+    let there = two_bytes(journal[position + 1], journal[position + 2]);
+    Entry::Named {
+        thread: thread_by(thread_given as u16, there, before),
+        kind: kind_by(kind_given as u8, journal[kind_at]),
+        behind: kind_at + kind_given,
+    }
+}
+
 // The entry at a position of some bytes, where the entry before names a thread. The reader's functions stand on this one.
 pub fn read_entry(journal: &[u8], position: usize, before: u16) -> Entry
     ensures { λ r. ⌜ r ≡ entry-at (now (journal .entry)) position before ⌝ }
@@ -69,6 +110,9 @@ pub fn read_entry(journal: &[u8], position: usize, before: u16) -> Entry
     let bits = journal[position];
     if 3 < bits {
         return Entry::Broken;
+    }
+    if 4 <= journal.len() - position {
+        return whole_entry(journal, position, before, wide(bits));
     }
     if journal.len() - position < size_of(bits) {
         return Entry::Broken;

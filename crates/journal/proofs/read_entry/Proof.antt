@@ -27,14 +27,31 @@ returns-2 c = rw (lt-ltb _ _ (c .before .before .if1 .left), lt-ltb _ _ (c .if2 
 sub-if3 : tie.Need-sub-if3
 sub-if3 c = search needs
 
+wide-requires : tie.Need-wide-requires
+wide-requires c κs = search needs
+
+whole-entry-requires : tie.Need-whole-entry-requires
+whole-entry-requires c κs =
+    let bits = c .before .before .if2 .left in
+    (omega (arith, bits, c .wide .ensures), omega (arith, c .before .if3 .taken, c .before .before .before .before .if1 .left))
+
+returns-3 : tie.Need-returns-3
+returns-3 c =
+    let a = c .before .before .before .before .before .before .before .args in
+    let few : c .before .wide .result ≤ 3 = omega (arith, c .before .before .before .if2 .left, c .before .wide .ensures) in
+    c .whole-entry .ensures ∙ sym (whole-entry (a .journal .now) (a .position) (a .before) (c .before .wide .result) (c .before .before .before .before .before .if1 .left) (sym (c .before .wide .ensures)) few (omega (arith, few, c .before .before .if3 .taken)))
+
+sub-if4 : tie.Need-sub-if4
+sub-if4 c = search needs
+
 size-of-requires : tie.Need-size-of-requires
 size-of-requires c κs = search needs
 
-returns-3 : tie.Need-returns-3
-returns-3 c = rw (lt-ltb _ _ (c .before .before .before .before .if1 .left), le-ltb _ _ (c .before .before .if2 .left), ← c .before .size-of .ensures, lt-ltb _ _ (c .if3 .taken))
+returns-4 : tie.Need-returns-4
+returns-4 c = rw (lt-ltb _ _ (c .before .before .before .before .before .if1 .left), le-ltb _ _ (c .before .before .before .if2 .left), ← c .before .size-of .ensures, lt-ltb _ _ (c .if4 .taken))
 
-add-t12 : tie.Need-add-t12
-add-t12 c = search needs
+add-t13 : tie.Need-add-t13
+add-t13 c = search needs
 
 add-two-bytes : tie.Need-add-two-bytes
 add-two-bytes c = search needs
@@ -46,22 +63,22 @@ add-two-bytes-2 : tie.Need-add-two-bytes-2
 add-two-bytes-2 c = search needs
 
 shared-slice-read-two-bytes-2 : tie.Need-shared-slice-read-two-bytes-2
-shared-slice-read-two-bytes-2 c = omega (arith, c .before .before .before .before .size-of .ensures ∙ ap entry-size (c .before .before .match .keys2), c .before .before .before .if3 .left)
+shared-slice-read-two-bytes-2 c = omega (arith, c .before .before .before .before .size-of .ensures ∙ ap entry-size (c .before .before .match .keys2), c .before .before .before .if4 .left)
 
 two-bytes-requires : tie.Need-two-bytes-requires
 two-bytes-requires c κs = search needs
 
-add-t20 : tie.Need-add-t20
-add-t20 c = search needs
-
 add-t21 : tie.Need-add-t21
 add-t21 c = search needs
 
-shared-slice-read-t23 : tie.Need-shared-slice-read-t23
-shared-slice-read-t23 c = search needs
+add-t22 : tie.Need-add-t22
+add-t22 c = search needs
 
-add-t24 : tie.Need-add-t24
-add-t24 c = search needs
+shared-slice-read-t24 : tie.Need-shared-slice-read-t24
+shared-slice-read-t24 c = search needs
+
+add-t25 : tie.Need-add-t25
+add-t25 c = search needs
 
 add-two-bytes-3 : tie.Need-add-two-bytes-3
 add-two-bytes-3 c = search needs
@@ -78,26 +95,26 @@ shared-slice-read-two-bytes-4 c = search needs
 two-bytes-requires-2 : tie.Need-two-bytes-requires-2
 two-bytes-requires-2 c κs = search needs
 
-add-t32 : tie.Need-add-t32
-add-t32 c = search needs
+add-t33 : tie.Need-add-t33
+add-t33 c = search needs
 
-shared-slice-read-t34 : tie.Need-shared-slice-read-t34
-shared-slice-read-t34 c = omega (arith, c .before .before .before .before .before .before .size-of .ensures ∙ ap entry-size (three (getD (c .before .before .before .before .before .before .before .before .before .before .before .args .journal .now) (c .before .before .before .before .before .before .before .before .before .before .before .args .position) 0) (c .before .before .before .before .before .before .before .if2 .left) (c .before .before .before .before .match .rest .0 .0 .1) (c .before .before .before .before .match .rest .0 .1) (c .before .before .before .before .match .rest .1)), c .before .before .before .before .before .if3 .left)
+shared-slice-read-t35 : tie.Need-shared-slice-read-t35
+shared-slice-read-t35 c = omega (arith, c .before .before .before .before .before .before .size-of .ensures ∙ ap entry-size (three (getD (c .before .before .before .before .before .before .before .before .before .before .before .before .args .journal .now) (c .before .before .before .before .before .before .before .before .before .before .before .before .args .position) 0) (c .before .before .before .before .before .before .before .before .if2 .left) (c .before .before .before .before .match .rest .0 .0 .1) (c .before .before .before .before .match .rest .0 .1) (c .before .before .before .before .match .rest .1)), c .before .before .before .before .before .if4 .left)
 
-add-t35 : tie.Need-add-t35
-add-t35 c = search needs
-
-returns-4 : tie.Need-returns-4
-returns-4 c = sym (whole-entry (c .before .before .before .before .before .before .before .args .journal .now) (c .before .before .before .before .before .before .before .args .position) (c .before .before .before .before .before .before .before .args .before) 0 (c .before .before .before .before .before .if1 .left) (c .match .keys1) (lit≤ tt) (omega (arith, c .before .before .size-of .ensures ∙ ap entry-size (c .match .keys1), c .before .if3 .left)))
+add-t36 : tie.Need-add-t36
+add-t36 c = search needs
 
 returns-5 : tie.Need-returns-5
-returns-5 c = ap (λ (w : ℕ). Named w 0 (c .before .before .before .before .before .before .before .before .before .before .args .position + 3)) (c .two-bytes .ensures) ∙ sym (whole-entry (c .before .before .before .before .before .before .before .before .before .before .args .journal .now) (c .before .before .before .before .before .before .before .before .before .before .args .position) (c .before .before .before .before .before .before .before .before .before .before .args .before) 1 (c .before .before .before .before .before .before .before .before .if1 .left) (c .before .before .before .match .keys2) (lit≤ tt) (omega (arith, c .before .before .before .before .before .size-of .ensures ∙ ap entry-size (c .before .before .before .match .keys2), c .before .before .before .before .if3 .left)))
+returns-5 c = sym (whole-entry (c .before .before .before .before .before .before .before .before .args .journal .now) (c .before .before .before .before .before .before .before .before .args .position) (c .before .before .before .before .before .before .before .before .args .before) 0 (c .before .before .before .before .before .before .if1 .left) (c .match .keys1) (lit≤ tt) (omega (arith, c .before .before .size-of .ensures ∙ ap entry-size (c .match .keys1), c .before .if4 .left)))
 
 returns-6 : tie.Need-returns-6
-returns-6 c = sym (whole-entry (c .before .before .before .before .before .before .before .before .args .journal .now) (c .before .before .before .before .before .before .before .before .args .position) (c .before .before .before .before .before .before .before .before .args .before) 2 (c .before .before .before .before .before .before .if1 .left) (c .before .match .keys3) (lit≤ tt) (omega (arith, c .before .before .before .size-of .ensures ∙ ap entry-size (c .before .match .keys3), c .before .before .if3 .left)))
+returns-6 c = ap (λ (w : ℕ). Named w 0 (c .before .before .before .before .before .before .before .before .before .before .before .args .position + 3)) (c .two-bytes .ensures) ∙ sym (whole-entry (c .before .before .before .before .before .before .before .before .before .before .before .args .journal .now) (c .before .before .before .before .before .before .before .before .before .before .before .args .position) (c .before .before .before .before .before .before .before .before .before .before .before .args .before) 1 (c .before .before .before .before .before .before .before .before .before .if1 .left) (c .before .before .before .match .keys2) (lit≤ tt) (omega (arith, c .before .before .before .before .before .size-of .ensures ∙ ap entry-size (c .before .before .before .match .keys2), c .before .before .before .before .if4 .left)))
 
 returns-7 : tie.Need-returns-7
-returns-7 c = ap (λ (w : ℕ). Named w (getD (c .before .before .before .before .before .before .before .before .before .before .before .args .journal .now) (c .before .before .before .before .before .before .before .before .before .before .before .args .position + 3) 0) (c .before .before .before .before .before .before .before .before .before .before .before .args .position + 4)) (c .before .two-bytes2 .ensures) ∙ sym (whole-entry (c .before .before .before .before .before .before .before .before .before .before .before .args .journal .now) (c .before .before .before .before .before .before .before .before .before .before .before .args .position) (c .before .before .before .before .before .before .before .before .before .before .before .args .before) 3 (c .before .before .before .before .before .before .before .before .before .if1 .left) (three (getD (c .before .before .before .before .before .before .before .before .before .before .before .args .journal .now) (c .before .before .before .before .before .before .before .before .before .before .before .args .position) 0) (c .before .before .before .before .before .before .before .if2 .left) (c .before .before .before .before .match .rest .0 .0 .1) (c .before .before .before .before .match .rest .0 .1) (c .before .before .before .before .match .rest .1)) (lit≤ tt) (omega (arith, c .before .before .before .before .before .before .size-of .ensures ∙ ap entry-size (three (getD (c .before .before .before .before .before .before .before .before .before .before .before .args .journal .now) (c .before .before .before .before .before .before .before .before .before .before .before .args .position) 0) (c .before .before .before .before .before .before .before .if2 .left) (c .before .before .before .before .match .rest .0 .0 .1) (c .before .before .before .before .match .rest .0 .1) (c .before .before .before .before .match .rest .1)), c .before .before .before .before .before .if3 .left)))
+returns-7 c = sym (whole-entry (c .before .before .before .before .before .before .before .before .before .args .journal .now) (c .before .before .before .before .before .before .before .before .before .args .position) (c .before .before .before .before .before .before .before .before .before .args .before) 2 (c .before .before .before .before .before .before .before .if1 .left) (c .before .match .keys3) (lit≤ tt) (omega (arith, c .before .before .before .size-of .ensures ∙ ap entry-size (c .before .match .keys3), c .before .before .if4 .left)))
+
+returns-8 : tie.Need-returns-8
+returns-8 c = ap (λ (w : ℕ). Named w (getD (c .before .before .before .before .before .before .before .before .before .before .before .before .args .journal .now) (c .before .before .before .before .before .before .before .before .before .before .before .before .args .position + 3) 0) (c .before .before .before .before .before .before .before .before .before .before .before .before .args .position + 4)) (c .before .two-bytes2 .ensures) ∙ sym (whole-entry (c .before .before .before .before .before .before .before .before .before .before .before .before .args .journal .now) (c .before .before .before .before .before .before .before .before .before .before .before .before .args .position) (c .before .before .before .before .before .before .before .before .before .before .before .before .args .before) 3 (c .before .before .before .before .before .before .before .before .before .before .if1 .left) (three (getD (c .before .before .before .before .before .before .before .before .before .before .before .before .args .journal .now) (c .before .before .before .before .before .before .before .before .before .before .before .before .args .position) 0) (c .before .before .before .before .before .before .before .before .if2 .left) (c .before .before .before .before .match .rest .0 .0 .1) (c .before .before .before .before .match .rest .0 .1) (c .before .before .before .before .match .rest .1)) (lit≤ tt) (omega (arith, c .before .before .before .before .before .before .size-of .ensures ∙ ap entry-size (three (getD (c .before .before .before .before .before .before .before .before .before .before .before .before .args .journal .now) (c .before .before .before .before .before .before .before .before .before .before .before .before .args .position) 0) (c .before .before .before .before .before .before .before .before .if2 .left) (c .before .before .before .before .match .rest .0 .0 .1) (c .before .before .before .before .match .rest .0 .1) (c .before .before .before .before .match .rest .1)), c .before .before .before .before .before .if4 .left)))
 
 pub read-entry-spec : {M : Type 1} → statement M
 read-entry-spec =
@@ -107,27 +124,31 @@ read-entry-spec =
     shared-slice-read-bits
     returns-2
     sub-if3
-    size-of-requires
+    wide-requires
+    whole-entry-requires
     returns-3
-    add-t12
+    sub-if4
+    size-of-requires
+    returns-4
+    add-t13
     add-two-bytes
     shared-slice-read-two-bytes
     add-two-bytes-2
     shared-slice-read-two-bytes-2
     two-bytes-requires
-    add-t20
     add-t21
-    shared-slice-read-t23
-    add-t24
+    add-t22
+    shared-slice-read-t24
+    add-t25
     add-two-bytes-3
     shared-slice-read-two-bytes-3
     add-two-bytes-4
     shared-slice-read-two-bytes-4
     two-bytes-requires-2
-    add-t32
-    shared-slice-read-t34
-    add-t35
-    returns-4
+    add-t33
+    shared-slice-read-t35
+    add-t36
     returns-5
     returns-6
-    returns-7)
+    returns-7
+    returns-8)
