@@ -5,6 +5,7 @@ use mathlib.Core.List.{List, [], _∷_}
 use Prim.Native.Nat.{ℕ, zero, suc, _+_, _-_, _*_, _%_, _/_, _≤_, _<_}
 use lib.Dec.{eqb, ltb}
 use lib.ListN.{length, getD, take}
+use lib.Seq.{sets}
 use Rattle.journal.specs.declared.Entry.{Entry}
 use Rattle.journal.specs.declared.Entry.the-variants.{Named, Broken, End}
 use Rattle.journal.specs.declared.Piece.{Piece}
@@ -54,6 +55,41 @@ pub data Stops (known : ℕ) (bytes : List ℕ) (position before : ℕ) : (numbe
   for-room : Stops known bytes position before 0
   for-broken : entry-at bytes position before ≡ Broken → Stops known bytes position before 25
   for-thread : {i k behind : ℕ} → entry-at bytes position before ≡ Named i k behind → known ≤ i → Stops known bytes position before 12
+
+-- a stretch of entries read from a position on, its threads and kinds stored from an index of some room on, behind which they end
+pub record Read-on (known : ℕ) (bytes : List ℕ) (position before : ℕ) (threads₀ kinds₀ : List ℕ) (from : ℕ) (threads kinds : List ℕ) (count end last : ℕ) : Type 0 where
+  pub new-threads : List ℕ
+  pub new-kinds : List ℕ
+  pub read : Stretch known bytes position before new-threads new-kinds end last
+  pub threads-stored : threads ≡ sets threads₀ from new-threads
+  pub kinds-stored : kinds ≡ sets kinds₀ from new-kinds
+  pub counted : count ≡ from + length new-threads
+  pub threads-fit : count ≤ length threads₀
+  pub kinds-fit : count ≤ length kinds₀
+
+-- reading stopped behind an entry, before an index unless a number says why or the journal is at its end
+pub record Stopped-before (known : ℕ) (bytes : List ℕ) (index : ℕ) (piece : Piece) : Type 0 where
+  pub stops : Stops known bytes (piece .position) (piece .before) (piece .number)
+  pub full : piece .number ≡ 0 → piece .position < length bytes → index ≤ piece .count
+
+-- the smaller of two numbers
+pub record Smaller (a b smaller : ℕ) : Type 0 where
+  pub within-first : smaller ≤ a
+  pub within-second : smaller ≤ b
+  pub largest : (n : ℕ) → n ≤ a → n ≤ b → n ≤ smaller
+
+-- four numbers that are one, or below one
+abbrev pub All-are : (number a b c d : ℕ) → Type 0
+All-are n a b c d = (a ≡ n) × (b ≡ n) × (c ≡ n) × (d ≡ n)
+
+abbrev pub All-below : (number a b c d : ℕ) → Type 0
+All-below n a b c d = (a < n) × (b < n) × (c < n) × (d < n)
+
+-- bytes enough for four entries of at most three, and room for them
+pub record Fits-four (bytes position threads kinds count : ℕ) : Type 0 where
+  pub bytes-left : position + 12 ≤ bytes
+  pub threads-left : count + 4 ≤ threads
+  pub kinds-left : count + 4 ≤ kinds
 
 abbrev pub piece-of : (count position before number : ℕ) → Piece
 piece-of n p b m = record { count = n; position = p; before = b; number = m }

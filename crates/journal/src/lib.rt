@@ -1,12 +1,13 @@
 // The journal of document 02, (xiv): a reader that holds the lent bytes and a position in them, what is read with it, and the steps that it names.
 ghost use mathlib.Core.Path.{_≡_};
 ghost use mathlib.Core.Bool.{cond};
-ghost use Prim.Native.Nat.{_+_, _*_, _≤_};
+ghost use Prim.Native.Nat.{_+_, _*_, _≤_, _<_};
 ghost use lib.Dec.{eqb};
 ghost use lib.ListN.{length};
-ghost use Rattle.journal.specs.Reading.{entry-size, entry-of, entry-at, position-after, piece-of, Piece-read};
+ghost use Rattle.journal.specs.Reading.{entry-size, entry-of, entry-at, position-after, piece-of, Read-on, Stopped-before, Smaller, Piece-read};
 ghost use Rattle.journal.specs.Answers.{journal-answer};
 
+mod alike;
 mod journals;
 
 use model::TreeWords;
@@ -173,24 +174,27 @@ fn stopped(count: usize, position: usize, before: u16, number: u32) -> Piece
     }
 }
 
-// Reads entries from a position on, as many as there is room for, up to the journal's end or the first that 25 or 12 refuses; their threads and kinds at the front of the room.
-pub fn read_piece(
+// Reads entries from a position on, one behind another, into the room from one index on and up to another; up to the journal's end or the first that 25 or 12 refuses.
+fn read_some(
     journal: &[u8],
     position: usize,
     before: u16,
     known: u32,
     threads: &mut [u16],
     kinds: &mut [u8],
+    from: usize,
+    end: usize,
 ) -> Piece
-    ensures { λ r. ⌜ Piece-read known (now (journal .entry)) position before (now (threads .exit)) (now (kinds .exit)) r ⌝ }
+    requires { ⌜ from ≤ end ⌝ }
+    requires { ⌜ end ≤ length (now threads) ⌝ }
+    requires { ⌜ end ≤ length (now kinds) ⌝ }
+    ensures { λ r. ⌜ Read-on known (now (journal .entry)) position before (now (threads .entry)) (now (kinds .entry)) from (now (threads .exit)) (now (kinds .exit)) (r .count) (r .position) (r .before) ⌝ }
+    ensures { λ r. ⌜ Stopped-before known (now (journal .entry)) end r ⌝ }
 {
-    let mut count: usize = 0;
+    let mut count = from;
     let mut at = position;
     let mut last = before;
-    while count < threads.len() {
-        if kinds.len() <= count {
-            return stopped(count, at, last, 0);
-        }
+    while count < end {
         let e = entry_at(journal, at, last);
         match e {
             Entry::Named {
@@ -210,6 +214,65 @@ pub fn read_piece(
             Entry::Broken => return stopped(count, at, last, 25),
             Entry::End => return stopped(count, at, last, 0),
         }
+    }
+    stopped(count, at, last, 0)
+}
+
+fn smaller(a: usize, b: usize) -> usize
+    ensures { λ r. ⌜ Smaller a b r ⌝ }
+{
+    if a < b {
+        return a;
+    }
+    b
+}
+
+// Four behind an index, or as many as there are.
+fn four_more(room: usize, count: usize) -> usize
+    requires { ⌜ count < room ⌝ }
+    ensures { λ r. ⌜ count < r ⌝ }
+    ensures { λ r. ⌜ r ≤ room ⌝ }
+{
+    if room - count < 4 {
+        return room;
+    }
+    count + 4
+}
+
+// Reads entries from a position on, as many as there is room for, up to the journal's end or the first that 25 or 12 refuses; their threads and kinds at the front of the room. Where four alike follow each other they are read at once, else the next four one by one.
+pub fn read_piece(
+    journal: &[u8],
+    position: usize,
+    before: u16,
+    known: u32,
+    threads: &mut [u16],
+    kinds: &mut [u8],
+) -> Piece
+    ensures { λ r. ⌜ Piece-read known (now (journal .entry)) position before (now (threads .exit)) (now (kinds .exit)) r ⌝ }
+{
+    let room = smaller(threads.len(), kinds.len());
+    let mut count: usize = 0;
+    let mut at = position;
+    let mut last = before;
+    while count < room {
+        let four = alike::read_four(journal, at, last, known, threads, kinds, count);
+        if count < four.count {
+            at = four.position;
+            last = four.before;
+            count = four.count;
+            continue;
+        }
+        let end = four_more(room, count);
+        let some = read_some(journal, at, last, known, threads, kinds, count, end);
+        if some.number != 0 {
+            return some;
+        }
+        if journal.len() <= some.position {
+            return some;
+        }
+        at = some.position;
+        last = some.before;
+        count = some.count;
     }
     stopped(count, at, last, 0)
 }
