@@ -9,7 +9,7 @@ use lib.ListN.{length, getD}
 use borrow.Author.Tests.{lt-ltb, le-ltb, ltb-true, ltb-false}
 use Rattle.journal.specs.declared.Entry.{Entry}
 use Rattle.journal.specs.declared.Entry.the-variants.{Named, Broken, End}
-use Rattle.journal.specs.Reading.{entry-size, entry-thread, entry-kind, entry-of, entry-at}
+use Rattle.journal.specs.Reading.{entry-size, entry-of, entry-at}
 
 -- one of two numbers by a bit: the sum of their products with it and with what it leaves of 1
 pub by-product : (g a b : ℕ) → g ≤ 1 → g * a + (1 - g) * b ≡ cond (eqb g 1) a b

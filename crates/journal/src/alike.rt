@@ -87,28 +87,27 @@ fn read_same(
     requires { ⌜ before < known ⌝ }
     ensures { λ r. ⌜ Read-on known (now (journal .entry)) position before (now (threads .entry)) (now (kinds .entry)) count (now (threads .exit)) (now (kinds .exit)) (r .count) (r .position) (r .before) ⌝ }
 {
-    let j = journal;
     if all_are(
         2,
-        j[position],
-        j[position + 2],
-        j[position + 4],
-        j[position + 6],
+        journal[position],
+        journal[position + 2],
+        journal[position + 4],
+        journal[position + 6],
     ) {
-        let a = j[position + 1];
-        let b = j[position + 3];
-        let c = j[position + 5];
-        let d = j[position + 7];
+        let a = journal[position + 1];
+        let b = journal[position + 3];
+        let c = journal[position + 5];
+        let d = journal[position + 7];
         put_threads(threads, count, before, before, before, before);
         put_kinds(kinds, count, a, b, c, d);
         return crate::stopped(count + 4, position + 8, before, 0);
     }
     if all_are(
         0,
-        j[position],
-        j[position + 1],
-        j[position + 2],
-        j[position + 3],
+        journal[position],
+        journal[position + 1],
+        journal[position + 2],
+        journal[position + 3],
     ) {
         put_threads(threads, count, before, before, before, before);
         put_kinds(kinds, count, 0, 0, 0, 0);
@@ -130,18 +129,17 @@ fn read_others(
     requires { ⌜ Fits-four (length (now journal)) position (length (now threads)) (length (now kinds)) count ⌝ }
     ensures { λ r. ⌜ Read-on known (now (journal .entry)) position before (now (threads .entry)) (now (kinds .entry)) count (now (threads .exit)) (now (kinds .exit)) (r .count) (r .position) (r .before) ⌝ }
 {
-    let j = journal;
     if all_are(
         1,
-        j[position],
-        j[position + 3],
-        j[position + 6],
-        j[position + 9],
+        journal[position],
+        journal[position + 3],
+        journal[position + 6],
+        journal[position + 9],
     ) {
-        let a = crate::two_bytes(j[position + 1], j[position + 2]);
-        let b = crate::two_bytes(j[position + 4], j[position + 5]);
-        let c = crate::two_bytes(j[position + 7], j[position + 8]);
-        let d = crate::two_bytes(j[position + 10], j[position + 11]);
+        let a = crate::two_bytes(journal[position + 1], journal[position + 2]);
+        let b = crate::two_bytes(journal[position + 4], journal[position + 5]);
+        let c = crate::two_bytes(journal[position + 7], journal[position + 8]);
+        let d = crate::two_bytes(journal[position + 10], journal[position + 11]);
         if all_known(known, a, b, c, d) {
             put_threads(threads, count, a, b, c, d);
             put_kinds(kinds, count, 0, 0, 0, 0);

@@ -1,7 +1,7 @@
 -- `journal::whole_entry` meets its contract: what the bit map gives is taken. Assumes nothing.
 use mathlib.Core.Path.{_≡_, ap, _∙_}
 use mathlib.Core.Bool.{cond}
-use Prim.Native.Nat.{ℕ, _+_, _%_}
+use Prim.Native.Nat.{ℕ, _%_}
 use native.Mathlib.Omega.{arith}
 use lib.Dec.{eqb}
 use Rattle.journal.specs.declared.Entry.the-variants.{Named}
