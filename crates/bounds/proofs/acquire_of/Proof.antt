@@ -1,4 +1,4 @@
--- `bounds::acquire_of` meets its contract. Assumes nothing.
+-- `bounds::acquire_of` meets its contract: the definition's sums and products in order; cut one by one, they come to the whole, cut. Assumes nothing.
 use borrow.Author.Needs.{needs}
 use Rattle.bounds.proofs.RoundWords.{few-domains, few-threads, acquire-word}
 use Rattle.bounds.proofs.acquire_of.Statement.{statement}

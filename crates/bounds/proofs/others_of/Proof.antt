@@ -1,4 +1,4 @@
--- `bounds::others_of` meets its contract. Assumes nothing.
+-- `bounds::others_of` meets its contract: one less than the count of members, in which no threshold matters; 0 where there are none. Assumes nothing.
 use mathlib.Core.Path.{_∙_}
 use native.Mathlib.Omega.{arith}
 use borrow.Author.Needs.{needs}

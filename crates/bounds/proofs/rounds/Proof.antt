@@ -1,4 +1,4 @@
--- `bounds::rounds` meets its contract. Assumes nothing.
+-- `bounds::rounds` meets its contract: the tree's refusal with zeros, or the largest of the threads' rounds and its product with the number of threads. Assumes nothing.
 use borrow.Author.Needs.{needs}
 use Rattle.bounds.proofs.Words.{accepted-number}
 use Rattle.bounds.proofs.RoundAnswers.{allowed-left, rounds-refused, rounds-accepted}

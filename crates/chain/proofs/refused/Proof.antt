@@ -1,4 +1,4 @@
--- `chain::refused` meets its contract. Assumes nothing.
+-- `chain::refused` meets its contract: the two numbers are the refusal's, and the length is 0. Assumes nothing.
 use Rattle.model.specs.Refusals.{refusal}
 use borrow.Author.Needs.{needs}
 use Rattle.chain.proofs.refused.Statement.{statement}

@@ -1,5 +1,6 @@
 -- `host::hmcs_fresh_in_place` meets its contract: a walk of its MIR, by hand. The borrow is opened, the state is copied out of it and passed to `fresh_kept` by value, the state of the reply is stored back, and the borrow is closed at it.
 -- All that the proof knows of `fresh_kept` is that it meets its contract, `r ≡ fresh-kept (fresh-answer ..) ..`. No field of the state is named, so the walk holds for any state and tree of plain data.
+-- The toolchain's letters: 𝓤 is the algebra of resources, H the heap (what code may own of memory), A the atoms of ghost state, W what is given (the laws of the heap and the rules of ghost state), 𝓜 the model of the heap with the machine's memory, 𝓖 the rules of ghost state with their atoms, 𝓡 what it is to run a routine, 𝓣 the tables of calls (C) and of loops (Λ).
 -- Assumes nothing.
 use mathlib.Core.Path.{_≡_, refl, ap}
 use Prim.Native.Nat.{ℕ, _<_, _^_}
@@ -75,7 +76,7 @@ state-vals = LL.vals S.the-type S′.the-laws
 abbrev answer-vals : Answer → List Val
 answer-vals = LL.vals An.the-type An′.the-laws
 
--- the contract that the proof cites
+-- the contract that the proof cites, that of `fresh_kept`
 abbrev Step : {M : Type 1} (𝓤 : URA M) (H : Heap 𝓤) (A : Atoms 𝓤) (mem : Memory → SProp 𝓤) (run : Routine → Fun 𝓤) → Contract 𝓤
 Step 𝓤 H A mem run = tripleOf 𝓤 H A step.signature (step.spec 𝓤 H A mem run)
 
@@ -93,7 +94,7 @@ module _ {M : Type 1} (𝓤 : URA M) (H : Heap 𝓤) (A : Atoms 𝓤) (W : Given
   abbrev Post : Val → SProp 𝓤
   Post = walkOf 𝓤 H A self.ended stayed (self.clauses 𝓤 H A at-mem run) .post (((κ, tt), (q, tt), tt, x, at), tt)
 
-  -- what the step's triple binds outside, what it asks, and what it says of its reply
+  -- what the triple of `fresh_kept` binds outside, what it asks, and what it says of its reply
   abbrev to-step : Step 𝓤 H A at-mem run .Ghost
   to-step = ((tt, tt, tt, (t, (h, (n, tt))), (tree-vals t, (state-vals h, (vint w16 n ∷ [], tt)))), tt)
 
@@ -144,7 +145,7 @@ module _ {M : Type 1} (𝓤 : URA M) (H : Heap 𝓤) (A : Atoms 𝓤) (W : Given
         move ! (15 ∷ 16 ∷ []) $ free1 ! $ move ! (13 ∷ 14 ∷ []) $ free1 ! $ move ! (11 ∷ 12 ∷ []) $ free1 ! $ move ! (9 ∷ 10 ∷ []) $ free1 ! $ move ! (7 ∷ 8 ∷ []) $ free1 ! $ move ! (5 ∷ 6 ∷ []) $ free1 ! $ free0 ! $
         keep ! (0 ∷ 1 ∷ 2 ∷ []) $ by ! (exits r (small r _ is) (near r _ is) e)))))))))))))
       where
-        -- what a reply's relation says of its number and of its state
+        -- what a reply's relation says of its numbers and of its state
         small : (r : FreshReply) (vs : List Val) → Is Rp.the-row r vs → r .number < 2 ^ 32
         small r vs is = LL.owed Rp.the-type Rp′.the-laws r vs is .0 .1
 

@@ -1,4 +1,4 @@
--- `lock::fresh_counters` meets its contract. Assumes nothing.
+-- `lock::fresh_counters` meets its contract: three arrays of 64 zeros are the definition. Assumes nothing.
 use mathlib.Core.Path.{refl}
 use Rattle.model.specs.Counters.{fresh-counters}
 use borrow.Author.Needs.{needs}

@@ -1,4 +1,4 @@
--- `put_number` meets its contract. Assumes nothing.
+-- `put_number` meets its contract: to put the numeral and then the byte behind it is to put both as one list. Assumes nothing.
 use mathlib.Core.List.{[], _∷_}
 use mathlib.Core.Path.{sym}
 use native.Mathlib.Omega.{arith}

@@ -1,4 +1,4 @@
--- `put_refused` meets its contract. Assumes nothing.
+-- `put_refused` meets its contract: seven stores behind one another, none of which changes the length. Assumes nothing.
 use native.Mathlib.Omega.{arith}
 use lib.ListN.{length-set}
 use borrow.Author.Needs.{needs}

@@ -42,13 +42,27 @@ in-range-requires-3 : tie.Need-in-range-requires-3
 in-range-requires-3 c κs = search needs
 
 returns-5 : tie.Need-returns-5
-returns-5 c = rw (answer-tested, ne-eqb _ _ (c .before .before .before .before .before .before .before .if1 .left), ne-eqb _ _ (c .before .before .before .before .before .before .if2 .left), ← c .before .before .before .before .before .in-range .ensures, was-true (c .before .before .before .before .before .in-range .result) (c .before .before .before .before .if3 .left), ← c .before .before .before .in-range2 .ensures, was-true (c .before .before .before .in-range2 .result) (c .before .before .if4 .left), ← c .before .in-range3 .ensures, was-false (c .before .in-range3 .result) (c .if5 .taken))
+returns-5 c =
+    let third = c .before in
+    let second = third .before .before in
+    let first = second .before .before in
+    let a = was-true (first .in-range .result) (second .before .if3 .left) in
+    let b = was-true (second .in-range2 .result) (third .before .if4 .left) in
+    let d = was-false (third .in-range3 .result) (c .if5 .taken) in
+    rw (answer-tested, ne-eqb _ _ (first .before .before .if1 .left), ne-eqb _ _ (first .before .if2 .left), ← first .in-range .ensures, a, ← second .in-range2 .ensures, b, ← third .in-range3 .ensures, d)
 
 rate-of-requires : tie.Need-rate-of-requires
 rate-of-requires c κs = search needs
 
 returns-6 : tie.Need-returns-6
-returns-6 c = rw (answer-tested, c .rate-of .ensures, ne-eqb _ _ (c .before .before .before .before .before .before .before .before .if1 .left), ne-eqb _ _ (c .before .before .before .before .before .before .before .if2 .left), ← c .before .before .before .before .before .before .in-range .ensures, was-true (c .before .before .before .before .before .before .in-range .result) (c .before .before .before .before .before .if3 .left), ← c .before .before .before .before .in-range2 .ensures, was-true (c .before .before .before .before .in-range2 .result) (c .before .before .before .if4 .left), ← c .before .before .in-range3 .ensures, was-true (c .before .before .in-range3 .result) (c .before .if5 .left))
+returns-6 c =
+    let third = c .before .before in
+    let second = third .before .before in
+    let first = second .before .before in
+    let a = was-true (first .in-range .result) (second .before .if3 .left) in
+    let b = was-true (second .in-range2 .result) (third .before .if4 .left) in
+    let d = was-true (third .in-range3 .result) (c .before .if5 .left) in
+    rw (answer-tested, c .rate-of .ensures, ne-eqb _ _ (first .before .before .if1 .left), ne-eqb _ _ (first .before .if2 .left), ← first .in-range .ensures, a, ← second .in-range2 .ensures, b, ← third .in-range3 .ensures, d)
 
 pub rate-spec : {M : Type 1} → statement M
 rate-spec =

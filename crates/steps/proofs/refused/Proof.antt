@@ -1,4 +1,4 @@
--- `steps::refused` meets its contract. Assumes nothing.
+-- `steps::refused` meets its contract: number, place and state as given, and every count 0. Assumes nothing.
 use Rattle.model.specs.Refusals.{refusal}
 use borrow.Author.Needs.{needs}
 use Rattle.steps.proofs.refused.Statement.{statement}

@@ -1,4 +1,4 @@
--- `read_text` meets its contract. Assumes nothing.
+-- `read_text` meets its contract: how far reading came decides: stuck, behind the tree before the text's end, or at its end. Assumes nothing.
 use mathlib.Core.Path.{_∙_}
 use Rattle.text_tree.proofs.Answering.{answer-stuck, answer-whole, answer-more}
 use borrow.Author.Needs.{needs}

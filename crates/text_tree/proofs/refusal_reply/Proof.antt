@@ -1,4 +1,4 @@
--- `refusal_reply` meets its contract. Assumes nothing.
+-- `refusal_reply` meets its contract: number and place as given, with the words of no tree. Assumes nothing.
 use Rattle.text_tree.specs.Answers.{refused-by}
 use borrow.Author.Needs.{needs}
 use Rattle.text_tree.proofs.refusal_reply.Statement.{statement}

@@ -1,4 +1,4 @@
--- `tree_reply` meets its contract. Assumes nothing.
+-- `tree_reply` meets its contract: its two tests are 4 and 5, in order. Assumes nothing.
 use borrow.Author.Tests.{lt-ltb, le-ltb}
 use Rattle.text_tree.specs.Answers.{counted-reply, accepted-reply}
 use borrow.Author.Needs.{needs}

@@ -1,4 +1,4 @@
--- `bounds::members::child_word` meets its contract. Assumes nothing.
+-- `bounds::members::child_word` meets its contract: the word at the index of a child, 0 of any other domain, by the test of a child. Assumes nothing.
 use mathlib.Core.Path.{sym, _∙_}
 use borrow.Author.Needs.{needs}
 use Rattle.bounds.proofs.members.child_word.Statement.{statement}

@@ -1,4 +1,4 @@
--- `bounds::members::largest_member` meets its contract. Assumes nothing.
+-- `bounds::members::largest_member` meets its contract: a domain without a child is a leaf and has 1, any other the largest word of its children. Assumes nothing.
 use mathlib.Core.Path.{sym, _∙_}
 use borrow.Author.Needs.{needs}
 use Rattle.model.specs.Trees.{tree-of, is-leaf}

@@ -1,4 +1,4 @@
--- `bounds::members::member_word_at` meets its contract. Assumes nothing.
+-- `bounds::members::member_word_at` meets its contract: each return by its own tests: a thread, a child domain at its index, or no member. Assumes nothing.
 use mathlib.Core.Path.{sym, _∙_}
 use borrow.Author.Tests.{lt-ltb, le-ltb}
 use borrow.Author.Needs.{needs}

@@ -1,4 +1,4 @@
--- `chain::links::waits_at` meets its contract. Assumes nothing.
+-- `chain::links::waits_at` meets its contract: the root's word at the root and the other below it, by its test. Assumes nothing.
 use borrow.Author.Tests.{eq-eqb, ne-eqb}
 use Rattle.chain.proofs.links.waits_at.Statement.{statement}
 use Rattle.chain.proofs.links.waits_at.Tie as tie

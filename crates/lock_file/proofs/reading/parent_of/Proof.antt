@@ -1,4 +1,4 @@
--- `parent_of` meets its contract. Assumes nothing.
+-- `parent_of` meets its contract: bit 0 of the map decides: the byte behind it, or 0. Assumes nothing.
 use borrow.Author.Tests.{eq-eqb, ne-eqb}
 use borrow.Author.Needs.{needs}
 use Rattle.lock_file.specs.Reading.{parent-at}

@@ -1,4 +1,4 @@
--- `refusals::counters::good_count_at` meets its contract. Assumes nothing.
+-- `refusals::counters::good_count_at` meets its contract: zeros at the root and in unused room, else each counter by its own bound. Assumes nothing.
 use mathlib.Core.Path.{_∙_}
 use borrow.Author.Tests.{eq-eqb, ne-eqb, lt-ltb, le-ltb, lt-leb, le-leb}
 use borrow.Author.Needs.{needs}

@@ -1,4 +1,4 @@
--- `refusals::counters::zeros_at` meets its contract. Assumes nothing.
+-- `refusals::counters::zeros_at` meets its contract: each return by the tests of the counters before it. Assumes nothing.
 use borrow.Author.Tests.{eq-eqb, ne-eqb}
 use borrow.Author.Needs.{needs}
 use Rattle.refusals.proofs.counters.zeros_at.Statement.{statement}

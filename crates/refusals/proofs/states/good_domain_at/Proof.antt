@@ -1,4 +1,4 @@
--- `refusals::states::good_domain_at` meets its contract. Assumes nothing.
+-- `refusals::states::good_domain_at` meets its contract: barred, not on the path, or the record decides. Assumes nothing.
 use mathlib.Core.Bool.{true, false}
 use borrow.Author.Tests.{not-true, not-false}
 use Rattle.refusals.proofs.Scanning.{by-answer}

@@ -1,4 +1,4 @@
--- `refusals::states::good_peer_at` meets its contract. Assumes nothing.
+-- `refusals::states::good_peer_at` meets its contract: the row decides: a member's record, or 0. Assumes nothing.
 use mathlib.Core.Path.{sym, _∙_}
 use borrow.Author.Needs.{needs}
 use Rattle.refusals.proofs.states.good_peer_at.Statement.{statement}

@@ -1,4 +1,4 @@
--- `refusals::states::good_place_at` meets its contract. Assumes nothing.
+-- `refusals::states::good_place_at` meets its contract: each return by its own tests: a row of a ticket root, a spare word, a row without a domain, or one with. Assumes nothing.
 use mathlib.Core.Bool.{true, false}
 use borrow.Author.Tests.{eq-eqb, ne-eqb, lt-ltb, le-ltb}
 use Rattle.refusals.specs.Tables.{place-in}

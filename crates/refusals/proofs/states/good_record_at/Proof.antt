@@ -1,4 +1,4 @@
--- `refusals::states::good_record_at` meets its contract. Assumes nothing.
+-- `refusals::states::good_record_at` meets its contract: the owner at its index decides: without one both words are to be 0, with one the next is to be its member's or none. Assumes nothing.
 use borrow.Author.Tests.{eq-eqb, ne-eqb}
 use borrow.Author.Needs.{needs}
 use Rattle.refusals.proofs.states.good_record_at.Statement.{statement}

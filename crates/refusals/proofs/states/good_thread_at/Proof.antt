@@ -1,4 +1,4 @@
--- `refusals::states::good_thread_at` meets its contract. Assumes nothing.
+-- `refusals::states::good_thread_at` meets its contract: the next's test; then a place that rests passes every test, and any other is tested. Assumes nothing.
 use mathlib.Core.Bool.{true, false}
 use native.Mathlib.Omega.{arith}
 use lib.ListN.{getD}

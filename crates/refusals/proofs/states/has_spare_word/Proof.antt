@@ -1,4 +1,4 @@
--- `refusals::states::has_spare_word` meets its contract. Assumes nothing.
+-- `refusals::states::has_spare_word` meets its contract: without a word never; with one the row decides. Assumes nothing.
 use borrow.Author.Tests.{eq-eqb, ne-eqb}
 use Rattle.refusals.proofs.states.has_spare_word.Statement.{statement}
 use Rattle.refusals.proofs.states.has_spare_word.Tie as tie

@@ -1,4 +1,4 @@
--- `refusals::states::is_member_at` meets its contract. Assumes nothing.
+-- `refusals::states::is_member_at` meets its contract: no record from 320 on; below, the owner at its index decides. Assumes nothing.
 use borrow.Author.Tests.{lt-ltb, le-ltb}
 use borrow.Author.Needs.{needs}
 use Rattle.refusals.proofs.states.is_member_at.Statement.{statement}

@@ -1,4 +1,4 @@
--- `refusals::states::is_unused_at` meets its contract. Assumes nothing.
+-- `refusals::states::is_unused_at` meets its contract: the place by `is_idle_at`, then next and status, each by its own test. Assumes nothing.
 use mathlib.Core.Bool.{true, false}
 use borrow.Author.Tests.{eq-eqb, ne-eqb, not-true, not-false}
 use Rattle.refusals.proofs.Scanning.{by-answer}

@@ -1,4 +1,4 @@
--- `refusals::states::joined` meets its contract. Assumes nothing.
+-- `refusals::states::joined` meets its contract: row and domain have 8 bits and the record 16, so the sum fits 32 bits. Assumes nothing.
 use mathlib.Core.Path.{refl}
 use native.Mathlib.Omega.{arith}
 use borrow.Author.Needs.{needs}

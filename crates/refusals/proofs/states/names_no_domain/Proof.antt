@@ -1,4 +1,4 @@
--- `refusals::states::names_no_domain` meets its contract. Assumes nothing.
+-- `refusals::states::names_no_domain` meets its contract: the rows 0 and 5, each by its own test. Assumes nothing.
 use borrow.Author.Tests.{eq-eqb, ne-eqb}
 use Rattle.refusals.proofs.states.names_no_domain.Statement.{statement}
 use Rattle.refusals.proofs.states.names_no_domain.Tie as tie

@@ -1,4 +1,4 @@
--- `refusals::states::names_peer` meets its contract. Assumes nothing.
+-- `refusals::states::names_peer` meets its contract: the rows 3 and 10, each by its own test. Assumes nothing.
 use borrow.Author.Tests.{eq-eqb, ne-eqb}
 use Rattle.refusals.proofs.states.names_peer.Statement.{statement}
 use Rattle.refusals.proofs.states.names_peer.Tie as tie

@@ -1,4 +1,4 @@
--- `refusals::states::root_record_at` meets its contract. Assumes nothing.
+-- `refusals::states::root_record_at` meets its contract: a thread at home at the root has its own, any other that of the root's child on its path, which is below 320. Assumes nothing.
 use mathlib.Core.Path.{sym}
 use native.Mathlib.Omega.{arith}
 use borrow.Author.Tests.{eq-eqb, ne-eqb}

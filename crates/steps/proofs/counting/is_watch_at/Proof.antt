@@ -1,4 +1,4 @@
--- `steps::counting::is_watch_at` meets its contract. Assumes nothing.
+-- `steps::counting::is_watch_at` meets its contract: each return by the tests before it, of row, domain, record and word. Assumes nothing.
 use borrow.Author.Tests.{eq-eqb, ne-eqb, lt-ltb, le-ltb, lt-leb, le-leb, not-true, not-false}
 use borrow.Author.Needs.{needs}
 use Rattle.steps.proofs.counting.is_watch_at.Statement.{statement}

@@ -1,4 +1,4 @@
--- `steps::counting::looked_at` meets its contract. Assumes nothing.
+-- `steps::counting::looked_at` meets its contract: nobody for a step that is no raise; for a raise all, or nobody where `holds_ticket` finds no record with the ticket. Assumes nothing.
 use mathlib.Core.Path.{refl}
 use borrow.Author.Needs.{needs}
 use Rattle.steps.proofs.counting.looked_at.Statement.{statement}

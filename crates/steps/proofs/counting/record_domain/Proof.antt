@@ -1,4 +1,4 @@
--- `steps::counting::record_domain` meets its contract. Assumes nothing.
+-- `steps::counting::record_domain` meets its contract: a thread's number is below 256, a domain's less 256 is below 64. Assumes nothing.
 use native.Mathlib.Omega.{arith}
 use borrow.Author.Tests.{eq-eqb, ne-eqb, lt-ltb, le-ltb, lt-leb, le-leb, not-true, not-false}
 use borrow.Author.Needs.{needs}

@@ -1,4 +1,4 @@
--- `steps::places::acquire_place_at` meets its contract. Assumes nothing.
+-- `steps::places::acquire_place_at` meets its contract: Prep below the root; at it the kind of root decides, Prep or Draw. Assumes nothing.
 use borrow.Author.Tests.{eq-eqb, ne-eqb}
 use Rattle.steps.proofs.places.acquire_place_at.Statement.{statement}
 use Rattle.steps.proofs.places.acquire_place_at.Tie as tie

@@ -1,4 +1,4 @@
--- `steps::places::done_place_at` meets its contract. Assumes nothing.
+-- `steps::places::done_place_at` meets its contract: Idle at the home and Help elsewhere, by its test. Assumes nothing.
 use borrow.Author.Tests.{eq-eqb, ne-eqb}
 use Rattle.steps.proofs.places.done_place_at.Statement.{statement}
 use Rattle.steps.proofs.places.done_place_at.Tie as tie

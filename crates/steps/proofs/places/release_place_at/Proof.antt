@@ -1,4 +1,4 @@
--- `steps::places::release_place_at` meets its contract. Assumes nothing.
+-- `steps::places::release_place_at` meets its contract: Check below the root; at it the kind of root decides, Help or Raise. Assumes nothing.
 use borrow.Author.Tests.{eq-eqb, ne-eqb}
 use Rattle.steps.proofs.places.release_place_at.Statement.{statement}
 use Rattle.steps.proofs.places.release_place_at.Tie as tie

@@ -1,4 +1,4 @@
--- `steps::rows::root_word_at` meets its contract. Assumes nothing.
+-- `steps::rows::root_word_at` meets its contract: the definition's two cases, by its test. Assumes nothing.
 use borrow.Author.Tests.{eq-eqb, ne-eqb}
 use Rattle.steps.proofs.rows.root_word_at.Statement.{statement}
 use Rattle.steps.proofs.rows.root_word_at.Tie as tie

@@ -69,35 +69,63 @@ loop2-holds : tie.Need-loop2-holds Inv-loop2 μ-loop2 Inv-loop μ-loop
 loop2-holds c = (search needs, marked-start _ ((early-facts _ _ _ _ (c .before .before .before .before .before .before .before .before .before .before .before .pre .1)) .tree) _ _ _ _ (c .before .before .before .before .before .loop .inv .3))
 
 cast-other : tie.Need-cast-other Inv-loop2 μ-loop2 Inv-loop μ-loop
-cast-other c = omega (arith, looked-real (c .before .before .looked-at .ensures) (c .«loop2-test» .taken), shape-of (c .before .before .before .before .before .before .before .before .before .before .before .before .before .args .t1) ((early-facts _ _ _ _ (c .before .before .before .before .before .before .before .before .before .before .before .before .before .pre .1)) .tree) .few-threads)
+cast-other c =
+    let looked = c .before .before in
+    let first = looked .before .before .before .before .before .before .before .before .before .before .before in
+    let r = early-facts _ _ _ _ (first .pre .1) in
+    omega (arith, looked-real (looked .looked-at .ensures) (c .«loop2-test» .taken), shape-of (first .args .t1) (r .tree) .few-threads)
 
 mul-q : tie.Need-mul-q Inv-loop2 μ-loop2 Inv-loop μ-loop
-mul-q c = omega (arith, looked-real (c .before .before .looked-at .ensures) (c .«loop2-test» .taken), shape-of (c .before .before .before .before .before .before .before .before .before .before .before .before .before .args .t1) ((early-facts _ _ _ _ (c .before .before .before .before .before .before .before .before .before .before .before .before .before .pre .1)) .tree) .few-threads)
+mul-q c =
+    let looked = c .before .before in
+    let first = looked .before .before .before .before .before .before .before .before .before .before .before in
+    let r = early-facts _ _ _ _ (first .pre .1) in
+    omega (arith, looked-real (looked .looked-at .ensures) (c .«loop2-test» .taken), shape-of (first .args .t1) (r .tree) .few-threads)
 
 array-copy-out-q : tie.Need-array-copy-out-q Inv-loop2 μ-loop2 Inv-loop μ-loop
-array-copy-out-q c = omega (arith, looked-real (c .before .before .looked-at .ensures) (c .«loop2-test» .taken), shape-of (c .before .before .before .before .before .before .before .before .before .before .before .before .before .args .t1) ((early-facts _ _ _ _ (c .before .before .before .before .before .before .before .before .before .before .before .before .before .pre .1)) .tree) .few-threads)
+array-copy-out-q c =
+    let looked = c .before .before in
+    let first = looked .before .before .before .before .before .before .before .before .before .before .before in
+    let r = early-facts _ _ _ _ (first .pre .1) in
+    omega (arith, looked-real (looked .looked-at .ensures) (c .«loop2-test» .taken), shape-of (first .args .t1) (r .tree) .few-threads)
 
 element-copy-out-its-home : tie.Need-element-copy-out-its-home Inv-loop2 μ-loop2 Inv-loop μ-loop
-element-copy-out-its-home c = omega (arith, looked-real (c .before .before .before .looked-at .ensures) (c .before .«loop2-test» .taken), shape-of (c .before .before .before .before .before .before .before .before .before .before .before .before .before .before .args .t1) ((early-facts _ _ _ _ (c .before .before .before .before .before .before .before .before .before .before .before .before .before .before .pre .1)) .tree) .few-threads)
+element-copy-out-its-home c =
+    let test = c .before in
+    let looked = test .before .before in
+    let first = looked .before .before .before .before .before .before .before .before .before .before .before in
+    let r = early-facts _ _ _ _ (first .pre .1) in
+    omega (arith, looked-real (looked .looked-at .ensures) (test .«loop2-test» .taken), shape-of (first .args .t1) (r .tree) .few-threads)
 
 mark-shown-requires : tie.Need-mark-shown-requires Inv-loop2 μ-loop2 Inv-loop μ-loop
 mark-shown-requires c κs =
-    let w = c .before .before .before .before .before .before .before .before .before .before .before .before .before .before .before .before .before .before .before .args .t1 in
-    let r = early-facts _ _ _ _ (c .before .before .before .before .before .before .before .before .before .before .before .before .before .before .before .before .before .before .before .pre .1) in
+    let test = c .before .before .before .before .before .before in
+    let looked = test .before .before in
+    let first = looked .before .before .before .before .before .before .before .before .before .before .before in
+    let w = first .args .t1 in
+    let r = early-facts _ _ _ _ (first .pre .1) in
     let k = shape-of w (r .tree) in
-    (k .few-domains, (k .low, home-small w (r .tree) (c .before .before .before .before .before .before .before .loop2 .j) (looked-real (c .before .before .before .before .before .before .before .before .looked-at .ensures) (c .before .before .before .before .before .before .«loop2-test» .taken))))
+    (k .few-domains, (k .low, home-small w (r .tree) (test .before .loop2 .j) (looked-real (looked .looked-at .ensures) (test .«loop2-test» .taken))))
 
 add-j : tie.Need-add-j Inv-loop2 μ-loop2 Inv-loop μ-loop
-add-j c = omega (arith, looked-real (c .before .before .before .before .before .before .before .before .before .looked-at .ensures) (c .before .before .before .before .before .before .before .«loop2-test» .taken), shape-of (c .before .before .before .before .before .before .before .before .before .before .before .before .before .before .before .before .before .before .before .before .args .t1) ((early-facts _ _ _ _ (c .before .before .before .before .before .before .before .before .before .before .before .before .before .before .before .before .before .before .before .before .pre .1)) .tree) .few-threads)
+add-j c =
+    let test = c .before .before .before .before .before .before .before in
+    let looked = test .before .before in
+    let first = looked .before .before .before .before .before .before .before .before .before .before .before in
+    let r = early-facts _ _ _ _ (first .pre .1) in
+    omega (arith, looked-real (looked .looked-at .ensures) (test .«loop2-test» .taken), shape-of (first .args .t1) (r .tree) .few-threads)
 
 loop2-less : tie.Need-loop2-less Inv-loop2 μ-loop2 Inv-loop μ-loop
 loop2-less c = omega arith
 
 loop2-again : tie.Need-loop2-again Inv-loop2 μ-loop2 Inv-loop μ-loop
 loop2-again c =
-    let w = c .before .before .before .before .before .before .before .before .before .before .before .before .before .before .before .before .before .before .before .before .args .t1 in
-    let r = early-facts _ _ _ _ (c .before .before .before .before .before .before .before .before .before .before .before .before .before .before .before .before .before .before .before .before .pre .1) in
-    (omega arith, marked-next w (r .tree) _ _ _ _ _ _ (looked-real (c .before .before .before .before .before .before .before .before .before .looked-at .ensures) (c .before .before .before .before .before .before .before .«loop2-test» .taken)) (c .before .before .before .before .before .before .before .before .loop2 .inv .1) (c .mark-shown .ensures))
+    let test = c .before .before .before .before .before .before .before in
+    let looked = test .before .before in
+    let first = looked .before .before .before .before .before .before .before .before .before .before .before in
+    let r = early-facts _ _ _ _ (first .pre .1) in
+    let real = looked-real (looked .looked-at .ensures) (test .«loop2-test» .taken) in
+    (omega arith, marked-next (first .args .t1) (r .tree) _ _ _ _ _ _ real (test .before .loop2 .inv .1) (c .mark-shown .ensures))
 
 take-requires : tie.Need-take-requires Inv-loop2 μ-loop2 Inv-loop μ-loop
 unfolding tree-of
@@ -116,27 +144,37 @@ take-requires c κs =
 
 count-in-requires : tie.Need-count-in-requires Inv-loop2 μ-loop2 Inv-loop μ-loop
 count-in-requires c κs =
-    let l = c .before .before .before .before .before .before .before .before .before .before .before .before .before .before .before .before .before .before .before .before .before .before .before .loop in
+    let test = c .before .before .before .before .before .before .before .before .before .before .before .before .before .before .before .before .before .before .before .before .before .before in
+    let l = test .before .loop in
+    let r = early-facts _ _ _ _ (test .before .before .before .before .before .before .before .pre .1) in
     let n = state-in (l .tails) (l .nexts) (l .statuses) (l .drawn) (l .raised) (l .standing) in
-    kind-room _ _ _ _ _ n _ _ _ _ _ (l .inv .0) (c .before .before .take .ensures .0 .does (l .standing) refl) (c .before .before .before .before .before .before .before .before .before .before .before .before .before .before .before .before .before .before .before .before .before .before .loop-test .taken) ((early-facts _ _ _ _ (c .before .before .before .before .before .before .before .before .before .before .before .before .before .before .before .before .before .before .before .before .before .before .before .before .before .before .before .before .before .pre .1)) .short)
+    kind-room _ _ _ _ _ n _ _ _ _ _ (l .inv .0) (c .before .before .take .ensures .0 .does (l .standing) refl) (test .loop-test .taken) (r .short)
 
 mul-standing : tie.Need-mul-standing Inv-loop2 μ-loop2 Inv-loop μ-loop
-mul-standing c = omega (arith, thread-small _ _ _ _ _ (early-facts _ _ _ _ (c .before .before .before .before .before .before .before .before .before .before .before .before .before .before .before .before .before .before .before .before .before .before .before .before .before .before .before .before .before .before .before .pre .1)) (c .before .before .before .before .before .before .before .before .before .before .before .before .before .before .before .before .before .before .before .before .before .before .before .before .loop-test .taken))
+mul-standing c =
+    let test = c .before .before .before .before .before .before .before .before .before .before .before .before .before .before .before .before .before .before .before .before .before .before .before .before in
+    omega (arith, thread-small _ _ _ _ _ (early-facts _ _ _ _ (test .before .before .before .before .before .before .before .pre .1)) (test .loop-test .taken))
 
 array-set-from-standing : tie.Need-array-set-from-standing Inv-loop2 μ-loop2 Inv-loop μ-loop
-array-set-from-standing c = omega (arith, thread-small _ _ _ _ _ (early-facts _ _ _ _ (c .before .before .before .before .before .before .before .before .before .before .before .before .before .before .before .before .before .before .before .before .before .before .before .before .before .before .before .before .before .before .before .pre .1)) (c .before .before .before .before .before .before .before .before .before .before .before .before .before .before .before .before .before .before .before .before .before .before .before .before .loop-test .taken))
+array-set-from-standing c =
+    let test = c .before .before .before .before .before .before .before .before .before .before .before .before .before .before .before .before .before .before .before .before .before .before .before .before in
+    omega (arith, thread-small _ _ _ _ _ (early-facts _ _ _ _ (test .before .before .before .before .before .before .before .pre .1)) (test .loop-test .taken))
 
 trace-at-requires : tie.Need-trace-at-requires Inv-loop2 μ-loop2 Inv-loop μ-loop
 trace-at-requires c κs =
-    let g = c .before .before .before .before .before .before .before .before .before .before .before .before .before .before .before .before .before .before .before .before .before .before .before .before .before .before .loop .inv .0 in
-    let r = (early-facts _ _ _ _ (c .before .before .before .before .before .before .before .before .before .before .before .before .before .before .before .before .before .before .before .before .before .before .before .before .before .before .before .before .before .before .before .before .pre .1)) in
-    (omega (arith, c .before .before .before .before .before .before .before .before .before .before .before .before .before .before .before .before .before .before .before .before .before .before .before .before .before .loop-test .taken, g .entries-fit, g .long, r .fits), omega (arith, c .before .before .before .before .before .before .before .before .before .before .before .before .before .before .before .before .before .before .before .before .before .before .before .before .before .loop-test .taken, g .entries-fit, r .short))
+    let test = c .before .before .before .before .before .before .before .before .before .before .before .before .before .before .before .before .before .before .before .before .before .before .before .before .before in
+    let g = test .before .loop .inv .0 in
+    let r = early-facts _ _ _ _ (test .before .before .before .before .before .before .before .pre .1) in
+    let more = test .loop-test .taken in
+    (omega (arith, more, g .entries-fit, g .long, r .fits), omega (arith, more, g .entries-fit, r .short))
 
 tell-requires : tie.Need-tell-requires Inv-loop2 μ-loop2 Inv-loop μ-loop
 tell-requires c κs = search needs
 
 add-k : tie.Need-add-k Inv-loop2 μ-loop2 Inv-loop μ-loop
-add-k c = omega (arith, c .before .before .before .before .before .before .before .before .before .before .before .before .before .before .before .before .before .before .before .before .before .before .before .before .before .before .before .before .before .before .before .before .loop-test .taken, (early-facts _ _ _ _ (c .before .before .before .before .before .before .before .before .before .before .before .before .before .before .before .before .before .before .before .before .before .before .before .before .before .before .before .before .before .before .before .before .before .before .before .before .before .before .before .pre .1)) .short)
+add-k c =
+    let test = c .before .before .before .before .before .before .before .before .before .before .before .before .before .before .before .before .before .before .before .before .before .before .before .before .before .before .before .before .before .before .before .before in
+    omega (arith, test .loop-test .taken, (early-facts _ _ _ _ (test .before .before .before .before .before .before .before .pre .1)) .short)
 
 loop-less : tie.Need-loop-less Inv-loop2 μ-loop2 Inv-loop μ-loop
 loop-less c = omega (arith, c .before .before .before .before .before .before .before .before .before .before .before .before .before .before .before .before .before .before .before .before .before .before .before .before .before .before .before .before .before .before .before .before .loop-test .taken)

@@ -74,7 +74,7 @@ enum-told-4 : tie.Need-enum-told-4
 enum-told-4 c = search needs
 
 wait-requires : tie.Need-wait-requires
-wait-requires c κs = let r = turn-of _ _ _ _ _ _ _ _ (c .before .before .before .before .before .before .before .before .before .pre .0) in let a = c .before .before .before .before .before .before .before .place-by-row .ensures in let b = c .before .before .before .before .before .before .domain-by-row .ensures in let M = c .before .before .before .before .before .member-at .ensures in let f = fits r in let p = c .before .before .before .before .before .before .before .before .before .pre in (f .few-domains, (f .low, ((rw (M .home-is) (f .home-real), M .within), p .1 .0 .0)))
+wait-requires c κs = let m = c .before .before .before .before .before in let M = m .member-at .ensures in let p = m .before .before .before .before .pre in let f = fits (turn-of _ _ _ _ _ _ _ _ (p .0)) in (f .few-domains, (f .low, ((rw (M .home-is) (f .home-real), M .within), p .1 .0 .0)))
 
 enum-told-5 : tie.Need-enum-told-5
 enum-told-5 c = search needs
@@ -168,7 +168,7 @@ element-copy-out-watch : tie.Need-element-copy-out-watch
 element-copy-out-watch c = omega (arith, (c .before .before .before .member-at .ensures) .within .own-fits)
 
 watch-requires : tie.Need-watch-requires
-watch-requires c κs = let r = turn-of _ _ _ _ _ _ _ _ (c .before .before .before .before .before .before .before .before .before .before .pre .0) in let a = c .before .before .before .before .before .before .before .before .place-by-row .ensures in let b = c .before .before .before .before .before .before .before .domain-by-row .ensures in let M = c .before .before .before .before .before .before .member-at .ensures in let f = fits r in let p = c .before .before .before .before .before .before .before .before .before .before .pre in (f .few-domains, (f .low, ((rw (M .home-is) (f .home-real), at-root r a b M Watch (c .before .before .before .enum-told11 .given .1) refl), p .1 .0 .0)))
+watch-requires c κs = let m = c .before .before .before .before .before .before in let M = m .member-at .ensures in let b = m .before .domain-by-row .ensures in let a = m .before .before .place-by-row .ensures in let p = m .before .before .before .before .pre in let r = turn-of _ _ _ _ _ _ _ _ (p .0) in let f = fits r in (f .few-domains, (f .low, ((rw (M .home-is) (f .home-real), at-root r a b M Watch (c .before .before .before .enum-told11 .given .1) refl), p .1 .0 .0)))
 
 enum-told-12 : tie.Need-enum-told-12
 enum-told-12 c = search needs
@@ -177,7 +177,7 @@ count-shown-requires : tie.Need-count-shown-requires
 count-shown-requires c κs = let r = turn-of _ _ _ _ _ _ _ _ (c .before .before .before .before .before .before .before .before .before .before .pre .0) in (fits r .few-domains, (c .before .before .before .before .before .before .before .before .before .before .pre .1 .1, c .before .before .before .before .before .before .before .before .before .before .pre .1 .0 .1))
 
 raise-requires : tie.Need-raise-requires
-raise-requires c κs = let r = turn-of _ _ _ _ _ _ _ _ (c .before .before .before .before .before .before .before .before .before .before .before .before .pre .0) in let a = c .before .before .before .before .before .before .before .before .before .before .place-by-row .ensures in let b = c .before .before .before .before .before .before .before .before .before .domain-by-row .ensures in let M = c .before .before .before .before .before .before .before .before .member-at .ensures in at-root r a b M Raise (c .before .before .before .before .before .enum-told12 .given .1) refl
+raise-requires c κs = let m = c .before .before .before .before .before .before .before .before in let b = m .before .domain-by-row .ensures in let a = m .before .before .place-by-row .ensures in at-root (turn-of _ _ _ _ _ _ _ _ (m .before .before .before .before .pre .0)) a b (m .member-at .ensures) Raise (c .before .before .before .before .before .enum-told12 .given .1) refl
 
 enum-told-13 : tie.Need-enum-told-13
 enum-told-13 c = search needs
@@ -259,7 +259,10 @@ returns-7 c =
     let M = c .before .before .before .before .before .before .before .before .before .member-at .ensures in
     let same = c .before .before .before .before .before .before .enum-told6 .given .1 in
     let x = c .before .before .before .before .before .before .before .before .before .before .before .before .before .args in
-    (taken r a b M (Check _) _ _ _ _ _ _ _ _ _ _ _ same (λ qs here. c .check .ensures .0 .does _ _ (state-in (now (x .tails)) (now (x .nexts)) (now (x .statuses)) (now (x .ticket)) (now (x .granted)) qs) (record { stands = stands r a b M; inner = inner r a b M _ same; above = rw (← M .domain-is) (above r a b M); threshold-is = rw (← M .domain-is) (threshold-is r a b M (inner r a b M _ same)); next-is = refl; status-is = refl })), (not-entered _ _ _ _ (c .check .ensures .1 .0), (check-counted _ _ _ _ _ _ _ _ _ _ (row-of r a _ same) _ (ap (λ d. cond (eqb (c .check .result .place .row) 10) d 0) (M .domain-is ∙ at r a b _ same ∙ sym (ap (λ (y : PlaceWords). y .domain) (words r a _ same)))) (c .check .ensures .1 .1), shown-kept r a (Check _) same (λ z. absurd (omega arith)) _)))
+    let k = c .check .ensures in
+    let i = inner r a b M _ same in
+    let there = M .domain-is ∙ at r a b _ same ∙ sym (ap (λ (y : PlaceWords). y .domain) (words r a _ same)) in
+    (taken r a b M (Check _) _ _ _ _ _ _ _ _ _ _ _ same (λ qs here. k .0 .does _ _ (state-in (now (x .tails)) (now (x .nexts)) (now (x .statuses)) (now (x .ticket)) (now (x .granted)) qs) (record { stands = stands r a b M; inner = i; above = rw (← M .domain-is) (above r a b M); threshold-is = rw (← M .domain-is) (threshold-is r a b M i); next-is = refl; status-is = refl })), (not-entered _ _ _ _ (k .1 .0), (check-counted _ _ _ _ _ _ _ _ _ _ (row-of r a _ same) _ (ap (λ d. cond (eqb (c .check .result .place .row) 10) d 0) there) (k .1 .1), shown-kept r a (Check _) same (λ z. absurd (omega arith)) _)))
 
 returns-8 : tie.Need-returns-8
 unfolding started-in

@@ -248,7 +248,14 @@ read-list-loop-less : (t : ℕ) → read-list-lts.Need-loop-less (
   follow-reads.Asked,
   follow-reads.Learnt,
 ) (read-list-at t) read-list.Post read-list-Inv-loop read-list-μ-loop
-read-list-loop-less t c = let moved = list-moves _ _ _ _ _ _ _ (c .before .before .before .before .before .before .before .before .before .before .before .before .loop .inv) _ (c .before .before .before .before .before .before .before .before .before .before .begin-domain .ensures) _ (c .before .before .before .before .before .before .before .opened2 .given .1) _ (numbered (c .before .before .before .before .before .before .before .before .before .before .before .next-number .ensures) (c .before .before .before .before .before .read-domain .ensures)) _ (c .before .before .before .follow .ensures) _ (c .before .next .given .1) in omega (arith, moved .0, moved .1)
+read-list-loop-less t c =
+    let followed = c .before .before .before in
+    let read = followed .before .before in
+    let opened = read .before .before in
+    let begun = opened .before .before .before in
+    let n = numbered (begun .before .next-number .ensures) (read .read-domain .ensures) in
+    let moved = list-moves _ _ _ _ _ _ _ (begun .before .before .loop .inv) _ (begun .begin-domain .ensures) _ (opened .opened2 .given .1) _ n _ (followed .follow .ensures) _ (c .before .next .given .1) in
+    omega (arith, moved .0, moved .1)
 
 read-list-loop-again : (t : ℕ) → read-list-lts.Need-loop-again (
   next-number-reads.Asked,
@@ -260,7 +267,13 @@ read-list-loop-again : (t : ℕ) → read-list-lts.Need-loop-again (
   follow-reads.Asked,
   follow-reads.Learnt,
 ) (read-list-at t) read-list.Post read-list-Inv-loop read-list-μ-loop
-read-list-loop-again t c = list-due _ _ _ _ _ _ _ (c .before .before .before .before .before .before .before .before .before .before .before .before .loop .inv) _ (c .before .before .before .before .before .before .before .before .before .before .begin-domain .ensures) _ (c .before .before .before .before .before .before .before .opened2 .given .1) _ (numbered (c .before .before .before .before .before .before .before .before .before .before .before .next-number .ensures) (c .before .before .before .before .before .read-domain .ensures)) _ (c .before .before .before .follow .ensures) _ (c .before .next .given .1)
+read-list-loop-again t c =
+    let followed = c .before .before .before in
+    let read = followed .before .before in
+    let opened = read .before .before in
+    let begun = opened .before .before .before in
+    let n = numbered (begun .before .next-number .ensures) (read .read-domain .ensures) in
+    list-due _ _ _ _ _ _ _ (begun .before .before .loop .inv) _ (begun .begin-domain .ensures) _ (opened .opened2 .given .1) _ n _ (followed .follow .ensures) _ (c .before .next .given .1)
 
 read-list-enum-known-next-2 : (t : ℕ) → read-list-lts.Need-enum-known-next-2 (
   next-number-reads.Asked,
@@ -284,7 +297,13 @@ read-list-returns-2 : (t : ℕ) → read-list-lts.Need-returns-2 (
   follow-reads.Asked,
   follow-reads.Learnt,
 ) (read-list-at t) read-list.Post read-list-Inv-loop read-list-μ-loop
-read-list-returns-2 t c = list-over _ _ _ _ _ _ _ (c .before .before .before .before .before .before .before .before .before .before .before .before .loop .inv) _ (c .before .before .before .before .before .before .before .before .before .before .begin-domain .ensures) _ (c .before .before .before .before .before .before .before .opened2 .given .1) _ (numbered (c .before .before .before .before .before .before .before .before .before .before .before .next-number .ensures) (c .before .before .before .before .before .read-domain .ensures)) _ (c .before .before .before .follow .ensures) _ (c .before .next2 .given .1)
+read-list-returns-2 t c =
+    let followed = c .before .before .before in
+    let read = followed .before .before in
+    let opened = read .before .before in
+    let begun = opened .before .before .before in
+    let n = numbered (begun .before .next-number .ensures) (read .read-domain .ensures) in
+    list-over _ _ _ _ _ _ _ (begun .before .before .loop .inv) _ (begun .begin-domain .ensures) _ (opened .opened2 .given .1) _ n _ (followed .follow .ensures) _ (c .before .next2 .given .1)
 
 pub +read-domain+read-list-spec : {M : Type 1} → statement M
 +read-domain+read-list-spec = close μ-read-domain μ-read-list (λ t. read-domain-lts.spec (

@@ -1,4 +1,4 @@
--- `read_leaf` meets its contract. Assumes nothing.
+-- `read_leaf` meets its contract: stuck without a count or a parenthesis behind it, else so many threads more. Assumes nothing.
 use mathlib.Core.Path.{sym, _∙_}
 use native.Mathlib.Omega.{arith}
 use lib.Dec.{lit<}

@@ -1,4 +1,4 @@
--- `grow_count` meets its contract. Assumes nothing.
+-- `grow_count` meets its contract: the number grown by a digit, cut at 257 by the definition's test. Assumes nothing.
 use borrow.Author.Tests.{lt-ltb, le-ltb}
 use Rattle.text_tree.specs.Words.{least}
 use borrow.Author.Needs.{needs}

@@ -34,20 +34,37 @@ byte-at-requires-2 : tie.Need-byte-at-requires-2 Inv-loop μ-loop
 byte-at-requires-2 c κs = search needs
 
 grow-requires : tie.Need-grow-requires Inv-loop μ-loop
-grow-requires c κs = (search needs, rw (c .byte-at2 .ensures) (digit-bounds _ (grows-digit (c .before .before .before .before .loop .number) (getD (c .before .before .before .before .before .before .args .text .now) (c .before .before .before .before .loop .at) 0) (sym (ap (grows (c .before .before .before .before .loop .number)) (c .before .before .before .byte-at .ensures)) ∙ sym (c .before .before .grows-with .ensures) ∙ c .before .if1 .taken)) .0))
+grow-requires c κs =
+    let read = c .before .before .before in
+    let l = read .before .loop in
+    let grows-on = sym (ap (grows (l .number)) (read .byte-at .ensures)) ∙ sym (c .before .before .grows-with .ensures) ∙ c .before .if1 .taken in
+    (search needs, rw (c .byte-at2 .ensures) (digit-bounds _ (grows-digit (l .number) (getD (read .before .before .before .args .text .now) (l .at) 0) grows-on) .0))
 
 add-at : tie.Need-add-at Inv-loop μ-loop
-add-at c = omega (arith, digit-in-text (c .before .before .before .before .before .before .before .args .text .now) (c .before .before .before .before .before .loop .at) (grows-digit (c .before .before .before .before .before .loop .number) (getD (c .before .before .before .before .before .before .before .args .text .now) (c .before .before .before .before .before .loop .at) 0) (sym (ap (grows (c .before .before .before .before .before .loop .number)) (c .before .before .before .before .byte-at .ensures)) ∙ sym (c .before .before .before .grows-with .ensures) ∙ c .before .before .if1 .taken)))
+add-at c =
+    let read = c .before .before .before .before in
+    let l = read .before .loop in
+    let text = read .before .before .before .args .text .now in
+    let grows-on = sym (ap (grows (l .number)) (read .byte-at .ensures)) ∙ sym (c .before .before .before .grows-with .ensures) ∙ c .before .before .if1 .taken in
+    omega (arith, digit-in-text text (l .at) (grows-digit (l .number) (getD text (l .at) 0) grows-on))
 
 loop-less : tie.Need-loop-less Inv-loop μ-loop
-loop-less c = omega (arith, digit-in-text (c .before .before .before .before .before .before .before .args .text .now) (c .before .before .before .before .before .loop .at) (grows-digit (c .before .before .before .before .before .loop .number) (getD (c .before .before .before .before .before .before .before .args .text .now) (c .before .before .before .before .before .loop .at) 0) (sym (ap (grows (c .before .before .before .before .before .loop .number)) (c .before .before .before .before .byte-at .ensures)) ∙ sym (c .before .before .before .grows-with .ensures) ∙ c .before .before .if1 .taken)))
+loop-less c =
+    let read = c .before .before .before .before in
+    let l = read .before .loop in
+    let text = read .before .before .before .args .text .now in
+    let grows-on = sym (ap (grows (l .number)) (read .byte-at .ensures)) ∙ sym (c .before .before .before .grows-with .ensures) ∙ c .before .before .if1 .taken in
+    omega (arith, digit-in-text text (l .at) (grows-digit (l .number) (getD text (l .at) 0) grows-on))
 
 loop-again : tie.Need-loop-again Inv-loop μ-loop
 loop-again c =
-    let grew = c .grow .ensures ∙ ap (grown (c .before .before .before .before .before .loop .number)) (c .before .byte-at2 .ensures) in (
-      λ d ds w. c .before .before .before .before .before .loop .inv .0 d ds w ∙ threshold-goes-on _ _ d ds w _ (sym (ap (grows (c .before .before .before .before .before .loop .number)) (c .before .before .before .before .byte-at .ensures)) ∙ sym (c .before .before .before .grows-with .ensures) ∙ c .before .before .if1 .taken) ∙ rw grew,
+    let read = c .before .before .before .before in
+    let l = read .before .loop in
+    let grew = c .grow .ensures ∙ ap (grown (l .number)) (c .before .byte-at2 .ensures) in
+    let grows-on = sym (ap (grows (l .number)) (read .byte-at .ensures)) ∙ sym (c .before .before .before .grows-with .ensures) ∙ c .before .before .if1 .taken in (
+      λ d ds w. l .inv .0 d ds w ∙ threshold-goes-on _ _ d ds w _ grows-on ∙ rw grew,
       search needs,
-      rw grew (grows-limit (c .before .before .before .before .before .loop .number) (getD (c .before .before .before .before .before .before .before .args .text .now) (c .before .before .before .before .before .loop .at) 0) (sym (ap (grows (c .before .before .before .before .before .loop .number)) (c .before .before .before .before .byte-at .ensures)) ∙ sym (c .before .before .before .grows-with .ensures) ∙ c .before .before .if1 .taken)),
+      rw grew (grows-limit (l .number) (getD (read .before .before .before .args .text .now) (l .at) 0) grows-on),
     )
 
 returns : tie.Need-returns Inv-loop μ-loop

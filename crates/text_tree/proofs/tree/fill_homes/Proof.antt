@@ -1,4 +1,4 @@
--- `fill_homes` meets its contract. Assumes nothing.
+-- `fill_homes` meets its contract: what is left to fill gives what the whole gives. Assumes nothing.
 use mathlib.Core.Path.{_≡_, refl, sym, _∙_}
 use Prim.Native.Nat.{_-_}
 use borrow.Author.Needs.{needs}

@@ -1,4 +1,4 @@
--- `least_of` meets its contract. Assumes nothing.
+-- `least_of` meets its contract: its test is the definition's. Assumes nothing.
 use borrow.Author.Tests.{lt-ltb, le-ltb}
 use Rattle.text_tree.specs.Words.{least}
 use Rattle.text_tree.proofs.tree.least_of.Statement.{statement}

@@ -1,4 +1,4 @@
--- `next_number` meets its contract. Assumes nothing.
+-- `next_number` meets its contract: below 64 the number itself, which fits a byte, and from there on 64. Assumes nothing.
 use borrow.Author.Tests.{lt-ltb, le-ltb}
 use Rattle.text_tree.specs.Words.{new-number}
 use borrow.Author.Needs.{needs}

@@ -1,4 +1,4 @@
--- `no_tree` meets its contract. Assumes nothing.
+-- `no_tree` meets its contract: its words are the definition's, all 0. Assumes nothing.
 use mathlib.Core.Path.{refl}
 use Rattle.text_tree.specs.Words.{no-words}
 use Rattle.text_tree.proofs.tree.no_tree.Statement.{statement}

@@ -1,4 +1,4 @@
--- `root_tree` meets its contract. Assumes nothing.
+-- `root_tree` meets its contract: its words are the definition's, one domain and else 0. Assumes nothing.
 use mathlib.Core.Path.{refl}
 use Rattle.text_tree.specs.Words.{root-words}
 use Rattle.text_tree.proofs.tree.root_tree.Statement.{statement}

@@ -1,4 +1,4 @@
--- `waits::waiting::begins_at` meets its contract. Assumes nothing.
+-- `waits::waiting::begins_at` meets its contract: where the home is a ticket root, Idle or Draw, else Swap at the home, each by its own test. Assumes nothing.
 use borrow.Author.Tests.{eq-eqb, ne-eqb}
 use Rattle.waits.specs.Tallies.{begins-number}
 use borrow.Author.Needs.{needs}

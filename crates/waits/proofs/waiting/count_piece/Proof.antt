@@ -50,10 +50,17 @@ is-entry-requires : tie.Need-is-entry-requires Inv-loop μ-loop
 is-entry-requires c κs = search needs
 
 note-requires : tie.Need-note-requires Inv-loop μ-loop
-note-requires c κs = rw (c .before .before .before .before .before .before .before .before .before .wide .ensures) (note-fits _ _ _ _ _ _ _ _ _ _ _ _ _ _ (c .before .before .before .before .before .before .before .before .before .before .before .before .loop .inv) (c .before .before .before .before .before .before .before .before .before .before .before .loop-test .taken) (c .before .before .before .before .before .before .before .before .before .before .before .before .before .before .before .pre))
+note-requires c κs =
+    let wide = c .before .before .before .before .before .before .before .before .before in
+    let test = wide .before .before in
+    let turn = test .before in
+    rw (wide .wide .ensures) (note-fits _ _ _ _ _ _ _ _ _ _ _ _ _ _ (turn .loop .inv) (test .loop-test .taken) (turn .before .before .before .pre))
 
 one-more-requires : tie.Need-one-more-requires Inv-loop μ-loop
-one-more-requires c κs = entered-few _ _ _ _ _ _ _ _ _ _ _ _ _ _ (c .before .before .before .before .before .before .before .before .before .before .before .before .before .loop .inv) (c .before .before .before .before .before .before .before .before .before .before .before .before .loop-test .taken) (c .before .before .before .before .before .before .before .before .before .before .before .before .before .before .before .before .pre)
+one-more-requires c κs =
+    let test = c .before .before .before .before .before .before .before .before .before .before .before .before in
+    let turn = test .before in
+    entered-few _ _ _ _ _ _ _ _ _ _ _ _ _ _ (turn .loop .inv) (test .loop-test .taken) (turn .before .before .before .pre)
 
 add-k : tie.Need-add-k Inv-loop μ-loop
 add-k c = omega arith
@@ -64,7 +71,15 @@ loop-less c = omega arith
 loop-again : tie.Need-loop-again Inv-loop μ-loop
 loop-again c =
     let noted-in = c .before .note .ensures in
-    going-read _ _ _ _ _ _ _ _ _ _ _ _ _ _ (c .before .before .before .before .before .before .before .before .before .before .before .before .before .before .loop .inv) (c .before .before .before .before .before .before .before .before .before .before .before .before .before .loop-test .taken) (c .before .before .before .before .before .before .before .before .before .before .before .before .before .before .before .before .before .pre) _ (c .before .before .before .before .before .before .before .before .before .before .before .wide .ensures) _ _ _ (c .before .before .before .before .before .before .before .before .is-ticket-home .ensures) (c .before .before .before .before .before .before .before .begins-at .ensures) (c .before .before .before .before .before .before .is-entry .ensures) _ _ _ _ _ (c .one-more .ensures) (noted-in .0) (noted-in .1 .0) (noted-in .1 .1 .0) (noted-in .1 .1 .1)
+    let entry = c .before .before .before .before .before .before in
+    let begun = entry .before in
+    let home = begun .before in
+    let wide = home .before .before .before in
+    let test = wide .before .before in
+    let turn = test .before in
+    going-read _ _ _ _ _ _ _ _ _ _ _ _ _ _ (turn .loop .inv) (test .loop-test .taken) (turn .before .before .before .pre) _ (wide .wide .ensures) _ _ _
+    (home .is-ticket-home .ensures) (begun .begins-at .ensures) (entry .is-entry .ensures) _ _ _ _ _ (c .one-more .ensures)
+    (noted-in .0) (noted-in .1 .0) (noted-in .1 .1 .0) (noted-in .1 .1 .1)
 
 returns : tie.Need-returns Inv-loop μ-loop
 returns c = going-ends _ _ _ _ _ _ _ _ _ _ _ _ _ _ (c .before .loop .inv) (c .loop-test .left)

@@ -1,4 +1,4 @@
--- `waits::waiting::is_ticket_home` meets its contract. Assumes nothing.
+-- `waits::waiting::is_ticket_home` meets its contract: at a queue root never; at a ticket root the home decides. Assumes nothing.
 use borrow.Author.Tests.{eq-eqb, ne-eqb}
 use Rattle.waits.proofs.waiting.is_ticket_home.Statement.{statement}
 use Rattle.waits.proofs.waiting.is_ticket_home.Tie as tie

@@ -1,4 +1,4 @@
--- `waits::waiting::mark_with` meets its contract. Assumes nothing.
+-- `waits::waiting::mark_with` meets its contract: one more than the entries, or the mark as it came, by its test. Assumes nothing.
 use borrow.Author.Needs.{needs}
 use Rattle.waits.proofs.waiting.mark_with.Statement.{statement}
 use Rattle.waits.proofs.waiting.mark_with.Tie as tie

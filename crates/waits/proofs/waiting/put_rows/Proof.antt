@@ -41,10 +41,20 @@ put-row-requires : tie.Need-put-row-requires Inv-loop μ-loop
 put-row-requires c κs = row-room _ _ _ _ _ _ _ _ _ _ _ (c .before .before .before .before .before .loop .inv) (c .before .before .before .before .before .before .before .pre .1 .0)
 
 add-all-attempts : tie.Need-add-all-attempts Inv-loop μ-loop
-add-all-attempts c = let l = c .before .before .before .before .before .before .before .before .loop in omega (arith, l .inv .attempts-small, c .before .before .before .before .before .before .before .before .before .before .pre .1 .1 .0 .small (l .k) (omega (arith, c .before .before .before .before .before .before .before .loop-test .taken, c .before .before .before .before .before .before .before .before .before .before .pre .0)), c .before .before .before .before .before .before .before .loop-test .taken, c .before .before .before .before .before .before .before .before .before .before .pre .0)
+add-all-attempts c =
+    let test = c .before .before .before .before .before .before .before in
+    let l = test .before .loop in
+    let p = test .before .before .before .pre in
+    let more = test .loop-test .taken in
+    omega (arith, l .inv .attempts-small, p .1 .1 .0 .small (l .k) (omega (arith, more, p .0)), more, p .0)
 
 add-all-totals : tie.Need-add-all-totals Inv-loop μ-loop
-add-all-totals c = let l = c .before .before .before .before .before .before .before .before .loop in omega (arith, l .inv .totals-small, c .before .before .before .before .before .before .before .before .before .before .pre .1 .1 .1 .small (l .k) (omega (arith, c .before .before .before .before .before .before .before .loop-test .taken, c .before .before .before .before .before .before .before .before .before .before .pre .0)), c .before .before .before .before .before .before .before .loop-test .taken, c .before .before .before .before .before .before .before .before .before .before .pre .0)
+add-all-totals c =
+    let test = c .before .before .before .before .before .before .before in
+    let l = test .before .loop in
+    let p = test .before .before .before .pre in
+    let more = test .loop-test .taken in
+    omega (arith, l .inv .totals-small, p .1 .1 .1 .small (l .k) (omega (arith, more, p .0)), more, p .0)
 
 larger-requires : tie.Need-larger-requires Inv-loop μ-loop
 larger-requires c κs = search needs

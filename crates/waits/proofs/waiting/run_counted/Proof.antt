@@ -60,10 +60,19 @@ slice-aggregate-run-steps : tie.Need-slice-aggregate-run-steps Inv-loop μ-loop
 slice-aggregate-run-steps c = search needs
 
 run-steps-requires : tie.Need-run-steps-requires Inv-loop μ-loop
-run-steps-requires c κs = piece-runs _ _ _ _ _ _ _ _ _ _ _ _ _ _ _ (c .before .before .before .before .before .before .before .before .before .loop .inv) (c .before .before .before .before .before .before .before .before .before .before .before .before .before .pre .0) _ (c .before .before .before .before .before .before .before .piece-end .ensures .0) (c .before .before .before .before .before .before .before .piece-end .ensures .1 .0) (c .before .before .before .before .before .before .before .piece-end .ensures .1 .1)
+run-steps-requires c κs =
+    let ended = c .before .before .before .before .before .before .before in
+    let turn = ended .before .before in
+    let e = ended .piece-end .ensures in
+    piece-runs _ _ _ _ _ _ _ _ _ _ _ _ _ _ _ (turn .loop .inv) (turn .before .before .before .before .pre .0) _ (e .0) (e .1 .0) (e .1 .1)
 
 add-kinds-requires : tie.Need-add-kinds-requires Inv-loop μ-loop
-add-kinds-requires c κs = kinds-fit _ _ _ _ _ _ _ _ _ _ _ _ _ _ _ (c .before .before .before .before .before .before .before .before .before .before .before .before .before .before .before .loop .inv) (c .before .before .before .before .before .before .before .before .before .before .before .before .before .before .before .before .before .before .before .pre .0) _ (c .before .before .before .before .before .before .before .before .before .before .before .before .before .piece-end .ensures .0) (c .before .before .before .before .before .before .before .before .before .before .before .before .before .piece-end .ensures .1 .0) (c .before .before .before .before .before .before .before .before .before .before .before .before .before .piece-end .ensures .1 .1) _ (c .before .before .before .before .before .run-steps .ensures .1 .1 .0)
+add-kinds-requires c κs =
+    let ran = c .before .before .before .before .before in
+    let ended = ran .before .before .before .before .before .before .before .before in
+    let turn = ended .before .before in
+    let e = ended .piece-end .ensures in
+    kinds-fit _ _ _ _ _ _ _ _ _ _ _ _ _ _ _ (turn .loop .inv) (turn .before .before .before .before .pre .0) _ (e .0) (e .1 .0) (e .1 .1) _ (ran .run-steps .ensures .1 .1 .0)
 
 mul-count-piece : tie.Need-mul-count-piece Inv-loop μ-loop
 mul-count-piece c = omega (arith, c .before .before .before .before .before .before .before .before .before .before .before .before .before .before .before .loop-test .taken, run-facts _ _ _ _ (c .before .before .before .before .before .before .before .before .before .before .before .before .before .before .before .before .before .before .before .before .pre .0) .short)
@@ -81,15 +90,26 @@ slice-aggregate-count-piece : tie.Need-slice-aggregate-count-piece Inv-loop μ-l
 slice-aggregate-count-piece c = search needs
 
 count-piece-requires : tie.Need-count-piece-requires Inv-loop μ-loop
-count-piece-requires c κs = countable _ _ _ _ _ _ _ _ _ _ _ _ _ _ _ (c .before .before .before .before .before .before .before .before .before .before .before .before .before .before .before .before .before .before .before .before .before .before .loop .inv) (c .before .before .before .before .before .before .before .before .before .before .before .before .before .before .before .before .before .before .before .before .before .before .before .before .before .before .pre .0) _ (c .before .before .before .before .before .before .before .before .before .before .before .before .before .before .before .before .before .before .before .before .piece-end .ensures .0) (c .before .before .before .before .before .before .before .before .before .before .before .before .before .before .before .before .before .before .before .before .piece-end .ensures .1 .0) (c .before .before .before .before .before .before .before .before .before .before .before .before .before .before .before .before .before .before .before .before .piece-end .ensures .1 .1) _ (c .before .before .before .before .before .before .before .before .before .before .before .before .run-steps .ensures .1 .1 .1 .0)
+count-piece-requires c κs =
+    let ran = c .before .before .before .before .before .before .before .before .before .before .before .before in
+    let ended = ran .before .before .before .before .before .before .before .before in
+    let turn = ended .before .before in
+    let e = ended .piece-end .ensures in
+    countable _ _ _ _ _ _ _ _ _ _ _ _ _ _ _ (turn .loop .inv) (turn .before .before .before .before .pre .0) _ (e .0) (e .1 .0) (e .1 .1) _ (ran .run-steps .ensures .1 .1 .1 .0)
 
 loop-less : tie.Need-loop-less Inv-loop μ-loop
 loop-less c = let e = c .before .before .before .before .before .before .before .before .before .before .before .before .before .before .before .before .before .before .before .before .before .piece-end .ensures in omega (arith, e .0, e .1 .0)
 
 loop-again : tie.Need-loop-again Inv-loop μ-loop
 loop-again c =
-    let ran = c .before .before .before .before .before .before .before .before .before .before .before .before .before .run-steps .ensures in
-    pieces-turn _ _ _ _ _ _ _ _ _ _ _ _ _ _ _ (c .before .before .before .before .before .before .before .before .before .before .before .before .before .before .before .before .before .before .before .before .before .before .before .loop .inv) (c .before .before .before .before .before .before .before .before .before .before .before .before .before .before .before .before .before .before .before .before .before .before .before .before .before .before .before .pre .0) _ (c .before .before .before .before .before .before .before .before .before .before .before .before .before .before .before .before .before .before .before .before .before .piece-end .ensures .0) (c .before .before .before .before .before .before .before .before .before .before .before .before .before .before .before .before .before .before .before .before .before .piece-end .ensures .1 .0) (c .before .before .before .before .before .before .before .before .before .before .before .before .before .before .before .before .before .before .before .before .before .piece-end .ensures .1 .1) _ (ran .1 .1 .1 .0) _ _ (ran .0) (ran .1 .1 .1 .1) _ (ran .1 .0) _ _ (ran .1 .1 .0) (c .before .before .before .before .before .before .before .add-kinds .ensures) _ _ _ _ _ (c .count-piece .ensures)
+    let added = c .before .before .before .before .before .before .before in
+    let after = added .before .before .before .before .before .before in
+    let ended = after .before .before .before .before .before .before .before .before in
+    let turn = ended .before .before in
+    let ran = after .run-steps .ensures in
+    let e = ended .piece-end .ensures in
+    pieces-turn _ _ _ _ _ _ _ _ _ _ _ _ _ _ _ (turn .loop .inv) (turn .before .before .before .before .pre .0) _ (e .0) (e .1 .0) (e .1 .1) _ (ran .1 .1 .1 .0) _ _ (ran .0) (ran .1 .1 .1 .1) _ (ran .1 .0) _ _ (ran .1 .1 .0)
+    (added .add-kinds .ensures) _ _ _ _ _ (c .count-piece .ensures)
 
 put-rows-requires : tie.Need-put-rows-requires Inv-loop μ-loop
 unfolding tree-of
