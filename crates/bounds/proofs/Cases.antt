@@ -5,13 +5,14 @@ use Rattle.model.specs.Scans.{any-below, all-below, largest-below, filter-below
 use Rattle.model.specs.Trees.{read-word, tree-of, is-child, is-member, is-leaf, depth-from, depth, level, meets, on-path, under, domain-allowance, allowance}
 use Rattle.model.specs.Refusals.{refusal, accepted, lowest-bad, first-refusal, bad-domains, bad-threads, bad-parent, too-deep, no-threshold, bad-home, empty-domain, tree-tests, tree-refusal}
 use Rattle.starvation_freedom.specs.Bounds.{members, largest-allowance, levels, entry-rounds, tenure-rounds, acquire-from, acquire-rounds, acquire-bound, release-bound, everyone-bound}
+use Rattle.model.specs.Cases.{same-numbers}
 use Rattle.bounds.specs.Answers.{capped, allowance-word, words-from, allowances-answer, allowances-left, rounds-answer}
 use Rattle.bounds.specs.Cases.{all, cases, rounds-cases}
 
 pub cases-hold : all cases ≡ true
-unfolding any-below all-below largest-below read-word tree-of is-child is-leaf depth-from depth level meets on-path under domain-allowance allowance refusal accepted lowest-bad first-refusal bad-domains bad-threads bad-parent too-deep no-threshold bad-home empty-domain tree-tests tree-refusal capped allowance-word words-from allowances-answer allowances-left cases
+unfolding same-numbers any-below all-below largest-below read-word tree-of is-child is-leaf depth-from depth level meets on-path under domain-allowance allowance refusal accepted lowest-bad first-refusal bad-domains bad-threads bad-parent too-deep no-threshold bad-home empty-domain tree-tests tree-refusal capped allowance-word words-from allowances-answer allowances-left cases
 cases-hold = refl
 
 pub rounds-cases-hold : all rounds-cases ≡ true
-unfolding any-below all-below largest-below filter-below read-word tree-of is-child is-member is-leaf depth-from depth level meets on-path under domain-allowance allowance refusal accepted lowest-bad first-refusal bad-domains bad-threads bad-parent too-deep no-threshold bad-home empty-domain tree-tests tree-refusal capped members largest-allowance levels entry-rounds tenure-rounds acquire-from acquire-rounds acquire-bound release-bound everyone-bound rounds-answer rounds-cases
+unfolding same-numbers any-below all-below largest-below filter-below read-word tree-of is-child is-member is-leaf depth-from depth level meets on-path under domain-allowance allowance refusal accepted lowest-bad first-refusal bad-domains bad-threads bad-parent too-deep no-threshold bad-home empty-domain tree-tests tree-refusal capped members largest-allowance levels entry-rounds tenure-rounds acquire-from acquire-rounds acquire-bound release-bound everyone-bound rounds-answer rounds-cases
 rounds-cases-hold = refl

@@ -9,12 +9,13 @@ use lib.Dec.{eqb, ltb}
 use borrow.Author.Tests.{eqb-true, eqb-false, ltb-true, ltb-false}
 use lib.ListN.{getD, length, set, replicate}
 use lib.Seq.{getD-set-same, getD-set-other}
-use Rattle.model.specs.Scans.{any-below, largest-below}
+use Rattle.model.specs.Scans.{largest-below}
 use Rattle.model.specs.Trees.{Tree, is-child, is-leaf, allowance}
 use Rattle.model.proofs.Lists.{same-or, less-or}
 use Rattle.model.proofs.Trees.Accepted.{Accepted, child-facts}
 use Rattle.model.proofs.Trees.Allowances.{allowance-domain}
 use Rattle.model.proofs.Trees.Index.{member-allowance}
+use Rattle.model.proofs.Laws.Counters.{zeros}
 use Rattle.bounds.specs.Answers.{capped, allowance-word, words-from}
 
 pub capped-small : (n : ℕ) → n ≤ 18446744073709551615 → capped n ≡ n
@@ -51,11 +52,6 @@ unfolding largest-below capped
 capped-largest zero f g e = refl
 capped-largest (suc n) f g e = rw (capped-largest n f g (λ c h. e c (omega arith)), e n (omega arith)) (omega arith)
 
-pub any-nowhere : (n : ℕ) (f : ℕ → Bool) → ((j : ℕ) → j < n → f j ≡ false) → any-below n f ≡ false
-unfolding any-below
-any-nowhere zero f h = refl
-any-nowhere (suc n) f h = rw (any-nowhere n f (λ j l. h j (omega arith)), h n (omega arith))
-
 -- the largest of one number more, and of all
 pub largest-next : (n : ℕ) (f : ℕ → ℕ) (a b r : ℕ) → a ≡ largest-below n f → b ≡ f n → r ≡ max a b → r ≡ largest-below (n + 1) f
 unfolding largest-below
@@ -63,11 +59,6 @@ largest-next n f a b r e g m = let z : n + 1 ≡ suc n = omega arith in rw (z, m
 
 pub largest-all : (n m : ℕ) (f : ℕ → ℕ) (a : ℕ) → n ≡ m → a ≡ largest-below n f → a ≡ largest-below m f
 largest-all n m f a e g = rw (← e) g
-
-zeros : (n c : ℕ) → _≡_ {A = ℕ} (getD (replicate n 0) c 0) 0
-zeros zero c = refl
-zeros (suc n) zero = refl
-zeros (suc n) (suc c) = zeros n c
 
 -- a list by its words
 listed : (f : ℕ → ℕ) (ws : List ℕ) (k d : ℕ) → length ws ≡ k → ((x : ℕ) → x < k → getD ws x 0 ≡ f (d + x)) → ws ≡ words-from f k d

@@ -17,7 +17,7 @@ use Rattle.model.proofs.Trees.Accepted.{Accepted, accepted}
 use Rattle.model.proofs.Trees.Records.{Member, a-thread, a-domain, member-facts}
 use Rattle.model.proofs.Trees.Allowances.{thread-allowance}
 use Rattle.model.proofs.Trees.Paths.{depth-child, depth-zero}
-use Rattle.refusals.proofs.Reading.{read-in}
+use Rattle.model.proofs.Trees.Reading.{home-read, parent-read}
 use Rattle.refusals.specs.Arrays.{tree-in}
 use Rattle.starvation_freedom.specs.Bounds.{members, largest-allowance, levels, entry-rounds, tenure-rounds, acquire-rounds, acquire-bound, release-bound, everyone-bound}
 use Rattle.starvation_freedom.proofs.Bounds.{above-rounds, first-rounds, acquire-at}
@@ -25,15 +25,6 @@ use Rattle.bounds.specs.Answers.{capped}
 use Rattle.bounds.specs.Arrays.{member-word, Allowed, Acquired}
 use Rattle.bounds.proofs.Filling.{capped-small, capped-largest}
 use Rattle.bounds.proofs.Capped.{capped-sum, capped-left, capped-front, capped-right}
-
--- the words that a tree reads
-pub parent-word : (w : TreeWords) (d : ℕ) → 0 < d → d < w .domains → tree-of w .parent d ≡ getD (w .parents) d 0
-unfolding tree-of
-parent-word w d p s = read-in 1 (w .domains) (w .parents) d (omega arith) s
-
-pub home-word : (w : TreeWords) (i : ℕ) → i < w .threads → tree-of w .home i ≡ getD (w .homes) i 0
-unfolding tree-of
-home-word w i s = read-in 0 (w .threads) (w .homes) i (omega arith) s
 
 -- one record more is counted
 pub count-next :
@@ -82,18 +73,18 @@ module _ (w : TreeWords) (ok : tree-refusal (tree-of w) .number ≡ 0) where
 
   pub parent-below : (d p : ℕ) → 0 < d → d < w .domains → p ≡ getD (w .parents) d 0 → p < d
   unfolding tree-of
-  parent-below d p h s e = rw (e, ← parent-word w d h s) (𝓐 .parent-lower d h s)
+  parent-below d p h s e = rw (e, ← parent-read w d h s) (𝓐 .parent-lower d h s)
 
   pub home-below : (i h : ℕ) → i < w .threads → h ≡ getD (w .homes) i 0 → h < w .domains
   unfolding tree-of
-  home-below i h s e = rw (e, ← home-word w i s) (𝓐 .home-real i s)
+  home-below i h s e = rw (e, ← home-read w i s) (𝓐 .home-real i s)
 
   -- one step up the way from d
   pub level-up : (d n x p : ℕ) → 0 < x → x < w .domains → p ≡ getD (w .parents) x 0 → n + depth t x ≡ level t d → n + 1 + depth t p ≡ level t d
   unfolding tree-of
   level-up d n x p h s e g =
       let deep = depth-child t 𝓐 x h s in
-      let same : depth t p ≡ depth t (t .parent x) = ap (depth t) (e ∙ sym (parent-word w x h s)) in
+      let same : depth t p ≡ depth t (t .parent x) = ap (depth t) (e ∙ sym (parent-read w x h s)) in
       omega arith
 
   pub level-few : (d : ℕ) → d < w .domains → level t d ≤ 6
@@ -165,7 +156,7 @@ module _ (w : TreeWords) (ok : tree-refusal (tree-of w) .number ≡ 0) where
       r ≡ capped (x + 6 * here) → r ≡ capped (acquire-bound t i + release-bound t i)
   unfolding acquire-bound release-bound
   thread-word i h here x r ws 𝓠 s e g f k =
-      let home : h ≡ t .home i = e ∙ sym (home-word w i s) in
+      let home : h ≡ t .home i = e ∙ sym (home-read w i s) in
       rw (k, f, g, 𝓠 .acquired h (home-below i h s e), ← home) (capped-left (acquire-rounds t h) (6 * level t h))
 
   pub everyone-word : (r n : ℕ) → n ≡ w .threads → r ≡ largest-below n (λ i. capped (acquire-bound t i + release-bound t i)) → r ≡ capped (everyone-bound t)

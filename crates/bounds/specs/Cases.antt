@@ -1,17 +1,12 @@
 -- Cases of the calls, each in one list. Of allowances: leaves, levels, the largest child, words that are cut, the root and room that the tree lacks. Of rounds: threads in the root, leaves, levels, numbers that are cut, a refused tree. Assumes nothing: these are definitions.
-use mathlib.Core.Bool.{Bool, true, false, _&&_}
+use mathlib.Core.Bool.{Bool, true, _&&_}
 use mathlib.Core.List.{List, [], _∷_}
 use Prim.Native.Nat.{ℕ}
 use lib.Dec.{eqb}
 use lib.ListN.{replicate}
 use Rattle.model.specs.declared.TreeWords.{TreeWords}
+use Rattle.model.specs.Cases.{same-numbers}
 use Rattle.bounds.specs.Answers.{allowances-answer, allowances-left, rounds-answer}
-
-abbrev pub same : List ℕ → List ℕ → Bool
-same [] [] = true
-same [] (y ∷ ys) = false
-same (x ∷ xs) [] = false
-same (x ∷ xs) (y ∷ ys) = eqb x y && same xs ys
 
 abbrev pub all : List Bool → Bool
 all [] = true
@@ -33,7 +28,7 @@ abbrev pub deep : TreeWords
 deep = tree 6 1 (0 ∷ 0 ∷ 1 ∷ 2 ∷ 3 ∷ 4 ∷ []) (0 ∷ 65535 ∷ 65535 ∷ 65535 ∷ 65535 ∷ 65535 ∷ []) (5 ∷ [])
 
 abbrev pub answers : (words : List ℕ) → TreeWords → Bool
-answers ws w = eqb (allowances-answer w .number) 0 && same (allowances-left w []) ws
+answers ws w = eqb (allowances-answer w .number) 0 && same-numbers (allowances-left w []) ws
 
 unfoldable pub cases : List Bool
 cases =
@@ -44,7 +39,7 @@ cases =
     ∷ answers (replicate 64 0) (tree 1 1 [] [] (0 ∷ []))
     -- refused, by 16 of domain 2: the buffer as it came
     ∷ (eqb (allowances-answer (tree 3 1 (0 ∷ 0 ∷ 0 ∷ []) (0 ∷ 2 ∷ 2 ∷ []) (1 ∷ [])) .number) 16
-    && same (allowances-left (tree 3 1 (0 ∷ 0 ∷ 0 ∷ []) (0 ∷ 2 ∷ 2 ∷ []) (1 ∷ [])) (7 ∷ 8 ∷ [])) (7 ∷ 8 ∷ [])) ∷ []
+    && same-numbers (allowances-left (tree 3 1 (0 ∷ 0 ∷ 0 ∷ []) (0 ∷ 2 ∷ 2 ∷ []) (1 ∷ [])) (7 ∷ 8 ∷ [])) (7 ∷ 8 ∷ [])) ∷ []
 
 -- domain 1 and four below one another, all of the largest threshold, beside a leaf with a thread
 abbrev pub deep-beside-leaf : TreeWords

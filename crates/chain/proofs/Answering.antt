@@ -17,6 +17,7 @@ use Rattle.model.specs.Refusals.{refusal, accepted, Test, test, first-refusal, 
 use Rattle.model.specs.Laws.{All-threads}
 use Rattle.model.proofs.Refusing.{numbered}
 use Rattle.model.proofs.Laws.Calls.{early-facts}
+use Rattle.model.proofs.Trees.Reading.{threads-read}
 use Rattle.refusals.specs.declared.Refusal.{Refusal}
 use Rattle.refusals.specs.Arrays.{told, tree-state-tests, schedule-room-tests}
 use Rattle.refusals.proofs.Scanning.{single-hit, single-missed}
@@ -26,7 +27,6 @@ use Rattle.chain.specs.declared.ChainReply.{ChainReply}
 use Rattle.chain.specs.Chain.{chain}
 use Rattle.chain.specs.Answers.{bad-buffer, bad-chain, chain-tests, chain-refusal, chain-reply, chain-refused, chain-buffer, chain-answer, buffer-answer}
 use Rattle.chain.specs.Tables.{Followed}
-use Rattle.chain.proofs.Reading.{threads-read}
 
 no-tests : first-refusal [] ≡ accepted
 unfolding first-refusal

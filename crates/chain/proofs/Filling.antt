@@ -27,9 +27,9 @@ use Rattle.model.proofs.Trees.Tickets.{queue-facts}
 use Rattle.model.proofs.Trees.Paths.{on-path-root}
 use Rattle.model.proofs.Lists.{same-or}
 use Rattle.model.proofs.Laws.Form.{valid, replicate-all}
+use Rattle.model.proofs.Trees.Reading.{threads-read}
 use Rattle.chain.specs.Chain.{acts-ahead}
 use Rattle.chain.specs.Tables.{more-if, count-below, acts-from, Noted, link-key, ticket-key, Tables}
-use Rattle.chain.proofs.Reading.{threads-read}
 use Rattle.chain.proofs.Facts.{owned-nexts, place-good}
 use Rattle.chain.proofs.Acting.{names-ahead, ticket-there}
 

@@ -1,6 +1,5 @@
 -- The proofs.
 pub mod Cases
-pub mod Reading
 pub mod Walking
 pub mod Noting
 pub mod Facts

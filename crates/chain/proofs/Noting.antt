@@ -19,8 +19,8 @@ use Rattle.model.proofs.Trees.Accepted.{Accepted, accepted}
 use Rattle.model.proofs.Trees.Paths.{ancestor-injective, ancestor-strict, ancestor-zero}
 use Rattle.model.proofs.Trees.Records.{owner-at, record-small, member-once, member-small}
 use Rattle.model.proofs.Lists.{same-or}
+use Rattle.model.proofs.Trees.Reading.{threads-read}
 use Rattle.chain.specs.Tables.{more, more-if, Owned-nexts, noted, names-below, Noted}
-use Rattle.chain.proofs.Reading.{threads-read}
 use Rattle.chain.proofs.Walking.{At, at-home, at-next}
 
 -- TESTS OVER ALL NUMBERS BELOW A BOUND

@@ -13,9 +13,9 @@ use Rattle.model.specs.Places.{place-words}
 use Rattle.model.specs.WellFormed.{well-formed}
 use Rattle.model.specs.Refusals.{tree-refusal}
 use Rattle.model.proofs.Trees.Accepted.{Accepted, accepted}
+use Rattle.model.proofs.Trees.Reading.{threads-read}
 use Rattle.chain.specs.Chain.{looks-to, only, chain}
 use Rattle.chain.specs.Tables.{Tables, link, Sound-place, link-by, Followed}
-use Rattle.chain.proofs.Reading.{threads-read}
 use Rattle.chain.proofs.Filling.{on-its-path}
 use Rattle.chain.proofs.Linking.{link-is, sound-place, link-small, only-few}
 use Rattle.chain.proofs.Following.{Follows, follow-first, follow-ends, follow-nobody, next-real, follow-full, follow-back, follow-next}

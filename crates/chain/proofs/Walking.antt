@@ -13,7 +13,7 @@ use Rattle.model.proofs.Trees.Accepted.{Accepted, accepted}
 use Rattle.model.proofs.Trees.Paths.{ancestor-home, ancestor-real, ancestor-strict, ancestor-parent-of, ancestor-not-root, path-index}
 use Rattle.model.proofs.Trees.Records.{record-own, record-suc, record-small, own-record-at}
 use Rattle.model.proofs.Lists.{same-or, less-or}
-use Rattle.chain.proofs.Reading.{home-read, parent-read, domains-read, threads-read}
+use Rattle.model.proofs.Trees.Reading.{home-read, parent-read, domains-read, threads-read}
 
 -- the walk is at the domain c, with the record r there
 pub record At (t : Tree) (i r c : ℕ) : Type 0 where

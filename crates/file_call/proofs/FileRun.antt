@@ -1,7 +1,7 @@
 -- The file call's run in buffers that are longer than it needs: the same answer, and its trace at the front. Assumes nothing.
 use mathlib.Core.Path.{_≡_, refl, _∙_, ap}
 use mathlib.Core.Bool.{Bool, true, false, cond}
-use mathlib.Core.List.{List, [], _∷_}
+use mathlib.Core.List.{List, []}
 use Prim.Native.Nat.{ℕ, _-_, _/_, _≤_}
 use native.Mathlib.Omega.{arith}
 use lib.Dec.{eqb}
@@ -17,14 +17,15 @@ use Rattle.model.specs.declared.FreshReply.{FreshReply}
 use Rattle.model.specs.declared.RunReply.{RunReply}
 use Rattle.model.specs.Trees.{Tree, tree-of}
 use Rattle.model.specs.States.{fresh-words, fresh-state}
-use Rattle.model.specs.Steps.{is-entry, Step}
-use Rattle.model.specs.Runs.{Run, steps, how-many, counts-of, run-of, run}
+use Rattle.model.specs.Steps.{is-entry}
+use Rattle.model.specs.Runs.{Run, steps, counts-of, run-of, run}
 use Rattle.model.specs.Refusals.{tree-refusal, Refusal, lowest-bad, first-refusal, bad-room, tree-tests, run-tests, run-refusal}
 use Rattle.model.specs.Answers.{counters-behind, fresh-answer, run-accepted, run-refused, run-reply, run-buffer, run-answer, trace-answer}
 use Rattle.model.specs.Laws.{Count-law}
 use Rattle.model.proofs.Tests.{by-test}
 use Rattle.model.proofs.Laws.Form.{fresh-at-zero}
 use Rattle.model.proofs.Laws.Runs.{steps-length, count-law}
+use Rattle.model.proofs.Counted.{how-many-most}
 use Rattle.lock_file.specs.Reading.{entries-from, entries-at, filled}
 use Rattle.lock_file.proofs.Positions.{entries-length}
 use Rattle.file_call.specs.FileAnswers.{tree-outcome, run-outcome, file-run, file-trace}
@@ -39,17 +40,9 @@ schedule-front bs n at l h =
     rw (le-ltb (length l) (length is) (omega arith)) (take-at is (drop (length is) l) n long)
 
 -- a run enters at most once a step
-counted-within : (xs : List Step) → how-many is-entry xs ≤ length xs
-unfolding how-many
-counted-within [] = omega arith
-counted-within (x ∷ xs) =
-    let rest = counted-within xs in
-    let one : cond (is-entry (x .kind)) 1 0 ≤ 1 = by-test (λ n. n ≤ 1) (is-entry (x .kind)) 1 0 (λ e. omega arith) (λ e. omega arith) in
-    omega arith
-
 pub entries-within : (t : Tree) (is : List ℕ) (s : State) → run t is s .counts .entries ≤ length is
 unfolding run run-of counts-of
-entries-within t is s = omega (arith, counted-within (steps t is s), steps-length t is s)
+entries-within t is s = omega (arith, how-many-most is-entry (steps t is s), steps-length t is s)
 
 -- more room for the trace makes no difference
 room-same :

@@ -6,48 +6,26 @@ use mathlib.Core.Logic.{_≢_, _⊎_, inl, inr}
 use Prim.Native.Nat.{ℕ, zero, suc, _+_, _≤_, _<_}
 use native.Mathlib.Omega.{arith}
 use native.Mathlib.Decide.{ℕ-discrete}
-use lib.Dec.{eqb, ltb}
-use lib.ListN.{length, getD, replicate, length-replicate}
+use lib.Dec.{eqb}
+use lib.ListN.{length, replicate, length-replicate}
 use borrow.Author.Tests.{le-ltb, eqb-true, eqb-false}
 use Rattle.model.specs.declared.TreeWords.{TreeWords}
 use Rattle.model.specs.declared.State.{State}
 use Rattle.model.specs.Trees.{Tree, tree-of}
-use Rattle.model.specs.Places.{place-words, bare-place, plain-place, place-of, is-idle, is-watch}
 use Rattle.model.specs.States.{fresh-words}
 use Rattle.model.specs.Counters.{fresh-lock}
 use Rattle.model.specs.CounterLaws.{Room-law}
 use Rattle.model.specs.Runs.{Run, run}
-use Rattle.model.specs.WellFormed.{good-tail, good-next, good-status, good-place, good-watch, good-thread, good-counters, well-formed}
 use Rattle.model.specs.Refusals.{Refusal, refusal, accepted, Test, lowest-bad, first-refusal, bad-state, bad-length, bad-room, state-tests, schedule-tests, room-tests, counter-tests, tree-tests, run-tests-before-19, run-tests, has-number, run-refusal}
 use Rattle.model.specs.Answers.{counters-behind, run-reply, run-answer}
 use Rattle.model.specs.Laws.{Passes, Sixteen-bit}
-use Rattle.model.proofs.Tests.{or-right, or-neither, all-true, by-test}
+use Rattle.model.proofs.Tests.{or-neither, by-test}
 use Rattle.model.proofs.Refusing.{lowest-none}
 use Rattle.model.proofs.Trees.Accepted.{sixteen-bit}
 use Rattle.model.proofs.Laws.Counters.{fresh-good, fresh-room, room-law}
 use Rattle.model.proofs.Laws.Calls.{run-reply-number}
+use Rattle.model.proofs.Laws.Form.{fresh-well-formed}
 use Rattle.file_call.specs.FileAnswers.{file-run}
-use Rattle.lock_file.proofs.Stored.{zeros}
-
-repeated : {A : Type 0} (n k : ℕ) (a : A) → getD (replicate n a) k a ≡ a
-repeated zero k a = refl
-repeated (suc n) zero a = refl
-repeated (suc n) (suc k) a = repeated n k a
-
-fresh-thread : (t : Tree) (i : ℕ) → good-thread t fresh-words i ≡ true
-unfolding good-thread good-place good-watch is-watch is-idle fresh-words place-of plain-place bare-place
-fresh-thread t i =
-    rw (repeated 256 i (place-words 0 0 0 0)) (by-test (λ b. b ≡ true) (ltb i (t .threads)) true true (λ e. refl) (λ e. refl))
-
--- fresh words are well formed for every tree
-pub fresh-well-formed : (t : Tree) → well-formed t fresh-words ≡ true
-unfolding well-formed good-tail good-next good-status good-counters fresh-words
-fresh-well-formed t =
-    let tails = all-true 64 (good-tail t fresh-words) (λ d l. rw (zeros 64 d)) in
-    let nexts = all-true 320 (good-next t fresh-words) (λ r l. rw (zeros 320 r)) in
-    let statuses = all-true 320 (good-status t fresh-words) (λ r l. rw (zeros 320 r)) in
-    let places = all-true 256 (good-thread t fresh-words) (λ i l. fresh-thread t i) in
-    rw (tails, nexts, statuses, places) (or-right (t .ticket-root) true refl)
 
 -- a number that no failing test has is not answered
 unfoldable Never : (number : ℕ) → List Test → Type 0

@@ -1,5 +1,5 @@
 -- THE LONGEST LISTING: with room for it 14 is never met. Assumes nothing.
-use mathlib.Core.Path.{_≡_, refl, sym, ap, _∙_}
+use mathlib.Core.Path.{_≡_, sym, ap, _∙_}
 use mathlib.Core.Bool.{Bool, true, false, cond, true≢false}
 use mathlib.Core.List.{List, [], _∷_, _++_}
 use mathlib.Core.Logic.{_≢_, inl, inr}
@@ -13,7 +13,7 @@ use Rattle.model.specs.declared.State.{State}
 use Rattle.model.specs.Trees.{Tree, tree-of}
 use Rattle.model.specs.States.{fresh-words}
 use Rattle.model.specs.Counters.{fresh-lock}
-use Rattle.model.specs.Steps.{Kind, is-kind, is-entry, stay, root-entry, passed-entry, crossed-entry, Step, step}
+use Rattle.model.specs.Steps.{is-kind, is-entry, stay, root-entry, passed-entry, crossed-entry, step}
 use Rattle.model.specs.Runs.{steps, how-many, entering, counts-of, run-of, run}
 use Rattle.model.specs.Refusals.{Refusal, refusal, tree-tests, has-number, run-refusal}
 use Rattle.model.specs.Answers.{counters-behind, run-reply, run-answer}
@@ -21,8 +21,9 @@ use Rattle.model.specs.Laws.{All-threads}
 use Rattle.model.proofs.Tests.{by-test}
 use Rattle.model.proofs.Trees.Accepted.{accepted}
 use Rattle.model.specs.Laws.{Count-law}
-use Rattle.model.proofs.Laws.Runs.{count-law}
+use Rattle.model.proofs.Laws.Runs.{count-law, steps-length}
 use Rattle.model.proofs.Laws.Calls.{run-facts, run-reply-number}
+use Rattle.model.proofs.Counted.{how-many-most}
 use Rattle.lock_file.specs.declared.Reached.{Reached}
 use Rattle.lock_file.specs.declared.Reached.the-variants.{At, Ended, BadMap}
 use Rattle.lock_file.specs.Reading.{reached-refusal, entries-at, tree-read, reading-of, file-read}
@@ -36,21 +37,6 @@ use Rattle.file_call.proofs.FileRunLaw.{Run-met, run-met}
 
 abbrev Not-14 : Outcome → Type 0
 Not-14 o = outcome-reply o .number ≢ 14
-
--- COUNTS. No more steps are of a kind than there are steps
-how-many-most : (f : Kind → Bool) (xs : List Step) → how-many f xs ≤ length xs
-unfolding how-many
-how-many-most f [] = omega arith
-how-many-most f (x ∷ xs) = by (f (x .kind)) (how-many-most f xs)
-  where
-    by : (b : Bool) → how-many f xs ≤ length xs → cond b 1 0 + how-many f xs ≤ suc (length xs)
-    by true h = omega arith
-    by false h = omega arith
-
-steps-long : (t : Tree) (is : List ℕ) (s : State) → length (steps t is s) ≡ length is
-unfolding steps
-steps-long t [] s = refl
-steps-long t (i ∷ is) s = ap suc (steps-long t is (step t i s .state))
 
 -- THE TRACE: every number in it is a thread's
 entering-small : (t : Tree) (is : List ℕ) (s : State) → t .threads ≤ 256 → All-threads t is → (k : ℕ) → getD (entering (steps t is s)) k 0 < 1000
@@ -74,7 +60,7 @@ module _ (w : TreeWords) (is : List ℕ) (short : length is ≤ 32768) where
   few : Five-digits (run t is fresh-words .counts)
   unfolding run run-of counts-of
   few =
-      let n = steps-long t is fresh-words in
+      let n = steps-length t is fresh-words in
       let xs = steps t is fresh-words in
       record {
         steps = omega arith;
@@ -92,7 +78,7 @@ module _ (w : TreeWords) (is : List ℕ) (short : length is ≤ 32768) where
       let small = entering-small t is fresh-words (accepted t (g .tree) .few-threads) (g .threads) in
       let most = how-many-most is-entry (steps t is fresh-words) in
       let traced : length (run t is fresh-words .trace) ≡ how-many is-entry (steps t is fresh-words) = count-law t is fresh-words .traced in
-      omega (arith, length-law (run t is fresh-words .counts) (run t is fresh-words .trace) few small, most, traced, steps-long t is fresh-words)
+      omega (arith, length-law (run t is fresh-words .counts) (run t is fresh-words .trace) few small, most, traced, steps-length t is fresh-words)
 
   -- refused, the number is none of the file call's own
   other : (n : ℕ) → Run-met n → n ≢ 14

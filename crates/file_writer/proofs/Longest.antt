@@ -10,8 +10,8 @@ use Rattle.model.specs.Trees.{read-word, tree-of, is-child, is-leaf, depth-from
 use Rattle.model.specs.Refusals.{refusal, accepted, lowest-bad, first-refusal, bad-domains, bad-threads, bad-parent, too-deep, no-threshold, bad-home, empty-domain, tree-tests, tree-refusal, bad-length, bad-entry, entry-tests, schedule-tests}
 use Rattle.model.specs.Cases.{padded, tree, root-alone}
 use Rattle.model.proofs.Refusing.{lowest-none}
+use Rattle.model.proofs.Laws.Counters.{zeros}
 use Rattle.refusals.proofs.Scanning.{single-missed}
-use Rattle.lock_file.proofs.Stored.{zeros}
 use Rattle.file_writer.specs.Writing.{written-domains, written-thread, written-threads, first-byte, written-tree, written-file}
 use Rattle.file_writer.specs.Laws.{Write-refusal-law}
 use Rattle.file_writer.specs.Cases.{steps-of-one, Longest-law}

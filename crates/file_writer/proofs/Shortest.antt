@@ -8,7 +8,7 @@ use lib.ListN.{length, length-append, getD}
 use Rattle.model.specs.declared.TreeWords.{TreeWords}
 use Rattle.model.specs.Trees.{tree-of}
 use Rattle.model.proofs.Tests.{by-test}
-use Rattle.refusals.proofs.Reading.{read-in}
+use Rattle.model.proofs.Trees.Reading.{read-in}
 use Rattle.lock_file.specs.Reading.{low-first}
 use Rattle.lock_file.specs.Format.{Domain-entry, no-field, parent-only, threshold-only, both-fields, Thread-entry, home-before, home-given, Domain-entries, no-domain, next-domain, Thread-entries, no-thread, next-thread, Schedule-entries, no-entry, next-entry, Describes}
 use Rattle.file_writer.specs.Writing.{low-first-bytes, absent-parent, absent-threshold, written-domain, written-domains, written-thread, written-threads, written-file}

@@ -10,6 +10,7 @@ use Rattle.model.specs.declared.TreeWords.{TreeWords}
 use Rattle.model.specs.declared.State.{State}
 use Rattle.model.specs.Trees.{Tree, tree-of}
 use Rattle.model.specs.Refusals.{Refusal, refusal, accepted, tree-refusal}
+use Rattle.model.proofs.Laws.Refusals.{same-number, same-place}
 use Rattle.journal.specs.declared.Entry.the-variants.{Named, Broken}
 use Rattle.journal.specs.Entries.{Named-step, last-thread}
 use Rattle.journal.specs.Reading.{entry-at}
@@ -37,28 +38,20 @@ module _ (w : TreeWords) (bs : List ℕ) where
       subst-outcome : Outcome t (fresh-lock w) 0 bs 0 (checked (suc (length bs)) t (fresh-lock w) bs 0 0) → Outcome t (fresh-lock w) 0 bs 0 all
       subst-outcome o = rw (all-with (suc (length bs)) (omega arith)) o
 
-  number-of : (n p m q : ℕ) → refusal n p ≡ refusal m q → n ≡ m
-  unfolding refusal
-  number-of n p m q e = ap (λ r. r .number) e
-
-  place-of : (n p m q : ℕ) → refusal n p ≡ refusal m q → p ≡ q
-  unfolding refusal
-  place-of n p m q e = ap (λ r. r .place) e
-
   accepted-has : all ≡ accepted → Steps-of w bs
   unfolding accepted
   accepted-has e = elim reason [
     | all-taken xs es o d ↦ record { entries = xs; journal = es; of-the-table = o }
-    | stopped front rest xs n g es o f z d ↦ absurd (z (number-of n _ 0 0 (sym d ∙ e)))
+    | stopped front rest xs n g es o f z d ↦ absurd (z (same-number n _ 0 0 (sym d ∙ e)))
   ]
 
   refused-has : (n p : ℕ) → n ≢ 0 → all ≡ refusal n p → Refused-by w bs n p
   unfolding accepted
   refused-has n p h e = elim reason [
-    | all-taken xs es o d ↦ absurd (h (number-of n p 0 0 (sym e ∙ d)))
+    | all-taken xs es o d ↦ absurd (h (same-number n p 0 0 (sym e ∙ d)))
     | stopped front rest xs m g es o f z d ↦
-        let same : m ≡ n = number-of m _ n p (sym d ∙ e) in
-        let place : 0 + length front ≡ p = place-of m _ n p (sym d ∙ e) in
+        let same : m ≡ n = same-number m _ n p (sym d ∙ e) in
+        let place : 0 + length front ≡ p = same-place m _ n p (sym d ∙ e) in
         record {
           front = front;
           rest = rest;

@@ -1,5 +1,5 @@
 -- The check of a journal piece by piece: the state so far, the entries still ahead, and what a piece comes to. Assumes nothing.
-use mathlib.Core.Path.{_≡_, refl, sym, ap, _∙_, subst}
+use mathlib.Core.Path.{_≡_, sym, ap, _∙_, subst}
 use mathlib.Core.Bool.{true, false, not}
 use mathlib.Core.List.{List, [], _∷_}
 use mathlib.Core.Logic.{_≢_}
@@ -47,12 +47,6 @@ told-kind b [] j h f = absurd (omega arith)
 told-kind [] (x ∷ xs) j h f = absurd (omega arith)
 told-kind (c ∷ b) (x ∷ xs) zero h f = code-kind x
 told-kind (c ∷ b) (x ∷ xs) (suc j) h f = told-kind b xs j (omega arith) (omega arith)
-
-pub told-room : (b : List ℕ) (xs : List Step) → length (told-front b xs) ≡ length b
-unfolding told-front
-told-room [] xs = refl
-told-room (c ∷ b) [] = refl
-told-room (c ∷ b) (x ∷ xs) = ap suc (told-room b xs)
 
 module _ (w : TreeWords) (bs : List ℕ) where
   abbrev t : Tree

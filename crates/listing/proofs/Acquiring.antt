@@ -1,5 +1,5 @@
 -- The lines of Acquire, entry by entry, do what the rows from Idle to Inside do. Assumes nothing.
-use mathlib.Core.Path.{_≡_, refl, ap, _∙_}
+use mathlib.Core.Path.{_≡_, refl, ap}
 use mathlib.Core.Bool.{Bool, true, false, cond}
 use mathlib.Core.List.{[]}
 use mathlib.Core.Logic.{_≢_}
@@ -7,7 +7,7 @@ use Prim.Native.Nat.{ℕ, suc, _+_, _-_, _≤_, _<_}
 use native.Mathlib.Omega.{arith}
 use lib.Dec.{eqb, ltb}
 use lib.ListN.{length, set}
-use lib.Seq.{getD-set-same, getD-set-other}
+use lib.Seq.{getD-set-other}
 use borrow.Author.Tests.{eqb-true, eqb-false, lt-ltb, le-ltb}
 use Rattle.model.specs.declared.Place.{Place}
 use Rattle.model.specs.declared.Place.the-variants.{Idle, Prep, Swap, Link, Wait, Inside, Draw}
@@ -16,12 +16,12 @@ use Rattle.model.specs.Trees.{Tree, is-ticket, own-record}
 use Rattle.model.specs.Places.{place-words, words-of, place-of}
 use Rattle.model.specs.States.{acquire-parent, wait-word, locked, tail, status, place}
 use Rattle.model.specs.Steps.{Row-result, acquire-place, prep-row, swap-row, link-row, wait-row}
-use Rattle.model.proofs.Places.{place-of-words}
 use Rattle.model.proofs.Trees.Index.{ancestor, height, record-at}
 use Rattle.model.proofs.Trees.Accepted.{Accepted}
 use Rattle.model.proofs.Trees.Tickets.{ticket-facts}
 use Rattle.model.proofs.Trees.Paths.{ancestor-not-root, ancestor-parent-of}
 use Rattle.model.proofs.Trees.Records.{own-record-at}
+use Rattle.model.proofs.Places.{place-stored}
 use Rattle.listing.specs.Calls.{After, goes, Control, control, behind-17, acquire-real, outside, critical, line-7, line-9, line-11, line-13, line-66, line-67, line-71, line-72, ticket-lock, line-90}
 use Rattle.listing.specs.Agreement.{entry, memory-of}
 use Rattle.listing.proofs.Entries.{idle-elsewhere, idle-root, prep-elsewhere, prep-root, swap-none, swap-some, swap-root-none, swap-root-some, link-elsewhere, link-root, wait-stays, wait-enters, wait-climbs, wait-root-stays, wait-root-enters}
@@ -44,7 +44,7 @@ pub data Puts (s n : State) (i : ℕ) (p : Place) : Type 0 where
   stayed : n .places ≡ s .places → place s i ≡ p → Puts s n i p
 
 puts-there : {s n : State} {i : ℕ} {p : Place} → i < length (s .places) → Puts s n i p → place n i ≡ p
-puts-there {s} {n} {i} {p} b (moved e) = rw e (ap place-of (getD-set-same (s .places) i (words-of p) (place-words 0 0 0 0) b) ∙ place-of-words p)
+puts-there {s} {n} {i} {p} b (moved e) = rw e (place-stored i p s b)
 puts-there {s} {n} {i} {p} b (stayed e q) = rw e q
 
 puts-elsewhere : {s n : State} {i : ℕ} {p : Place} → Puts s n i p → (j : ℕ) → j ≢ i → place n j ≡ place s j

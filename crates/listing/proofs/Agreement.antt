@@ -11,7 +11,7 @@ use Rattle.model.specs.declared.Place.{Place}
 use Rattle.model.specs.declared.Place.the-variants.{Idle, Prep, Swap, Link, Wait, Check, Help, Cas, Linger, Grant, Draw, Watch}
 use Rattle.model.specs.declared.State.{State}
 use Rattle.model.specs.Trees.{Tree, is-ticket, own-record}
-use Rattle.model.specs.Places.{place-words, bare-place, plain-place, place-of}
+use Rattle.model.specs.Places.{place-words, place-of}
 use Rattle.model.specs.States.{wait-word, status, place, fresh-words, fresh-state}
 use Rattle.model.specs.Steps.{release-word, prep-row, check-row, draw-row, row, step}
 use Rattle.model.specs.Runs.{steps, state-after, run-of, run}
@@ -232,7 +232,7 @@ module _ (t : Tree) (bits : Sixteen-bit t) (ok : tree-refusal t .number ≡ 0) (
       rw (append-assoc pre (i ∷ []) is) at (along is (pre ++ (i ∷ [])) (threads-join t pre (i ∷ []) all (l .0, tt)) (l .1) (turn t i x) next)
 
 pub listing-agrees : Listing-agrees
-unfolding Listing-agrees at-first All-threads run run-of steps state-after memory-of fresh-words fresh-state place-of plain-place bare-place place-of-control place-at
+unfolding Listing-agrees at-first All-threads run run-of steps state-after memory-of fresh-words fresh-state place-of place-of-control place-at
 listing-agrees t bits ok start is all =
     let idle : (i : ℕ) → place (fresh-state t start) i ≡ Idle = λ i. replicate-all (λ x. place-of x ≡ Idle) 256 i (place-words 0 0 0 0) refl in
     let first : Together-all t (at-first t start) (fresh-state t start) = record { memory = refl; stands-there = λ i h. rw (idle i) at-idle; placed = λ i h. rw (idle i) } in

@@ -8,6 +8,7 @@ use native.Mathlib.Decide.{ℕ-discrete}
 use lib.ListN.{length, drop, replicate}
 use borrow.Author.Tests.{eq-eqb, ne-eqb}
 use Rattle.model.specs.declared.TreeWords.{TreeWords}
+use Rattle.model.proofs.Laws.Counters.{zeros}
 use Rattle.lock_file.specs.declared.Reached.the-variants.{At}
 use Rattle.lock_file.specs.declared.DomainsRead.{DomainsRead}
 use Rattle.lock_file.specs.declared.ThreadsRead.{ThreadsRead}
@@ -15,7 +16,7 @@ use Rattle.lock_file.specs.Reading.{domain-count, root-number, byte, two
 use Rattle.lock_file.specs.Format.{Full-room, Describes}
 use Rattle.lock_file.specs.ReadingLaws.{Format-law}
 use Rattle.lock_file.proofs.Bytes.{next-byte, starts, field-reached}
-use Rattle.lock_file.proofs.Stored.{zeros, same-words}
+use Rattle.lock_file.proofs.Stored.{same-words}
 use Rattle.lock_file.proofs.DomainEntries.{domains-room, domains-kept, domains-bytes, Domains-read, domains-stored}
 use Rattle.lock_file.proofs.ThreadEntries.{threads-room, threads-kept, threads-within, threads-bytes, Threads-read, threads-stored}
 use Rattle.lock_file.proofs.ScheduleEntries.{schedule-bytes, schedule-stored}

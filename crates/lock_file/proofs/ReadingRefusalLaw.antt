@@ -12,12 +12,12 @@ use lib.Seq.{getD-take, length-take-le}
 use borrow.Author.Tests.{eq-eqb, eqb-false}
 use Rattle.model.specs.Refusals.{Refusal, refusal}
 use Rattle.model.specs.Laws.{_⟺_}
+use Rattle.model.proofs.Laws.Counters.{zeros}
 use Rattle.lock_file.specs.declared.Reached.{Reached}
 use Rattle.lock_file.specs.declared.Reached.the-variants.{At, Ended, BadMap}
 use Rattle.lock_file.specs.Reading.{byte, schedule-start, tree-read, entries-at, reached-refusal, refused, described, reading-of, file-read}
 use Rattle.lock_file.specs.ReadingLaws.{Format-law, Lock-file, Beginning, Reading-refusal-law}
 use Rattle.lock_file.proofs.Positions.{reached-cases}
-use Rattle.lock_file.proofs.Stored.{zeros}
 use Rattle.lock_file.proofs.Accepted.{reading-accepted}
 use Rattle.lock_file.proofs.FormatLaw.{format-law}
 use Rattle.lock_file.proofs.Parts.{Same-before}

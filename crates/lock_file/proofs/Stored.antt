@@ -3,10 +3,10 @@ use mathlib.Core.Path.{_≡_, refl, sym, _∙_}
 use mathlib.Core.List.{List}
 use mathlib.Core.Bool.{Bool, true, false}
 use mathlib.Core.Logic.{_≢_, _⊎_, inl, inr}
-use Prim.Native.Nat.{ℕ, zero, suc, _≤_, _<_}
+use Prim.Native.Nat.{ℕ, _≤_, _<_}
 use native.Mathlib.Omega.{arith}
 use lib.Dec.{ltb}
-use lib.ListN.{length, getD, set, replicate, length-set}
+use lib.ListN.{length, getD, set, length-set}
 use lib.Seq.{getD-set-same, getD-set-other, ext-getD}
 use borrow.Author.Tests.{ltb-true, ltb-false, lt-ltb}
 use Rattle.model.proofs.Tests.{by-test}
@@ -24,11 +24,6 @@ pub stored-other : (n : ℕ) (ws : List ℕ) (k v j : ℕ) → j ≢ k → getD 
 unfolding stored
 stored-other n ws k v j h =
     by-test (λ l. getD l j 0 ≡ getD ws j 0) (ltb k n) (set ws k v) ws (λ e. getD-set-other ws k j v 0 h) (λ e. refl)
-
-pub zeros : (n k : ℕ) → _≡_ {A = ℕ} (getD (replicate n 0) k 0) 0
-zeros zero k = refl
-zeros (suc n) zero = refl
-zeros (suc n) (suc k) = zeros n k
 
 -- two arrays are the same that agree from one index to before another and are 0 elsewhere
 pub same-words :

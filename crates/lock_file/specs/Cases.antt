@@ -4,15 +4,10 @@ use mathlib.Core.List.{List, [], _∷_, _++_}
 use Prim.Native.Nat.{ℕ, suc}
 use lib.Dec.{eqb}
 use lib.ListN.{replicate, getD}
+use Rattle.model.specs.Cases.{same-numbers}
 use Rattle.lock_file.specs.declared.ReadReply.{ReadReply}
 use Rattle.lock_file.specs.Reading.{Reading, refused, described, file-read}
 use Rattle.lock_file.specs.Answers.{read-answer, schedule-answer}
-
-abbrev pub same : List ℕ → List ℕ → Bool
-same [] [] = true
-same [] (y ∷ ys) = false
-same (x ∷ xs) [] = false
-same (x ∷ xs) (y ∷ ys) = eqb x y && same xs ys
 
 abbrev pub all : List Bool → Bool
 all [] = true
@@ -25,7 +20,7 @@ refuses n p (described w is) = false
 abbrev pub gives : (domains root threads : ℕ) → (parents thresholds homes schedule : List ℕ) → Reading → Bool
 gives d k t ps hs ms js (refused r) = false
 gives d k t ps hs ms js (described w is) =
-    eqb (w .domains) d && eqb (w .«ticket_root») k && eqb (w .threads) t && same (w .parents) ps && same (w .thresholds) hs && same (w .homes) ms && same is js
+    eqb (w .domains) d && eqb (w .«ticket_root») k && eqb (w .threads) t && same-numbers (w .parents) ps && same-numbers (w .thresholds) hs && same-numbers (w .homes) ms && same-numbers is js
 
 -- a reply's number, place and length, and the domains, threads and first homes of its tree
 abbrev pub replies : (number place length domains threads home-0 home-2 : ℕ) → ReadReply → Bool
@@ -79,8 +74,8 @@ cases =
     ∷ gives 1 0 3 (replicate 64 0) (replicate 64 0) (0 ∷ 9 ∷ 9 ∷ replicate 253 0) [] (file-read (1 ∷ 3 ∷ 0 ∷ 0 ∷ 1 ∷ 9 ∷ 0 ∷ []))
     -- read without a run: the printed example, with room for its schedule and one more, and with one too little
     ∷ replies 0 0 22 3 3 1 2 (read-answer (example 2))
-    ∷ same (schedule-answer (example 2) (replicate 23 7)) (example-schedule ++ (2 ∷ 7 ∷ []))
-    ∷ same (schedule-answer (example 2) (replicate 21 7)) (replicate 21 7)
+    ∷ same-numbers (schedule-answer (example 2) (replicate 23 7)) (example-schedule ++ (2 ∷ 7 ∷ []))
+    ∷ same-numbers (schedule-answer (example 2) (replicate 21 7)) (replicate 21 7)
     -- refused: nothing of what was read before
     ∷ replies 2 13 0 0 0 0 0 (read-answer (example-tree ++ (0 ∷ [])))
-    ∷ same (schedule-answer (example-tree ++ (0 ∷ [])) (replicate 3 7)) (replicate 3 7) ∷ []
+    ∷ same-numbers (schedule-answer (example-tree ++ (0 ∷ [])) (replicate 3 7)) (replicate 3 7) ∷ []

@@ -21,7 +21,7 @@ use Rattle.model.specs.CounterLaws.{Room-law}
 use Rattle.model.specs.Refusals.{Refusal, Test, test, lowest-bad, first-refusal, tree-tests, bad-state, bad-counter, entry-tests, schedule-tests, room-tests, step-tests-before-19, step-tests, run-tests-before-19, run-tests, step-refusal, run-refusal}
 use Rattle.model.specs.Answers.{counters-behind, step-reply, step-answer, run-reply, run-buffer, run-answer, trace-answer}
 use Rattle.model.specs.Cases.{Case, fresh-call, fresh-starts, step-call, step-gives, run-call, trace-room, uncounted, step-holds, step-gave, run-holds, holds, all-hold}
-use Rattle.model.proofs.Tests.{and-both}
+use Rattle.model.proofs.Tests.{and-both, and-true, all-same}
 use Rattle.model.proofs.Refusing.{test-skipped}
 use Rattle.model.proofs.Trees.Accepted.{sixteen-bit}
 use Rattle.model.proofs.Laws.Counters.{fresh-good, room-law, fresh-room}
@@ -38,17 +38,8 @@ and-assoc false b c = refl
 -- the first number apart instead of the last
 first-apart : (n : ℕ) (f : ℕ → Bool) → all-below (suc n) f ≡ f 0 && all-below n (λ k. f (suc k))
 unfolding all-below
-first-apart zero f = true-last (f 0)
-  where
-    true-last : (b : Bool) → true && b ≡ b && true
-    true-last true = refl
-    true-last false = refl
+first-apart zero f = sym (and-true (f 0))
 first-apart (suc n) f = ap (λ b. b && f (suc n)) (first-apart n f) ∙ and-assoc (f 0) (all-below n (λ k. f (suc k))) (f (suc n))
-
-all-same : (n : ℕ) (f g : ℕ → Bool) → ((k : ℕ) → f k ≡ g k) → all-below n f ≡ all-below n g
-unfolding all-below
-all-same zero f g e = refl
-all-same (suc n) f g e = rw (all-same n f g e, e n)
 
 -- a test of every index of an array is a walk over it
 pub walk : {A : Type 0} (f : ℕ → A → Bool) (d : A) (k : ℕ) (xs : List A) → all-below (length xs) (λ n. f (k + n) (getD xs n d)) ≡ walked f k xs
@@ -60,12 +51,12 @@ walk f d k (x ∷ xs) =
     first-apart (length xs) g
     ∙ ap (λ b. b && all-below (length xs) (λ n. g (suc n))) (ap (λ j. f j x) here)
     ∙ ap (λ b. f k x && b)
-    (all-same (length xs) (λ n. g (suc n)) (λ n. f (suc k + n) (getD xs n d)) (λ n. ap (λ j. f j (getD xs n d)) (omega arith)) ∙ walk f d (suc k) xs)
+    (all-same (length xs) (λ n. g (suc n)) (λ n. f (suc k + n) (getD xs n d)) (λ n _. ap (λ j. f j (getD xs n d)) (omega arith)) ∙ walk f d (suc k) xs)
 
 -- the same of a whole array
 whole : {A : Type 0} (f : ℕ → A → Bool) (d : A) (n : ℕ) (xs : List A) → length xs ≡ n → all-below n (λ k. f k (getD xs k d)) ≡ walked f 0 xs
 whole f d n xs h =
-    all-same n (λ k. f k (getD xs k d)) (λ k. f (0 + k) (getD xs k d)) (λ k. ap (λ j. f j (getD xs k d)) (omega arith))
+    all-same n (λ k. f k (getD xs k d)) (λ k. f (0 + k) (getD xs k d)) (λ k _. ap (λ j. f j (getD xs k d)) (omega arith))
     ∙ rw (sym h) (walk f d 0 xs)
 
 -- THE ROOM of a state: its long arrays are whole
@@ -108,11 +99,7 @@ last-passes (x ∷ xs) y h = ap (lowest-bad (x .number) (x .bad) (x .places) 0) 
 
 -- fresh counters pass 10, and 19 where the schedule is short
 fresh-counts : (w : TreeWords) (s : State) → well-formed (tree-of w) s && good-counts (tree-of w) fresh-counters ≡ well-formed (tree-of w) s
-fresh-counts w s = rw (fresh-good (tree-of w)) (true-last (well-formed (tree-of w) s))
-  where
-    true-last : (b : Bool) → b && true ≡ b
-    true-last true = refl
-    true-last false = refl
+fresh-counts w s = rw (fresh-good (tree-of w)) (and-true (well-formed (tree-of w) s))
 
 fresh-pass : (w : TreeWords) (s : State) (is : List ℕ) → length is ≤ 65536 → (p : ℕ) → p < length is → bad-counter (tree-of w) (uncounted s) is p ≡ false
 unfolding Room-law

@@ -13,8 +13,8 @@ use borrow.Author.Tests.{eq-eqb, ne-eqb, lt-ltb, le-ltb}
 use Rattle.model.specs.declared.Counters.{Counters}
 use Rattle.model.specs.Scans.{filter-below}
 use Rattle.model.specs.Trees.{Tree}
-use Rattle.model.specs.Steps.{Step, is-entry}
-use Rattle.model.specs.Runs.{entries-under, occurrences}
+use Rattle.model.specs.Steps.{Kind, Step, is-entry}
+use Rattle.model.specs.Runs.{how-many, entries-under, occurrences}
 use Rattle.model.specs.Tenures.{domain-entries, domain-tenures, longest-told, starts, told-length}
 use Rattle.model.specs.Counters.{each-with-index, counters-after}
 use Rattle.model.proofs.Laws.Runs.{entries-under-join}
@@ -103,6 +103,16 @@ counters-join t c xs ys =
       indexed-same (λ d v. v + domain-tenures t d (xs ++ ys)) (λ d v. v + domain-tenures t d xs + domain-tenures t d ys) 0 (c .tenures) (λ d v. omega (arith, domain-tenures-join t d xs ys)),
       indexed-same (λ d v. max v (longest-told t d (xs ++ ys))) (λ d v. max (max v (longest-told t d xs)) (longest-told t d ys)) 0 (c .longest) (λ d v. omega (arith, longest-told-join t d xs ys)),
     )
+
+-- no more steps are of a kind than there are steps
+pub how-many-most : (f : Kind → Bool) (xs : List Step) → how-many f xs ≤ length xs
+unfolding how-many
+how-many-most f [] = omega arith
+how-many-most f (x ∷ xs) = by (f (x .kind)) (how-many-most f xs)
+  where
+    by : (b : Bool) → how-many f xs ≤ length xs → cond b 1 0 + how-many f xs ≤ suc (length xs)
+    by true h = omega arith
+    by false h = omega arith
 
 -- HOW OFTEN a number is among those that pass
 pub occurrences-join : (m : ℕ) (xs ys : List ℕ) → occurrences m (xs ++ ys) ≡ occurrences m xs + occurrences m ys

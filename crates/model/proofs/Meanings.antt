@@ -1,4 +1,4 @@
--- What the claim's definitions come to: under, allowances, prefixes, stretches. Assumes nothing.
+-- What the claim's definitions come to: under, allowances, prefixes, stretches, places. Assumes nothing.
 use mathlib.Core.Path.{_≡_, refl, sym, ap, _∙_}
 use mathlib.Core.Bool.{Bool, true, false, cond, false≢true}
 use mathlib.Core.List.{List, [], _∷_, _++_}
@@ -9,18 +9,20 @@ use native.Mathlib.Decide.{ℕ-discrete, decLt}
 use lib.Dec.{eqb}
 use lib.ListN.{length, take, drop}
 use lib.Seq.{take-append-seam, drop-drop, drop-length}
-use borrow.Author.Tests.{not-false, eqb-true, eq-eqb, ne-eqb, lt-ltb, le-ltb}
+use borrow.Author.Tests.{not-false, eqb-true, eq-eqb, ne-eqb, lt-ltb}
 use Rattle.model.specs.Scans.{any-below, largest-below}
 use Rattle.model.specs.declared.LockState.{LockState}
 use Rattle.model.specs.Trees.{Tree, is-child, is-leaf, on-path, under, allowance}
 use Rattle.model.specs.Answers.{run-reply}
 use Rattle.model.specs.Calls.{Call, added, lock-at, Stretches}
-use Rattle.model.specs.Meanings.{Within, itself, below, Tells-under, Under-law, Largest-child, Allowance-law, Prefix-law, own-entries, Stretches-law, Refused-run-law}
+use Rattle.model.specs.Meanings.{Within, itself, below, Tells-under, Under-law, Largest-child, Allowance-law, Prefix-law, own-entries, Stretches-law, Refused-run-law, Place-law}
 use Rattle.model.proofs.Tests.{or-neither, largest-ge}
+use Rattle.model.proofs.Places.{words-fit, place-of-words, words-of-place}
 use Rattle.model.proofs.Trees.Index.{ancestor, height, member-allowance}
 use Rattle.model.proofs.Trees.Accepted.{Accepted, accepted}
 use Rattle.model.proofs.Trees.Paths.{ancestor-home, ancestor-inner, ancestor-not-root, ancestor-parent-of, path-index, on-path-at}
 use Rattle.model.proofs.Trees.Allowances.{thread-allowance, allowance-domain}
+use Rattle.model.proofs.Laws.Empty.{under-domain}
 
 -- UNDER, by index on the thread's path
 module _ (t : Tree) (𝓐 : Accepted t) (i : ℕ) (h : i < t .threads) where
@@ -48,10 +50,6 @@ module _ (t : Tree) (𝓐 : Accepted t) (i : ℕ) (h : i < t .threads) where
   within-path : (d : ℕ) → Within t d (t .home i) → on-path t i d ≡ true
   within-path d w = path-from 0 d (t .home i) (omega arith) (ancestor-home t i) w
 
-  domain-under : (d : ℕ) → under t (256 + d) i ≡ on-path t i d
-  unfolding under
-  domain-under d = let z : 256 + d - 256 ≡ d = omega arith in rw (le-ltb (256 + d) 256 (omega arith), z)
-
   thread-under : (j : ℕ) → j < 256 → under t j i ≡ eqb j i
   unfolding under
   thread-under j s = rw (lt-ltb j 256 s)
@@ -61,7 +59,7 @@ module _ (t : Tree) (𝓐 : Accepted t) (i : ℕ) (h : i < t .threads) where
       record {
         path = λ d. (path-within d, within-path d);
         under-thread = λ j s. (λ e. eqb-true j i (sym (thread-under j s) ∙ e), λ e. thread-under j s ∙ eq-eqb j i e);
-        under-domain = λ d. (λ e. path-within d (sym (domain-under d) ∙ e), λ w. domain-under d ∙ within-path d w);
+        under-domain = λ d. (λ e. path-within d (sym (under-domain t d i) ∙ e), λ w. under-domain t d i ∙ within-path d w);
       }
 
 pub under-law : Under-law
@@ -153,3 +151,7 @@ stretches-law t f S cs e = stretches-own t f S 0 cs e
 pub refused-run-law : Refused-run-law
 unfolding Refused-run-law run-reply
 refused-run-law r s x c n = let e = ne-eqb (r .number) 0 n in (rw e, rw e, rw e, rw e, rw e, rw e)
+
+-- PLACES
+pub place-law : Place-law
+place-law = record { fitting = words-fit; back = place-of-words; only = words-of-place }

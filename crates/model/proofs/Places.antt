@@ -1,23 +1,25 @@
 -- A place and its four numbers: each gives the other back; a store of a place, read back. Assumes nothing.
 use mathlib.Core.Path.{_≡_, refl, sym, ap, _∙_}
-use mathlib.Core.Bool.{true, false, not, cond, false≢true}
+use mathlib.Core.Bool.{Bool, true, false, _&&_, cond, false≢true}
 use mathlib.Core.Logic.{_≢_}
-use Prim.Native.Nat.{ℕ, _<_}
+use Prim.Native.Nat.{ℕ, _≤_, _<_}
+use native.Mathlib.Omega.{arith}
+use native.Mathlib.Decide.{ℕ-discrete}
 use lib.Dec.{eqb}
-use lib.ListN.{length}
+use lib.ListN.{length, List·getD-eq-default}
 use lib.Seq.{getD-set-same}
-use borrow.Author.Tests.{eqb-true, eqb-false, not-false}
+use borrow.Author.Tests.{eqb-true, eqb-false, ne-eqb}
 use Rattle.model.specs.declared.PlaceWords.{PlaceWords}
 use Rattle.model.specs.declared.Place.{Place}
 use Rattle.model.specs.declared.Place.the-variants.{Idle, Prep, Swap, Link, Wait, Inside, Check, Help, Cas, Linger, Grant, Draw, Watch, Raise, Invalid}
 use Rattle.model.specs.declared.State.{State}
-use Rattle.model.specs.Places.{place-words, words-of, bare-place, plain-place, place-of, is-idle, is-watch}
+use Rattle.model.specs.Places.{place-words, words-of, no-row, shapes, shape, parts, fits, shaped, place-of, is-idle, is-watch}
 use Rattle.model.specs.States.{place, with-place}
-use Rattle.model.proofs.Tests.{by-test}
+use Rattle.model.proofs.Tests.{by-test, and-both, and-true, and-false}
 
 -- the place of a place's numbers, Invalid as well
 pub place-of-words : (p : Place) → place-of (words-of p) ≡ p
-unfolding place-of plain-place bare-place
+unfolding place-of
 place-of-words Idle = refl
 place-of-words (Prep l) = refl
 place-of-words (Swap l) = refl
@@ -34,49 +36,115 @@ place-of-words Watch = refl
 place-of-words Raise = refl
 place-of-words Invalid = refl
 
--- the numbers of a place that four numbers give, where they give one
-abbrev Gives-back : (row domain peer word : ℕ) → Place → Type 0
-Gives-back r d x w p = p ≢ Invalid → words-of p ≡ place-words r d x w
+pub words-fit : (p : Place) → fits (words-of p) ≡ true
+words-fit Idle = refl
+words-fit (Prep l) = refl
+words-fit (Swap l) = refl
+words-fit (Link l p) = refl
+words-fit (Wait l) = refl
+words-fit Inside = refl
+words-fit (Check l) = refl
+words-fit (Help l) = refl
+words-fit (Cas l) = refl
+words-fit (Linger l) = refl
+words-fit (Grant l s w) = refl
+words-fit Draw = refl
+words-fit Watch = refl
+words-fit Raise = refl
+words-fit Invalid = refl
 
-invalid : (r d x w : ℕ) → Gives-back r d x w Invalid
-invalid r d x w f = absurd (f refl)
+-- a row is one of the table's, or beyond them
+pub by-row :
+    (C : ℕ → Type 0) (r : ℕ) → C 0 → C 1 → C 2 → C 3 → C 4 → C 5 → C 6 → C 7 → C 8 → C 9 → C 10 → C 11 → C 12 → C 13 → (13 < r → C r) → C r
+by-row C r c₀ c₁ c₂ c₃ c₄ c₅ c₆ c₇ c₈ c₉ c₁₀ c₁₁ c₁₂ c₁₃ more =
+    at 0 (omega arith) c₀ (λ h. at 1 h c₁ (λ h. at 2 h c₂ (λ h. at 3 h c₃ (λ h. at 4 h c₄ (λ h. at 5 h c₅ (λ h.
+    at 6 h c₆ (λ h. at 7 h c₇ (λ h. at 8 h c₈ (λ h. at 9 h c₉ (λ h. at 10 h c₁₀ (λ h.
+    at 11 h c₁₁ (λ h. at 12 h c₁₂ (λ h. at 13 h c₁₃ more)))))))))))))
+  where
+    at : (k : ℕ) → k ≤ r → C k → (k < r → C r) → C r
+    at k h c f = elim (ℕ-discrete r k) [ yes e ↦ rw e c | no e ↦ f (omega arith) ]
 
-bare-gives-back : (r : ℕ) → Gives-back r 0 0 0 (bare-place r)
-unfolding bare-place
-bare-gives-back r =
-    let B = Gives-back r 0 0 0 in
-    let row-is : (k : ℕ) (p : Place) → words-of p ≡ place-words k 0 0 0 → eqb r k ≡ true → B p = λ k p q e _. rw (eqb-true r k e) q in
-    by-test B (eqb r 0) _ _ (row-is 0 Idle refl) (λ _.
-    by-test B (eqb r 5) _ _ (row-is 5 Inside refl) (λ _.
-    by-test B (eqb r 11) _ _ (row-is 11 Draw refl) (λ _.
-    by-test B (eqb r 12) _ _ (row-is 12 Watch refl) (λ _.
-    by-test B (eqb r 13) _ _ (row-is 13 Raise refl) (λ _. invalid r 0 0 0)))))
+-- beyond the table's rows there is no shape, and so no place
+pub beyond : (r : ℕ) → 13 < r → shape r ≡ no-row
+beyond r h = List·getD-eq-default shapes no-row {n = r} h
 
-plain-gives-back : (r d : ℕ) → Gives-back r d 0 0 (plain-place r d)
-unfolding plain-place
-plain-gives-back r d =
-    let B = Gives-back r d 0 0 in
-    let row-is : (k : ℕ) (p : Place) → words-of p ≡ place-words k d 0 0 → eqb r k ≡ true → B p = λ k p q e _. rw (eqb-true r k e) q in
-    by-test B (eqb r 1) _ _ (row-is 1 (Prep d) refl) (λ _.
-    by-test B (eqb r 2) _ _ (row-is 2 (Swap d) refl) (λ _.
-    by-test B (eqb r 4) _ _ (row-is 4 (Wait d) refl) (λ _.
-    by-test B (eqb r 6) _ _ (row-is 6 (Check d) refl) (λ _.
-    by-test B (eqb r 7) _ _ (row-is 7 (Help d) refl) (λ _.
-    by-test B (eqb r 8) _ _ (row-is 8 (Cas d) refl) (λ _.
-    by-test B (eqb r 9) _ _ (row-is 9 (Linger d) refl) (λ _.
-    by-test B (eqb d 0) _ _ (λ z f. bare-gives-back r f ∙ rw (eqb-true d 0 z)) (λ _. invalid r d 0 0))))))))
-
-pub words-of-place : (x : PlaceWords) → place-of x ≢ Invalid → words-of (place-of x) ≡ x
+pub no-place : (q : PlaceWords) → 13 < q .row → place-of q ≡ Invalid
 unfolding place-of
-words-of-place x =
-    let B = Gives-back (x .row) (x .domain) (x .peer) (x .word) in
-    by-test B (eqb (x .row) 10) _ _ (λ e _. rw (sym (eqb-true (x .row) 10 e))) (λ _.
-    by-test B (not (eqb (x .word) 0)) _ _ (λ _. invalid _ _ _ _) (λ nw.
-    let w = eqb-true (x .word) 0 (not-false (eqb (x .word) 0) nw) in
-    by-test B (eqb (x .row) 3) _ _ (λ e _. rw (eqb-true (x .row) 3 e, w)) (λ _.
-    by-test B (not (eqb (x .peer) 0)) _ _ (λ _. invalid _ _ _ _) (λ np.
-    let p = eqb-true (x .peer) 0 (not-false (eqb (x .peer) 0) np) in
-    λ f. plain-gives-back (x .row) (x .domain) f ∙ rw (w, p)))))
+no-place q h = rw (beyond (q .row) h) (by-test (λ p. p ≡ Invalid) (eqb (q .domain) 0 && (eqb (q .peer) 0 && eqb (q .word) 0)) Invalid Invalid (λ _. refl) (λ _. refl))
+
+-- four numbers that give a place: each part that the row lacks is 0, and the row's shape is the place
+pub place-fits : (q : PlaceWords) → place-of q ≢ Invalid → fits q ≡ true
+unfolding place-of
+place-fits q n = by (fits q) n
+  where
+    by : (b : Bool) → cond b (shaped (shape (q .row)) (q .domain) (q .peer) (q .word)) Invalid ≢ Invalid → b ≡ true
+    by true n = refl
+    by false n = absurd (n refl)
+
+pub place-shaped : (q : PlaceWords) → place-of q ≢ Invalid → place-of q ≡ shaped (shape (q .row)) (q .domain) (q .peer) (q .word)
+unfolding place-of
+place-shaped q n = rw (place-fits q n)
+
+-- the numbers of a row without a part, with a domain, with a domain and a record
+bare-words : (r d p w : ℕ) → eqb d 0 && (eqb p 0 && eqb w 0) ≡ true → place-words r 0 0 0 ≡ place-words r d p w
+bare-words r d p w e =
+    let a = and-both (eqb d 0) (eqb p 0 && eqb w 0) e in
+    let b = and-both (eqb p 0) (eqb w 0) (a .1) in
+    rw (eqb-true d 0 (a .0), eqb-true p 0 (b .0), eqb-true w 0 (b .1))
+
+plain-words : (r d p w : ℕ) → eqb p 0 && eqb w 0 ≡ true → place-words r d 0 0 ≡ place-words r d p w
+plain-words r d p w e = let b = and-both (eqb p 0) (eqb w 0) e in rw (eqb-true p 0 (b .0), eqb-true w 0 (b .1))
+
+linked-words : (r d p w : ℕ) → eqb w 0 ≡ true → place-words r d p 0 ≡ place-words r d p w
+linked-words r d p w e = rw (eqb-true w 0 e)
+
+-- the numbers of a place that four numbers give, where they give one
+pub words-of-place : (q : PlaceWords) → place-of q ≢ Invalid → words-of (place-of q) ≡ q
+words-of-place q n = rw (place-shaped q n) (by (q .row) (q .domain) (q .peer) (q .word) (place-fits q n) (λ z. n (no-place q z)))
+  where
+    by : (r d p w : ℕ) → fits (place-words r d p w) ≡ true → (13 < r → ⊥) → words-of (shaped (shape r) d p w) ≡ place-words r d p w
+    by r d p w =
+        by-row (λ r. fits (place-words r d p w) ≡ true → (13 < r → ⊥) → words-of (shaped (shape r) d p w) ≡ place-words r d p w) r
+        (λ e _. bare-words 0 d p w e)
+        (λ e _. plain-words 1 d p w e)
+        (λ e _. plain-words 2 d p w e)
+        (λ e _. linked-words 3 d p w e)
+        (λ e _. plain-words 4 d p w e)
+        (λ e _. bare-words 5 d p w e)
+        (λ e _. plain-words 6 d p w e)
+        (λ e _. plain-words 7 d p w e)
+        (λ e _. plain-words 8 d p w e)
+        (λ e _. plain-words 9 d p w e)
+        (λ _ _. refl)
+        (λ e _. bare-words 11 d p w e)
+        (λ e _. bare-words 12 d p w e)
+        (λ e _. bare-words 13 d p w e)
+        (λ h _ m. absurd (m h))
+
+-- TESTS OF A PLACE. What is asked of a place, and not of Invalid, is asked of its numbers: that they fit, and of the place
+pub where-fits : (f : Place → Bool) → f Invalid ≡ false → (x : Place) (c b : Bool) → f x ≡ c → f (cond b x Invalid) ≡ b && c
+where-fits f n x c true e = e
+where-fits f n x c false e = n
+
+-- a test that one row passes, which has no part
+pub one-row :
+    (f : Place → Bool) (k : ℕ) → f Invalid ≡ false → parts (shape k) ≡ 0 → ((r d p w : ℕ) → f (shaped (shape r) d p w) ≡ eqb r k) → (q : PlaceWords) →
+    eqb (q .row) k && (eqb (q .domain) 0 && (eqb (q .peer) 0 && eqb (q .word) 0)) ≡ f (place-of q)
+unfolding place-of
+one-row f k n none told q =
+    by (eqb (q .row) k) refl ∙ sym (where-fits f n (shaped (shape (q .row)) (q .domain) (q .peer) (q .word)) (eqb (q .row) k) (fits q) (told _ _ _ _))
+  where
+    by : (b : Bool) → eqb (q .row) k ≡ b → b && (eqb (q .domain) 0 && (eqb (q .peer) 0 && eqb (q .word) 0)) ≡ fits q && b
+    by true e = rw (eqb-true (q .row) k e, none) (sym (and-true (eqb (q .domain) 0 && (eqb (q .peer) 0 && eqb (q .word) 0))))
+    by false e = sym (and-false (fits q))
+
+pub idle-numbers : (q : PlaceWords) → eqb (q .row) 0 && (eqb (q .domain) 0 && (eqb (q .peer) 0 && eqb (q .word) 0)) ≡ is-idle (place-of q)
+unfolding is-idle
+idle-numbers = one-row is-idle 0 refl refl (λ r d p w. by-row (λ r. is-idle (shaped (shape r) d p w) ≡ eqb r 0) r refl refl refl refl refl refl refl refl refl refl refl refl refl refl (λ m. rw (beyond r m, ne-eqb r 0 (omega arith))))
+
+pub watch-numbers : (q : PlaceWords) → eqb (q .row) 12 && (eqb (q .domain) 0 && (eqb (q .peer) 0 && eqb (q .word) 0)) ≡ is-watch (place-of q)
+unfolding is-watch
+watch-numbers = one-row is-watch 12 refl refl (λ r d p w. by-row (λ r. is-watch (shaped (shape r) d p w) ≡ eqb r 12) r refl refl refl refl refl refl refl refl refl refl refl refl refl refl (λ m. rw (beyond r m, ne-eqb r 12 (omega arith))))
 
 -- a place of another row than Idle's
 pub not-idle : (p : Place) → eqb (words-of p .row) 0 ≡ false → p ≢ Idle

@@ -24,6 +24,14 @@ pub or-right : (a b : Bool) → b ≡ true → a || b ≡ true
 or-right true b e = refl
 or-right false b e = e
 
+pub and-true : (a : Bool) → a && true ≡ a
+and-true true = refl
+and-true false = refl
+
+pub and-false : (a : Bool) → a && false ≡ false
+and-false true = refl
+and-false false = refl
+
 -- SCANS
 pub any-none : (n : ℕ) (f : ℕ → Bool) → any-below n f ≡ false → (j : ℕ) → j < n → f j ≡ false
 unfolding any-below
@@ -31,6 +39,11 @@ any-none zero f e j h = absurd (omega arith)
 any-none (suc n) f e j h =
     let both = or-neither (any-below n f) (f n) e in
     elim (ℕ-discrete j n) [ yes p ↦ rw p (both .1) | no p ↦ any-none n f (both .0) j (omega arith) ]
+
+pub any-nowhere : (n : ℕ) (f : ℕ → Bool) → ((j : ℕ) → j < n → f j ≡ false) → any-below n f ≡ false
+unfolding any-below
+any-nowhere zero f h = refl
+any-nowhere (suc n) f h = rw (any-nowhere n f (λ j l. h j (omega arith)), h n (omega arith))
 
 pub any-found : (n : ℕ) (f : ℕ → Bool) (j : ℕ) → j < n → f j ≡ true → any-below n f ≡ true
 unfolding any-below
@@ -70,6 +83,11 @@ pub largest-same : (n : ℕ) (f g : ℕ → ℕ) → ((j : ℕ) → j < n → f 
 unfolding largest-below
 largest-same zero f g h = refl
 largest-same (suc n) f g h = rw (largest-same n f g (λ j l. h j (omega arith)), h n (omega arith))
+
+pub all-same : (n : ℕ) (f g : ℕ → Bool) → ((j : ℕ) → j < n → f j ≡ g j) → all-below n f ≡ all-below n g
+unfolding all-below
+all-same zero f g h = refl
+all-same (suc n) f g h = rw (all-same n f g (λ j l. h j (omega arith)), h n (omega arith))
 
 pub all-each : (n : ℕ) (f : ℕ → Bool) → all-below n f ≡ true → (j : ℕ) → j < n → f j ≡ true
 unfolding all-below

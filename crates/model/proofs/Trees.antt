@@ -1,4 +1,5 @@
--- Facts about accepted trees: paths by index, records and members, where paths meet, allowances.
+-- Facts about trees: what is read of their words, and of accepted trees: paths by index, records and members, where paths meet, allowances.
+pub mod Reading
 pub mod Index
 pub mod Accepted
 pub mod Tickets

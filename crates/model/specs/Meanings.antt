@@ -5,11 +5,14 @@ use mathlib.Core.List.{List, [], _∷_, _++_}
 use mathlib.Core.Logic.{_≢_}
 use Prim.Native.Nat.{ℕ, _+_, _*_, _≤_, _<_}
 use lib.ListN.{length, take}
-use Rattle.model.specs.declared.Place.the-variants.{Inside}
+use Rattle.model.specs.declared.PlaceWords.{PlaceWords}
+use Rattle.model.specs.declared.Place.{Place}
+use Rattle.model.specs.declared.Place.the-variants.{Inside, Invalid}
 use Rattle.model.specs.declared.State.{State}
 use Rattle.model.specs.declared.Counters.{Counters}
 use Rattle.model.specs.declared.LockState.{LockState}
 use Rattle.model.specs.Trees.{Tree, is-child, is-leaf, on-path, under, allowance}
+use Rattle.model.specs.Places.{words-of, fits, place-of}
 use Rattle.model.specs.States.{place, inside-count}
 use Rattle.model.specs.Runs.{Run}
 use Rattle.model.specs.Refusals.{Refusal, tree-refusal}
@@ -70,3 +73,9 @@ Refused-run-law =
     (r : Refusal) (s : LockState) (x : Run) (c : Counters) → r .number ≢ 0 →
     (run-reply r s x c .counts .steps ≡ 0) × (run-reply r s x c .counts .entries ≡ 0) × (run-reply r s x c .counts .stays ≡ 0)
     × (run-reply r s x c .counts .root ≡ 0) × (run-reply r s x c .counts .passed ≡ 0) × (run-reply r s x c .counts .crossed ≡ 0)
+
+-- PLACES. A place's numbers fit its row and give the place back; numbers that give a place are that place's
+pub record Place-law : Type 0 where
+  pub fitting : (p : Place) → fits (words-of p) ≡ true
+  pub back : (p : Place) → place-of (words-of p) ≡ p
+  pub only : (q : PlaceWords) → place-of q ≢ Invalid → words-of (place-of q) ≡ q

@@ -1,7 +1,9 @@
 -- A thread's place in four numbers: row, domain, the other record, word. Assumes nothing: these are definitions.
-use mathlib.Core.Bool.{Bool, true, false, not, cond}
+use mathlib.Core.Bool.{Bool, true, false, _&&_, _||_, cond}
+use mathlib.Core.List.{List, [], _∷_}
 use Prim.Native.Nat.{ℕ}
-use lib.Dec.{eqb}
+use lib.Dec.{eqb, ltb}
+use lib.ListN.{getD}
 use Rattle.model.specs.declared.PlaceWords.{PlaceWords}
 use Rattle.model.specs.declared.Place.{Place}
 use Rattle.model.specs.declared.Place.the-variants.{Idle, Prep, Swap, Link, Wait, Inside, Check, Help, Cas, Linger, Grant, Draw, Watch, Raise, Invalid}
@@ -27,37 +29,67 @@ words-of Watch = place-words 12 0 0 0
 words-of Raise = place-words 13 0 0 0
 words-of Invalid = place-words 14 0 0 0
 
--- a row without a domain: Idle and Inside, and the places of a ticket lock, which are at the root
-unfoldable pub bare-place : (row : ℕ) → Place
-bare-place r =
-    cond (eqb r 0) Idle
-    (cond (eqb r 5) Inside
-    (cond (eqb r 11) Draw
-    (cond (eqb r 12) Watch
-    (cond (eqb r 13) Raise
-    Invalid))))
+-- THE TABLE OF ROWS: where a place of a row stands, and which parts it has beside its row. The parts are those that the place's constructor takes
+pub data Shape : Type 0 where
+  -- at the thread's home: no part
+  at-home : Place → Shape
+  -- in the queue of a domain
+  at-queue : ((domain : ℕ) → Place) → Shape
+  -- in a domain that is not the root
+  below-root : ((domain : ℕ) → Place) → Shape
+  -- in the queue of a domain, before a member's record
+  with-record : ((domain peer : ℕ) → Place) → Shape
+  -- in the queue of a domain, before a member's record, with a word for it
+  with-word : ((domain peer word : ℕ) → Place) → Shape
+  -- at the root, a ticket lock: no part
+  at-ticket-lock : Place → Shape
+  -- no row of the table
+  no-row : Shape
 
--- a row that has neither record nor word
-unfoldable pub plain-place : (row domain : ℕ) → Place
-plain-place r d =
-    cond (eqb r 1) (Prep d)
-    (cond (eqb r 2) (Swap d)
-    (cond (eqb r 4) (Wait d)
-    (cond (eqb r 6) (Check d)
-    (cond (eqb r 7) (Help d)
-    (cond (eqb r 8) (Cas d)
-    (cond (eqb r 9) (Linger d)
-    (cond (eqb d 0) (bare-place r)
-    Invalid)))))))
+abbrev pub shapes : List Shape
+shapes =
+    at-home Idle ∷ at-queue Prep ∷ at-queue Swap ∷ with-record Link ∷ at-queue Wait ∷ at-home Inside ∷ below-root Check ∷ at-queue Help ∷ at-queue Cas
+    ∷ at-queue Linger ∷ with-word Grant ∷ at-ticket-lock Draw ∷ at-ticket-lock Watch ∷ at-ticket-lock Raise ∷ []
+
+abbrev pub shape : (row : ℕ) → Shape
+shape r = getD shapes r no-row
+
+-- how many parts a shape has, of a domain, a record and a word in this order
+abbrev pub parts : Shape → ℕ
+parts (at-home x) = 0
+parts (at-queue f) = 1
+parts (below-root f) = 1
+parts (with-record f) = 2
+parts (with-word f) = 3
+parts (at-ticket-lock x) = 0
+parts no-row = 0
+
+abbrev pub has-domain : (row : ℕ) → Bool
+has-domain r = ltb 0 (parts (shape r))
+
+abbrev pub has-peer : (row : ℕ) → Bool
+has-peer r = ltb 1 (parts (shape r))
+
+abbrev pub has-word : (row : ℕ) → Bool
+has-word r = ltb 2 (parts (shape r))
+
+-- each part that the row lacks is 0
+abbrev pub fits : PlaceWords → Bool
+fits q = (has-domain (q .row) || eqb (q .domain) 0) && ((has-peer (q .row) || eqb (q .peer) 0) && (has-word (q .row) || eqb (q .word) 0))
+
+-- the place of a row, of the parts that it has
+abbrev pub shaped : Shape → (domain peer word : ℕ) → Place
+shaped (at-home x) d p w = x
+shaped (at-queue f) d p w = f d
+shaped (below-root f) d p w = f d
+shaped (with-record f) d p w = f d p
+shaped (with-word f) d p w = f d p w
+shaped (at-ticket-lock x) d p w = x
+shaped no-row d p w = Invalid
 
 -- the place of four numbers; Invalid where the row is none of the table's, or a part that the row lacks is not 0
 unfoldable pub place-of : PlaceWords → Place
-place-of p =
-    cond (eqb (p .row) 10) (Grant (p .domain) (p .peer) (p .word))
-    (cond (not (eqb (p .word) 0)) Invalid
-    (cond (eqb (p .row) 3) (Link (p .domain) (p .peer))
-    (cond (not (eqb (p .peer) 0)) Invalid
-    (plain-place (p .row) (p .domain)))))
+place-of q = cond (fits q) (shaped (shape (q .row)) (q .domain) (q .peer) (q .word)) Invalid
 
 unfoldable pub is-idle : Place → Bool
 is-idle Idle = true

@@ -3,11 +3,10 @@ use mathlib.Core.Bool.{Bool, true, false, _&&_, _||_, not, cond}
 use Prim.Native.Nat.{ℕ, _-_}
 use lib.Dec.{eqb, ltb, leb}
 use Rattle.model.specs.declared.Place.{Place}
-use Rattle.model.specs.declared.Place.the-variants.{Idle, Prep, Swap, Link, Wait, Inside, Check, Help, Cas, Linger, Grant, Draw, Watch, Raise, Invalid}
 use Rattle.model.specs.declared.State.{State}
 use Rattle.model.specs.Scans.{all-below}
 use Rattle.model.specs.Trees.{Tree, is-ticket, on-path, own-record, is-record, is-member, owner-domain}
-use Rattle.model.specs.Places.{is-idle, is-watch}
+use Rattle.model.specs.Places.{words-of, Shape, at-home, at-queue, below-root, with-record, with-word, at-ticket-lock, no-row, shape, is-idle, is-watch}
 use Rattle.model.specs.States.{none, tail, next, status, place}
 
 -- each tail is none or a member's record of that domain; of a ticket lock, none
@@ -33,22 +32,17 @@ unfoldable pub queue-on-path : Tree → (thread domain : ℕ) → Bool
 queue-on-path t i l = on-path t i l && not (is-ticket t l)
 
 -- each place names a domain on the thread's path, never the root in Check, never a ticket lock but in Draw, Watch and Raise, which are there alone; the records in Link and Grant belong to members of that domain
+abbrev pub parts-fit : Tree → (thread : ℕ) → Shape → (domain peer : ℕ) → Bool
+parts-fit t i (at-home x) l p = true
+parts-fit t i (at-queue f) l p = queue-on-path t i l
+parts-fit t i (below-root f) l p = on-path t i l && not (eqb l 0)
+parts-fit t i (with-record f) l p = queue-on-path t i l && is-member t l p
+parts-fit t i (with-word f) l p = queue-on-path t i l && is-member t l p
+parts-fit t i (at-ticket-lock x) l p = t .ticket-root
+parts-fit t i no-row l p = false
+
 unfoldable pub good-place : Tree → (thread : ℕ) → Place → Bool
-good-place t i Idle = true
-good-place t i (Prep l) = queue-on-path t i l
-good-place t i (Swap l) = queue-on-path t i l
-good-place t i (Link l p) = queue-on-path t i l && is-member t l p
-good-place t i (Wait l) = queue-on-path t i l
-good-place t i Inside = true
-good-place t i (Check l) = on-path t i l && not (eqb l 0)
-good-place t i (Help l) = queue-on-path t i l
-good-place t i (Cas l) = queue-on-path t i l
-good-place t i (Linger l) = queue-on-path t i l
-good-place t i (Grant l r w) = queue-on-path t i l && is-member t l r
-good-place t i Draw = t .ticket-root
-good-place t i Watch = t .ticket-root
-good-place t i Raise = t .ticket-root
-good-place t i Invalid = false
+good-place t i x = parts-fit t i (shape (words-of x .row)) (words-of x .domain) (words-of x .peer)
 
 -- a watched status is at most 65,535
 abbrev pub watch-fits : Tree → State → (thread : ℕ) → Place → Bool

@@ -11,7 +11,7 @@ use lib.ListN.{getD}
 use borrow.Author.Tests.{eqb-true, eqb-false, lt-ltb, ltb-true, le-leb, leb-true, lt-leb, leb-false}
 use Rattle.model.specs.Trees.{read-word, tree-of}
 use Rattle.model.specs.Counters.{most-counted, good-count}
-use Rattle.model.proofs.Tests.{and-both}
+use Rattle.model.proofs.Tests.{and-both, and-false}
 use Rattle.refusals.specs.Arrays.{tree-in}
 use Rattle.refusals.specs.Counts.{counters-in, count-in}
 
@@ -22,10 +22,6 @@ low-enough l h b = by (leb l h) refl
     by : (x : Bool) → leb l h ≡ x → leb l most-counted && leb l h ≡ leb l h
     by true e = rw (e, le-leb l most-counted (omega (arith, leb-true l h e)))
     by false e = rw e (and-false (leb l most-counted))
-      where
-        and-false : (y : Bool) → y && false ≡ false
-        and-false true = refl
-        and-false false = refl
 
 zero-low : (l h : ℕ) → eqb l 0 && leb l h ≡ eqb l 0
 zero-low l h = by (eqb l 0) refl

@@ -17,19 +17,16 @@ use Rattle.model.specs.Places.{place-words}
 use Rattle.model.specs.States.{tail, next, status}
 use Rattle.model.specs.Trees.{Tree, tree-of, is-ticket, is-record, owner-domain}
 use Rattle.model.specs.WellFormed.{good-tail, good-next, good-status, good-watch, good-thread, good-counters, well-formed}
+use Rattle.model.proofs.Places.{idle-numbers}
 use Rattle.model.proofs.Trees.Accepted.{Accepted}
 use Rattle.model.proofs.Trees.Tickets.{ticket-lower}
+use Rattle.model.proofs.Tests.{all-same}
+use Rattle.model.proofs.Trees.Reading.{read-in}
 use Rattle.refusals.specs.Arrays.{tree-in, parents-in}
 use Rattle.refusals.specs.Tables.{Owners, next-in, record-in, domain-words-in, ticket-place-in, place-in, root-in, idle-in, thread-in}
-use Rattle.refusals.proofs.Reading.{read-in}
 use Rattle.refusals.proofs.Meeting.{meets-same, child-same}
 use Rattle.refusals.proofs.Members.{tail-is, record-is}
-use Rattle.refusals.proofs.PlaceTests.{place-is, idle-is}
-
-all-same : (n : ℕ) (f g : ℕ → Bool) → ((j : ℕ) → j < n → f j ≡ g j) → all-below n f ≡ all-below n g
-unfolding all-below
-all-same zero f g h = refl
-all-same (suc n) f g h = rw (all-same n f g (λ j l. h j (omega arith)), h n (omega arith))
+use Rattle.refusals.proofs.PlaceTests.{place-is}
 
 all-both : (n : ℕ) (f g : ℕ → Bool) → all-below n (λ j. f j && g j) ≡ all-below n f && all-below n g
 unfolding all-below
@@ -113,7 +110,7 @@ module _ (w : TreeWords) (𝓐 : Accepted (tree-of w)) (os : List ℕ) (𝓞 : O
               rw (lt-ltb i (w .threads) l, owner-home i l)
               (place-same (w .«ticket_root») (parents-in (w .domains) (w .parents)) (tree-of w) os (s .statuses) i (tree-of w .home i) q (λ e. refl)
               ∙ place-is (tree-of w) 𝓐 os (s .statuses) owners (w .«ticket_root») refl i l (q .row) (q .domain) (q .peer) (q .word))
-          | no l ↦ rw (le-ltb i (w .threads) (omega arith)) (idle-is (q .row) (q .domain) (q .peer) (q .word))
+          | no l ↦ rw (le-ltb i (w .threads) (omega arith)) (idle-numbers q)
         ]
 
     abbrev domain-at : ℕ → Bool

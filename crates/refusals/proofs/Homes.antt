@@ -14,8 +14,9 @@ use Rattle.model.specs.Scans.{any-below, all-below}
 use Rattle.model.specs.Trees.{tree-of, is-child, is-leaf}
 use Rattle.model.specs.Refusals.{bad-home}
 use Rattle.model.proofs.Tests.{or-right, any-found, all-each}
+use Rattle.model.proofs.Trees.Reading.{read-in}
 use Rattle.refusals.specs.Arrays.{tree-in, parents-in, no-home-in, No-domains, No-homes, is-home-in, Marked-homes, Homes-are-leaves, differ}
-use Rattle.refusals.proofs.Reading.{read-in, parent-in, not-not}
+use Rattle.refusals.proofs.Reading.{parent-in, not-not}
 
 -- the bytes below the number of domains
 pub outside-first : No-domains 0 (replicate 256 true)

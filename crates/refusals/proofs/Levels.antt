@@ -2,46 +2,23 @@
 use mathlib.Core.Path.{_≡_, refl, sym, ap, _∙_}
 use mathlib.Core.Bool.{true, false}
 use mathlib.Core.List.{List, []}
-use Prim.Native.Nat.{ℕ, zero, suc, _+_, _≤_, _<_}
+use Prim.Native.Nat.{ℕ, suc, _+_, _≤_, _<_}
 use native.Mathlib.Omega.{arith}
 use native.Mathlib.Decide.{ℕ-discrete}
 use lib.ListN.{getD, set, length, replicate, length-set}
 use lib.Seq.{getD-set-same, getD-set-other}
-use borrow.Author.Tests.{eq-eqb, ne-eqb, le-ltb, lt-ltb}
-use Rattle.model.specs.Trees.{Tree, tree-of, depth-from, depth, level}
+use borrow.Author.Tests.{le-ltb, lt-ltb}
+use Rattle.model.specs.Trees.{tree-of, depth, level}
 use Rattle.model.specs.Refusals.{too-deep}
+use Rattle.model.proofs.Trees.Paths.{depth-root, deeper-by-one}
 use Rattle.refusals.specs.Arrays.{parents-in, Lower}
 use Rattle.refusals.proofs.Reading.{parent-in}
 
-depth-root : (f : ℕ) (t : Tree) (d : ℕ) → d ≡ 0 → depth-from f t d ≡ 0
-unfolding depth-from
-depth-root zero t d e = refl
-depth-root (suc f) t d e = rw (eq-eqb d 0 e)
-
-depth-step : (f : ℕ) (t : Tree) (d : ℕ) → 0 < d → depth-from (suc f) t d ≡ suc (depth-from f t (t .parent d))
-unfolding depth-from
-depth-step f t d h = rw (ne-eqb d 0 (omega arith))
-
 module _ (n : ℕ) (ps : List ℕ) (low : Lower n ps) where
-  -- any fuel that is not below the domain's number gives the same depth
-  depth-fuel : (f g d : ℕ) → d < n → d ≤ f → d ≤ g → depth-from f (parents-in n ps) d ≡ depth-from g (parents-in n ps) d
-  depth-fuel zero g d s a b = let z : d ≡ 0 = omega arith in depth-root 0 _ d z ∙ sym (depth-root g _ d z)
-  depth-fuel (suc f) zero d s a b = let z : d ≡ 0 = omega arith in depth-root (suc f) _ d z ∙ sym (depth-root 0 _ d z)
-  depth-fuel (suc f) (suc g) d s a b =
-      elim (ℕ-discrete d 0) [
-        | yes z ↦ depth-root (suc f) _ d z ∙ sym (depth-root (suc g) _ d z)
-        | no z ↦
-            let p : 0 < d = omega arith in
-            let l = low .lower d p s in
-            rw (depth-step f (parents-in n ps) d p, depth-step g (parents-in n ps) d p, parent-in n 0 ps [] [] d p s)
-            (ap suc (depth-fuel f g (getD ps d 0) (omega arith) (omega arith) (omega arith)))
-      ]
-
   level-child : (d : ℕ) → 0 < d → d < n → level (parents-in n ps) d ≡ suc (level (parents-in n ps) (getD ps d 0))
   unfolding level depth tree-of
   level-child d p s =
-      let l = low .lower d p s in
-      ap suc (depth-fuel n (suc n) d s (omega arith) (omega arith) ∙ depth-step n (parents-in n ps) d p ∙ rw (parent-in n 0 ps [] [] d p s))
+      ap suc (deeper-by-one (parents-in n ps) (λ c q h. rw (parent-in n 0 ps [] [] c q h) (low .lower c q h)) d p s ∙ rw (parent-in n 0 ps [] [] d p s))
 
   level-root : level (parents-in n ps) 0 ≡ 1
   unfolding level depth tree-of

@@ -5,6 +5,7 @@ pub mod Homes
 pub mod Meeting
 pub mod Owning
 pub mod Members
+pub mod RowShapes
 pub mod PlaceTests
 pub mod Resting
 pub mod Formed

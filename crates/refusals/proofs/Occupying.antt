@@ -18,9 +18,10 @@ use Rattle.model.proofs.Trees.Index.{above, ancestor}
 use Rattle.model.proofs.Trees.Accepted.{Accepted, child-facts}
 use Rattle.model.proofs.Trees.Paths.{above-root, above-parent, ancestor-suc, ancestor-home, path-index, on-path-home, on-path-parent}
 use Rattle.model.proofs.Laws.Empty.{under-domain, one-there, none-there}
+use Rattle.model.proofs.Trees.Reading.{read-in}
 use Rattle.refusals.specs.Arrays.{tree-in, is-home-in, Lower, Real-homes, Home-domains, Homes-are-leaves, Passed-by, Occupied, shape-tests}
 use Rattle.refusals.specs.Lowest.{Lowest}
-use Rattle.refusals.proofs.Reading.{read-in, parent-in, home-in}
+use Rattle.refusals.proofs.Reading.{parent-in, home-in}
 use Rattle.refusals.proofs.Homes.{leaf-test}
 use Rattle.refusals.proofs.TreeTests.{facts, tree-passes}
 use Rattle.refusals.proofs.Domains.{none-bad}

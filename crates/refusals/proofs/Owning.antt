@@ -10,9 +10,9 @@ use lib.ListN.{getD, set, length, replicate, length-set, getD-replicate}
 use lib.Seq.{getD-set-same, getD-set-other}
 use borrow.Author.Tests.{ne-eqb, lt-ltb, le-ltb, ltb-true, eqb-false}
 use Rattle.model.specs.Trees.{tree-of, is-record, owner-domain}
+use Rattle.model.proofs.Trees.Reading.{read-in}
 use Rattle.refusals.specs.Arrays.{tree-in}
 use Rattle.refusals.specs.Tables.{thread-owner, Thread-owners, Owners}
-use Rattle.refusals.proofs.Reading.{read-in}
 
 -- a bound one higher differs at the bound alone
 bound-next : (r d : ℕ) → (r ≡ d → ⊥) → ltb r (d + 1) ≡ ltb r d

@@ -16,7 +16,7 @@ use Rattle.model.specs.Places.{place-words}
 use Rattle.model.specs.Trees.{tree-of, is-ticket}
 use Rattle.model.specs.WellFormed.{good-tail, good-next, good-status, good-thread, good-counters, well-formed}
 use Rattle.model.specs.Refusals.{tree-refusal}
-use Rattle.model.proofs.Tests.{all-true}
+use Rattle.model.proofs.Tests.{all-true, and-false}
 use Rattle.model.proofs.Trees.Accepted.{Accepted, accepted, leaf-childless}
 use Rattle.refusals.specs.Arrays.{tree-in, parents-in}
 use Rattle.refusals.specs.Tables.{Owners, ticket-in, barred-in, domain-words-in, root-in, resting-row, Rest-number, of-wait, of-idle, used-in, unused-in, thread-in}
@@ -24,10 +24,6 @@ use Rattle.refusals.proofs.Reading.{parent-in}
 use Rattle.refusals.proofs.Scanning.{all-fails}
 use Rattle.refusals.proofs.TreeTests.{Shape}
 use Rattle.refusals.proofs.Formed.{owner-home, owner-is, owner-real, formed-is}
-
-neither : (a : Bool) → a && false ≡ false
-neither true = refl
-neither false = refl
 
 module _ (w : TreeWords) (z : tree-refusal (tree-of w) .number ≡ 0) where
   abbrev real : Accepted (tree-of w)
@@ -99,7 +95,7 @@ module _ (w : TreeWords) (z : tree-refusal (tree-of w) .number ≡ 0) where
             let none : n ≡ 0 = omega (arith, same) in
             rw none of-idle
         by true false x y = wait (rw (ne-eqb (getD os i 0) 0 (home-inner i l (eqb-false (w .domains) 1 y)))) (rw (x, y) at e)
-        by false b x y = wait (rw x (neither (eqb (getD os i 0) 0))) (rw x at e)
+        by false b x y = wait (rw x (and-false (eqb (getD os i 0) 0))) (rw x at e)
 
     module _ (s : State) where
       abbrev domain-at : ℕ → Bool

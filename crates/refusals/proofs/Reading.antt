@@ -2,21 +2,17 @@
 use mathlib.Core.Path.{_≡_, refl, ap}
 use mathlib.Core.Bool.{Bool, true, false, not}
 use mathlib.Core.List.{List}
-use Prim.Native.Nat.{ℕ, _≤_, _<_}
+use Prim.Native.Nat.{ℕ, _<_}
 use native.Mathlib.Omega.{arith}
 use native.Mathlib.Nat.{mod-eq-of-lt}
 use lib.ListN.{getD}
-use borrow.Author.Tests.{le-leb, lt-ltb}
 use Rattle.model.specs.declared.TreeWords.{TreeWords}
-use Rattle.model.specs.Trees.{read-word, tree-of}
+use Rattle.model.specs.Trees.{tree-of}
 use Rattle.model.specs.Refusals.{tree-refusal}
 use Rattle.model.specs.Laws.{Root-law}
 use Rattle.model.proofs.Laws.Root.{root-law}
+use Rattle.model.proofs.Trees.Reading.{read-in}
 use Rattle.refusals.specs.Arrays.{tree-in, told}
-
-pub read-in : (a b : ℕ) (ws : List ℕ) (k : ℕ) → a ≤ k → k < b → read-word a b ws k ≡ getD ws k 0
-unfolding read-word
-read-in a b ws k p q = rw (le-leb a k p, lt-ltb k b q)
 
 module _ (n m : ℕ) (ps ts hs : List ℕ) where
   pub parent-in : (d : ℕ) → 0 < d → d < n → tree-in n m ps ts hs .parent d ≡ getD ps d 0

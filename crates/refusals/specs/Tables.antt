@@ -6,6 +6,7 @@ use Prim.Native.Nat.{ℕ, _+_, _*_, _-_, _<_}
 use lib.Dec.{eqb, ltb, leb}
 use lib.ListN.{getD, length}
 use Rattle.model.specs.declared.PlaceWords.{PlaceWords}
+use Rattle.model.specs.Places.{has-domain, has-peer, has-word}
 use Rattle.model.specs.Trees.{Tree, meets, child-from, is-record, owner-domain}
 
 -- a thread's record: its home, or 255 where there is no such thread
@@ -35,8 +36,12 @@ record-in os r n v = cond (eqb (getD os r 0) 255) (eqb n 0 && eqb v 0) (next-in 
 abbrev pub domain-words-in : (owners : List ℕ) → (domain tail next status : ℕ) → Bool
 domain-words-in os d b n v = next-in os d b && record-in os (256 + d) n v
 
+-- a word where the row has none
+abbrev pub spare-word-in : (row word : ℕ) → Bool
+spare-word-in r w = not (eqb w 0) && not (has-word r)
+
 abbrev pub peer-in : (owners : List ℕ) → (row domain peer : ℕ) → Bool
-peer-in os r l p = cond (eqb r 3 || eqb r 10) (member-in os l p) (eqb p 0)
+peer-in os r l p = cond (has-peer r) (member-in os l p) (eqb p 0)
 
 -- a number that names a ticket root
 abbrev pub ticket-in : (kind : ℕ) → Bool
@@ -63,8 +68,8 @@ ticket-place-in k t vs i h q =
 unfoldable pub place-in : (kind : ℕ) → Tree → (owners statuses : List ℕ) → (thread home : ℕ) → PlaceWords → Bool
 place-in k t os vs i h q =
     cond (ltb 10 (q .row)) (ticket-place-in k t vs i h q)
-    (not (not (eqb (q .word) 0) && not (eqb (q .row) 10))
-    && cond (eqb (q .row) 0 || eqb (q .row) 5) (eqb (q .domain) 0 && eqb (q .peer) 0) (domain-in k t os h (q .row) (q .domain) (q .peer)))
+    (not (spare-word-in (q .row) (q .word))
+    && cond (has-domain (q .row)) (domain-in k t os h (q .row) (q .domain) (q .peer)) (eqb (q .domain) 0 && eqb (q .peer) 0))
 
 -- what the state has of its root: no tail at a ticket root, no counters at a queue root
 abbrev pub root-in : (kind tail ticket grant : ℕ) → Bool

@@ -12,6 +12,7 @@ ghost use Rattle.refusals.specs.Counts.{counters-in};
 ghost use Rattle.refusals.specs.Lowest.{Lowest};
 
 mod counters;
+mod shapes;
 mod states;
 mod trees;
 

@@ -1,14 +1,13 @@
 // The tests of the homes and of a state that is handed in, in a tree that 4 to 8 do not refuse.
 ghost use mathlib.Core.Path.{_≡_};
-ghost use mathlib.Core.Bool.{_&&_, _||_, not};
 ghost use mathlib.Core.List.{[]};
 ghost use Prim.Native.Nat.{_+_, _*_, _<_, _≤_};
-ghost use lib.Dec.{eqb};
 ghost use lib.ListN.{getD};
 ghost use Rattle.model.specs.Scans.{all-below};
 ghost use Rattle.model.specs.Trees.{meets, child-from};
 ghost use Rattle.refusals.specs.Arrays.{tree-in, parents-in, Lower};
 ghost use Rattle.refusals.specs.Tables.{Owners, Thread-owners, member-in, next-in, record-in, domain-words-in, peer-in, barred-in, domain-in, root-record-in, ticket-place-in, place-in, root-in, idle-in, Joined, resting-row, Resting, Rests, Rest-number, used-in, unused-in};
+use crate::shapes;
 use model::PlaceWords;
 
 // The homes of the threads, at their records; 255 in all other room.
@@ -144,26 +143,6 @@ fn meets_at(parents: &[u8; 64], domains: u32, from: u8, d: u8) -> bool
     c == d
 }
 
-// Link and Grant name a record; no other row does.
-fn names_peer(row: u8) -> bool
-    ensures { λ q. ⌜ q ≡ eqb row 3 || eqb row 10 ⌝ }
-{
-    if row == 3 {
-        return true;
-    }
-    row == 10
-}
-
-// Idle and Inside name no domain.
-fn names_no_domain(row: u8) -> bool
-    ensures { λ q. ⌜ q ≡ eqb row 0 || eqb row 5 ⌝ }
-{
-    if row == 0 {
-        return true;
-    }
-    row == 5
-}
-
 // The root in Check, or in any place of a queue where it is a ticket lock.
 fn is_barred_at(ticket_root: u32, row: u8, l: u8) -> bool
     ensures { λ q. ⌜ q ≡ barred-in «ticket_root» row l ⌝ }
@@ -263,20 +242,10 @@ pub(crate) fn good_root_at(ticket_root: u32, tail: u16, ticket: u16, grant: u16)
     tail == 0
 }
 
-// A word where the row is not Grant.
-fn has_spare_word(row: u8, word: u64) -> bool
-    ensures { λ q. ⌜ q ≡ not (eqb word 0) && not (eqb row 10) ⌝ }
-{
-    if word == 0 {
-        return false;
-    }
-    row != 10
-}
-
 fn good_peer_at(owners: &[u8; 320], row: u8, l: u8, peer: u16) -> bool
     ensures { λ q. ⌜ q ≡ peer-in (now (owners .entry)) row l peer ⌝ }
 {
-    if names_peer(row) {
+    if shapes::has_peer(row) {
         return is_member_at(owners, l, peer);
     }
     peer == 0
@@ -327,16 +296,16 @@ fn good_place_at<'a>(
     if 10 < row {
         return good_ticket_place_at(parents, statuses, domains, ticket_root, i, home, q);
     }
-    if has_spare_word(row, q.word) {
+    if shapes::has_spare_word(row, q.word) {
         return false;
     }
-    if names_no_domain(row) {
-        if l != 0 {
-            return false;
-        }
-        return peer == 0;
+    if shapes::has_domain(row) {
+        return good_domain_at(parents, owners, domains, ticket_root, home, row, l, peer);
     }
-    good_domain_at(parents, owners, domains, ticket_root, home, row, l, peer)
+    if l != 0 {
+        return false;
+    }
+    peer == 0
 }
 
 // The numbers of a place before its word, as one number, so that one comparison tests all three.

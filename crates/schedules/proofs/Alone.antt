@@ -1,6 +1,6 @@
 -- A schedule run alone on an accepted tree: the tree and the fresh words pass, and the trace buffer has room, so its own tests decide. Assumes nothing.
-use mathlib.Core.Path.{_≡_, refl, sym, ap, subst, _∙_}
-use mathlib.Core.Bool.{Bool, true}
+use mathlib.Core.Path.{_≡_, refl, sym, ap, _∙_}
+use mathlib.Core.Bool.{Bool}
 use mathlib.Core.List.{List, [], _++_}
 use mathlib.Core.Logic.{_≢_, _⊎_, inl, inr, ⊎-elim}
 use Prim.Native.Nat.{ℕ, zero, suc, _≤_}
@@ -20,13 +20,12 @@ use Rattle.model.specs.Counters.{fresh-lock}
 use Rattle.model.specs.CounterLaws.{Room-law}
 use Rattle.model.specs.Refusals.{Refusal, refusal, accepted, Test, test, first-refusal, lowest-bad, bad-state, bad-length, bad-entry, bad-room, bad-counter, counter-tests, run-tests-before-19, entry-tests, state-tests, schedule-tests, room-tests, tree-tests, run-tests, has-number, tree-refusal, run-refusal}
 use Rattle.model.specs.Answers.{fresh-answer, counters-behind, run-reply, run-answer}
-use Rattle.model.specs.Laws.{Numbered, Refusal-law, Form-law}
-use Rattle.model.specs.WellFormed.{well-formed}
+use Rattle.model.specs.Laws.{Numbered, Refusal-law}
 use Rattle.claims.specs.Reached.{Lone-run-law}
 use Rattle.model.proofs.Refusing.{test-skipped, numbered}
 use Rattle.model.proofs.Laws.Refusals.{refusal-law, tree-numbered, run-numbered-before-19}
 use Rattle.model.proofs.Laws.Counters.{fresh-good, room-law, fresh-room}
-use Rattle.model.proofs.Laws.Form.{fresh-at-zero, form-law}
+use Rattle.model.proofs.Laws.Form.{fresh-at-zero, fresh-well-formed}
 use Rattle.model.proofs.Laws.Calls.{early-facts, run-reply-number}
 use Rattle.model.proofs.Tests.{by-test}
 use Rattle.model.proofs.Trees.Accepted.{sixteen-bit}
@@ -52,10 +51,8 @@ schedule-numbered t is = numbered (schedule-tests t is) refl
 module _ (w : TreeWords) (ok : tree-refusal (tree-of w) .number ≡ 0) where
   -- a fresh lock passes 10
   fresh-passes : first-refusal (state-tests (tree-of w) fresh-lock) ≡ accepted
-  unfolding Form-law bad-state first-refusal
-  fresh-passes =
-      let form : well-formed (tree-of w) fresh-words ≡ true = subst (λ x. well-formed (tree-of w) x ≡ true) (fresh-at-zero (tree-of w)) (form-law (tree-of w) (sixteen-bit w) ok .of-fresh 0 .form) in
-      single-missed _ [] refl (rw (form, fresh-good (tree-of w)))
+  unfolding bad-state first-refusal
+  fresh-passes = single-missed _ [] refl (rw (fresh-well-formed (tree-of w), fresh-good (tree-of w)))
 
   -- and 19: a schedule that 11 does not refuse is too short for it
   before-19 : (is : List ℕ) (room : ℕ) → run-refusal (tree-of w) fresh-lock is room ≡ first-refusal (run-tests-before-19 (tree-of w) fresh-lock is room)

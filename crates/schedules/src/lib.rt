@@ -14,12 +14,6 @@ mod many;
 use model::TreeWords;
 use refusals::Refusal;
 
-fn wide(x: u32) -> usize
-    ensures { λ r. ⌜ r ≡ x ⌝ }
-{
-    x as usize
-}
-
 // Whether the lengths add up to the entries. What is left of the entries falls, so that no sum is made that could wrap.
 fn adds_up(lengths: &[u32], entries: usize) -> bool
     ensures { λ r. ⌜ r ≡ eqb (total (now (lengths .entry))) entries ⌝ }
@@ -27,7 +21,7 @@ fn adds_up(lengths: &[u32], entries: usize) -> bool
     let mut left = entries;
     let mut k: usize = 0;
     while k < lengths.len() {
-        let n = wide(lengths[k]);
+        let n = many::wide(lengths[k]);
         if left < n {
             return false;
         }

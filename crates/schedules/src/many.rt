@@ -10,7 +10,7 @@ use model::Counts;
 use model::PlaceWords;
 use model::TreeWords;
 
-fn wide(x: u32) -> usize
+pub(crate) fn wide(x: u32) -> usize
     ensures { λ r. ⌜ r ≡ x ⌝ }
 {
     x as usize

@@ -9,18 +9,19 @@ use borrow.Author.Tests.{ltb-true}
 use Rattle.model.specs.declared.State.{State}
 use Rattle.model.specs.Scans.{any-below, all-below, largest-below, filter-below}
 use Rattle.model.specs.Trees.{Tree, read-word, tree-of, is-ticket, is-child, is-leaf, depth-from, depth, level, meets, on-path, child-from, child, own-record, is-member, domain-allowance, allowance}
-use Rattle.model.specs.Places.{bare-place, plain-place, place-of, is-watch}
+use Rattle.model.specs.Places.{place-of, is-watch}
 use Rattle.model.specs.States.{fresh-words, fresh-state}
 use Rattle.model.specs.Steps.{is-entry, prep-row, swap-row, link-row, wait-row, leave-row, check-row, help-row, cas-row, linger-row, grant-row, draw-row, watch-row, is-watched, shown-members, raise-row, row, step}
 use Rattle.model.specs.Runs.{steps, state-after, entering, run-of, run, occurrences}
-use Rattle.model.specs.Cases.{padded, tree, at-ticket-root, two-homes, two-in-root}
+use Rattle.model.specs.Cases.{padded, tree, at-ticket-root, two-homes, two-in-root, same-numbers, place-numbers, same-state}
 use Rattle.model.specs.Laws.{All-threads, Run-law, then-run}
 use Rattle.model.proofs.Tests.{and-both, all-each}
 use Rattle.model.proofs.Laws.Runs.{run-law}
+use Rattle.model.proofs.Counted.{occurrences-join}
 use Rattle.starvation_freedom.specs.Bounds.{members, largest-allowance, levels, entry-rounds, tenure-rounds, acquire-from, acquire-rounds, acquire-bound, release-bound, everyone-bound}
 use Rattle.starvation_freedom.specs.Laws.{none, one-more}
 use Rattle.starvation_freedom.specs.Cases.{bound-holds, all-bounds, one-leaf, bound-cases, all-threads, are-rounds, joined, Decides-rounds, round-holds, all-rounds, round-cases, stalled-tree, until-stalled, without-releaser, times, Starves-without-rounds, Cases-hold}
-use Rattle.starvation_freedom.proofs.Within.{occurrences-join}
+use Rattle.starvation_freedom.proofs.SameState.{state-same}
 
 bounds-hold : all-bounds bound-cases ≡ true
 unfolding any-below largest-below filter-below read-word tree-of is-child is-leaf depth-from depth level is-member domain-allowance allowance padded tree at-ticket-root two-homes two-in-root members largest-allowance levels entry-rounds tenure-rounds acquire-from acquire-rounds acquire-bound release-bound bound-holds all-bounds one-leaf bound-cases
@@ -31,7 +32,7 @@ unfolding any-below largest-below filter-below read-word tree-of is-child is-lea
 everyone-holds = refl
 
 rounds-hold : all-rounds round-cases ≡ true
-unfolding any-below all-below filter-below read-word tree-of is-ticket meets on-path child-from child own-record bare-place plain-place place-of is-watch fresh-words fresh-state is-entry prep-row swap-row link-row wait-row leave-row check-row help-row cas-row linger-row grant-row draw-row watch-row is-watched shown-members raise-row row step steps state-after entering run-of run occurrences padded tree at-ticket-root two-in-root one-leaf all-threads are-rounds joined round-holds all-rounds round-cases
+unfolding any-below all-below filter-below read-word tree-of is-ticket meets on-path child-from child own-record place-of is-watch fresh-words fresh-state is-entry prep-row swap-row link-row wait-row leave-row check-row help-row cas-row linger-row grant-row draw-row watch-row is-watched shown-members raise-row row step steps state-after entering run-of run occurrences padded tree at-ticket-root two-in-root one-leaf all-threads are-rounds joined round-holds all-rounds round-cases
 rounds-hold = refl
 
 -- LISTS THAT PASS ARE ROUNDS
@@ -58,16 +59,19 @@ stalled = run stalled-tree until-stalled (fresh-state stalled-tree 0) .state
 abbrev turned : State
 turned = run stalled-tree without-releaser stalled .state
 
+same-again : same-state (run stalled-tree without-releaser turned .state) turned ≡ true
+unfolding any-below filter-below read-word tree-of is-ticket meets on-path child-from child own-record place-of is-watch fresh-words fresh-state prep-row swap-row link-row wait-row leave-row check-row help-row cas-row linger-row grant-row draw-row watch-row is-watched shown-members raise-row row step steps state-after run-of run padded tree stalled-tree until-stalled without-releaser same-numbers place-numbers same-state
+same-again = refl
+
 comes-back : run stalled-tree without-releaser turned .state ≡ turned
-unfolding any-below filter-below read-word tree-of is-ticket meets on-path child-from child own-record bare-place plain-place place-of is-watch fresh-words fresh-state prep-row swap-row link-row wait-row leave-row check-row help-row cas-row linger-row grant-row draw-row watch-row is-watched shown-members raise-row row step steps state-after run-of run padded tree stalled-tree until-stalled without-releaser
-comes-back = refl
+comes-back = state-same (run stalled-tree without-releaser turned .state) turned same-again
 
 -- the entries: until then of thread 0, and then of thread 2
 entries-are :
     (run stalled-tree until-stalled (fresh-state stalled-tree 0) .trace ≡ 0 ∷ [])
     × (run stalled-tree without-releaser stalled .trace ≡ 2 ∷ [])
     × (run stalled-tree without-releaser turned .trace ≡ 2 ∷ [])
-unfolding any-below filter-below read-word tree-of is-ticket meets on-path child-from child own-record bare-place plain-place place-of is-watch fresh-words fresh-state is-entry prep-row swap-row link-row wait-row leave-row check-row help-row cas-row linger-row grant-row draw-row watch-row is-watched shown-members raise-row row step steps state-after entering run-of run padded tree stalled-tree until-stalled without-releaser
+unfolding any-below filter-below read-word tree-of is-ticket meets on-path child-from child own-record place-of is-watch fresh-words fresh-state is-entry prep-row swap-row link-row wait-row leave-row check-row help-row cas-row linger-row grant-row draw-row watch-row is-watched shown-members raise-row row step steps state-after entering run-of run padded tree stalled-tree until-stalled without-releaser
 entries-are = (refl, refl, refl)
 
 trace-join : (t : Tree) (is js : List ℕ) (s : State) → run t (is ++ js) s .trace ≡ run t is s .trace ++ run t js (run t is s .state) .trace

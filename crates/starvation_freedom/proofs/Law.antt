@@ -23,11 +23,12 @@ use Rattle.model.proofs.Lists.{same-or}
 use Rattle.model.proofs.Trees.Accepted.{Accepted, accepted}
 use Rattle.model.proofs.Laws.Facts.{facts-well-formed}
 use Rattle.model.proofs.Laws.Kinds.{kind-law}
+use Rattle.model.proofs.Counted.{occurrences-join}
 use Rattle.claims.proofs.Claims.Reached.{Queued, from-fresh, threads-take, threads-join}
 use Rattle.starvation_freedom.specs.Bounds.{acquire-bound, release-bound, everyone-bound}
 use Rattle.starvation_freedom.specs.Laws.{is-acquiring, is-releasing, Rounds, none, one-more, Arrives, Bounded, Starvation-law, in-order, round-robin, Everyone-law, Windows, Bounded-in-windows, Window-law}
 use Rattle.starvation_freedom.proofs.Situations.{Situation, next, next-words, place-other}
-use Rattle.starvation_freedom.proofs.Within.{occurrences-join, Covers, covers-less, Reaches, now, later, sequence, longer}
+use Rattle.starvation_freedom.proofs.Within.{Covers, covers-less, Reaches, now, later, sequence, longer}
 use Rattle.starvation_freedom.proofs.Says.{Says, says}
 use Rattle.starvation_freedom.proofs.Releasing.{idle-within}
 use Rattle.starvation_freedom.proofs.Acquiring.{inside-within}

@@ -14,4 +14,5 @@ pub mod Waiting
 pub mod First
 pub mod Acquiring
 pub mod Law
+pub mod SameState
 pub mod Cases

@@ -6,7 +6,6 @@ use mathlib.Core.Logic.{_≢_, _⊎_, inl, inr}
 use Prim.Native.Nat.{ℕ, zero, suc, _+_, _-_, _≤_, _<_}
 use native.Mathlib.Omega.{arith}
 use lib.ListN.{length, length-append}
-use borrow.Author.Tests.{eq-eqb, ne-eqb}
 use Rattle.model.specs.Scans.{filter-below}
 use Rattle.model.specs.Trees.{Tree, is-member}
 use Rattle.model.proofs.Lists.{same-or, less-or, first, rest, first-cons, first-snoc, rest-cons, rest-nil, is, is-same, is-other, count, count-nil, count-cons, count-rest}
@@ -18,7 +17,7 @@ use Rattle.claims.proofs.Queues.Invariant.{Inv}
 use Rattle.claims.proofs.Queues.Order.{Change, stays, opens, grows, moves, closes}
 use Rattle.claims.proofs.Queues.Remaining.{acts-real}
 use Rattle.claims.proofs.Words.Tickets.{total, total-length}
-use Rattle.chain.proofs.Reached.Orders.{position}
+use Rattle.chain.proofs.Reached.Orders.{position, position-here, position-past}
 use Rattle.starvation_freedom.specs.Bounds.{members}
 
 -- HOW LONG a list is whose numbers pass a test, none twice
@@ -43,14 +42,6 @@ queue-short t 𝓐 st inv d =
     omega (arith, total-length 320 (st .queue d) (λ a h. member-small t 𝓐 d a (is-one a h)), total-passing 320 (st .queue d) (is-member t d) is-one (inv .once d))
 
 -- POSITIONS
-position-here : (m x : ℕ) (xs : List ℕ) → m ≡ x → position m (x ∷ xs) ≡ 0
-unfolding position
-position-here m x xs e = rw (eq-eqb m x e) refl
-
-position-past : (m x : ℕ) (xs : List ℕ) → m ≢ x → position m (x ∷ xs) ≡ suc (position m xs)
-unfolding position
-position-past m x xs n = rw (ne-eqb m x n) refl
-
 pub position-within : (m : ℕ) (q : List ℕ) → 1 ≤ count m q → position m q < length q
 position-within m [] h = absurd (omega (arith, count-nil m))
 position-within m (x ∷ xs) h =

@@ -6,7 +6,6 @@ use Prim.Native.Nat.{ℕ, suc, _+_, _-_, _≤_, _<_}
 use native.Mathlib.Omega.{arith}
 use lib.Dec.{eqb, ltb}
 use lib.ListN.{getD, set}
-use lib.Seq.{getD-set-same}
 use borrow.Author.Tests.{eqb-true, eqb-false, eq-eqb, ne-eqb, ltb-true}
 use Rattle.model.specs.declared.Place.{Place}
 use Rattle.model.specs.declared.Place.the-variants.{Idle, Prep, Swap, Link, Wait, Inside, Check, Help, Cas, Linger, Grant, Draw, Watch, Raise}
@@ -17,12 +16,12 @@ use Rattle.model.specs.States.{acquire-parent, wait-word, locked, none, tail, n
 use Rattle.model.specs.Steps.{Row-result, acquire-place, acquired-place, release-place, release-word, done-place, prep-row, swap-row, link-row, wait-row, leave-row, check-row, help-row, cas-row, linger-row, grant-row, draw-row, watch-row, raise-row, row}
 use Rattle.model.specs.Laws.{Sixteen-bit}
 use Rattle.model.proofs.Tests.{by-test, and-both}
-use Rattle.model.proofs.Places.{place-of-words}
 use Rattle.model.proofs.Trees.Index.{ancestor, height, record-at}
 use Rattle.model.proofs.Trees.Accepted.{Accepted}
 use Rattle.model.proofs.Trees.Tickets.{ticket-facts}
 use Rattle.model.proofs.Trees.Paths.{ancestor-home, ancestor-root, ancestor-inner, ancestor-zero, ancestor-not-root, ancestor-parent-of}
 use Rattle.model.proofs.Trees.Records.{own-record-at, root-record}
+use Rattle.model.proofs.Places.{place-stored}
 use Rattle.claims.proofs.Words.Represents.{waiting-word}
 use Rattle.claims.proofs.Words.Releasing.{done-at, done-place-at}
 use Rattle.starvation_freedom.proofs.Situations as situations
@@ -72,7 +71,7 @@ module _ (t : Tree) (𝓐 : Accepted t) (bits : Sixteen-bit t) (c : Situation t)
   lands : (Q : Place → Type 0) (p : Place) → Q p → Q (place-of (getD (set (s .places) i (words-of p)) i (place-words 0 0 0 0)))
   lands Q p q =
       let e : place-of (getD (set (s .places) i (words-of p)) i (place-words 0 0 0 0)) ≡ p =
-      ap place-of (getD-set-same (s .places) i (words-of p) (place-words 0 0 0 0) (omega (arith, c .queued .room .places-room, 𝓐 .few-threads))) ∙ place-of-words p in
+      place-stored i p s (omega (arith, c .queued .room .places-room, 𝓐 .few-threads)) in
       rw e q
 
   turn : (Q : Place → Type 0) (p : Place) → place s i ≡ p → Q (place (row t i p s .state) i) → Q after

@@ -10,14 +10,10 @@ use Rattle.model.specs.Runs.{occurrences}
 use Rattle.model.specs.Laws.{All-threads, Sixteen-bit}
 use Rattle.model.proofs.Lists.{same-or}
 use Rattle.model.proofs.Trees.Accepted.{Accepted}
+use Rattle.model.proofs.Counted.{occurrences-join}
 use Rattle.starvation_freedom.proofs.Situations.{Situation, next}
 
 -- OCCURRENCES
-pub occurrences-join : (i : ℕ) (xs ys : List ℕ) → occurrences i (xs ++ ys) ≡ occurrences i xs + occurrences i ys
-unfolding occurrences
-occurrences-join i [] ys = omega arith
-occurrences-join i (x ∷ xs) ys = let h = occurrences-join i xs ys in omega arith
-
 occurrences-other : (i x : ℕ) (xs : List ℕ) → x ≢ i → occurrences i (x ∷ xs) ≡ occurrences i xs
 unfolding occurrences
 occurrences-other i x xs n = let z = ne-eqb i x (λ e. n (sym e)) in rw z (omega arith)

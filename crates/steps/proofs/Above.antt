@@ -1,25 +1,19 @@
 -- Counters within their limits, domain by domain. Assumes nothing.
-use mathlib.Core.Path.{_≡_, refl, sym, ap, _∙_}
-use mathlib.Core.Bool.{Bool, true, false, _||_}
+use mathlib.Core.Path.{_≡_, sym, ap, _∙_}
+use mathlib.Core.Bool.{true, false, _||_}
 use mathlib.Core.List.{List}
-use Prim.Native.Nat.{ℕ, zero, suc, _+_, _≤_, _<_}
+use Prim.Native.Nat.{ℕ, _+_, _≤_, _<_}
 use native.Mathlib.Omega.{arith}
 use native.Mathlib.Decide.{ℕ-discrete}
 use lib.Dec.{ltb}
 use lib.ListN.{getD}
 use borrow.Author.Tests.{lt-ltb, le-ltb}
-use Rattle.model.specs.Scans.{any-below}
 use Rattle.model.specs.Counters.{most-counted, count-above, any-above}
-use Rattle.model.proofs.Tests.{any-found, or-right}
+use Rattle.model.proofs.Tests.{any-found, or-right, any-nowhere}
 use Rattle.refusals.specs.Counts.{counters-in}
 
 pub one-more-fits : (vs : List ℕ) (d : ℕ) → ((j : ℕ) → j < d → getD vs j 0 + 65536 ≤ most-counted) → getD vs d 0 ≤ 9223372036854710272 → (j : ℕ) → j < d + 1 → getD vs j 0 + 65536 ≤ most-counted
 one-more-fits vs d h l j b = elim (ℕ-discrete j d) [ yes z ↦ rw z (omega arith) | no z ↦ h j (omega arith) ]
-
-all-false : (n : ℕ) (f : ℕ → Bool) → ((j : ℕ) → j < n → f j ≡ false) → any-below n f ≡ false
-unfolding any-below
-all-false zero f h = refl
-all-false (suc n) f h = rw (all-false n f (λ j l. h j (omega arith)), h n (omega arith))
 
 module _ (es ns ls : List ℕ) where
   pub entries-above : (d : ℕ) → d < 64 → most-counted < getD es d 0 → any-above (counters-in es ns ls) ≡ true
@@ -42,4 +36,4 @@ module _ (es ns ls : List ℕ) where
 
   pub none-above : ((j : ℕ) → j < 64 → count-above (counters-in es ns ls) j ≡ false) → any-above (counters-in es ns ls) ≡ false
   unfolding any-above
-  none-above h = all-false 64 (count-above (counters-in es ns ls)) h
+  none-above h = any-nowhere 64 (count-above (counters-in es ns ls)) h

@@ -6,7 +6,7 @@ use native.Mathlib.Omega.{arith}
 use native.Mathlib.Numerals.{sub-one}
 use lib.ListN.{getD}
 use borrow.Author.Tests.{eq-eqb, ne-eqb}
-use Rattle.model.specs.Trees.{Tree, child-from}
+use Rattle.model.specs.Trees.{Tree}
 use Rattle.model.specs.Search.{found, search-from}
 use Rattle.refusals.specs.Arrays.{parents-in}
 use Rattle.refusals.proofs.Reading.{parent-in}
@@ -35,9 +35,3 @@ pub search-end : (k : ℕ) (t : Tree) (l c n : ℕ) → k ≤ 0 → search-from 
 unfolding search-from
 search-end zero t l c n p = refl
 search-end (suc k) t l c n p = absurd (omega arith)
-
--- trees with the same parents
-pub child-same : (k : ℕ) (t u : Tree) (l c : ℕ) → ((e : ℕ) → t .parent e ≡ u .parent e) → child-from k t l c ≡ child-from k u l c
-unfolding child-from
-child-same zero t u l c h = refl
-child-same (suc k) t u l c h = rw (h c, child-same k t u l (u .parent c) h)

@@ -16,6 +16,7 @@ use Rattle.model.proofs.Refusing.{test-skipped}
 use Rattle.model.proofs.Laws.Calls.{early-facts, early-accepted}
 use Rattle.model.proofs.Laws.Counters.{good-facts, room-law}
 use Rattle.model.proofs.Laws.Refusals.{accepted-number, run-numbered-before-19}
+use Rattle.model.proofs.Trees.Accepted.{sixteen-bit}
 use Rattle.refusals.specs.declared.Refusal.{Refusal}
 use Rattle.refusals.specs.Arrays.{told}
 use Rattle.refusals.specs.Counts.{counters-in}
@@ -24,7 +25,6 @@ use Rattle.refusals.proofs.Scanning.{test-hit}
 use Rattle.refusals.proofs.Joining.{first-decides, other-decides}
 use Rattle.refusals.proofs.RunTests.{told-not, told-zero}
 use Rattle.steps.specs.Counting.{Room-told}
-use Rattle.steps.proofs.Turns.{sixteen}
 
 -- the tests before 19 with room for the schedule alone
 pub passes-alone : (t : Tree) (s : LockState) (is : List ℕ) (room : ℕ) → first-refusal (run-tests-before-19 t s is room) .number ≡ 0 → first-refusal (run-tests-before-19 t s is (length is)) .number ≡ 0
@@ -50,11 +50,11 @@ module _ (w : TreeWords) (n : State) (es ns ls is : List ℕ) where
     has-room answer g y =
         let r = early-facts t s is (length is) e in
         none
-        (room-law t (sixteen w) s is
+        (room-law t (sixteen-bit w) s is
         (record {
           entries = λ d h. omega (arith, g .entries-fit y d h, r .short);
           tenures = λ d h. omega (arith, g .tenures-fit y d h, r .short);
-          longest = λ d h. omega (arith, good-facts t (counters-in es ns ls) (r .counts) .within d h, sixteen w d);
+          longest = λ d h. omega (arith, good-facts t (counters-in es ns ls) (r .counts) .within d h, sixteen-bit w d);
         }))
 
   module _ (k : ℕ) (low : Lowest (length is) (bad-counter t s is) k) where

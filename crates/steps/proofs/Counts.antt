@@ -9,10 +9,11 @@ use native.Mathlib.Decide.{ℕ-discrete, decLt}
 use lib.Dec.{eqb, ltb}
 use lib.ListN.{length, getD, set, length-set}
 use lib.Seq.{getD-set-same, getD-set-other}
-use borrow.Author.Tests.{eqb-true, eqb-false, eq-eqb, ne-eqb, lt-ltb, le-ltb, le-leb}
-use Rattle.model.specs.Trees.{read-word}
+use borrow.Author.Tests.{eqb-true, eqb-false, eq-eqb, ne-eqb, lt-ltb, le-ltb}
 use Rattle.model.specs.Counters.{each-with-index}
 use Rattle.model.proofs.Counted.{indexed-same, indexed-kept, indexed-twice}
+use Rattle.model.proofs.Tests.{and-false}
+use Rattle.model.proofs.Trees.Reading.{read-in}
 use Rattle.model.specs.declared.PlaceWords.{PlaceWords}
 use Rattle.refusals.specs.Arrays.{Lower}
 use Rattle.steps.specs.Counting.{parent-in, Room-above, added-at, raised-at, is-watch-in, taken-in, marked-in, Climbed, at-root, one-up, Started, record-domain-in, Entered, started-in, is-shown, Counted-shown, Counted-step}
@@ -84,16 +85,12 @@ pub record Climbs (domains : ℕ) (parents : List ℕ) (home : ℕ) (entries : L
 pub climbs-start : (m : ℕ) (ps : List ℕ) (h : ℕ) (es : List ℕ) → h < m → Climbs m ps h es h es
 climbs-start m ps h es b = record { real = b; long = refl; above = λ d l. refl; climbed = λ ws k. k }
 
-parent-read : (m : ℕ) (ps : List ℕ) (c : ℕ) → c ≢ 0 → c < m → parent-in m ps c ≡ getD ps c 0
-unfolding read-word
-parent-read m ps c n b = rw (le-leb 1 c (omega (arith, n)), lt-ltb c m b)
-
 pub climbs-on :
     (m : ℕ) (ps : List ℕ) (h : ℕ) (es : List ℕ) (c : ℕ) (vs : List ℕ) → Lower m ps → c ≢ 0 → Climbs m ps h es c vs →
     Climbs m ps h es (getD ps c 0) (set vs c (getD vs c 0 + 1))
 climbs-on m ps h es c vs low n k =
     let lower = low .lower c (omega (arith, n)) (k .real) in
-    let up = parent-read m ps c n (k .real) in
+    let up = read-in 1 m ps c (omega (arith, n)) (k .real) in
     record {
       real = omega (arith, k .real);
       long = length-set vs c (getD vs c 0 + 1) ∙ k .long;
@@ -212,10 +209,6 @@ module _ (m : ℕ) (ps : List ℕ) (h : ℕ) (vs : List ℕ) (q : PlaceWords) (v
   not-marked other =
       let z : eqb (getD vs (256 + taken-in m ps h 0) 0) v ≡ false = ne-eqb (getD vs (256 + taken-in m ps h 0) 0) v (λ y. other (rw (e, f) y)) in
       rw z (sym (ap (λ b. cond b (set bs (taken-in m ps h 0) true) bs) (and-false (is-watch-in q))))
-    where
-      and-false : (b : Bool) → b && false ≡ false
-      and-false true = refl
-      and-false false = refl
 
   pub is-marked : is-watch-in q ≡ true → getD vs (256 + c) 0 ≡ n → set bs c true ≡ marked-in m ps h vs q v bs
   is-marked w y =

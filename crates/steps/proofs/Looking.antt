@@ -3,7 +3,7 @@ use mathlib.Core.Path.{_≡_, refl, sym, ap, _∙_}
 use mathlib.Core.Bool.{Bool, true, false, _&&_, _||_, not, cond}
 use mathlib.Core.List.{List}
 use mathlib.Core.Logic.{_≢_}
-use Prim.Native.Nat.{ℕ, zero, suc, _+_, _≤_, _<_}
+use Prim.Native.Nat.{ℕ, suc, _+_, _≤_, _<_}
 use native.Mathlib.Omega.{arith}
 use native.Mathlib.Numerals.{add-one}
 use native.Mathlib.Decide.{ℕ-discrete, decLt}
@@ -34,6 +34,8 @@ use Rattle.model.proofs.Laws.Facts.{well-formed-facts}
 use Rattle.model.proofs.Laws.Form.{valid}
 use Rattle.model.proofs.Laws.Calls.{Good-run}
 use Rattle.model.proofs.Laws.Counters.{counts-most, entries-left, tenures-left}
+use Rattle.model.proofs.Tests.{any-nowhere, and-false}
+use Rattle.model.proofs.Trees.Reading.{home-read}
 use Rattle.refusals.proofs.Reading.{home-in}
 use Rattle.steps.specs.Counting.{Room-above, taken-in, is-watch-in, marked-in, shows-in, Marked, Shown-left, Clear, Looked, Shown-for}
 use Rattle.steps.proofs.Taken.{taken-child}
@@ -71,29 +73,20 @@ looked-cases {m = m} {l = l} C e r all none =
       | no z ↦ elim (ℕ-discrete l 0) [ yes y ↦ none y (e .nobody r z) | no y ↦ absurd (z (e .all r y)) ]
     ]
 
-none-below : (n : ℕ) (f : ℕ → Bool) → ((j : ℕ) → j < n → f j ≡ false) → any-below n f ≡ false
-unfolding any-below
-none-below zero f h = refl
-none-below (suc n) f h = rw (none-below n f (λ j r. h j (omega arith)), h n (omega arith))
-
 -- MARKS
 module _ (w : TreeWords) (ok : tree-refusal (tree-of w) .number ≡ 0) where
   𝓐 : Accepted (tree-of w)
   𝓐 = accepted (tree-of w) ok
 
-  home-of : (j : ℕ) → j < w .threads → tree-of w .home j ≡ getD (w .homes) j 0
-  unfolding tree-of
-  home-of j r = home-in (w .domains) (w .threads) (w .parents) (w .thresholds) (w .homes) j r
-
   pub home-small : (j : ℕ) → j < w .threads → getD (w .homes) j 0 < w .domains
   unfolding tree-of
-  home-small j r = rw (home-of j r) at (𝓐 .home-real j r)
+  home-small j r = rw (home-read w j r) at (𝓐 .home-real j r)
 
   taken-real : (j : ℕ) → j < w .threads → taken-in (w .domains) (w .parents) (getD (w .homes) j 0) 0 < w .domains
   unfolding tree-of
   taken-real j r =
       let t = tree-of w in
-      let e = taken-child t (w .domains) (w .parents) (λ x. refl) j 0 (getD (w .homes) j 0) (sym (home-of j r)) in
+      let e = taken-child t (w .domains) (w .parents) (λ x. refl) j 0 (getD (w .homes) j 0) (sym (home-read w j r)) in
       rw e (by (eqb 0 (t .home j)) refl)
     where
       by : (x : Bool) → eqb 0 (tree-of w .home j) ≡ x → cond x 0 (child (tree-of w) j 0) < tree-of w .domains
@@ -114,19 +107,15 @@ module _ (w : TreeWords) (ok : tree-refusal (tree-of w) .number ≡ 0) where
     shows-none d j r n =
         elim (decLt d (w .domains)) [
           | yes p ↦ rw (ne-eqb (getD vs (256 + d) 0) v (n p)) (last (is-watch-in (getD qs j (place-words 0 0 0 0))) (eqb c d))
-          | no p ↦ rw (ne-eqb c d (λ z. absurd (omega (arith, taken-real j r, p)))) (first (is-watch-in (getD qs j (place-words 0 0 0 0))))
+          | no p ↦ rw (ne-eqb c d (λ z. absurd (omega (arith, taken-real j r, p)))) (and-false (is-watch-in (getD qs j (place-words 0 0 0 0))))
         ]
       where
         c : ℕ
         c = taken-in (w .domains) (w .parents) (getD (w .homes) j 0) 0
 
-        first : (a : Bool) → a && false ≡ false
-        first true = refl
-        first false = refl
-
         last : (a b : Bool) → a && (b && false) ≡ false
-        last a true = first a
-        last a false = first a
+        last a true = and-false a
+        last a false = and-false a
 
     -- where no domain's record holds the ticket, the threads show nothing, so that the marks of none are those of all
     pub marked-all :
@@ -134,7 +123,7 @@ module _ (w : TreeWords) (ok : tree-refusal (tree-of w) .number ≡ 0) where
         Marked (w .domains) (w .parents) (w .homes) vs qs v (w .threads) bs
     unfolding any-below
     marked-all bs n g =
-        record { room = g .room; marked = λ d h. g .marked d h ∙ sym (none-below (w .threads) (shows-in (w .domains) (w .parents) (w .homes) vs qs v d) (λ j r. shows-none d j r (n d))) }
+        record { room = g .room; marked = λ d h. g .marked d h ∙ sym (any-nowhere (w .threads) (shows-in (w .domains) (w .parents) (w .homes) vs qs v d) (λ j r. shows-none d j r (n d))) }
 
     -- a step that is no raise looks at nobody, and leaves no domain marked; nor does a raise
     pub marks-cleared :
@@ -162,7 +151,7 @@ module _ (w : TreeWords) (ok : tree-refusal (tree-of w) .number ≡ 0) where
               g .marked d h ∙ ap (λ k. any-below k (shows-in (w .domains) (w .parents) (w .homes) vs qs v d)) none;
           beyond = λ d n h.
               g .marked d h
-              ∙ none-below j (shows-in (w .domains) (w .parents) (w .homes) vs qs v d) (λ k r. shows-none d k (looked-real e (omega (arith, r))) (λ p. absurd (omega arith)));
+              ∙ any-nowhere j (shows-in (w .domains) (w .parents) (w .homes) vs qs v d) (λ k r. shows-none d k (looked-real e (omega (arith, r))) (λ p. absurd (omega arith)));
         }
 
     pub marked-next :

@@ -19,6 +19,7 @@ use Rattle.model.proofs.Trees.Accepted.{accepted}
 use Rattle.model.proofs.Laws.Runs.{steps-join, steps-length, how-many-join, entering-join, state-after-join, entries-all}
 use Rattle.model.proofs.Laws.Form.{form-law}
 use Rattle.model.proofs.Laws.Kinds.{kind-law}
+use Rattle.model.proofs.Counted.{how-many-most}
 use Rattle.steps.specs.declared.rows.Moved.{Moved}
 use Rattle.steps.specs.Rows.{with-place-words, Done}
 use Rattle.steps.specs.Running.{kinds-of, counted, counts-by, is-entry-number, traced-at, trace-front}
@@ -75,11 +76,6 @@ kinds-next xs x =
 pub at-most : (b : Bool) → cond b 1 0 ≤ 1
 at-most true = omega arith
 at-most false = omega arith
-
-pub few-kinds : (f : Kind → Bool) (xs : List Step) → how-many f xs ≤ length xs
-unfolding how-many
-few-kinds f [] = omega arith
-few-kinds f (x ∷ xs) = omega (arith, few-kinds f xs, at-most (f (x .kind)))
 
 kind-at : (k : Kind) (xs : List Step) → getD (kinds-of xs) (kind-number k) 0 ≡ how-many (is-kind k) xs
 unfolding kinds-of
@@ -204,7 +200,7 @@ module _ (t : Tree) (is b₀ : List ℕ) (s₀ : State) where
       (m .kind < 6) × (getD kinds (m .kind) 0 < 65536)
   kind-room b s kinds entries k m left g D h short =
       let x = row t (getD is k 0) (place s (getD is k 0)) s .kind in
-      let few : how-many (is-kind x) (first-steps k) ≤ k = omega (arith, few-kinds (is-kind x) (first-steps k), steps-length t (take k is) s₀, length-take-le k is (g .within)) in
+      let few : how-many (is-kind x) (first-steps k) ≤ k = omega (arith, how-many-most (is-kind x) (first-steps k), steps-length t (take k is) s₀, length-take-le k is (g .within)) in
       let at : getD kinds (m .kind) 0 ≡ how-many (is-kind x) (first-steps k) = ap (λ v. getD v (m .kind) 0) (g .kinds-are) ∙ ap (λ v. getD (kinds-of (first-steps k)) v 0) (D .kind-told) ∙ kind-at x (first-steps k) in
       (omega (arith, D .kind-told, kind-small x), omega (arith, at, few))
 

@@ -9,7 +9,7 @@ use native.Mathlib.Decide.{ℕ-discrete}
 use lib.Dec.{eqb, ltb}
 use lib.ListN.{getD, length, set}
 use lib.Seq.{getD-set-same}
-use borrow.Author.Tests.{eqb-true, eqb-false, eq-eqb, ne-eqb, ltb-true, ltb-false, not-true}
+use borrow.Author.Tests.{eqb-false, eq-eqb, ne-eqb, ltb-true, ltb-false, not-true}
 use Rattle.model.specs.declared.TreeWords.{TreeWords}
 use Rattle.model.specs.declared.PlaceWords.{PlaceWords}
 use Rattle.model.specs.declared.Place.{Place}
@@ -17,7 +17,7 @@ use Rattle.model.specs.declared.Place.the-variants.{Idle, Prep, Swap, Link, Wai
 use Rattle.model.specs.declared.State.{State}
 use Rattle.model.specs.Scans.{any-below}
 use Rattle.model.specs.Trees.{Tree, tree-of, is-ticket, on-path, child, own-record, is-record, is-member}
-use Rattle.model.specs.Places.{place-words, words-of, place-of, plain-place, bare-place, is-watch}
+use Rattle.model.specs.Places.{place-words, words-of, place-of}
 use Rattle.model.specs.States.{none, tail, status, place, wrap}
 use Rattle.model.specs.Steps.{kind-number, Row-result, acquired-place, is-watched, shown-members, swap-row, draw-row, row, step}
 use Rattle.model.specs.WellFormed.{queue-on-path, good-place}
@@ -26,7 +26,7 @@ use Rattle.model.specs.Tenures.{checks-at, domain-tenures, longest-told}
 use Rattle.model.specs.Counters.{each-with-index, counters-after}
 use Rattle.model.specs.Laws.{Formed}
 use Rattle.model.proofs.Tests.{and-both, by-test, any-same}
-use Rattle.model.proofs.Places.{words-of-place}
+use Rattle.model.proofs.Places.{words-of-place, watch-numbers}
 use Rattle.model.proofs.Trees.Accepted.{Accepted, accepted}
 use Rattle.model.proofs.Trees.Paths.{on-path-root}
 use Rattle.model.proofs.Trees.Records.{member-record, child-inner}
@@ -34,9 +34,9 @@ use Rattle.model.proofs.Trees.Tickets.{queue-facts}
 use Rattle.model.proofs.Laws.Facts.{well-formed-facts}
 use Rattle.model.proofs.Laws.Form.{valid}
 use Rattle.model.proofs.Laws.Given.{given-from, given-idle, given-prep, given-swap, given-link, given-wait, given-inside, given-check, given-help, given-cas, given-linger, given-grant, given-draw, given-watch, given-raise}
+use Rattle.model.proofs.Trees.Reading.{home-read}
 use Rattle.refusals.specs.Arrays.{parents-in}
 use Rattle.refusals.specs.Counts.{counters-in}
-use Rattle.refusals.proofs.Reading.{home-in}
 use Rattle.steps.specs.declared.rows.Moved.{Moved}
 use Rattle.steps.specs.Rows.{Done}
 use Rattle.steps.specs.Counting.{parent-in, taken-in, record-domain-in, started-in, raised-at, is-watch-in, Marked, Entered, Counted-step}
@@ -106,46 +106,6 @@ module _ (t : Tree) (𝓐 : Accepted t) (m : ℕ) (ps : List ℕ) (same : (e : �
       by : (x : Bool) → eqb (cond x 0 (child t j 0)) d ≡ eqb (cond x j (256 + child t j 0)) (256 + d)
       by true = ne-eqb 0 d (λ z. n (sym z)) ∙ sym (ne-eqb j (256 + d) (λ z. absurd (omega (arith, 𝓐 .few-threads))))
       by false = elim (ℕ-discrete (child t j 0) d) [ yes z ↦ rw (eq-eqb (child t j 0) d z, eq-eqb (256 + child t j 0) (256 + d) (omega arith)) | no z ↦ rw (ne-eqb (child t j 0) d z, ne-eqb (256 + child t j 0) (256 + d) (λ y. z (omega arith))) ]
-
--- whether four numbers are Watch
-not-watch : (q : PlaceWords) → eqb (q .row) 12 ≡ false → is-watch (place-of q) ≡ false
-unfolding is-watch place-of plain-place bare-place
-not-watch q e =
-    pick (eqb (q .row) 10) _ _ refl (pick (not (eqb (q .word) 0)) _ _ refl (pick (eqb (q .row) 3) _ _ refl (pick (not (eqb (q .peer) 0)) _ _ refl plain)))
-  where
-    quiet : Place → Type 0
-    quiet p = is-watch p ≡ false
-
-    pick : (b : Bool) (p r : Place) → quiet p → quiet r → quiet (cond b p r)
-    pick b p r x y = by-test quiet b p r (λ e. x) (λ e. y)
-
-    bare : quiet (bare-place (q .row))
-    bare =
-        pick (eqb (q .row) 0) _ _ refl
-        (pick (eqb (q .row) 5) _ _ refl (pick (eqb (q .row) 11) _ _ refl (by-test quiet (eqb (q .row) 12) _ _ (λ z. absurd (false≢true (sym e ∙ z))) (λ z. pick (eqb (q .row) 13) _ _ refl refl))))
-
-    plain : quiet (plain-place (q .row) (q .domain))
-    plain =
-        pick (eqb (q .row) 1) _ _ refl (pick (eqb (q .row) 2) _ _ refl (pick (eqb (q .row) 4) _ _ refl (pick (eqb (q .row) 6) _ _ refl (pick (eqb (q .row) 7) _ _ refl
-        (pick (eqb (q .row) 8) _ _ refl (pick (eqb (q .row) 9) _ _ refl (pick (eqb (q .domain) 0) _ _ bare refl)))))))
-
-watch-same : (q : PlaceWords) → is-watch-in q ≡ is-watch (place-of q)
-unfolding is-watch place-of plain-place bare-place
-watch-same q = by (eqb (q .row) 12) refl
-  where
-    three : (a b c : Bool) → a && (b && c) ≡ is-watch (cond (not c) Invalid (cond (not b) Invalid (cond a Watch Invalid)))
-    three true true true = refl
-    three true true false = refl
-    three true false true = refl
-    three true false false = refl
-    three false true true = refl
-    three false true false = refl
-    three false false true = refl
-    three false false false = refl
-
-    by : (b : Bool) → eqb (q .row) 12 ≡ b → is-watch-in q ≡ is-watch (place-of q)
-    by true e = rw (eqb-true (q .row) 12 e) (three (eqb (q .domain) 0) (eqb (q .peer) 0) (eqb (q .word) 0))
-    by false e = ap (λ (x : Bool). x && (eqb (q .domain) 0 && (eqb (q .peer) 0 && eqb (q .word) 0))) e ∙ sym (not-watch q e)
 
 -- a test that does not hang on the number stands before the scan
 any-apart : (n : ℕ) (a b : ℕ → Bool) (c : Bool) → any-below n (λ j. a j && (b j && c)) ≡ c && any-below n (λ j. a j && b j)
@@ -291,10 +251,7 @@ module _ (w : TreeWords) (ok : tree-refusal (tree-of w) .number ≡ 0) (i : ℕ)
         k .marked d l
         ∙ any-apart (w .threads) (λ j. is-watch-in (getD (s .places) j (place-words 0 0 0 0))) (λ j. eqb (taken-in (w .domains) (w .parents) (getD (w .homes) j 0) 0) d) (eqb (status s (256 + d)) v)
         ∙ ap (λ x. eqb (status s (256 + d)) v && x)
-        (any-same (w .threads) _ _ (λ j r. rw (watch-same (getD (s .places) j (place-words 0 0 0 0)), record-same t 𝓐 (w .domains) (w .parents) same-parents j (getD (w .homes) j 0) d r (sym (home-read j r)) n)))
-      where
-        home-read : (j : ℕ) → j < w .threads → tree-of w .home j ≡ getD (w .homes) j 0
-        home-read j r = home-in (w .domains) (w .threads) (w .parents) (w .thresholds) (w .homes) j r
+        (any-same (w .threads) _ _ (λ j r. rw (watch-numbers (getD (s .places) j (place-words 0 0 0 0)), record-same t 𝓐 (w .domains) (w .parents) same-parents j (getD (w .homes) j 0) d r (sym (home-read w j r)) n)))
 
     pub tenures-counted : (place s i ≡ Raise → Marked (w .domains) (w .parents) (w .homes) (s .statuses) (s .places) (wrap (s .grant + 1)) (w .threads) shown) → Both
     tenures-counted k = by-place (place s i) refl good (λ z. marks (k z))

@@ -20,16 +20,17 @@ use Rattle.model.proofs.Tests.{and-both}
 use Rattle.model.proofs.Places.{words-of-place}
 use Rattle.model.proofs.Trees.Accepted.{Accepted, accepted}
 use Rattle.model.proofs.Trees.Tickets.{queue-facts}
-use Rattle.model.proofs.Trees.Paths.{path-index, ancestor-real}
+use Rattle.model.proofs.Trees.Paths.{path-real}
 use Rattle.model.proofs.Trees.Records.{member-small}
+use Rattle.model.proofs.Trees.Reading.{read-in}
 use Rattle.refusals.specs.Arrays.{parents-in, Lower}
-use Rattle.refusals.proofs.Reading.{read-in, parent-in, home-in}
+use Rattle.refusals.proofs.Reading.{parent-in, home-in}
+use Rattle.refusals.proofs.Meeting.{child-same}
 use Rattle.steps.specs.declared.members.Member.{Member}
 use Rattle.steps.specs.declared.rows.Moved.{Moved}
 use Rattle.steps.specs.Counting.{taken-in, record-domain-in, started-in, Started, Shown-left, Counted-step}
 use Rattle.steps.specs.Rows.{Done, Stands, Above, Member-of, row-domain, start-row, tree-at, state-in}
 use Rattle.steps.specs.Running.{Ready, Taken}
-use Rattle.steps.proofs.Children.{child-same}
 use Rattle.steps.proofs.Counts.{other-counted}
 use Rattle.steps.proofs.ToldStep.{place-by-row}
 
@@ -71,25 +72,19 @@ row-same t i Invalid s = refl
 
 -- the domain of a good place is one of the tree's
 module _ (t : Tree) (accepts : Accepted t) (i : ℕ) (h : i < t .threads) where
-  on-path-real : (l : ℕ) → on-path t i l ≡ true → l < t .domains
-  on-path-real l e =
-      let o = path-index t accepts i h l e in
-      let r = ancestor-real t accepts i h (o .index) in
-      omega (arith, o .there, r)
-
   domain-real : (p : Place) → good-place t i p ≡ true → place-domain (t .home i) p < t .domains
   unfolding good-place
   domain-real Idle e = accepts .home-real i h
-  domain-real (Prep l) e = on-path-real l (queue-facts t i l e .0)
-  domain-real (Swap l) e = on-path-real l (queue-facts t i l e .0)
-  domain-real (Link l p) e = on-path-real l (queue-facts t i l (and-both (queue-on-path t i l) (is-member t l p) e .0) .0)
-  domain-real (Wait l) e = on-path-real l (queue-facts t i l e .0)
+  domain-real (Prep l) e = path-real t accepts i h l (queue-facts t i l e .0)
+  domain-real (Swap l) e = path-real t accepts i h l (queue-facts t i l e .0)
+  domain-real (Link l p) e = path-real t accepts i h l (queue-facts t i l (and-both (queue-on-path t i l) (is-member t l p) e .0) .0)
+  domain-real (Wait l) e = path-real t accepts i h l (queue-facts t i l e .0)
   domain-real Inside e = accepts .home-real i h
-  domain-real (Check l) e = on-path-real l (and-both (on-path t i l) (not (eqb l 0)) e .0)
-  domain-real (Help l) e = on-path-real l (queue-facts t i l e .0)
-  domain-real (Cas l) e = on-path-real l (queue-facts t i l e .0)
-  domain-real (Linger l) e = on-path-real l (queue-facts t i l e .0)
-  domain-real (Grant l r w) e = on-path-real l (queue-facts t i l (and-both (queue-on-path t i l) (is-member t l r) e .0) .0)
+  domain-real (Check l) e = path-real t accepts i h l (and-both (on-path t i l) (not (eqb l 0)) e .0)
+  domain-real (Help l) e = path-real t accepts i h l (queue-facts t i l e .0)
+  domain-real (Cas l) e = path-real t accepts i h l (queue-facts t i l e .0)
+  domain-real (Linger l) e = path-real t accepts i h l (queue-facts t i l e .0)
+  domain-real (Grant l r w) e = path-real t accepts i h l (queue-facts t i l (and-both (queue-on-path t i l) (is-member t l r) e .0) .0)
   domain-real Draw e = accepts .some-domain
   domain-real Watch e = accepts .some-domain
   domain-real Raise e = accepts .some-domain

@@ -1,6 +1,6 @@
 -- The tenures that one step starts, and the lengths that it tells, are those that the model counts of it. Assumes nothing.
 use mathlib.Core.Path.{_≡_, refl, sym, ap, _∙_}
-use mathlib.Core.Bool.{Bool, true, false, _&&_, not, cond, false≢true}
+use mathlib.Core.Bool.{Bool, true, false, _&&_, cond, false≢true}
 use mathlib.Core.List.{List, [], _∷_}
 use mathlib.Core.Logic.{_≢_}
 use Prim.Native.Nat.{ℕ, zero, suc, _+_, _-_, _≤_, _<_, max}
@@ -12,11 +12,11 @@ use lib.Seq.{getD-set-same}
 use borrow.Author.Tests.{eqb-true, eqb-false, eq-eqb, ne-eqb, lt-ltb, le-ltb}
 use Rattle.model.specs.declared.PlaceWords.{PlaceWords}
 use Rattle.model.specs.declared.Place.{Place}
-use Rattle.model.specs.declared.Place.the-variants.{Idle, Prep, Swap, Link, Wait, Inside, Check, Help, Cas, Linger, Grant, Draw, Watch, Raise, Invalid}
+use Rattle.model.specs.declared.Place.the-variants.{Idle, Prep, Swap, Link, Wait, Inside, Check, Help, Cas, Linger, Draw, Watch, Raise, Invalid}
 use Rattle.model.specs.declared.State.{State}
 use Rattle.model.specs.Scans.{any-below}
 use Rattle.model.specs.Trees.{Tree, is-ticket, child, own-record, is-record, is-member}
-use Rattle.model.specs.Places.{place-words, words-of, place-of, plain-place, bare-place, is-watch}
+use Rattle.model.specs.Places.{place-words, words-of, place-of, is-watch}
 use Rattle.model.specs.States.{none, tail, status, place, wrap, with-place}
 use Rattle.model.specs.Steps.{kind-number, Row-result, is-watched, shown-members, swap-row, draw-row, row, Step, step}
 use Rattle.model.specs.Runs.{occurrences}
@@ -24,6 +24,7 @@ use Rattle.model.specs.WellFormed.{good-place}
 use Rattle.model.specs.Tenures.{given, starts, checks-at, word-to-grant, told-length, domain-tenures, longest-told}
 use Rattle.model.specs.Counters.{each-with-index}
 use Rattle.model.proofs.Tests.{and-both, by-test, any-same}
+use Rattle.model.proofs.Places.{by-row, no-place}
 use Rattle.model.proofs.Trees.Accepted.{Accepted}
 use Rattle.model.proofs.Counted.{indexed-same, indexed-kept, filter-occurs}
 use Rattle.model.proofs.Laws.Given.{given-from, swap-given, draw-given, checked-length}
@@ -78,29 +79,32 @@ module _ (t : Tree) (i : ℕ) (s : State) (c : ℕ) (g : Start-of (given-from t 
 
 -- A CHECK: the word that the place after it will grant
 word-of-row : (q : PlaceWords) → word-to-grant (place-of q) ≡ cond (eqb (q .row) 10) (q .word) 0
-unfolding word-to-grant place-of plain-place bare-place
-word-of-row q = by (eqb (q .row) 10)
+unfolding word-to-grant place-of
+word-of-row q = by (q .row) (q .domain) (q .peer) (q .word)
   where
-    no-grant : Place → Type 0
-    no-grant p = word-to-grant p ≡ 0
+    none : (x : Place) → word-to-grant x ≡ 0 → (b : Bool) → word-to-grant (cond b x Invalid) ≡ 0
+    none x e b = by-test (λ p. word-to-grant p ≡ 0) b x Invalid (λ _. e) (λ _. refl)
 
-    pick : (b : Bool) (p r : Place) → no-grant p → no-grant r → no-grant (cond b p r)
-    pick b p r x y = by-test no-grant b p r (λ e. x) (λ e. y)
-
-    bare : no-grant (bare-place (q .row))
-    bare = pick (eqb (q .row) 0) _ _ refl (pick (eqb (q .row) 5) _ _ refl (pick (eqb (q .row) 11) _ _ refl (pick (eqb (q .row) 12) _ _ refl (pick (eqb (q .row) 13) _ _ refl refl))))
-
-    plain : no-grant (plain-place (q .row) (q .domain))
-    plain =
-        pick (eqb (q .row) 1) _ _ refl (pick (eqb (q .row) 2) _ _ refl (pick (eqb (q .row) 4) _ _ refl (pick (eqb (q .row) 6) _ _ refl (pick (eqb (q .row) 7) _ _ refl
-        (pick (eqb (q .row) 8) _ _ refl (pick (eqb (q .row) 9) _ _ refl (pick (eqb (q .domain) 0) _ _ bare refl)))))))
-
-    by :
-        (b : Bool) →
-        word-to-grant (cond b (Grant (q .domain) (q .peer) (q .word)) (cond (not (eqb (q .word) 0)) Invalid (cond (eqb (q .row) 3) (Link (q .domain) (q .peer)) (cond (not (eqb (q .peer) 0)) Invalid (plain-place (q .row) (q .domain))))))
-        ≡ cond b (q .word) 0
-    by true = refl
-    by false = pick (not (eqb (q .word) 0)) _ _ refl (pick (eqb (q .row) 3) _ _ refl (pick (not (eqb (q .peer) 0)) _ _ refl plain))
+    by : (r d p w : ℕ) → word-to-grant (place-of (place-words r d p w)) ≡ cond (eqb r 10) w 0
+    by r d p w =
+        let plain = eqb p 0 && eqb w 0 in
+        let bare = eqb d 0 && (eqb p 0 && eqb w 0) in
+        by-row (λ r. word-to-grant (place-of (place-words r d p w)) ≡ cond (eqb r 10) w 0) r
+        (none Idle refl bare)
+        (none (Prep d) refl plain)
+        (none (Swap d) refl plain)
+        (none (Link d p) refl (eqb w 0))
+        (none (Wait d) refl plain)
+        (none Inside refl bare)
+        (none (Check d) refl plain)
+        (none (Help d) refl plain)
+        (none (Cas d) refl plain)
+        (none (Linger d) refl plain)
+        refl
+        (none Draw refl bare)
+        (none Watch refl bare)
+        (none Raise refl bare)
+        (λ m. rw (no-place (place-words r d p w) m, ne-eqb r 10 (omega arith)))
 
 module _ (t : Tree) (i l : ℕ) (s : State) (here : place s i ≡ Check l) (n : l ≢ 0) (none-given : given-from t i (place s i) s ≡ []) (q : PlaceWords) (after : place (step t i s .state) i ≡ place-of q) where
   check-starts : (d : ℕ) → starts t d (step t i s) ≡ 0

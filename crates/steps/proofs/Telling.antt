@@ -39,6 +39,12 @@ told-behind c b n v = by (ltb n (length b)) refl
     by false e = let h = ltb-false n (length b) e in rw (le-ltb (suc n) (suc (length b)) (omega arith))
 
 -- one step more is told at the index after those before it
+pub told-front-length : (b : List ℕ) (xs : List Step) → length (told-front b xs) ≡ length b
+unfolding told-front
+told-front-length [] xs = refl
+told-front-length (c ∷ b) [] = refl
+told-front-length (c ∷ b) (x ∷ xs) = ap suc (told-front-length b xs)
+
 told-next : (b : List ℕ) (xs : List Step) (x : Step) → told-front b (xs ++ (x ∷ [])) ≡ told-at (told-front b xs) (length xs) (step-code x)
 unfolding told-front
 told-next [] xs x = rw (le-ltb (length xs) 0 (omega arith))

@@ -5,19 +5,20 @@ use mathlib.Core.Logic.{_≢_}
 use Prim.Native.Nat.{ℕ, _/_, _%_, _≤_, _<_}
 use native.Mathlib.Omega.{arith}
 use lib.ListN.{getD}
-use borrow.Author.Tests.{lt-ltb, le-leb}
+use borrow.Author.Tests.{lt-ltb}
 use Rattle.model.specs.declared.TreeWords.{TreeWords}
 use Rattle.model.specs.declared.State.{State}
 use Rattle.model.specs.declared.Place.{Place}
 use Rattle.model.specs.declared.Place.the-variants.{Idle, Prep, Swap, Link, Wait, Inside, Check, Help, Cas, Linger, Grant, Draw, Watch, Raise, Invalid}
 use Rattle.model.specs.Scans.{all-below}
-use Rattle.model.specs.Trees.{tree-of, read-word}
+use Rattle.model.specs.Trees.{tree-of}
 use Rattle.model.specs.Places.{place-words, words-of, place-domain}
 use Rattle.model.specs.States.{place}
 use Rattle.model.specs.Steps.{kind-number, Step, step}
 use Rattle.model.specs.WellFormed.{good-tail, good-next, good-status, good-place, good-watch, good-thread, good-counters, well-formed}
 use Rattle.model.proofs.Laws.Form.{valid}
 use Rattle.model.proofs.Tests.{and-both, all-each}
+use Rattle.model.proofs.Trees.Reading.{home-read, threads-read}
 use Rattle.steps.specs.Rows.{row-domain}
 use Rattle.steps.specs.Running.{step-code}
 use Rattle.steps.proofs.SoFar.{kind-small}
@@ -83,14 +84,10 @@ module _ (w : TreeWords) (s : State) (i : ℕ) (form : well-formed (tree-of w) s
       let good = rw (lt-ltb i (t .threads) h) at (all-each 256 (good-thread t s) threads i small) in
       valid t i (place s i) (and-both (good-place t i (place s i)) (good-watch t s i) good .0)
 
-  home-read : getD (w .homes) i 0 ≡ tree-of w .home i
-  unfolding tree-of read-word
-  home-read = let small-thread : i < w .threads = h in rw (lt-ltb i (w .threads) small-thread, le-leb 0 i (omega arith))
-
   pub domain-told : (let c = step-code (step (tree-of w) i s) in row-domain (getD (w .homes) i 0) ((c / 8) % 16) (c / 128) ≡ step (tree-of w) i s .domain)
   unfolding step
   domain-told =
       let t = tree-of w in
       let x = step t i s in
       let p = place s i in
-      rw (code-row x, code-domain x) (ap (λ v. row-domain v (words-of p .row) (words-of p .domain)) home-read ∙ place-by-row (t .home i) p place-valid)
+      rw (code-row x, code-domain x) (ap (λ v. row-domain v (words-of p .row) (words-of p .domain)) (sym (home-read w i (rw (threads-read w) at h))) ∙ place-by-row (t .home i) p place-valid)

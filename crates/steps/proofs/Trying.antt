@@ -21,8 +21,8 @@ use Rattle.model.proofs.Laws.Runs.{steps-take, state-after-join}
 use Rattle.model.proofs.Laws.Form.{form-law}
 use Rattle.model.proofs.Laws.Calls.{Good-run, early-accepted}
 use Rattle.model.proofs.Laws.Counters.{one-kept}
+use Rattle.model.proofs.Trees.Accepted.{sixteen-bit}
 use Rattle.steps.proofs.SoFar.{thread-at, next-step}
-use Rattle.steps.proofs.Turns.{sixteen}
 use Rattle.steps.proofs.Tallying.{Tallied, tallied-start, tallied-turn}
 
 module _ (t : Tree) (bits : Sixteen-bit t) (s₀ : LockState) (is : List ℕ) (room : ℕ) (R : Good-run t s₀ is room) where
@@ -79,4 +79,4 @@ module _ (t : Tree) (bits : Sixteen-bit t) (s₀ : LockState) (is : List ℕ) (r
 
 -- the same of words, with what their refusal says
 unfoldable pub Tries : TreeWords → LockState → (schedule : List ℕ) → State → Counters → (k : ℕ) → Type 0
-Tries w s is n c k = (R : Good-run (tree-of w) s is (length is)) → Tried (tree-of w) (sixteen w) s is (length is) R n c k
+Tries w s is n c k = (R : Good-run (tree-of w) s is (length is)) → Tried (tree-of w) (sixteen-bit w) s is (length is) R n c k

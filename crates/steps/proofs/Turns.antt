@@ -2,22 +2,16 @@
 use mathlib.Core.List.{List}
 use Prim.Native.Nat.{ℕ, _<_}
 use native.Mathlib.Omega.{arith}
-use native.Mathlib.Nat.{mod-lt}
 use lib.ListN.{getD, length}
-use Rattle.model.specs.declared.TreeWords.{TreeWords}
 use Rattle.model.specs.declared.State.{State}
 use Rattle.model.specs.declared.LockState.{LockState}
 use Rattle.model.specs.Places.{place-words}
-use Rattle.model.specs.Trees.{Tree, tree-of, read-word}
-use Rattle.model.specs.Laws.{Sixteen-bit, Formed}
+use Rattle.model.specs.Trees.{Tree}
+use Rattle.model.specs.Laws.{Formed}
 use Rattle.model.proofs.Laws.Facts.{well-formed-facts}
 use Rattle.model.proofs.Laws.Calls.{Good-run}
 use Rattle.steps.specs.Running.{Ready}
 use Rattle.steps.proofs.SoFar.{thread-at, below}
-
-pub sixteen : (w : TreeWords) → Sixteen-bit (tree-of w)
-unfolding tree-of
-sixteen w d = let h = mod-lt (read-word 1 (w .domains) (w .thresholds) d) {m = 65536} (omega arith) in omega arith
 
 -- an entry of an accepted schedule
 pub thread-small : (t : Tree) (s : LockState) (is : List ℕ) (room k : ℕ) → Good-run t s is room → k < length is → getD is k 0 < 256

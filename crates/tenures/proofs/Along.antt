@@ -9,6 +9,7 @@ use Rattle.model.specs.Trees.{Tree, is-leaf, on-path, under}
 use Rattle.model.specs.Steps.{is-entry, Standing, unchanged, begins, ends, Row-result}
 use Rattle.model.proofs.Trees.Accepted.{Accepted}
 use Rattle.model.proofs.Lists.{same-or, put-same, put-other, first, count}
+use Rattle.model.proofs.Laws.Empty.{under-domain}
 use Rattle.claims.proofs.Queues.Paths.{laws}
 use Rattle.claims.proofs.Queues.Moves as moves
 use Rattle.claims.proofs.Queues.Moves.{climb, holding, low, pending, State, Event, nothing, start}
@@ -19,7 +20,6 @@ use Rattle.tenures.proofs.StepMoves.{made-first, started-by, Moved, sti
 use Rattle.tenures.proofs.Firsts.{P, R, some-started}
 use Rattle.tenures.proofs.LeafTenures.{entered-by, Leaf, runner-first}
 use Rattle.tenures.proofs.LeafMoves.{leaf-move}
-use Rattle.tenures.proofs.Children.{under-domain}
 
 module _ (T : Tree) (𝓐 : Accepted T) (d : ℕ) where
   -- where the tenure runs, one has started

@@ -6,7 +6,7 @@ use mathlib.Core.Logic.{_≢_}
 use Prim.Native.Nat.{ℕ, zero, suc, _+_, _-_, _≤_, _<_}
 use native.Mathlib.Omega.{arith}
 use lib.Dec.{eqb}
-use borrow.Author.Tests.{ne-eqb, le-ltb}
+use borrow.Author.Tests.{ne-eqb}
 use Rattle.model.specs.declared.State.{State}
 use Rattle.model.specs.Trees.{Tree, is-child, is-leaf, on-path, child, under}
 use Rattle.model.specs.Steps.{is-entry, Step, step}
@@ -17,6 +17,7 @@ use Rattle.model.proofs.Lists.{same-or}
 use Rattle.model.proofs.Trees.Accepted.{Accepted, accepted, child-yes, child-facts}
 use Rattle.model.proofs.Trees.Index.{ancestor, height}
 use Rattle.model.proofs.Trees.Paths.{ancestor-home, ancestor-parent-of, ancestor-real, ancestor-inner, ancestor-not-root, ancestor-injective, path-index, on-path-at, on-path-root, on-path-parent}
+use Rattle.model.proofs.Laws.Empty.{under-domain}
 use Rattle.tenures.specs.Laws.{sum-below, children-sum, Children-law}
 
 -- SUMS
@@ -103,12 +104,7 @@ module _ (t : Tree) (𝓐 : Accepted t) (i : ℕ) (h : i < t .threads) (d : ℕ)
       by true e = let o = path-index t 𝓐 i h d e in sym (on (o .index) (o .within) (o .there))
       by false e = sym (sum-none (t .domains) _ (off e))
 
--- A LIST OF STEPS. Under a domain's record is each thread whose path has the domain
-pub under-domain : (t : Tree) (d i : ℕ) → under t (256 + d) i ≡ on-path t i d
-unfolding under
-under-domain t d i = let z : 256 + d - 256 ≡ d = omega arith in rw (le-ltb (256 + d) 256 (omega arith), z)
-
--- every step is a thread's of the tree
+-- A LIST OF STEPS. Every step is a thread's of the tree
 unfoldable Real-steps : Tree → List Step → Type 0
 Real-steps t [] = Unit {0}
 Real-steps t (x ∷ xs) = (x .thread < t .threads) × Real-steps t xs

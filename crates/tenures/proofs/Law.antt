@@ -9,7 +9,7 @@ use borrow.Author.Tests.{ne-eqb}
 use Rattle.model.specs.declared.Place.the-variants.{Idle}
 use Rattle.model.specs.declared.State.{State as WordState}
 use Rattle.model.specs.Trees.{Tree, is-leaf, under}
-use Rattle.model.specs.Places.{place-words, bare-place, plain-place, place-of}
+use Rattle.model.specs.Places.{place-words, place-of}
 use Rattle.model.specs.States.{place, fresh-words, fresh-state}
 use Rattle.model.specs.Steps.{is-entry, Step, step}
 use Rattle.model.specs.Runs.{steps, state-after, entries-under}
@@ -47,7 +47,7 @@ module _ (t : Tree) (𝓐 : Accepted t) (bits : Sixteen-bit t) (d : ℕ) (pos : 
   -- FRESH: every thread is Idle, so out, and no queue has a first
   module _ (v : ℕ) where
     idle-there : (i : ℕ) → place (fresh-state t v) i ≡ Idle
-    unfolding fresh-state fresh-words place-of plain-place bare-place
+    unfolding fresh-state fresh-words place-of
     idle-there i = replicate-all (λ x. place-of x ≡ Idle) 256 i (place-words 0 0 0 0) refl
 
     abbrev g : State

@@ -8,13 +8,14 @@ use native.Mathlib.Omega.{arith}
 use native.Mathlib.Decide.{ℕ-discrete}
 use lib.Dec.{eqb}
 use lib.ListN.{length, getD, replicate, List·getD-append}
-use borrow.Author.Tests.{lt-ltb, le-ltb, le-leb, lt-leb, eq-eqb, ne-eqb}
+use borrow.Author.Tests.{le-ltb, lt-leb, eq-eqb, ne-eqb}
 use Rattle.model.specs.Scans.{any-below}
 use Rattle.model.specs.Trees.{Tree, read-word, tree-of, is-child, is-leaf, depth-from, depth, level, meets, on-path, under}
 use Rattle.model.specs.Refusals.{accepted, test, first-refusal, bad-domains, bad-threads, bad-parent, too-deep, no-threshold, bad-home, empty-domain, tree-tests, tree-refusal}
 use Rattle.model.proofs.Tests.{any-found, or-right, any-one}
 use Rattle.model.proofs.Refusing.{test-skipped}
 use Rattle.model.proofs.Trees.Accepted.{child-facts}
+use Rattle.model.proofs.Trees.Reading.{read-in}
 use Rattle.text_tree.specs.Grammar.{Shape, Text, root-laid, laid-out, domains-in, threads-in, in-room, words-of}
 use Rattle.text_tree.specs.TextLaws.{Accepted-law, Lived-in, Passes, Passes-law}
 use Rattle.text_tree.proofs.Laying.{Agrees}
@@ -137,10 +138,6 @@ module _ (t : Tree) (g : ℕ → ℕ) (b : Block (t .parent) g (t .home) 0 0 1 (
       }
 
 -- THE WORDS OF A TEXT
-read-there : (first end : ℕ) (ws : List ℕ) (x : ℕ) → first ≤ x → x < end → read-word first end ws x ≡ getD ws x 0
-unfolding read-word
-read-there first end ws x l h = rw (le-leb first x l, lt-ltb x end h)
-
 front-of-room : (room : ℕ) (ws : List ℕ) (x : ℕ) → x < length ws → getD (in-room room ws) x 0 ≡ getD ws x 0
 front-of-room room ws x h = List·getD-append ws (replicate (room - length ws) 0) 0 x h
 
@@ -157,9 +154,9 @@ module _ (t : Shape) where
   words-agree : length (laid-out t .thresholds) ≡ domains-in t → Agrees parent-of threshold-of home-of (laid-out t)
   words-agree many =
       record {
-        parents-agree = λ x l h. read-there 1 (domains-in t) _ x l h ∙ front-of-room 64 (laid-out t .parents) x h;
-        thresholds-agree = λ x l h. read-there 1 (domains-in t) _ x l (omega arith) ∙ front-of-room 64 (laid-out t .thresholds) x h;
-        homes-agree = λ x h. read-there 0 (threads-in t) _ x (omega arith) h ∙ front-of-room 256 (laid-out t .homes) x h;
+        parents-agree = λ x l h. read-in 1 (domains-in t) _ x l h ∙ front-of-room 64 (laid-out t .parents) x h;
+        thresholds-agree = λ x l h. read-in 1 (domains-in t) _ x l (omega arith) ∙ front-of-room 64 (laid-out t .thresholds) x h;
+        homes-agree = λ x h. read-in 0 (threads-in t) _ x (omega arith) h ∙ front-of-room 256 (laid-out t .homes) x h;
       }
 
   whole-block : (bytes : List ℕ) → Text bytes t → Block parent-of threshold-of home-of 0 0 1 (domains-in t) 0 (threads-in t) 5

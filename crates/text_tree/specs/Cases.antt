@@ -1,17 +1,12 @@
 -- Cases of trees as text, in one list. Bytes: the space 32, # 35, ( 40, ) 41, the digits 48 to 57. Assumes nothing: these are definitions.
-use mathlib.Core.Bool.{Bool, true, false, _&&_}
+use mathlib.Core.Bool.{Bool, true, _&&_}
 use mathlib.Core.List.{List, [], _∷_, _++_}
 use Prim.Native.Nat.{ℕ, zero, suc}
 use lib.Dec.{eqb}
 use lib.ListN.{take, replicate}
+use Rattle.model.specs.Cases.{same-numbers}
 use Rattle.text_tree.specs.declared.TextReply.{TextReply}
 use Rattle.text_tree.specs.Answers.{text-answer}
-
-abbrev pub same : List ℕ → List ℕ → Bool
-same [] [] = true
-same [] (y ∷ ys) = false
-same (x ∷ xs) [] = false
-same (x ∷ xs) (y ∷ ys) = eqb x y && same xs ys
 
 abbrev pub all : List Bool → Bool
 all [] = true
@@ -19,8 +14,8 @@ all (b ∷ bs) = b && all bs
 
 abbrev pub answers : (number place domains threads : ℕ) → (parents thresholds homes : List ℕ) → TextReply → Bool
 answers n p d t ps hs ms r =
-    eqb (r .number) n && eqb (r .place) p && eqb (r .tree .domains) d && eqb (r .tree .threads) t && same (r .tree .parents) ps
-    && same (r .tree .thresholds) hs && same (r .tree .homes) ms
+    eqb (r .number) n && eqb (r .place) p && eqb (r .tree .domains) d && eqb (r .tree .threads) t && same-numbers (r .tree .parents) ps
+    && same-numbers (r .tree .thresholds) hs && same-numbers (r .tree .homes) ms
 
 -- refused, all words are 0
 abbrev pub refuses : (number place : ℕ) → (bytes : List ℕ) → Bool

@@ -8,30 +8,30 @@ use native.Mathlib.Omega.{arith}
 use native.Mathlib.Decide.{ℕ-discrete}
 use native.Mathlib.Nat.{zero-add}
 use lib.ListN.{length, getD, set, replicate}
-use lib.Seq.{getD-set-same, getD-set-other}
+use lib.Seq.{getD-set-other}
 use borrow.Author.Tests.{eq-eqb, ne-eqb}
 use Rattle.model.specs.declared.PlaceWords.{PlaceWords}
 use Rattle.model.specs.declared.Place.{Place}
 use Rattle.model.specs.declared.Place.the-variants.{Idle, Inside}
 use Rattle.model.specs.declared.State.{State}
 use Rattle.model.specs.Trees.{Tree}
-use Rattle.model.specs.Places.{place-words, words-of, bare-place, plain-place, place-of}
+use Rattle.model.specs.Places.{place-words, words-of, place-of}
 use Rattle.model.specs.States.{place, fresh-words, fresh-state}
 use Rattle.model.specs.Steps.{is-entry, Row-result, Step, row, step}
 use Rattle.model.specs.Runs.{steps, entering, run-of, run, occurrences}
 use Rattle.model.specs.Refusals.{tree-refusal}
 use Rattle.model.specs.Laws.{All-threads, Formed, Form-law, Sixteen-bit}
-use Rattle.model.proofs.Places.{place-of-words}
 use Rattle.model.proofs.Trees.Accepted.{Accepted, accepted}
 use Rattle.model.proofs.Laws.Facts.{well-formed-facts}
 use Rattle.model.proofs.Laws.Form.{form-law}
+use Rattle.model.proofs.Places.{place-stored}
 use Rattle.waits.specs.Attempts.{begins-from, begins, enters, begun, counted, under-way-after, finished, finished-by, waits-from, waits}
 use Rattle.waits.specs.Laws.{Entry-law}
 use Rattle.waits.proofs.Phases.{on-way, Phase, rests, goes, sets-out, arrives, at-once, phase}
 
 -- PLACES after a step of thread j: its own, and the others as they were
 place-own : (s : State) (ps : List PlaceWords) (j : ℕ) (q : Place) → ps ≡ set (s .places) j (words-of q) → j < length (s .places) → place-of (getD ps j (place-words 0 0 0 0)) ≡ q
-place-own s ps j q e h = ap (λ v. place-of (getD v j (place-words 0 0 0 0))) e ∙ rw (getD-set-same (s .places) j (words-of q) (place-words 0 0 0 0) h) (place-of-words q)
+place-own s ps j q e h = ap (λ v. place-of (getD v j (place-words 0 0 0 0))) e ∙ place-stored j q s h
 
 place-other : (s : State) (ps : List PlaceWords) (i j : ℕ) (q : Place) → ps ≡ set (s .places) j (words-of q) → i ≢ j → place-of (getD ps i (place-words 0 0 0 0)) ≡ place s i
 place-other s ps i j q e n = ap (λ v. place-of (getD v i (place-words 0 0 0 0))) e ∙ ap place-of (getD-set-other (s .places) j i (words-of q) (place-words 0 0 0 0) n)
@@ -205,7 +205,7 @@ idle-words (suc n) zero = refl
 idle-words (suc n) (suc i) = idle-words n i
 
 fresh-idle : (t : Tree) (v i : ℕ) → on-way t i (place (fresh-state t v) i) ≡ false
-unfolding fresh-state on-way fresh-words place-of plain-place bare-place
+unfolding fresh-state on-way fresh-words place-of
 fresh-idle t v i = ap (λ (q : PlaceWords). on-way t i (place-of q)) (idle-words 256 i)
 
 pub entry-law : Entry-law

@@ -17,12 +17,12 @@ use Rattle.model.specs.Counters.{lock-state, counters-after, good-counts, any-a
 use Rattle.model.specs.Refusals.{first-refusal, bad-counter, tree-refusal, run-tests-before-19, run-refusal}
 use Rattle.model.specs.Answers.{counters-behind}
 use Rattle.model.specs.CounterLaws.{Counter-form-law}
-use Rattle.model.proofs.Trees.Accepted.{accepted}
+use Rattle.model.proofs.Trees.Accepted.{accepted, sixteen-bit}
 use Rattle.model.specs.Laws.{All-threads, Formed, Form-law, Count-law}
 use Rattle.model.proofs.Laws.Runs.{steps-join, steps-take, steps-length, state-after-join, entering-join, how-many-join, count-law}
 use Rattle.model.proofs.Laws.Refusals.{accepted-number}
 use Rattle.model.proofs.Laws.Form.{form-law}
-use Rattle.model.proofs.Counted.{counters-none, counters-join}
+use Rattle.model.proofs.Counted.{counters-none, counters-join, how-many-most}
 use Rattle.model.proofs.Laws.Counters.{counter-form-law}
 use Rattle.model.proofs.Laws.Calls.{Good-run, run-facts, run-counted, early-accepted}
 use Rattle.waits.specs.Rows.{all-rows}
@@ -30,8 +30,8 @@ use Rattle.waits.specs.Tallies.{Tallies, rows-by}
 use Rattle.waits.proofs.Tables.{start, fits, rows-end}
 use Rattle.steps.specs.Running.{kinds-of, counts-by, trace-front, step-code, told-front}
 use Rattle.waits.specs.Waiting.{kinds-added, Counting, Countable, Counted, Small}
-use Rattle.steps.proofs.SoFar.{few-kinds, counts-kinds}
-use Rattle.steps.proofs.Turns.{sixteen}
+use Rattle.steps.proofs.SoFar.{counts-kinds}
+use Rattle.steps.proofs.Telling.{told-front-length}
 
 -- pieces of a schedule
 pub all-take : (t : Tree) (is : List ℕ) (m : ℕ) → All-threads t is → All-threads t (take m is)
@@ -91,12 +91,6 @@ told-at-seam [] ps x qs h = absurd (omega arith)
 told-at-seam (c ∷ b) [] x qs h = refl
 told-at-seam (c ∷ b) (p ∷ ps) x qs h = told-at-seam b ps x qs (omega arith)
 
-told-room : (b : List ℕ) (xs : List Step) → length (told-front b xs) ≡ length b
-unfolding told-front
-told-room [] xs = refl
-told-room (c ∷ b) [] = refl
-told-room (c ∷ b) (x ∷ xs) = ap suc (told-room b xs)
-
 steps-split :
     (t : Tree) (is : List ℕ) (s : State) (k : ℕ) → k < length is →
     (let x = step t (getD is k 0) (state-after s (steps t (take k is) s)) in steps t is s ≡ steps t (take k is) s ++ (x ∷ steps t (drop (suc k) is) (x .state)))
@@ -110,9 +104,6 @@ sets-long l l′ xs e = ap length e ∙ length-sets l 0 xs
 
 pub threads-few : (w : TreeWords) → tree-refusal (tree-of w) .number ≡ 0 → tree-of w .threads ≤ 256
 threads-few w z = accepted (tree-of w) z .few-threads
-
-few-entries : (xs : List Step) → how-many is-entry xs ≤ length xs
-few-entries xs = few-kinds is-entry xs
 
 module _ (w : TreeWords) (is b₀ : List ℕ) (s₀ : State) (c₀ : Counters) where
   abbrev t : Tree
@@ -150,7 +141,7 @@ module _ (w : TreeWords) (is b₀ : List ℕ) (s₀ : State) (c₀ : Counters) w
     done-long = steps-length t (take from is) s₀ ∙ length-take-le from is (G .within)
 
     entered-few : n ≤ from
-    entered-few = omega (arith, G .tallies .entered-are, few-entries (done from), done-long)
+    entered-few = omega (arith, G .tallies .entered-are, how-many-most is-entry (done from), done-long)
 
     traced : n ≡ length T
     unfolding run run-of counts-of Count-law
@@ -208,7 +199,7 @@ module _ (w : TreeWords) (is b₀ : List ℕ) (s₀ : State) (c₀ : Counters) w
       unfolding Counter-form-law counters-behind bad-counter
       counts-good =
           rw (G .counters-are)
-          (counter-form-law t (R .tree) (sixteen w) .of-run (take from is) handed (all-take t is from (R .threads)) (G .first-formed) (R .counts)
+          (counter-form-law t (R .tree) (sixteen-bit w) .of-run (take from is) handed (all-take t is from (R .threads)) (G .first-formed) (R .counts)
           (λ p h.
           let k : p + 1 ≤ from = omega (arith, length-take-le from is (G .within)) in
           ap (λ v. any-above (counters-after t c₀ v)) (sym (steps-take t (p + 1) (take from is) s₀) ∙ ap (λ v. steps t v s₀) (take-take (p + 1) from is k) ∙ steps-take t (p + 1) is s₀)
@@ -244,7 +235,7 @@ module _ (w : TreeWords) (is b₀ : List ℕ) (s₀ : State) (c₀ : Counters) w
       -- what was told of it can be counted
       module _ (told : List ℕ) (et : told ≡ told-front (replicate 1024 0) (steps t piece s)) where
         room : length told ≡ 1024
-        room = ap length et ∙ told-room (replicate 1024 0) (steps t piece s) ∙ length-replicate {A = ℕ} 1024 0
+        room = ap length et ∙ told-front-length (replicate 1024 0) (steps t piece s) ∙ length-replicate {A = ℕ} 1024 0
 
         code : (k : ℕ) → k < length piece → getD told k 0 ≡ step-code (step t (getD piece k 0) (state-after s (steps t (take k piece) s)))
         code k h =
@@ -277,7 +268,7 @@ module _ (w : TreeWords) (is b₀ : List ℕ) (s₀ : State) (c₀ : Counters) w
         pieces-turn s′ c′ es ec ys ey pk kinds′ ek em M′ A′ W′ L′ n′ C =
             record {
               within = fit;
-              formed = rw es (form-law t (sixteen w) (R .tree) .of-run piece s piece-threads (G .formed));
+              formed = rw es (form-law t (sixteen-bit w) (R .tree) .of-run piece s piece-threads (G .formed));
               first-formed = G .first-formed;
               state-is = es ∙ ap (λ v. state-after v (steps t piece s)) (G .state-is) ∙ sym (ap (state-after s₀) joined ∙ state-after-join s₀ (done from) (steps t piece s));
               counters-are = ec ∙ ap (λ v. counters-after t v (steps t piece s)) (G .counters-are) ∙ sym (ap (counters-after t c₀) joined ∙ counters-join t c₀ (done from) (steps t piece s));

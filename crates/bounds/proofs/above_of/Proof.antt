@@ -2,9 +2,10 @@
 use native.Mathlib.Omega.{arith}
 use borrow.Author.Tests.{eq-eqb, ne-eqb}
 use borrow.Author.Needs.{needs}
-use Rattle.bounds.proofs.RoundWords.{parent-word, parent-below, few-domains}
+use Rattle.bounds.proofs.RoundWords.{parent-below, few-domains}
 use Rattle.bounds.proofs.above_of.Statement.{statement}
 use Rattle.bounds.proofs.above_of.Tie as tie
+use Rattle.model.proofs.Trees.Reading.{parent-read}
 
 returns : tie.Need-returns
 returns c = rw (eq-eqb _ _ (c .if1 .taken))
@@ -33,7 +34,7 @@ element-copy-out-result c =
 returns-2 : tie.Need-returns-2
 returns-2 c =
     let s = c .before .before .before .before in
-    rw (ne-eqb _ _ (c .before .before .before .if1 .left), parent-word (s .args .t1) (s .args .d) (omega (arith, c .before .before .before .if1 .left)) (s .pre .1), ← c .before .wide .ensures)
+    rw (ne-eqb _ _ (c .before .before .before .if1 .left), parent-read (s .args .t1) (s .args .d) (omega (arith, c .before .before .before .if1 .left)) (s .pre .1), ← c .before .wide .ensures)
 
 pub above-of-spec : {M : Type 1} → statement M
 above-of-spec =

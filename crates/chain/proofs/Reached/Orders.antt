@@ -52,11 +52,11 @@ unfoldable pub position : (member : ℕ) → List ℕ → ℕ
 position r [] = 0
 position r (x ∷ xs) = cond (eqb r x) 0 (suc (position r xs))
 
-position-here : (r x : ℕ) (xs : List ℕ) → r ≡ x → position r (x ∷ xs) ≡ 0
+pub position-here : (r x : ℕ) (xs : List ℕ) → r ≡ x → position r (x ∷ xs) ≡ 0
 unfolding position
 position-here r x xs e = rw (eq-eqb r x e) refl
 
-position-past : (r x : ℕ) (xs : List ℕ) → r ≢ x → position r (x ∷ xs) ≡ suc (position r xs)
+pub position-past : (r x : ℕ) (xs : List ℕ) → r ≢ x → position r (x ∷ xs) ≡ suc (position r xs)
 unfolding position
 position-past r x xs n = rw (ne-eqb r x n) refl
 

@@ -7,7 +7,7 @@ use lib.ListN.{take, getD, replicate}
 use Rattle.model.specs.declared.Place.the-variants.{Idle}
 use Rattle.model.specs.declared.State.{State as WordState}
 use Rattle.model.specs.Trees.{Tree}
-use Rattle.model.specs.Places.{place-words, bare-place, plain-place, place-of}
+use Rattle.model.specs.Places.{place-words, place-of}
 use Rattle.model.specs.States.{place, fresh-words, fresh-state}
 use Rattle.model.specs.Steps.{Step, step}
 use Rattle.model.specs.Runs.{steps, state-after}
@@ -44,7 +44,7 @@ fresh-room t v =
     record { tails-room = f .tails-room; nexts-room = f .nexts-room; statuses-room = f .statuses-room; places-room = f .places-room }
 
 pub fresh-queued : (t : Tree) (v : ℕ) → Queued t (fresh-state t v)
-unfolding empty words-in fresh-words fresh-state place-of plain-place bare-place Tickets
+unfolding empty words-in fresh-words fresh-state place-of Tickets
 fresh-queued t v =
     let zero-at : (n j : ℕ) → _≡_ {A = ℕ} (getD (replicate n 0) j 0) 0 = λ n j. replicate-all (λ (x : ℕ). x ≡ 0) n j 0 refl in
     let idle : (i : ℕ) → place (fresh-state t v) i ≡ Idle = λ i. replicate-all (λ x. place-of x ≡ Idle) 256 i (place-words 0 0 0 0) refl in

@@ -256,17 +256,17 @@ module _ (t : Tree) (ok : tree-refusal t .number ≡ 0) (bits : Sixteen-bit t) w
       (λ p h. rw (count-later t s i is p) at (low (suc p) (omega arith))))
 
 -- fresh counters are 0
-fresh-zero : (n d : ℕ) → _≡_ {A = ℕ} (getD (replicate n 0) d 0) 0
-fresh-zero n d = replicate-all (λ (x : ℕ). x ≡ 0) n d 0 refl
+pub zeros : (n d : ℕ) → _≡_ {A = ℕ} (getD (replicate n 0) d 0) 0
+zeros n d = replicate-all (λ (x : ℕ). x ≡ 0) n d 0 refl
 
 pub fresh-good : (t : Tree) → good-counts t fresh-counters ≡ true
 unfolding fresh-counters
 fresh-good t =
     good-test t fresh-counters (record {
-      entries = λ d h. rw (fresh-zero 64 d) (zero-fits t d);
-      tenures = λ d h. rw (fresh-zero 64 d) (zero-fits t d);
-      longest = λ d h. rw (fresh-zero 64 d) (zero-fits t d);
-      within = λ d h. rw (fresh-zero 64 d) (omega arith);
+      entries = λ d h. rw (zeros 64 d) (zero-fits t d);
+      tenures = λ d h. rw (zeros 64 d) (zero-fits t d);
+      longest = λ d h. rw (zeros 64 d) (zero-fits t d);
+      within = λ d h. rw (zeros 64 d) (omega arith);
     })
 
 pub counter-form-law : Counter-form-law
@@ -317,9 +317,9 @@ pub fresh-room : (n : ℕ) → n ≤ most-counted → Room-left fresh-counters n
 unfolding fresh-counters
 fresh-room n h =
     record {
-      entries = λ d b. omega (arith, fresh-zero 64 d);
-      tenures = λ d b. omega (arith, fresh-zero 64 d);
-      longest = λ d b. omega (arith, fresh-zero 64 d);
+      entries = λ d b. omega (arith, zeros 64 d);
+      tenures = λ d b. omega (arith, zeros 64 d);
+      longest = λ d b. omega (arith, zeros 64 d);
     }
 
 pub fresh-room-law : Fresh-room-law

@@ -15,7 +15,7 @@ use Rattle.model.specs.Trees.{Tree, is-ticket, on-path, child, own-recor
 use Rattle.model.specs.Places.{place-words, words-of, place-of, is-watch}
 use Rattle.model.specs.States.{acquire-parent, wait-word, locked, unlocked, cohort-start, root-word, none, tail, next, status, place, wrap, with-tail, with-status, with-place, with-ticket, with-grant, fresh-words, fresh-state}
 use Rattle.model.specs.Steps.{Row-result, acquire-place, acquired-place, release-place, done-place, release-word, prep-row, swap-row, link-row, wait-row, leave-row, check-row, help-row, cas-row, linger-row, grant-row, draw-row, watch-row, raise-row, row, step}
-use Rattle.model.specs.WellFormed.{queue-on-path, good-place}
+use Rattle.model.specs.WellFormed.{queue-on-path, good-place, well-formed}
 use Rattle.model.specs.Laws.{Sixteen-bit, Formed, Form-law}
 use Rattle.model.proofs.Tests.{by-test, and-both}
 use Rattle.model.proofs.Places.{words-of-place}
@@ -33,7 +33,7 @@ replicate-all Q (suc n) zero d q = q
 replicate-all Q (suc n) (suc j) d q = replicate-all Q n j d q
 
 -- the counters of a fresh lock
-wrap-fits : (v : ℕ) → wrap v < 65536
+pub wrap-fits : (v : ℕ) → wrap v < 65536
 wrap-fits v = omega arith
 
 start-fits : (t : Tree) (v : ℕ) → cond (t .ticket-root) (wrap v) 0 < 65536
@@ -76,6 +76,10 @@ fresh-facts t v =
       watched = λ i h w. replicate-all (λ x. x ≤ 65535) 320 (own-record t i 0) 0 (omega arith);
       counters = start-counters t v;
     }
+
+-- fresh words are well formed for every tree
+pub fresh-well-formed : (t : Tree) → well-formed t fresh-words ≡ true
+fresh-well-formed t = rw (← fresh-at-zero t) (facts-well-formed t (fresh-state t 0) (fresh-facts t 0) .form)
 
 -- a tail or a next that is not none names a member
 some-tail : (t : Tree) (d v : ℕ) → Good-tail t d v → v ≢ 0 → is-member t d (v - 1) ≡ true

@@ -14,7 +14,7 @@ use Rattle.model.specs.declared.Place.the-variants.{Idle, Prep, Swap, Li
 use Rattle.model.specs.declared.State.{State}
 use Rattle.model.specs.Scans.{any-below}
 use Rattle.model.specs.Trees.{Tree, is-ticket, on-path, own-record, is-record, is-member, under}
-use Rattle.model.specs.Places.{place-words, words-of, place-of, plain-place, bare-place, is-watch}
+use Rattle.model.specs.Places.{place-words, words-of, place-of, is-watch}
 use Rattle.model.specs.States.{acquire-parent, wait-word, locked, none, tail, next, status, place, wrap, with-place}
 use Rattle.model.specs.Steps.{is-entry, Standing, unchanged, begins, ends, Row-result, moves, stays, enters, Step, step-from, release-place, prep-row, swap-row, link-row, wait-row, leave-row, check-row, help-row, cas-row, linger-row, grant-row, draw-row, watch-row, is-watched, shown-members, raise-row, row, step}
 use Rattle.model.specs.Runs.{ended-in, occurrences}
@@ -264,7 +264,7 @@ module _ (t : Tree) (𝓐 : Accepted t) where
 
 -- THE LENGTH THAT A STEP TELLS. The word that a stored place will grant is the place's, or none where there is no such thread
 stored-word : (i : ℕ) (p : Place) (s : State) → word-to-grant (place (with-place i p s) i) ≤ word-to-grant p
-unfolding word-to-grant place-of plain-place bare-place
+unfolding word-to-grant place-of
 stored-word i p s =
     elim (decLt i (length (s .places))) [
       | yes h ↦ rw (place-stored i p s h) (omega arith)

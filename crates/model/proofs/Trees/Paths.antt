@@ -41,17 +41,17 @@ ancestor-merge t i j k l (suc n) e =
     rw (p, q) (ancestor-suc t i (n + k) ∙ ap (above t) (ancestor-merge t i j k l n e) ∙ sym (ancestor-suc t j (n + l)))
 
 -- DEPTH
-depth-root : (f : ℕ) (t : Tree) (d : ℕ) → d ≡ 0 → depth-from f t d ≡ 0
+pub depth-root : (f : ℕ) (t : Tree) (d : ℕ) → d ≡ 0 → depth-from f t d ≡ 0
 unfolding depth-from
 depth-root zero t d e = refl
 depth-root (suc f) t d e = rw (eq-eqb d 0 e)
 
-depth-step : (f : ℕ) (t : Tree) (d : ℕ) → 0 < d → depth-from (suc f) t d ≡ suc (depth-from f t (t .parent d))
+pub depth-step : (f : ℕ) (t : Tree) (d : ℕ) → 0 < d → depth-from (suc f) t d ≡ suc (depth-from f t (t .parent d))
 unfolding depth-from
 depth-step f t d h = rw (ne-eqb d 0 (omega arith))
 
-module _ (t : Tree) (𝓐 : Accepted t) where
-  -- any fuel that is not below the domain's number gives the same depth
+-- where each parent has a lower number, any fuel that is not below the domain's number gives the same depth
+module _ (t : Tree) (low : (d : ℕ) → 0 < d → d < t .domains → t .parent d < d) where
   depth-fuel : (f g d : ℕ) → d < t .domains → d ≤ f → d ≤ g → depth-from f t d ≡ depth-from g t d
   depth-fuel zero g d s a b = let z : d ≡ 0 = omega arith in depth-root 0 t d z ∙ sym (depth-root g t d z)
   depth-fuel (suc f) zero d s a b = let z : d ≡ 0 = omega arith in depth-root (suc f) t d z ∙ sym (depth-root 0 t d z)
@@ -60,16 +60,20 @@ module _ (t : Tree) (𝓐 : Accepted t) where
         | yes z ↦ depth-root (suc f) t d z ∙ sym (depth-root (suc g) t d z)
         | no n ↦
             let p : 0 < d = omega arith in
-            let low = 𝓐 .parent-lower d p s in
+            let l = low d p s in
             rw (depth-step f t d p, depth-step g t d p, depth-fuel f g (t .parent d) (omega arith) (omega arith) (omega arith))
       ]
 
   -- one deeper than its parent
-  pub depth-child : (d : ℕ) → 0 < d → d < t .domains → depth t d ≡ suc (depth t (t .parent d))
+  pub deeper-by-one : (d : ℕ) → 0 < d → d < t .domains → depth t d ≡ suc (depth t (t .parent d))
   unfolding depth
-  depth-child d h s =
-      let low = 𝓐 .parent-lower d h s in
+  deeper-by-one d h s =
+      let l = low d h s in
       depth-fuel (t .domains) (suc (t .domains)) d s (omega arith) (omega arith) ∙ depth-step (t .domains) t d h
+
+module _ (t : Tree) (𝓐 : Accepted t) where
+  pub depth-child : (d : ℕ) → 0 < d → d < t .domains → depth t d ≡ suc (depth t (t .parent d))
+  depth-child = deeper-by-one t (𝓐 .parent-lower)
 
   pub depth-zero : (d : ℕ) → d ≡ 0 → depth t d ≡ 0
   unfolding depth

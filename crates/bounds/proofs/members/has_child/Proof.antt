@@ -5,10 +5,9 @@ use Prim.Native.Nat.{ℕ, _≤_, _<_, _-_}
 use native.Mathlib.Omega.{arith}
 use borrow.Author.Needs.{needs}
 use Rattle.model.specs.Trees.{is-child}
-use Rattle.model.proofs.Tests.{any-found}
+use Rattle.model.proofs.Tests.{any-found, any-nowhere}
 use Rattle.refusals.specs.Arrays.{parents-in}
 use Rattle.refusals.proofs.Scanning.{one-more}
-use Rattle.bounds.proofs.Filling.{any-nowhere}
 use Rattle.bounds.proofs.members.has_child.Statement.{statement}
 use Rattle.bounds.proofs.members.has_child.Tie as tie
 

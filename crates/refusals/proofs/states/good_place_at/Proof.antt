@@ -21,32 +21,32 @@ returns-2 : tie.Need-returns-2
 unfolding place-in
 returns-2 c = rw (le-ltb _ _ (c .before .before .if1 .left), by-answer _ true (c .before .has-spare-word .ensures) (c .if2 .taken))
 
-names-no-domain-requires : tie.Need-names-no-domain-requires
-names-no-domain-requires c κs = search needs
+has-domain-requires : tie.Need-has-domain-requires
+has-domain-requires c κs = search needs
+
+good-domain-at-requires : tie.Need-good-domain-at-requires
+good-domain-at-requires c κs = search needs
 
 returns-3 : tie.Need-returns-3
 unfolding place-in
 returns-3 c =
     let a = by-answer _ false (c .before .before .before .before .has-spare-word .ensures) (c .before .before .before .if2 .left) in
-    let b = by-answer _ true (c .before .before .names-no-domain .ensures) (c .before .if3 .taken) in
-    rw (le-ltb _ _ (c .before .before .before .before .before .if1 .left), a, b, ne-eqb _ _ (c .if4 .taken))
+    let b = by-answer _ true (c .before .before .has-domain .ensures) (c .before .if3 .taken) in
+    rw (c .good-domain-at .ensures, le-ltb _ _ (c .before .before .before .before .before .if1 .left), a, b)
 
 returns-4 : tie.Need-returns-4
 unfolding place-in
 returns-4 c =
     let a = by-answer _ false (c .before .before .before .before .has-spare-word .ensures) (c .before .before .before .if2 .left) in
-    let b = by-answer _ true (c .before .before .names-no-domain .ensures) (c .before .if3 .taken) in
-    rw (le-ltb _ _ (c .before .before .before .before .before .if1 .left), a, b, eq-eqb _ _ (c .if4 .left))
-
-good-domain-at-requires : tie.Need-good-domain-at-requires
-good-domain-at-requires c κs = search needs
+    let b = by-answer _ false (c .before .before .has-domain .ensures) (c .before .if3 .left) in
+    rw (le-ltb _ _ (c .before .before .before .before .before .if1 .left), a, b, ne-eqb _ _ (c .if4 .taken))
 
 returns-5 : tie.Need-returns-5
 unfolding place-in
 returns-5 c =
     let a = by-answer _ false (c .before .before .before .before .has-spare-word .ensures) (c .before .before .before .if2 .left) in
-    let b = by-answer _ false (c .before .before .names-no-domain .ensures) (c .before .if3 .left) in
-    rw (c .good-domain-at .ensures, le-ltb _ _ (c .before .before .before .before .before .if1 .left), a, b)
+    let b = by-answer _ false (c .before .before .has-domain .ensures) (c .before .if3 .left) in
+    rw (le-ltb _ _ (c .before .before .before .before .before .if1 .left), a, b, eq-eqb _ _ (c .if4 .left))
 
 pub good-place-at-spec : {M : Type 1} → statement M
 good-place-at-spec =
@@ -56,8 +56,8 @@ good-place-at-spec =
     returns
     has-spare-word-requires
     returns-2
-    names-no-domain-requires
+    has-domain-requires
+    good-domain-at-requires
     returns-3
     returns-4
-    good-domain-at-requires
     returns-5)

@@ -7,6 +7,7 @@ use lib.ListN.{length, getD}
 use Rattle.model.specs.Trees.{tree-of}
 use Rattle.model.specs.States.{wrap}
 use Rattle.model.proofs.Laws.Calls.{early-facts}
+use Rattle.model.proofs.Trees.Accepted.{sixteen-bit}
 use Rattle.refusals.specs.Counts.{counters-in}
 use Rattle.refusals.proofs.Passing.{shape-of}
 use Rattle.steps.specs.Rows.{state-in}
@@ -14,7 +15,7 @@ use Rattle.steps.specs.Counting.{Marked, Clear}
 use Rattle.steps.proofs.SoFar.{So-far, start, kind-room, stay-placed, turn, state-ends, trace-ends, kinds-end, thread-at}
 use Rattle.steps.proofs.Telling.{Told, told-start, told-turn, told-ends}
 use Rattle.steps.proofs.Tallying.{Tallied, tallied-start, tallied-turn, tallied-ends}
-use Rattle.steps.proofs.Turns.{sixteen, thread-small, ready}
+use Rattle.steps.proofs.Turns.{thread-small, ready}
 use Rattle.steps.proofs.Shown.{clear-none}
 use Rattle.steps.proofs.StepCounts.{step-counted}
 use Rattle.steps.proofs.Looking.{entries-room, tenures-room, home-small, marked-start, marked-next, marks-cleared, shown-for, looked-real, home-is, raise-marked}
@@ -138,8 +139,8 @@ take-requires c κs =
     let w = c .before .before .before .before .before .before .before .before .before .before .before .before .before .before .before .before .before .before .before .before .before .before .before .before .before .before .args .t1 in
     let r = early-facts _ _ _ _ (c .before .before .before .before .before .before .before .before .before .before .before .before .before .before .before .before .before .before .before .before .before .before .before .before .before .before .pre .1) in
     let n = state-in (l .tails) (l .nexts) (l .statuses) (l .drawn) (l .raised) (l .standing) in
-    let entered = entries-room _ (sixteen w) _ _ _ r _ _ (l .inv .0 .within) (l .inv .2) in
-    let held = tenures-room _ (sixteen w) _ _ _ r _ _ (l .inv .0 .within) (l .inv .2) in
+    let entered = entries-room _ (sixteen-bit w) _ _ _ r _ _ (l .inv .0 .within) (l .inv .2) in
+    let held = tenures-room _ (sixteen-bit w) _ _ _ r _ _ (l .inv .0 .within) (l .inv .2) in
     (ready _ _ n _ _ _ r (l .inv .0 .formed) test, ((entered, held), shown-for w (r .tree) _ _ _ _ _ _ _ look (marks .0) done (marks .1)))
 
 count-in-requires : tie.Need-count-in-requires Inv-loop2 μ-loop2 Inv-loop μ-loop
@@ -200,7 +201,7 @@ loop-again c =
     let so-far = l .inv .0 in
     let placed = ⊎-elim (λ w. w .1) (λ w. w .1 ∙ stay-placed _ _ n _ m _ (r .tree) (r .threads) test (so-far .formed) does refl (w .0 .left)) (c .before .before .before .before .before .before .before .before .if1 .came) in
     let counts = step-counted w (r .tree) _ th n (so-far .formed) m _ refl does _ (home-is w (r .tree) _ th) _ _ _ _ _ (took .ensures .1 .1 .0) _ _ (took .ensures .1 .0) (λ z. raise-marked w (r .tree) _ th n (so-far .formed) _ _ _ look (marks .0) done z (marks .1)) in
-    (rw tallied (turn _ _ _ _ _ n _ _ _ m _ _ _ _ (r .tree) (sixteen w) (r .threads) (r .fits) test so-far does (rw placed) (traced .0) (traced .1)), told-turn _ _ _ _ _ n _ m _ _ (r .threads) test (so-far .formed) (so-far .state-is) does (l .inv .1) told, tallied-turn _ _ _ _ _ _ n _ test (so-far .state-is) (l .inv .2) counts, marks-cleared w (r .tree) _ _ _ _ _ _ _ _ look (marks .0) (marks .1) (took .ensures .1 .1 .1))
+    (rw tallied (turn _ _ _ _ _ n _ _ _ m _ _ _ _ (r .tree) (sixteen-bit w) (r .threads) (r .fits) test so-far does (rw placed) (traced .0) (traced .1)), told-turn _ _ _ _ _ n _ m _ _ (r .threads) test (so-far .formed) (so-far .state-is) does (l .inv .1) told, tallied-turn _ _ _ _ _ _ n _ test (so-far .state-is) (l .inv .2) counts, marks-cleared w (r .tree) _ _ _ _ _ _ _ _ look (marks .0) (marks .1) (took .ensures .1 .1 .1))
 
 same-length : tie.Need-same-length Inv-loop2 μ-loop2 Inv-loop μ-loop
 same-length c = c .before .loop .inv .0 .long
