@@ -1,6 +1,6 @@
 -- A link that is read from the tables is the link of the definition. Assumes nothing.
 use mathlib.Core.Path.{_≡_, refl, sym, ap, _∙_}
-use mathlib.Core.Bool.{Bool, true, false, _&&_, not, cond, false≢true}
+use mathlib.Core.Bool.{Bool, true, false, _&&_, not, cond}
 use mathlib.Core.List.{List, []}
 use mathlib.Core.Logic.{_≢_}
 use Prim.Native.Nat.{ℕ, _+_, _≤_, _<_}
@@ -13,18 +13,19 @@ use Rattle.model.specs.declared.Place.the-variants.{Idle, Prep, Swap, Link, Wai
 use Rattle.model.specs.declared.PlaceWords.{PlaceWords}
 use Rattle.model.specs.declared.State.{State}
 use Rattle.model.specs.Scans.{filter-below}
-use Rattle.model.specs.Trees.{Tree, is-ticket, on-path, own-record}
+use Rattle.model.specs.Trees.{Tree, on-path, own-record}
 use Rattle.model.specs.Places.{place-words, words-of}
-use Rattle.model.specs.States.{acquire-parent, wait-word, locked, root-word, none, tail, next, status, place}
-use Rattle.model.specs.Steps.{Kind, stay, is-kind, Row-result, prep-row, swap-row, link-row, wait-row, leave-row, check-row, help-row, cas-row, linger-row, grant-row, draw-row, watch-row, raise-row, row, step}
+use Rattle.model.specs.States.{wait-word, locked, next, status, place}
+use Rattle.model.specs.Steps.{Kind, stay, is-kind, Row-result, wait-row, linger-row, watch-row, row, step}
 use Rattle.model.specs.Acts.{acts}
 use Rattle.model.specs.WellFormed.{good-place, well-formed}
-use Rattle.model.proofs.Tests.{by-test}
 use Rattle.model.proofs.Places.{words-of-place}
+use Rattle.model.proofs.Branches.{Branch, wait-root-locked, wait-root-granted, wait-ungranted, wait-acquires, wait-passed, wait-crossed, linger-alone, linger-linked, watch-shown, watch-unshown, wait-branch, linger-branch, watch-branch, branch}
 use Rattle.model.proofs.Trees.Accepted.{Accepted}
 use Rattle.model.proofs.Trees.Records.{own-record-member, member-owner, member-small}
 use Rattle.model.proofs.Lists.{same-or}
 use Rattle.model.proofs.Laws.Form.{valid}
+use Rattle.model.proofs.Laws.Kinds.{may-stay, goes-on}
 use Rattle.chain.specs.Chain.{stays, acts-ahead, links, ticket-before, acts-holding, looked-to, looks-to, only}
 use Rattle.chain.specs.Tables.{count-below, Tables, link, waits-in, Sound-place, link-by}
 use Rattle.chain.proofs.Facts.{place-good, watched}
@@ -35,57 +36,43 @@ module _ (t : Tree) (s : State) (i : ℕ) where
   abbrev pub is-stay : Kind → Bool
   is-stay k = is-kind stay k
 
-  abbrev Goes-on : Row-result → Type 0
-  Goes-on x = is-stay (x .kind) ≡ false
-
   pub stays-at : (p : Place) → place s i ≡ p → stays t s i ≡ is-stay (row t i p s .kind)
   unfolding stays step
   stays-at p e = rw e refl
 
   pub wait-stays : (l : ℕ) → is-stay (wait-row t i l s .kind) ≡ waits-in l (status s (own-record t i l))
-  unfolding wait-row is-kind
-  wait-stays l =
-      let v = status s (own-record t i l) in
-      by-test (λ (x : Row-result). is-stay (x .kind) ≡ eqb v (root-word l locked wait-word)) (eqb l 0) _ _
-      (λ z. rw z (by-test (λ (x : Row-result). is-stay (x .kind) ≡ eqb v locked) (eqb v locked) _ _ (λ e. sym e) (λ e. sym e)))
-      (λ z. rw z (by-test (λ (x : Row-result). is-stay (x .kind) ≡ eqb v wait-word) (eqb v wait-word) _ _ (λ e. sym e)
-      (λ e. rw e (by-test Goes-on (eqb v acquire-parent) _ _ (λ _. refl)
-      (λ _. by-test (λ (k : Kind). is-stay k ≡ false) (eqb l (t .home i)) _ _ (λ _. refl) (λ _. refl))))))
+  unfolding is-kind
+  wait-stays l = by (wait-branch t i s l)
+    where
+      v : ℕ
+      v = status s (own-record t i l)
+
+      by : {x : Row-result} → Branch t i s (Wait l) x → is-stay (x .kind) ≡ waits-in l v
+      by (wait-root-locked _ z e) = rw (eq-eqb l 0 z, eq-eqb v locked e)
+      by (wait-root-granted _ z e) = rw (eq-eqb l 0 z, ne-eqb v locked e)
+      by (wait-ungranted _ z e) = rw (ne-eqb l 0 z, eq-eqb v wait-word e)
+      by (wait-acquires _ z e) = rw (ne-eqb l 0 z, ne-eqb v wait-word (λ f. omega arith))
+      by (wait-passed _ z e f a) = rw (ne-eqb l 0 z, ne-eqb v wait-word e)
+      by (wait-crossed _ z e f a) = rw (ne-eqb l 0 z, ne-eqb v wait-word e)
 
   pub linger-stays : (l : ℕ) → is-stay (linger-row t i l s .kind) ≡ eqb (next s (own-record t i l)) 0
-  unfolding linger-row is-kind
-  linger-stays l =
-      let n = next s (own-record t i l) in
-      by-test (λ (x : Row-result). is-stay (x .kind) ≡ eqb n none) (eqb n none) _ _ (λ e. sym e) (λ e. sym e)
+  unfolding is-kind
+  linger-stays l = by (linger-branch t i s l)
+    where
+      by : {x : Row-result} → Branch t i s (Linger l) x → is-stay (x .kind) ≡ eqb (next s (own-record t i l)) 0
+      by (linger-alone _ n) = rw (eq-eqb (next s (own-record t i l)) 0 n)
+      by (linger-linked _ v n _) = rw (ne-eqb (next s (own-record t i l)) 0 n)
 
   pub watch-stays : is-stay (watch-row t i s .kind) ≡ not (eqb (status s (own-record t i 0)) (s .grant))
-  unfolding watch-row is-kind
-  watch-stays =
-      let b = eqb (status s (own-record t i 0)) (s .grant) in
-      by-test (λ (x : Row-result). is-stay (x .kind) ≡ not b) b _ _ (λ e. rw e refl) (λ e. rw e refl)
+  unfolding is-kind
+  watch-stays = by (watch-branch t i s)
+    where
+      by : {x : Row-result} → Branch t i s Watch x → is-stay (x .kind) ≡ not (eqb (status s (own-record t i 0)) (s .grant))
+      by (watch-shown e) = rw (eq-eqb (status s (own-record t i 0)) (s .grant) e)
+      by (watch-unshown e) = rw (ne-eqb (status s (own-record t i 0)) (s .grant) e)
 
-  pub moves-on : (p : Place) → good-place t i p ≡ true → eqb (words-of p .row) 4 ≡ false → eqb (words-of p .row) 9 ≡ false → eqb (words-of p .row) 12 ≡ false → is-stay (row t i p s .kind) ≡ false
-  unfolding good-place row is-kind prep-row swap-row link-row leave-row check-row help-row cas-row grant-row draw-row raise-row
-  moves-on Idle g a b c =
-      by-test Goes-on (is-ticket t (t .home i)) _ _
-      (λ _. by-test Goes-on (eqb (s .ticket) (s .grant)) _ _ (λ _. refl) (λ _. refl)) (λ _. refl)
-  moves-on (Prep l) g a b c = refl
-  moves-on (Swap l) g a b c =
-      by-test Goes-on (eqb (tail s l) none) _ _ (λ _. by-test Goes-on (eqb l 0) _ _ (λ _. refl) (λ _. refl)) (λ _. refl)
-  moves-on (Link l p) g a b c = refl
-  moves-on (Wait l) g a b c = absurd (false≢true (sym a))
-  moves-on Inside g a b c = refl
-  moves-on (Check l) g a b c =
-      let r = own-record t i l in
-      by-test Goes-on (ltb (status s r) (t .threshold l) && not (eqb (next s r) none)) _ _ (λ _. refl) (λ _. refl)
-  moves-on (Help l) g a b c = by-test Goes-on (eqb (next s (own-record t i l)) none) _ _ (λ _. refl) (λ _. refl)
-  moves-on (Cas l) g a b c = by-test Goes-on (eqb (tail s l) (own-record t i l + 1)) _ _ (λ _. refl) (λ _. refl)
-  moves-on (Linger l) g a b c = absurd (false≢true (sym b))
-  moves-on (Grant l r w) g a b c = refl
-  moves-on Draw g a b c = by-test Goes-on (eqb (s .ticket) (s .grant)) _ _ (λ _. refl) (λ _. refl)
-  moves-on Watch g a b c = absurd (false≢true (sym c))
-  moves-on Raise g a b c = refl
-  moves-on Invalid g a b c = absurd (false≢true g)
+  pub moves-on : (p : Place) → may-stay p ≡ false → is-stay (row t i p s .kind) ≡ false
+  moves-on p f = goes-on f (branch t i s p)
 
 -- the row of Watch
 watch-words : (p : Place) → words-of p .row ≡ 12 → p ≡ Watch
@@ -162,7 +149,7 @@ module _ (t : Tree) (𝓐 : Accepted t) (s : State) (form : well-formed t s ≡ 
       count-same (t .threads) _ _ (λ j c. ap (λ x. eqb x (u + 1)) (tables .ticket-keys j c) ∙ ticket-test (acts t s j 0) (status s (own-record t j 0)) u b)
 
   place-link : (p : Place) → place s i ≡ p → good-place t i p ≡ true → on-path t i (words-of p .domain) ≡ true → by-words (words-of p) ≡ link t s i
-  unfolding looked-to row
+  unfolding looked-to row may-stay
   place-link (Wait l) e g o =
       rw (link-at (Wait l) e, wait-stays t s i l, only-count (t .threads) (acts-ahead t s l (own-record t i l)) few, ahead-there l o) refl
   place-link (Linger l) e g o =
@@ -174,17 +161,17 @@ module _ (t : Tree) (𝓐 : Accepted t) (s : State) (form : well-formed t s ≡ 
       turned : (b : Bool) (x y : ℕ) → cond b x y ≡ cond (not b) y x
       turned true x y = refl
       turned false x y = refl
-  place-link Idle e g o = rw (link-at Idle e, moves-on t s i Idle g refl refl refl) refl
-  place-link (Prep l) e g o = rw (link-at (Prep l) e, moves-on t s i (Prep l) g refl refl refl) refl
-  place-link (Swap l) e g o = rw (link-at (Swap l) e, moves-on t s i (Swap l) g refl refl refl) refl
-  place-link (Link l p) e g o = rw (link-at (Link l p) e, moves-on t s i (Link l p) g refl refl refl) refl
-  place-link Inside e g o = rw (link-at Inside e, moves-on t s i Inside g refl refl refl) refl
-  place-link (Check l) e g o = rw (link-at (Check l) e, moves-on t s i (Check l) g refl refl refl) refl
-  place-link (Help l) e g o = rw (link-at (Help l) e, moves-on t s i (Help l) g refl refl refl) refl
-  place-link (Cas l) e g o = rw (link-at (Cas l) e, moves-on t s i (Cas l) g refl refl refl) refl
-  place-link (Grant l r w) e g o = rw (link-at (Grant l r w) e, moves-on t s i (Grant l r w) g refl refl refl) refl
-  place-link Draw e g o = rw (link-at Draw e, moves-on t s i Draw g refl refl refl) refl
-  place-link Raise e g o = rw (link-at Raise e, moves-on t s i Raise g refl refl refl) refl
+  place-link Idle e g o = rw (link-at Idle e, moves-on t s i Idle refl) refl
+  place-link (Prep l) e g o = rw (link-at (Prep l) e, moves-on t s i (Prep l) refl) refl
+  place-link (Swap l) e g o = rw (link-at (Swap l) e, moves-on t s i (Swap l) refl) refl
+  place-link (Link l p) e g o = rw (link-at (Link l p) e, moves-on t s i (Link l p) refl) refl
+  place-link Inside e g o = rw (link-at Inside e, moves-on t s i Inside refl) refl
+  place-link (Check l) e g o = rw (link-at (Check l) e, moves-on t s i (Check l) refl) refl
+  place-link (Help l) e g o = rw (link-at (Help l) e, moves-on t s i (Help l) refl) refl
+  place-link (Cas l) e g o = rw (link-at (Cas l) e, moves-on t s i (Cas l) refl) refl
+  place-link (Grant l r w) e g o = rw (link-at (Grant l r w) e, moves-on t s i (Grant l r w) refl) refl
+  place-link Draw e g o = rw (link-at Draw e, moves-on t s i Draw refl) refl
+  place-link Raise e g o = rw (link-at Raise e, moves-on t s i Raise refl) refl
   place-link Invalid e g o = absurd (valid t i Invalid g refl)
 
   module _ (o : on-path t i (words i .domain) ≡ true) where

@@ -5,17 +5,19 @@ use mathlib.Core.List.{[]}
 use mathlib.Core.Logic.{_≢_}
 use Prim.Native.Nat.{ℕ, suc, _+_, _-_, _≤_, _<_}
 use native.Mathlib.Omega.{arith}
-use lib.Dec.{eqb, ltb}
+use lib.Dec.{eqb}
 use lib.ListN.{length, set}
 use lib.Seq.{getD-set-other}
-use borrow.Author.Tests.{eqb-true, eqb-false, lt-ltb, le-ltb}
+use borrow.Author.Tests.{eq-eqb, ne-eqb, lt-ltb, le-ltb}
 use Rattle.model.specs.declared.Place.{Place}
-use Rattle.model.specs.declared.Place.the-variants.{Idle, Prep, Swap, Link, Wait, Inside, Draw}
+use Rattle.model.specs.declared.Place.the-variants.{Prep, Swap, Link, Wait, Inside, Draw}
 use Rattle.model.specs.declared.State.{State}
 use Rattle.model.specs.Trees.{Tree, is-ticket, own-record}
 use Rattle.model.specs.Places.{place-words, words-of, place-of}
 use Rattle.model.specs.States.{acquire-parent, wait-word, locked, tail, status, place}
-use Rattle.model.specs.Steps.{Row-result, acquire-place, prep-row, swap-row, link-row, wait-row}
+use Rattle.model.specs.Steps.{Kind, passed-entry, crossed-entry, Row-result, enters, acquire-place}
+use Rattle.model.proofs.Branches as branches
+use Rattle.model.proofs.Branches.{stood-behind, Branch, prepares, swap-root, swap-inner, swap-behind, link-writes, wait-root-locked, wait-root-granted, wait-ungranted, wait-acquires, wait-passed, wait-crossed, below-root}
 use Rattle.model.proofs.Trees.Index.{ancestor, height, record-at}
 use Rattle.model.proofs.Trees.Accepted.{Accepted}
 use Rattle.model.proofs.Trees.Tickets.{ticket-facts}
@@ -80,115 +82,134 @@ module _ (t : Tree) (𝓐 : Accepted t) (i : ℕ) (h : i < t .threads) (s : Stat
 
   -- PREP
   pub prep-together :
-      (k : ℕ) → k ≤ height t i → (b : Bool) → eqb (ancestor t i k) 0 ≡ b →
-      Together t i s (prep-row t i (ancestor t i k) s) (entry t i (standing (control (cond b line-66 line-7) (acquire-stack t i k)) s))
-  unfolding prep-row memory-of
-  prep-together k l true e =
+      (k : ℕ) → k ≤ height t i → {x : Row-result} → Branch t i s (Prep (ancestor t i k)) x →
+      Together t i s x (entry t i (standing (control (at-root (ancestor t i k) line-66 line-7) (acquire-stack t i k)) s))
+  unfolding memory-of
+  prep-together k l (prepares _ _ (branches.at-root z)) =
+      let e = eq-eqb (ancestor t i k) 0 z in
       rw (own-record-at t 𝓐 i h k l, e)
       (together (goes line-67 (acquire-stack t i k) _) (Swap (ancestor t i k)) (prep-root t i (ancestor t i k) (record-at t i k) (acquire-back k) (acquire-callers t i k) (memory-of s)) refl
       (moved refl) (rw e at (swap-control k l)))
-  prep-together k l false e =
+  prep-together k l (prepares _ _ (below-root z)) =
+      let e = ne-eqb (ancestor t i k) 0 z in
       rw (own-record-at t 𝓐 i h k l, e)
       (together (goes line-9 (acquire-stack t i k) _) (Swap (ancestor t i k)) (prep-elsewhere t i (ancestor t i k) (record-at t i k) (acquire-back k) (acquire-callers t i k) (memory-of s)) refl
       (moved refl) (rw e at (swap-control k l)))
 
   -- IDLE, where the home is a queue
-  pub idle-together : is-ticket t (t .home i) ≡ false → (b : Bool) → eqb (t .home i) 0 ≡ b → Together t i s (prep-row t i (t .home i) s) (entry t i (standing (control outside []) s))
-  unfolding prep-row memory-of ancestor record-at acquire-back acquire-callers
-  idle-together n true e =
+  pub idle-together : is-ticket t (t .home i) ≡ false → {x : Row-result} → Branch t i s (Prep (t .home i)) x → Together t i s x (entry t i (standing (control outside []) s))
+  unfolding memory-of ancestor record-at acquire-back acquire-callers
+  idle-together n (prepares _ _ (branches.at-root z)) =
+      let e = eq-eqb (t .home i) 0 z in
       let own : own-record t i (t .home i) ≡ i = own-record-at t 𝓐 i h 0 (omega arith) in
       let c : Corresponds t i (control (at-root (t .home i) line-67 line-9) (acquire-stack t i 0)) (Swap (t .home i)) = swap-control 0 (omega arith) in
-      rw (own, e)
+      rw own
       (together (goes line-67 (acquire-stack t i 0) _) (Swap (t .home i)) (idle-root t i (memory-of s) n e) refl (moved refl) (rw e at c))
-  idle-together n false e =
+  idle-together n (prepares _ _ (below-root z)) =
+      let e = ne-eqb (t .home i) 0 z in
       let own : own-record t i (t .home i) ≡ i = own-record-at t 𝓐 i h 0 (omega arith) in
       let c : Corresponds t i (control (at-root (t .home i) line-67 line-9) (acquire-stack t i 0)) (Swap (t .home i)) = swap-control 0 (omega arith) in
-      rw (own, e)
+      rw own
       (together (goes line-9 (acquire-stack t i 0) _) (Swap (t .home i)) (idle-elsewhere t i (memory-of s) n e) refl (moved refl) (rw e at c))
 
-  -- SWAP
-  pub swap-together :
-      (k : ℕ) → k ≤ height t i → (b c : Bool) → eqb (ancestor t i k) 0 ≡ b → eqb (tail s (ancestor t i k)) 0 ≡ c →
-      Together t i s (swap-row t i (ancestor t i k) s) (entry t i (standing (control (cond b line-67 line-9) (acquire-stack t i k)) s))
-  unfolding swap-row memory-of
-  swap-together k l true true z e =
-      rw (own-record-at t 𝓐 i h k l, e, z)
-      (together (goes critical [] _) Inside
-      (swap-root-none t i (ancestor t i k) (record-at t i k) (acquire-back k) (acquire-callers t i k) (memory-of s) e (acquired t i k)) refl
-      (moved refl) c-inside)
-  swap-together k l true false z e =
+  -- SWAP, behind another: at the root and elsewhere
+  behind-together :
+      (k : ℕ) → k ≤ height t i → eqb (tail s (ancestor t i k)) 0 ≡ false → (b : Bool) → eqb (ancestor t i k) 0 ≡ b →
+      Together t i s (stood-behind t i s (ancestor t i k)) (entry t i (standing (control (cond b line-67 line-9) (acquire-stack t i k)) s))
+  unfolding memory-of
+  behind-together k l e true z =
       let p = tail s (ancestor t i k) - 1 in
-      rw (own-record-at t 𝓐 i h k l, e)
+      rw (own-record-at t 𝓐 i h k l)
       (together (goes (line-71 p) (acquire-stack t i k) _) (Link (ancestor t i k) p)
       (swap-root-some t i (ancestor t i k) (record-at t i k) (acquire-back k) (acquire-callers t i k) (memory-of s) e) refl
       (moved refl) (rw z at (link-control k p l)))
-  swap-together k l false true z e =
-      let b = ancestor-not-root t 𝓐 i h k l (omega (arith, eqb-false (ancestor t i k) 0 z)) in
-      rw (own-record-at t 𝓐 i h k l, e, z, ancestor-parent-of t 𝓐 i h k b)
-      (together (record { thread = acquire-real t (ancestor t i (suc k)) (256 + ancestor t i k) behind-17 (acquire-stack t i k); memory = _ }) (acquire-place t (ancestor t i (suc k)))
-      (rw (ancestor-parent-of t 𝓐 i h k b) at (swap-none t i (ancestor t i k) (record-at t i k) (acquire-back k) (acquire-callers t i k) (memory-of s) e)) refl
-      (moved refl) (climb-control k b))
-  swap-together k l false false z e =
+  behind-together k l e false z =
       let p = tail s (ancestor t i k) - 1 in
-      rw (own-record-at t 𝓐 i h k l, e)
+      rw (own-record-at t 𝓐 i h k l)
       (together (goes (line-11 p) (acquire-stack t i k) _) (Link (ancestor t i k) p)
       (swap-some t i (ancestor t i k) (record-at t i k) (acquire-back k) (acquire-callers t i k) (memory-of s) e) refl
       (moved refl) (rw z at (link-control k p l)))
 
+  pub swap-together :
+      (k : ℕ) → k ≤ height t i → {x : Row-result} → Branch t i s (Swap (ancestor t i k)) x →
+      Together t i s x (entry t i (standing (control (at-root (ancestor t i k) line-67 line-9) (acquire-stack t i k)) s))
+  unfolding memory-of
+  swap-together k l (swap-root _ z y) =
+      rw (own-record-at t 𝓐 i h k l, eq-eqb (ancestor t i k) 0 z)
+      (together (goes critical [] _) Inside
+      (swap-root-none t i (ancestor t i k) (record-at t i k) (acquire-back k) (acquire-callers t i k) (memory-of s) (eq-eqb (tail s (ancestor t i k)) 0 y) (acquired t i k)) refl
+      (moved refl) c-inside)
+  swap-together k l (swap-inner _ z y) =
+      let b = ancestor-not-root t 𝓐 i h k l (omega (arith, z)) in
+      rw (own-record-at t 𝓐 i h k l, ne-eqb (ancestor t i k) 0 z, ancestor-parent-of t 𝓐 i h k b)
+      (together (record { thread = acquire-real t (ancestor t i (suc k)) (256 + ancestor t i k) behind-17 (acquire-stack t i k); memory = _ }) (acquire-place t (ancestor t i (suc k)))
+      (rw (ancestor-parent-of t 𝓐 i h k b) at (swap-none t i (ancestor t i k) (record-at t i k) (acquire-back k) (acquire-callers t i k) (memory-of s) (eq-eqb (tail s (ancestor t i k)) 0 y))) refl
+      (moved refl) (climb-control k b))
+  swap-together k l (swap-behind _ y) = behind-together k l (ne-eqb (tail s (ancestor t i k)) 0 y) _ refl
+
   -- LINK
-  pub link-together :
-      (k p : ℕ) → k ≤ height t i → (b : Bool) → eqb (ancestor t i k) 0 ≡ b →
-      Together t i s (link-row t i (ancestor t i k) p s) (entry t i (standing (control (cond b (line-71 p) (line-11 p)) (acquire-stack t i k)) s))
-  unfolding link-row memory-of
-  link-together k p l true z =
+  link-by :
+      (k p : ℕ) → k ≤ height t i → (b : Bool) → eqb (ancestor t i k) 0 ≡ b → {x : Row-result} → Branch t i s (Link (ancestor t i k) p) x →
+      Together t i s x (entry t i (standing (control (cond b (line-71 p) (line-11 p)) (acquire-stack t i k)) s))
+  unfolding memory-of
+  link-by k p l true z (link-writes _ _) =
       rw (own-record-at t 𝓐 i h k l)
       (together (goes line-72 (acquire-stack t i k) _) (Wait (ancestor t i k))
       (link-root t i (ancestor t i k) (record-at t i k) (acquire-back k) (acquire-callers t i k) (memory-of s) p) refl
       (moved refl) (rw z at (wait-control k l)))
-  link-together k p l false z =
+  link-by k p l false z (link-writes _ _) =
       rw (own-record-at t 𝓐 i h k l)
       (together (goes line-13 (acquire-stack t i k) _) (Wait (ancestor t i k))
       (link-elsewhere t i (ancestor t i k) (record-at t i k) (acquire-back k) (acquire-callers t i k) (memory-of s) p) refl
       (moved refl) (rw z at (wait-control k l)))
 
-  -- WAIT
-  pub wait-root-together :
-      (k : ℕ) → k ≤ height t i → eqb (ancestor t i k) 0 ≡ true → place s i ≡ Wait (ancestor t i k) → (b : Bool) → eqb (status s (record-at t i k)) locked ≡ b →
-      Together t i s (wait-row t i (ancestor t i k) s) (entry t i (standing (control line-72 (acquire-stack t i k)) s))
-  unfolding wait-row memory-of
-  wait-root-together k l z q true e =
-      rw (own-record-at t 𝓐 i h k l, e, z)
-      (together (goes line-72 (acquire-stack t i k) _) (Wait (ancestor t i k))
-      (wait-root-stays t i (ancestor t i k) (record-at t i k) (acquire-back k) (acquire-callers t i k) (memory-of s) e) refl (stayed refl q) (rw z at (wait-control k l)))
-  wait-root-together k l z q false e =
-      rw (own-record-at t 𝓐 i h k l, e, z)
-      (together (goes critical [] _) Inside
-      (wait-root-enters t i (ancestor t i k) (record-at t i k) (acquire-back k) (acquire-callers t i k) (memory-of s) e (acquired t i k)) refl
-      (moved refl) c-inside)
+  pub link-together :
+      (k p : ℕ) → k ≤ height t i → {x : Row-result} → Branch t i s (Link (ancestor t i k) p) x →
+      Together t i s x (entry t i (standing (control (at-root (ancestor t i k) (line-71 p) (line-11 p)) (acquire-stack t i k)) s))
+  link-together k p l b = link-by k p l _ refl b
 
+  -- WAIT below the root, granted the lock
+  granted-together :
+      (k : ℕ) (l : k ≤ height t i) (kind : Kind) → status s (record-at t i k) ≤ wait-word → status s (record-at t i k) ≢ wait-word → status s (record-at t i k) ≢ acquire-parent →
+      Together t i s (enters kind i s) (entry t i (standing (control line-13 (acquire-stack t i k)) s))
+  unfolding memory-of
+  granted-together k l kind w n o =
+      let v = status s (record-at t i k) in
+      together (goes critical [] _) Inside
+      (wait-enters t i (ancestor t i k) (record-at t i k) (acquire-back k) (acquire-callers t i k) (memory-of s) (ne-eqb v wait-word n) (lt-ltb v acquire-parent (omega (arith, n, o)))
+      (acquired t i k)) refl (moved refl) c-inside
+
+  -- WAIT
   pub wait-together :
-      (k : ℕ) → k ≤ height t i → eqb (ancestor t i k) 0 ≡ false → place s i ≡ Wait (ancestor t i k) → status s (record-at t i k) ≤ wait-word → (b c : Bool) →
-      eqb (status s (record-at t i k)) wait-word ≡ b → eqb (status s (record-at t i k)) acquire-parent ≡ c →
-      Together t i s (wait-row t i (ancestor t i k) s) (entry t i (standing (control line-13 (acquire-stack t i k)) s))
-  unfolding wait-row memory-of
-  wait-together k l z q w true c e f =
-      rw (own-record-at t 𝓐 i h k l, e, z)
-      (together (goes line-13 (acquire-stack t i k) _) (Wait (ancestor t i k))
-      (wait-stays t i (ancestor t i k) (record-at t i k) (acquire-back k) (acquire-callers t i k) (memory-of s) e) refl (stayed refl q) (rw z at (wait-control k l)))
-  wait-together k l z q w false true e f =
-      let b = ancestor-not-root t 𝓐 i h k l (omega (arith, eqb-false (ancestor t i k) 0 z)) in
-      let v = status s (record-at t i k) in
-      let g : ltb v acquire-parent ≡ false = le-ltb v acquire-parent (omega (arith, eqb-true v acquire-parent f)) in
-      rw (own-record-at t 𝓐 i h k l, e, z, f, ancestor-parent-of t 𝓐 i h k b)
-      (together (record { thread = acquire-real t (ancestor t i (suc k)) (256 + ancestor t i k) behind-17 (acquire-stack t i k); memory = _ }) (acquire-place t (ancestor t i (suc k)))
-      (rw (ancestor-parent-of t 𝓐 i h k b) at (wait-climbs t i (ancestor t i k) (record-at t i k) (acquire-back k) (acquire-callers t i k) (memory-of s) e g)) refl
-      (moved refl) (climb-control k b))
-  wait-together k l z q w false false e f =
-      let v = status s (record-at t i k) in
-      let n = eqb-false v wait-word e in
-      let o = eqb-false v acquire-parent f in
-      let g : ltb v acquire-parent ≡ true = lt-ltb v acquire-parent (omega (arith, n, o)) in
-      rw (own-record-at t 𝓐 i h k l, e, z, f)
+      (k : ℕ) → k ≤ height t i → place s i ≡ Wait (ancestor t i k) → status s (record-at t i k) ≤ wait-word → {x : Row-result} → Branch t i s (Wait (ancestor t i k)) x →
+      Together t i s x (entry t i (standing (control (at-root (ancestor t i k) line-72 line-13) (acquire-stack t i k)) s))
+  unfolding memory-of
+  wait-together k l q w (wait-root-locked _ z v) =
+      let e = eq-eqb (ancestor t i k) 0 z in
+      rw e
+      (together (goes line-72 (acquire-stack t i k) _) (Wait (ancestor t i k))
+      (wait-root-stays t i (ancestor t i k) (record-at t i k) (acquire-back k) (acquire-callers t i k) (memory-of s) (rw (own-record-at t 𝓐 i h k l) at (eq-eqb _ locked v))) refl
+      (stayed refl q) (rw e at (wait-control k l)))
+  wait-together k l q w (wait-root-granted _ z v) =
+      rw (eq-eqb (ancestor t i k) 0 z)
       (together (goes critical [] _) Inside
-      (wait-enters t i (ancestor t i k) (record-at t i k) (acquire-back k) (acquire-callers t i k) (memory-of s) e g (acquired t i k)) refl
+      (wait-root-enters t i (ancestor t i k) (record-at t i k) (acquire-back k) (acquire-callers t i k) (memory-of s) (rw (own-record-at t 𝓐 i h k l) at (ne-eqb _ locked v)) (acquired t i k)) refl
       (moved refl) c-inside)
+  wait-together k l q w (wait-ungranted _ z v) =
+      let e = ne-eqb (ancestor t i k) 0 z in
+      rw e
+      (together (goes line-13 (acquire-stack t i k) _) (Wait (ancestor t i k))
+      (wait-stays t i (ancestor t i k) (record-at t i k) (acquire-back k) (acquire-callers t i k) (memory-of s) (rw (own-record-at t 𝓐 i h k l) at (eq-eqb _ wait-word v))) refl
+      (stayed refl q) (rw e at (wait-control k l)))
+  wait-together k l q w (wait-acquires _ z y) =
+      let b = ancestor-not-root t 𝓐 i h k l (omega (arith, z)) in
+      let v = status s (record-at t i k) in
+      let y′ : v ≡ acquire-parent = rw (own-record-at t 𝓐 i h k l) at y in
+      rw (own-record-at t 𝓐 i h k l, ne-eqb (ancestor t i k) 0 z, ancestor-parent-of t 𝓐 i h k b)
+      (together (record { thread = acquire-real t (ancestor t i (suc k)) (256 + ancestor t i k) behind-17 (acquire-stack t i k); memory = _ }) (acquire-place t (ancestor t i (suc k)))
+      (rw (ancestor-parent-of t 𝓐 i h k b) at (wait-climbs t i (ancestor t i k) (record-at t i k) (acquire-back k) (acquire-callers t i k) (memory-of s) (ne-eqb v wait-word (λ f. omega arith)) (le-ltb v acquire-parent (omega arith)))) refl
+      (moved refl) (climb-control k b))
+  wait-together k l q w (wait-passed _ z n o _) =
+      rw (ne-eqb (ancestor t i k) 0 z) (granted-together k l passed-entry w (rw (own-record-at t 𝓐 i h k l) at n) (rw (own-record-at t 𝓐 i h k l) at o))
+  wait-together k l q w (wait-crossed _ z n o _) =
+      rw (ne-eqb (ancestor t i k) 0 z) (granted-together k l crossed-entry w (rw (own-record-at t 𝓐 i h k l) at n) (rw (own-record-at t 𝓐 i h k l) at o))

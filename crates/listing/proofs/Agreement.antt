@@ -10,14 +10,15 @@ use borrow.Author.Tests.{eq-eqb, ne-eqb}
 use Rattle.model.specs.declared.Place.{Place}
 use Rattle.model.specs.declared.Place.the-variants.{Idle, Prep, Swap, Link, Wait, Check, Help, Cas, Linger, Grant, Draw, Watch}
 use Rattle.model.specs.declared.State.{State}
-use Rattle.model.specs.Trees.{Tree, is-ticket, own-record}
+use Rattle.model.specs.Trees.{Tree, is-ticket}
 use Rattle.model.specs.Places.{place-words, place-of}
 use Rattle.model.specs.States.{wait-word, status, place, fresh-words, fresh-state}
-use Rattle.model.specs.Steps.{release-word, prep-row, check-row, draw-row, row, step}
+use Rattle.model.specs.Steps.{release-word, prep-row, draw-row, row, step}
 use Rattle.model.specs.Runs.{steps, state-after, run-of, run}
 use Rattle.model.specs.Refusals.{tree-refusal}
 use Rattle.model.specs.Laws.{All-threads, Sixteen-bit, Form-law}
 use Rattle.claims.specs.Reached.{equality-check-row, Equality-law}
+use Rattle.model.proofs.Branches.{prep-branch, swap-branch, link-branch, wait-branch, leave-branch, help-branch, cas-branch, linger-branch, grant-branch, watch-branch, raise-branch, branch}
 use Rattle.model.proofs.Trees.Index.{ancestor, height, record-at}
 use Rattle.model.proofs.Trees.Accepted.{Accepted, accepted}
 use Rattle.model.proofs.Lists.{same-or}
@@ -25,13 +26,13 @@ use Rattle.model.proofs.Trees.Paths.{ancestor-not-root}
 use Rattle.model.proofs.Laws.Facts.{well-formed-facts}
 use Rattle.model.proofs.Laws.Form.{replicate-all, form-law}
 use Rattle.claims.proofs.Claims.Calls.{run-behind, run-one}
-use Rattle.claims.proofs.Claims.Equality.{same-test, equality-law}
+use Rattle.claims.proofs.Claims.Equality.{same-by-equality, equality-law}
 use Rattle.claims.proofs.Claims.Reached.{threads-join}
 use Rattle.listing.specs.Calls.{behind-17, Frame, Control, control, outside, line-7, line-9, line-11, line-13, line-25, line-37, line-53, line-55, line-57, line-58, line-59, line-66, line-67, line-71, line-72, ticket-lock, line-90, line-91-again}
 use Rattle.listing.specs.Listing.{top-domain, top-back}
 use Rattle.listing.specs.Agreement.{called-place, ticket-place, place-at, place-of-control, entry, Threads, at-first, turn, turns, memory-of, Stands-at, at-idle, at-prep, at-swap, at-link, at-wait, at-inside, at-check, at-37, at-help, at-cas, at-linger, at-55, at-59, at-draw, at-watch, at-raise, Not-above, Entry-law, Listing-agrees}
 use Rattle.listing.proofs.Stacks.{acquire-back, acquire-stack, top-domain-at, helper-stack, Corresponds, c-idle, c-prep, c-swap, c-link, c-wait, c-inside, c-check, c-pass, c-help, c-cas, c-linger, c-55, c-59, c-draw, c-watch, c-raise}
-use Rattle.listing.proofs.Acquiring.{Together, standing, idle-together, prep-together, swap-together, link-together, wait-root-together, wait-together}
+use Rattle.listing.proofs.Acquiring.{Together, standing, idle-together, prep-together, swap-together, link-together, wait-together}
 use Rattle.listing.proofs.Releasing.{leave-together, check-together, pass-together, help-together, cas-together, linger-together, line-55-together, line-59-together}
 use Rattle.listing.proofs.Tickets.{draw-together, idle-draw-together, watch-together, raise-together}
 use Rattle.listing.proofs.Standing.{Acquires, acquires, Releases, releases, Helps, helps, stands, stood}
@@ -39,34 +40,28 @@ use Rattle.listing.proofs.Standing.{Acquires, acquires, Releases, relea
 -- ONE ENTRY, by the place where the thread stands
 module _ (t : Tree) (𝓐 : Accepted t) (i : ℕ) (h : i < t .threads) (s : State) (room : i < length (s .places)) (wide : length (s .statuses) ≡ 320) (small : (r : ℕ) → status s r ≤ wait-word)
     (by-equality : (l : ℕ) → place s i ≡ Check l → row t i (Check l) s ≡ equality-check-row t i l s) where
-  wait-by : (k : ℕ) → k ≤ height t i → (b : Bool) → eqb (ancestor t i k) 0 ≡ b → place s i ≡ Wait (ancestor t i k) →
-      Together t i s (row t i (Wait (ancestor t i k)) s) (entry t i (standing (control (cond b line-72 line-13) (acquire-stack t i k)) s))
-  unfolding row
-  wait-by k l true z q = wait-root-together t 𝓐 i h s room k l z q _ refl
-  wait-by k l false z q = wait-together t 𝓐 i h s room k l z q (small (record-at t i k)) _ _ refl refl
-
   idle-by : (c : Bool) → is-ticket t (t .home i) ≡ c → Together t i s (cond c (draw-row t i s) (prep-row t i (t .home i) s)) (entry t i (standing (control outside []) s))
   idle-by true n = idle-draw-together t 𝓐 i h s room wide n
-  idle-by false n = idle-together t 𝓐 i h s room n _ refl
+  idle-by false n = idle-together t 𝓐 i h s room n (prep-branch t i s (t .home i))
 
   row-together : {c : Control} {p : Place} → place s i ≡ p → Corresponds t i c p → Together t i s (row t i p s) (entry t i (standing c s))
   unfolding row
   row-together q c-idle = idle-by _ refl
-  row-together q (c-prep k l) = prep-together t 𝓐 i h s room (suc k) l _ refl
-  row-together q (c-swap k l) = swap-together t 𝓐 i h s room k l _ _ refl refl
-  row-together q (c-link k p l) = link-together t 𝓐 i h s room k p l _ refl
-  row-together q (c-wait k l) = wait-by k l _ refl q
-  row-together q c-inside = leave-together t 𝓐 i h s room
+  row-together q (c-prep k l) = prep-together t 𝓐 i h s room (suc k) l (prep-branch t i s (ancestor t i (suc k)))
+  row-together q (c-swap k l) = swap-together t 𝓐 i h s room k l (swap-branch t i s (ancestor t i k))
+  row-together q (c-link k p l) = link-together t 𝓐 i h s room k p l (link-branch t i s (ancestor t i k) p)
+  row-together q (c-wait k l) = wait-together t 𝓐 i h s room k l q (small (record-at t i k)) (wait-branch t i s (ancestor t i k))
+  row-together q c-inside = leave-together t 𝓐 i h s room (leave-branch t i s)
   row-together q (c-check k fs b x) = rw (by-equality (ancestor t i k) q) (check-together t 𝓐 i h s room k b fs x)
-  row-together q (c-pass k c r fs b x) = pass-together t 𝓐 i h s room k b c r fs x
-  row-together q (c-help k b fs l x y) = help-together t 𝓐 i h s room k l b fs x y _ refl
-  row-together q (c-cas k b fs l x y) = cas-together t 𝓐 i h s room k l b fs x y _ refl
-  row-together q (c-linger k b fs l x y) = linger-together t 𝓐 i h s room k l b fs x y q _ refl
-  row-together q (c-55 k r w b fs l x y) = line-55-together t 𝓐 i h s room k l b fs x y r w
-  row-together q (c-59 k r w b fs l x y) = line-59-together t 𝓐 i h s room k l b fs x y r w
+  row-together q (c-pass k c r fs b x) = pass-together t 𝓐 i h s room k b c r fs x (grant-branch t i s (ancestor t i k) r (c + 1))
+  row-together q (c-help k b fs l x y) = help-together t 𝓐 i h s room k l b fs x y (help-branch t i s (ancestor t i k))
+  row-together q (c-cas k b fs l x y) = cas-together t 𝓐 i h s room k l b fs x y (cas-branch t i s (ancestor t i k))
+  row-together q (c-linger k b fs l x y) = linger-together t 𝓐 i h s room k l b fs x y q (linger-branch t i s (ancestor t i k))
+  row-together q (c-55 k r w b fs l x y) = line-55-together t 𝓐 i h s room k l b fs x y r w (grant-branch t i s (ancestor t i k) r w)
+  row-together q (c-59 k r w b fs l x y) = line-59-together t 𝓐 i h s room k l b fs x y r w (grant-branch t i s (ancestor t i k) r w)
   row-together q (c-draw k l e) = draw-together t 𝓐 i h s room (suc k) l e wide
-  row-together q (c-watch k l e) = watch-together t 𝓐 i h s room k l e q
-  row-together q (c-raise k fs l e x) = raise-together t 𝓐 i h s room k l e fs x
+  row-together q (c-watch k l e) = watch-together t 𝓐 i h s room k l e q (watch-branch t i s)
+  row-together q (c-raise k fs l e x) = raise-together t 𝓐 i h s room k l e fs x (raise-branch t i s)
 
   -- so from every control that stands at the place
   along-calls : {L : ℕ} {fs : List Frame} (x : Acquires t i L fs) (A : ℕ → List Frame → Type 0) → A (ancestor t i (x .index)) (acquire-stack t i (x .index)) → A L fs
@@ -84,7 +79,7 @@ module _ (t : Tree) (𝓐 : Accepted t) (i : ℕ) (h : i < t .threads) (s : Stat
 
   prep-row-together : (k : ℕ) → k ≤ height t i → Row (control (cond (eqb (ancestor t i k) 0) line-66 line-7) (acquire-stack t i k)) (Prep (ancestor t i k))
   unfolding row
-  prep-row-together k l q = prep-together t 𝓐 i h s room k l _ refl
+  prep-row-together k l q = prep-together t 𝓐 i h s room k l (prep-branch t i s (ancestor t i k))
 
   draw-row-together : (k : ℕ) → k ≤ height t i → ancestor t i k ≡ 0 → Row (control (ticket-lock line-90) (acquire-stack t i k)) Draw
   unfolding row
@@ -176,8 +171,8 @@ corresponding (c-raise k fs l e x) = refl
 
 -- EVERY WELL-FORMED STATE
 check-by-equality : (t : Tree) (i : ℕ) (s : State) → Not-above t i s → (l : ℕ) → place s i ≡ Check l → row t i (Check l) s ≡ equality-check-row t i l s
-unfolding Not-above row check-row equality-check-row
-check-by-equality t i s n l e = rw (same-test (status s (own-record t i l)) (t .threshold l) (n l e))
+unfolding Not-above
+check-by-equality t i s n l e = same-by-equality t i l s (n l e) (branch t i s (Check l))
 
 pub entry-law : Entry-law
 unfolding Entry-law step

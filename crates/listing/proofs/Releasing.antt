@@ -6,13 +6,14 @@ use Prim.Native.Nat.{ℕ, suc, _+_, _-_, _≤_, _<_}
 use native.Mathlib.Omega.{arith}
 use lib.Dec.{eqb}
 use lib.ListN.{length}
-use borrow.Author.Tests.{eqb-false}
-use Rattle.model.specs.declared.Place.the-variants.{Check, Help, Cas, Linger, Grant, Raise}
+use borrow.Author.Tests.{eqb-false, eq-eqb, ne-eqb}
+use Rattle.model.specs.declared.Place.the-variants.{Inside, Check, Help, Cas, Linger, Grant, Raise}
 use Rattle.model.specs.declared.State.{State}
-use Rattle.model.specs.Trees.{Tree, is-ticket}
+use Rattle.model.specs.Trees.{Tree, is-ticket, own-record}
 use Rattle.model.specs.States.{unlocked, none, tail, next, status, place}
-use Rattle.model.specs.Steps.{release-place, release-word, leave-row, help-row, cas-row, linger-row, grant-row}
+use Rattle.model.specs.Steps.{Row-result, release-place, release-word}
 use Rattle.claims.specs.Reached.{equality-check-row}
+use Rattle.model.proofs.Branches.{word-is, Branch, inside-leaves, help-alone, help-linked, cas-last, cas-not-last, linger-alone, linger-linked, grant-writes}
 use Rattle.model.proofs.Trees.Index.{ancestor, height, record-at}
 use Rattle.model.proofs.Trees.Accepted.{Accepted}
 use Rattle.model.proofs.Trees.Tickets.{ticket-facts}
@@ -43,9 +44,9 @@ module _ (t : Tree) (𝓐 : Accepted t) (i : ℕ) (h : i < t .threads) (s : Stat
   released k b fs l x false false n e = c-check k (frame (ancestor t i k) (record-at t i k) b ∷ fs) (ancestor-not-root t 𝓐 i h k l (omega (arith, eqb-false (ancestor t i k) 0 e))) x
 
   -- LEAVING
-  pub leave-together : Together t i s (leave-row t i s) (entry t i (standing (control critical []) s))
-  unfolding leave-row memory-of ancestor record-at
-  leave-together =
+  pub leave-together : {x : Row-result} → Branch t i s Inside x → Together t i s x (entry t i (standing (control critical []) s))
+  unfolding memory-of ancestor record-at
+  leave-together inside-leaves =
       let p = release-place t (t .home i) in
       together t 𝓐 i h s room (record { thread = released-at t (t .home i) i from-release []; memory = memory-of s }) p (leaves t i (memory-of s)) refl
       (moved refl) (released 0 from-release [] (omega arith) at-home _ _ refl refl)
@@ -97,9 +98,11 @@ module _ (t : Tree) (𝓐 : Accepted t) (i : ℕ) (h : i < t .threads) (s : Stat
         rw (y .shape) (check-by (y .back) (y .callers) x′ _ _ refl refl)
 
     -- PASS
-    pub pass-together : (c r : ℕ) (fs : List Frame) → Release-stack t i k fs → Together t i s (grant-row t i L r (c + 1) s) (entry t i (standing (control (line-37 c r) fs) s))
-    unfolding grant-row memory-of next-line line
-    pass-together c r fs x =
+    pub pass-together :
+        (c r : ℕ) (fs : List Frame) → Release-stack t i k fs → {x : Row-result} → Branch t i s (Grant L r (c + 1)) x →
+        Together t i s x (entry t i (standing (control (line-37 c r) fs) s))
+    unfolding memory-of next-line line
+    pass-together c r fs x (grant-writes _ _ _) =
         let z = ended t i 𝓐 h k fs (store-status r (c + 1) (memory-of s)) (omega arith) x in
         rw (done-place-at t 𝓐 i h k (omega arith))
         (together t 𝓐 i h s room (record { thread = z .thread; memory = store-status r (c + 1) (memory-of s) }) (done-at t i k)
@@ -117,47 +120,48 @@ module _ (t : Tree) (𝓐 : Accepted t) (i : ℕ) (h : i < t .threads) (s : Stat
     abbrev W : ℕ
     W = release-word (ancestor t i k)
 
-    pub help-together : (c : Bool) → eqb (next s Q) 0 ≡ c → Together t i s (help-row t i M s) (entry t i (standing (control (line-53 W) (helper-stack t i k back fs)) s))
-    unfolding help-row memory-of
-    help-together true e =
-        rw (own-record-at t 𝓐 i h k l, e)
-        (together t 𝓐 i h s room (goes (line-57 W) (helper-stack t i k back fs) (memory-of s)) (Cas M) (help-none t i M Q back fs (memory-of s) W e) refl
-        (moved refl) (c-cas k back fs l x helps))
-    help-together false e =
-        let p = Grant M (next s Q - 1) W in
-        rw (own-record-at t 𝓐 i h k l, e)
-        (together t 𝓐 i h s room (goes (line-55 (next s Q - 1) W) (helper-stack t i k back fs) (memory-of s)) p (help-some t i M Q back fs (memory-of s) W e) refl
-        (moved refl) (c-55 k (next s Q - 1) W back fs l x helps))
+    own : own-record t i M ≡ Q
+    own = own-record-at t 𝓐 i h k l
 
-    pub cas-together : (c : Bool) → eqb (tail s M) (Q + 1) ≡ c → Together t i s (cas-row t i M s) (entry t i (standing (control (line-57 W) (helper-stack t i k back fs)) s))
-    unfolding cas-row memory-of next-line line top-domain top-node
-    cas-together true e =
+    pub help-together : {x : Row-result} → Branch t i s (Help M) x → Together t i s x (entry t i (standing (control (line-53 W) (helper-stack t i k back fs)) s))
+    unfolding memory-of
+    help-together (help-alone _ n) =
+        together t 𝓐 i h s room (goes (line-57 W) (helper-stack t i k back fs) (memory-of s)) (Cas M)
+        (help-none t i M Q back fs (memory-of s) W (rw own at (eq-eqb _ none n))) refl (moved refl) (c-cas k back fs l x helps)
+    help-together (help-linked _ v n at) =
+        let p = Grant M (next s Q - 1) W in
+        rw (word-is at, own)
+        (together t 𝓐 i h s room (goes (line-55 (next s Q - 1) W) (helper-stack t i k back fs) (memory-of s)) p
+        (help-some t i M Q back fs (memory-of s) W (rw own at (ne-eqb _ none n))) refl (moved refl) (c-55 k (next s Q - 1) W back fs l x helps))
+
+    pub cas-together : {x : Row-result} → Branch t i s (Cas M) x → Together t i s x (entry t i (standing (control (line-57 W) (helper-stack t i k back fs)) s))
+    unfolding memory-of next-line line top-domain top-node
+    cas-together (cas-last _ y) =
+        let e : eqb (tail s M) (Q + 1) ≡ true = rw own at (eq-eqb (tail s M) (own-record t i M + 1) y) in
         let m = store-lock M none (memory-of s) in
         let z = ended t i 𝓐 h k fs m l x in
-        rw (own-record-at t 𝓐 i h k l, e, done-place-at t 𝓐 i h k l)
+        rw (done-place-at t 𝓐 i h k l)
         (together t 𝓐 i h s room (record { thread = z .thread; memory = m }) (done-at t i k)
         (begins t i (goes (line-57 W) (helper-stack t i k back fs) (memory-of s)) (record { thread = returns fs; memory = m }) (rw (e, helper-returns M Q fs helps)) ∙ z .same) refl
         (moved refl) (z .corresponds))
-    cas-together false e =
-        rw (own-record-at t 𝓐 i h k l, e)
-        (together t 𝓐 i h s room (goes (line-58 W) (helper-stack t i k back fs) (memory-of s)) (Linger M) (cas-fails t i M Q back fs (memory-of s) W e) refl
-        (moved refl) (c-linger k back fs l x helps))
+    cas-together (cas-not-last _ y) =
+        together t 𝓐 i h s room (goes (line-58 W) (helper-stack t i k back fs) (memory-of s)) (Linger M)
+        (cas-fails t i M Q back fs (memory-of s) W (rw own at (ne-eqb (tail s M) (own-record t i M + 1) y))) refl (moved refl) (c-linger k back fs l x helps)
 
-    pub linger-together : place s i ≡ Linger M → (c : Bool) → eqb (next s Q) 0 ≡ c → Together t i s (linger-row t i M s) (entry t i (standing (control (line-58 W) (helper-stack t i k back fs)) s))
-    unfolding linger-row memory-of
-    linger-together q true e =
-        rw (own-record-at t 𝓐 i h k l, e)
-        (together t 𝓐 i h s room (goes (line-58 W) (helper-stack t i k back fs) (memory-of s)) (Linger M) (linger-stays t i M Q back fs (memory-of s) W e) refl (stayed refl q)
-        (c-linger k back fs l x helps))
-    linger-together q false e =
+    pub linger-together : place s i ≡ Linger M → {x : Row-result} → Branch t i s (Linger M) x → Together t i s x (entry t i (standing (control (line-58 W) (helper-stack t i k back fs)) s))
+    unfolding memory-of
+    linger-together q (linger-alone _ n) =
+        together t 𝓐 i h s room (goes (line-58 W) (helper-stack t i k back fs) (memory-of s)) (Linger M)
+        (linger-stays t i M Q back fs (memory-of s) W (rw own at (eq-eqb _ none n))) refl (stayed refl q) (c-linger k back fs l x helps)
+    linger-together q (linger-linked _ v n at) =
         let p = Grant M (next s Q - 1) W in
-        rw (own-record-at t 𝓐 i h k l, e)
-        (together t 𝓐 i h s room (goes (line-59 (next s Q - 1) W) (helper-stack t i k back fs) (memory-of s)) p (linger-sees t i M Q back fs (memory-of s) W e) refl
-        (moved refl) (c-59 k (next s Q - 1) W back fs l x helps))
+        rw (word-is at, own)
+        (together t 𝓐 i h s room (goes (line-59 (next s Q - 1) W) (helper-stack t i k back fs) (memory-of s)) p
+        (linger-sees t i M Q back fs (memory-of s) W (rw own at (ne-eqb _ none n))) refl (moved refl) (c-59 k (next s Q - 1) W back fs l x helps))
 
-    pub line-55-together : (r w : ℕ) → Together t i s (grant-row t i M r w s) (entry t i (standing (control (line-55 r w) (helper-stack t i k back fs)) s))
-    unfolding grant-row memory-of next-line line
-    line-55-together r w =
+    pub line-55-together : (r w : ℕ) {x : Row-result} → Branch t i s (Grant M r w) x → Together t i s x (entry t i (standing (control (line-55 r w) (helper-stack t i k back fs)) s))
+    unfolding memory-of next-line line
+    line-55-together r w (grant-writes _ _ _) =
         let m = store-status r w (memory-of s) in
         let z = ended t i 𝓐 h k fs m l x in
         rw (done-place-at t 𝓐 i h k l)
@@ -165,9 +169,9 @@ module _ (t : Tree) (𝓐 : Accepted t) (i : ℕ) (h : i < t .threads) (s : Stat
         (begins t i (goes (line-55 r w) (helper-stack t i k back fs) (memory-of s)) (record { thread = returns fs; memory = m }) (rw (helper-returns M Q fs helps)) ∙ z .same) refl
         (moved refl) (z .corresponds))
 
-    pub line-59-together : (r w : ℕ) → Together t i s (grant-row t i M r w s) (entry t i (standing (control (line-59 r w) (helper-stack t i k back fs)) s))
-    unfolding grant-row memory-of next-line line
-    line-59-together r w =
+    pub line-59-together : (r w : ℕ) {x : Row-result} → Branch t i s (Grant M r w) x → Together t i s x (entry t i (standing (control (line-59 r w) (helper-stack t i k back fs)) s))
+    unfolding memory-of next-line line
+    line-59-together r w (grant-writes _ _ _) =
         let m = store-status r w (memory-of s) in
         let z = ended t i 𝓐 h k fs m l x in
         rw (done-place-at t 𝓐 i h k l)

@@ -7,11 +7,13 @@ use native.Mathlib.Omega.{arith}
 use lib.Dec.{eqb}
 use lib.ListN.{length}
 use lib.Seq.{getD-set-same}
-use Rattle.model.specs.declared.Place.the-variants.{Inside, Watch}
+use borrow.Author.Tests.{eqb-true, eqb-false, eq-eqb, ne-eqb}
+use Rattle.model.specs.declared.Place.the-variants.{Inside, Draw, Watch, Raise}
 use Rattle.model.specs.declared.State.{State}
 use Rattle.model.specs.Trees.{Tree, is-ticket, own-record}
-use Rattle.model.specs.States.{status, place, wrap}
-use Rattle.model.specs.Steps.{done-place, draw-row, watch-row, raise-row}
+use Rattle.model.specs.States.{place, wrap}
+use Rattle.model.specs.Steps.{Row-result, done-place, draw-row}
+use Rattle.model.proofs.Branches.{Branch, draw-shown, draw-unshown, watch-shown, watch-unshown, raise-counts, draw-branch}
 use Rattle.model.proofs.Trees.Index.{ancestor, height, record-at}
 use Rattle.model.proofs.Trees.Accepted.{Accepted}
 use Rattle.model.proofs.Trees.Tickets.{ticket-facts}
@@ -89,15 +91,22 @@ module _ (t : Tree) (𝓐 : Accepted t) (i : ℕ) (h : i < t .threads) (s : Stat
     status-taken wide = getD-set-same (s .statuses) (record-at t i k) (s .ticket) 0 (omega (arith, wide, record-small t 𝓐 i h k l))
 
     -- DRAW, by an entry that takes a ticket and tests once
+    drawn-by :
+        (x : After) (c : Bool) → eqb (s .ticket) (s .grant) ≡ c → x ≡ record { thread = tested c (acquire-stack t i k); memory = taken (record-at t i k) (memory-of s) } → {y : Row-result} →
+        Branch t i s Draw y → Together t i s y x
+    unfolding memory-of
+    drawn-by x true e d (draw-shown _) =
+        rw root-record-at (together t 𝓐 i h s room (goes critical [] (taken (record-at t i k) (memory-of s))) Inside d refl (moved refl) c-inside)
+    drawn-by x false e d (draw-unshown _) =
+        rw root-record-at
+        (together t 𝓐 i h s room (goes (ticket-lock line-91-again) (acquire-stack t i k) (taken (record-at t i k) (memory-of s))) Watch d refl (moved refl) (c-watch k l root))
+    drawn-by x true e d (draw-unshown n) = absurd (n (eqb-true (s .ticket) (s .grant) e))
+    drawn-by x false e d (draw-shown z) = absurd (eqb-false (s .ticket) (s .grant) e z)
+
     drawn :
         (x : After) (c : Bool) → eqb (s .ticket) (s .grant) ≡ c → x ≡ record { thread = tested c (acquire-stack t i k); memory = taken (record-at t i k) (memory-of s) } →
         Together t i s (draw-row t i s) x
-    unfolding draw-row memory-of
-    drawn x true e d =
-        rw (root-record-at, e) (together t 𝓐 i h s room (goes critical [] (taken (record-at t i k) (memory-of s))) Inside d refl (moved refl) c-inside)
-    drawn x false e d =
-        rw (root-record-at, e)
-        (together t 𝓐 i h s room (goes (ticket-lock line-91-again) (acquire-stack t i k) (taken (record-at t i k) (memory-of s))) Watch d refl (moved refl) (c-watch k l root))
+    drawn x c e d = drawn-by x c e d (draw-branch t i s)
 
     pub draw-together : length (s .statuses) ≡ 320 → Together t i s (draw-row t i s) (entry t i (standing (control (ticket-lock line-90) (acquire-stack t i k)) s))
     unfolding memory-of
@@ -106,29 +115,25 @@ module _ (t : Tree) (𝓐 : Accepted t) (i : ℕ) (h : i < t .threads) (s : Stat
         (draws t i (ancestor t i k) (record-at t i k) (acquire-back k) (acquire-callers t i k) (memory-of s) (eqb (s .ticket) (s .grant)) (ap (λ v. eqb v (s .grant)) (status-taken wide)) (acquired t i k))
 
     -- WATCH
-    watch-by :
-        place s i ≡ Watch → (c : Bool) → eqb (status s (record-at t i k)) (s .grant) ≡ c →
-        Together t i s (watch-row t i s) (entry t i (standing (control (ticket-lock line-91-again) (acquire-stack t i k)) s))
-    unfolding watch-row memory-of
-    watch-by q true e =
-        rw (root-record-at, e)
-        (together t 𝓐 i h s room (goes critical [] (memory-of s)) Inside
-        (tests-again t i (ancestor t i k) (record-at t i k) (acquire-back k) (acquire-callers t i k) (memory-of s) true e (acquired t i k)) refl (moved refl) c-inside)
-    watch-by q false e =
-        rw (root-record-at, e)
-        (together t 𝓐 i h s room (goes (ticket-lock line-91-again) (acquire-stack t i k) (memory-of s)) Watch
-        (tests-again t i (ancestor t i k) (record-at t i k) (acquire-back k) (acquire-callers t i k) (memory-of s) false e (acquired t i k)) refl (stayed refl q) (c-watch k l root))
-
-    pub watch-together : place s i ≡ Watch → Together t i s (watch-row t i s) (entry t i (standing (control (ticket-lock line-91-again) (acquire-stack t i k)) s))
-    watch-together q = watch-by q _ refl
+    pub watch-together :
+        place s i ≡ Watch → {x : Row-result} → Branch t i s Watch x → Together t i s x (entry t i (standing (control (ticket-lock line-91-again) (acquire-stack t i k)) s))
+    unfolding memory-of
+    watch-together q (watch-shown y) =
+        together t 𝓐 i h s room (goes critical [] (memory-of s)) Inside
+        (tests-again t i (ancestor t i k) (record-at t i k) (acquire-back k) (acquire-callers t i k) (memory-of s) true (rw root-record-at at (eq-eqb _ (s .grant) y)) (acquired t i k)) refl
+        (moved refl) c-inside
+    watch-together q (watch-unshown y) =
+        together t 𝓐 i h s room (goes (ticket-lock line-91-again) (acquire-stack t i k) (memory-of s)) Watch
+        (tests-again t i (ancestor t i k) (record-at t i k) (acquire-back k) (acquire-callers t i k) (memory-of s) false (rw root-record-at at (ne-eqb _ (s .grant) y)) (acquired t i k)) refl
+        (stayed refl q) (c-watch k l root)
 
     -- RAISE
     done-root : done-place t i 0 ≡ done-at t i k
     done-root = rw root at (done-place-at t 𝓐 i h k l)
 
-    pub raise-together : (fs : List Frame) → Release-stack t i k fs → Together t i s (raise-row t i s) (entry t i (standing (control (ticket-lock line-92) fs) s))
-    unfolding raise-row memory-of next-line line ticket-line
-    raise-together fs x =
+    pub raise-together : (fs : List Frame) → Release-stack t i k fs → {x : Row-result} → Branch t i s Raise x → Together t i s x (entry t i (standing (control (ticket-lock line-92) fs) s))
+    unfolding memory-of next-line line ticket-line
+    raise-together fs x raise-counts =
         let m = store-grant (wrap (s .grant + 1)) (memory-of s) in
         let z = ended t i 𝓐 h k fs m l x in
         rw done-root

@@ -5,6 +5,8 @@ pub mod Refusing
 pub mod Places
 pub mod Storing
 pub mod Trees
+pub mod Branches
+pub mod Waiting
 pub mod Laws
 pub mod Counted
 pub mod Meanings

@@ -12,7 +12,7 @@ use Rattle.model.specs.declared.Place.the-variants.{Idle, Prep, Swap, Link, Wai
 use Rattle.model.specs.Trees.{Tree, depth, level, own-record}
 use Rattle.model.specs.Places.{words-of}
 use Rattle.model.specs.States.{next, place}
-use Rattle.model.specs.Steps.{release-word, link-row, row}
+use Rattle.model.specs.Steps.{release-word, row}
 use Rattle.model.specs.Laws.{Sixteen-bit}
 use Rattle.model.proofs.Lists.{same-or}
 use Rattle.model.proofs.Trees.Index.{ancestor, height, record-at}
@@ -23,7 +23,7 @@ use Rattle.claims.proofs.Words.Represents.{letting-go-root, letting-go-low}
 use Rattle.claims.proofs.Words.Releasing.{done-at}
 use Rattle.chain.specs.Chain.{stays, links, looked-to}
 use Rattle.chain.proofs.Linking.{stays-at, linger-stays}
-use Rattle.chain.proofs.Reached.Rows.{next-kept}
+use Rattle.chain.proofs.Reached.Rows.{link-nexts, next-kept}
 use Rattle.chain.proofs.Reached.Ahead.{link-place, looked-one}
 use Rattle.chain.proofs.Reached.Holding.{far}
 use Rattle.starvation_freedom.specs.Bounds.{release-bound}
@@ -75,11 +75,10 @@ module _ (t : Tree) (𝓐 : Accepted t) (bits : Sixteen-bit t) (a : ℕ) (ha : a
     set-by :
         (c : Situation t) (x : ℕ) (h : x < t .threads) → a ≢ x → Lingers c → next (c .words) R ≢ 0 → (b : Bool) → links (place (c .words) x) R ≡ b →
         next (row t x (place (c .words) x) (c .words) .state) R ≢ 0
-    unfolding row link-row
     set-by c x h n e v true z =
         let s = c .words in
         let y = link-place (place s x) R z in
-        rw (y .1) (rw (getD-set-same (s .nexts) R (own-record t x (y .0) + 1) 0 (omega (arith, c .queued .room .nexts-room, record-small t 𝓐 a ha k l))) (λ f. omega arith))
+        rw (y .1, link-nexts t s x (y .0) R) (rw (getD-set-same (s .nexts) R (own-record t x (y .0) + 1) 0 (omega (arith, c .queued .room .nexts-room, record-small t 𝓐 a ha k l))) (λ f. omega arith))
     set-by c x h n e v false z =
         let s = c .words in
         let first-there : k < low (height t a) (queues c .stage a) = rw (linger-stage t 𝓐 c a ha k l e) (omega (arith, letting-go-low (height t a) k)) in
@@ -131,10 +130,9 @@ module _ (t : Tree) (𝓐 : Accepted t) (bits : Sixteen-bit t) (a : ℕ) (ha : a
           (λ z. inr (inr (turns.linger-turn t 𝓐 bits c a h L e (rw (own-record-at t 𝓐 a ha k l) z))))
 
       link-sets : (c : Situation t) (h : b < t .threads) → Behind c → Linked (situations.next t 𝓐 bits c b h)
-      unfolding row link-row
       link-sets c h (e, f) =
           let s = c .words in
-          let stored : next (row t b (place s b) s .state) R ≢ 0 = rw f (rw (getD-set-same (s .nexts) R (own-record t b m + 1) 0 (omega (arith, c .queued .room .nexts-room, record-small t 𝓐 a ha k l))) (λ z. omega arith)) in
+          let stored : next (row t b (place s b) s .state) R ≢ 0 = rw (f, link-nexts t s b m R) (rw (getD-set-same (s .nexts) R (own-record t b m + 1) 0 (omega (arith, c .queued .room .nexts-room, record-small t 𝓐 a ha k l))) (λ z. omega arith)) in
           (place-other t 𝓐 bits c b h a (λ z. other-thread c (e, f) (sym z)) ∙ e, rw (next-words t 𝓐 bits c b h) stored)
 
       link-round : {c : Situation t} → Behind c → Within t 𝓐 bits 1 (λ d. Linked d ⊎ Grants d) c

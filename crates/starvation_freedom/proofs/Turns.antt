@@ -1,21 +1,23 @@
 -- Where a thread's own step leads, place by place, with domains by their index on its path. Assumes nothing.
 use mathlib.Core.Path.{_≡_, refl, sym, ap, _∙_}
-use mathlib.Core.Bool.{Bool, true, false, cond, _&&_, not}
+use mathlib.Core.Bool.{true}
 use mathlib.Core.Logic.{_≢_, _⊎_, inl, inr}
 use Prim.Native.Nat.{ℕ, suc, _+_, _-_, _≤_, _<_}
 use native.Mathlib.Omega.{arith}
-use lib.Dec.{eqb, ltb}
+use lib.Dec.{eqb}
 use lib.ListN.{getD, set}
-use borrow.Author.Tests.{eqb-true, eqb-false, eq-eqb, ne-eqb, ltb-true}
+use borrow.Author.Tests.{eqb-true, eqb-false}
 use Rattle.model.specs.declared.Place.{Place}
 use Rattle.model.specs.declared.Place.the-variants.{Idle, Prep, Swap, Link, Wait, Inside, Check, Help, Cas, Linger, Grant, Draw, Watch, Raise}
 use Rattle.model.specs.declared.State.{State as WordState}
 use Rattle.model.specs.Trees.{Tree, is-ticket, own-record}
 use Rattle.model.specs.Places.{place-words, words-of, place-of}
-use Rattle.model.specs.States.{acquire-parent, wait-word, locked, none, tail, next, status, place}
-use Rattle.model.specs.Steps.{Row-result, acquire-place, acquired-place, release-place, release-word, done-place, prep-row, swap-row, link-row, wait-row, leave-row, check-row, help-row, cas-row, linger-row, grant-row, draw-row, watch-row, raise-row, row}
+use Rattle.model.specs.States.{acquire-parent, tail, next, status, place}
+use Rattle.model.specs.Steps.{Row-result, acquire-place, acquired-place, release-place, release-word, done-place, row}
 use Rattle.model.specs.Laws.{Sixteen-bit}
-use Rattle.model.proofs.Tests.{by-test, and-both}
+use Rattle.model.proofs.Tests.{by-test}
+use Rattle.model.proofs.Branches.{word-is, Branch, idle-draws, idle-prepares, prepares, swap-root, swap-inner, swap-behind, link-writes, wait-root-locked, wait-root-granted, wait-ungranted, wait-acquires, wait-passed, wait-crossed, inside-leaves, check-passes, check-releases, help-alone, help-linked, cas-last, cas-not-last, linger-alone, linger-linked, grant-writes, draw-shown, draw-unshown, watch-shown, watch-unshown, raise-counts, branch}
+use Rattle.model.proofs.Waiting.{ungranted-row}
 use Rattle.model.proofs.Trees.Index.{ancestor, height, record-at}
 use Rattle.model.proofs.Trees.Accepted.{Accepted}
 use Rattle.model.proofs.Trees.Tickets.{ticket-facts}
@@ -74,10 +76,14 @@ module _ (t : Tree) (𝓐 : Accepted t) (bits : Sixteen-bit t) (c : Situation t)
       place-stored i p s (omega (arith, c .queued .room .places-room, 𝓐 .few-threads)) in
       rw e q
 
-  turn : (Q : Place → Type 0) (p : Place) → place s i ≡ p → Q (place (row t i p s .state) i) → Q after
-  turn Q p e q =
+  -- by the branches of the row of its place
+  turn : (Q : Place → Type 0) (p : Place) → place s i ≡ p → ((x : Row-result) → Branch t i s p x → Q (place (x .state) i)) → Q after
+  turn Q p e by =
       let z : after ≡ place (row t i p s .state) i = ap (λ x. place x i) (next-words t 𝓐 bits c i h) ∙ ap (λ x. place (row t i x s .state) i) e in
-      rw z q
+      rw z (by _ (branch t i s p))
+
+  here : (p : Place) → place-of (getD (set (s .places) i (words-of p)) i (place-words 0 0 0 0)) ≡ p
+  here p = lands (λ q. q ≡ p) p refl
 
   -- the places from which the next domain is acquired, and a domain is released
   acquires-at : (k : ℕ) → k ≤ height t i → Acquires t i k (acquire-place t (ancestor t i k))
@@ -94,158 +100,158 @@ module _ (t : Tree) (𝓐 : Accepted t) (bits : Sixteen-bit t) (c : Situation t)
 
   -- ACQUIRING
   pub prep-turn : (l : ℕ) → place s i ≡ Prep l → after ≡ Swap l
-  unfolding row prep-row
-  prep-turn l e = turn (λ p. p ≡ Swap l) (Prep l) e (lands (λ p. p ≡ Swap l) (Swap l) refl)
-
-  draw-by : Row-result → Type 0
-  draw-by x = (place (x .state) i ≡ Inside) ⊎ (place (x .state) i ≡ Watch)
-
-  draw-lands : draw-by (draw-row t i s)
-  unfolding draw-row draw-by
-  draw-lands =
-      by-test draw-by (eqb (s .ticket) (s .grant)) _ _
-      (λ _. inl (lands (λ p. p ≡ Inside) Inside refl)) (λ _. inr (lands (λ p. p ≡ Watch) Watch refl))
+  prep-turn l e = turn (λ p. p ≡ Swap l) (Prep l) e (λ _. by)
+    where
+      by : {x : Row-result} → Branch t i s (Prep l) x → place (x .state) i ≡ Swap l
+      by (prepares _ v at) = here (Swap l)
 
   pub draw-turn : place s i ≡ Draw → (after ≡ Inside) ⊎ (after ≡ Watch)
-  unfolding row draw-by
-  draw-turn e = turn (λ p. (p ≡ Inside) ⊎ (p ≡ Watch)) Draw e draw-lands
+  draw-turn e = turn (λ p. (p ≡ Inside) ⊎ (p ≡ Watch)) Draw e (λ _. by)
+    where
+      by : {x : Row-result} → Branch t i s Draw x → (place (x .state) i ≡ Inside) ⊎ (place (x .state) i ≡ Watch)
+      by (draw-shown _) = inl (here Inside)
+      by (draw-unshown _) = inr (here Watch)
 
   pub idle-turn : place s i ≡ Idle → From-idle t i after
-  unfolding row prep-row draw-by ancestor
-  idle-turn e =
-      turn (From-idle t i) Idle e
-      (by-test (λ (x : Row-result). From-idle t i (place (x .state) i)) (is-ticket t (t .home i)) _ _
-      (λ y. elim draw-lands [ inl z ↦ drawn-inside z | inr z ↦ drawn-watch z (ancestor-zero t 𝓐 i h 0 (omega arith) (ancestor-home t i ∙ ticket-facts t (t .home i) y .1)) ]) (λ _. to-swap (lands (λ p. p ≡ Swap (t .home i)) (Swap (t .home i)) refl)))
+  unfolding ancestor
+  idle-turn e = turn (From-idle t i) Idle e (λ _. by)
+    where
+      by : {x : Row-result} → Branch t i s Idle x → From-idle t i (place (x .state) i)
+      by (idle-draws y (draw-shown _)) = drawn-inside (here Inside)
+      by (idle-draws y (draw-unshown _)) = drawn-watch (here Watch) (ancestor-zero t 𝓐 i h 0 (omega arith) (ancestor-home t i ∙ ticket-facts t (t .home i) y .1))
+      by (idle-prepares _ (prepares _ v at)) = to-swap (here (Swap (t .home i)))
+
+  -- the next domain's place, behind Swap and Wait
+  climbs : (k : ℕ) (b : k < height t i) → Acquires t i (suc k) (place-of (getD (set (s .places) i (words-of (acquired-place t (ancestor t i k)))) i (place-words 0 0 0 0)))
+  climbs k b = lands (Acquires t i (suc k)) (acquired-place t (ancestor t i k)) (rw (ancestor-parent-of t 𝓐 i h k b) (acquires-at (suc k) b))
 
   pub swap-turn : (k : ℕ) → k ≤ height t i → place s i ≡ Swap (ancestor t i k) → From-swap t i k after
-  unfolding row swap-row
-  swap-turn k l e =
-      let L = ancestor t i k in
-      turn (From-swap t i k) (Swap L) e
-      (by-test (λ (x : Row-result). From-swap t i k (place (x .state) i)) (eqb (tail s L) none) _ _
-      (λ _. by-test (λ (x : Row-result). From-swap t i k (place (x .state) i)) (eqb L 0) _ _
-      (λ _. entered (lands (λ p. p ≡ Inside) Inside refl))
-      (λ z.
-      let n = eqb-false L 0 z in
-      let b = ancestor-not-root t 𝓐 i h k l (omega arith) in
-      alone b (lands (Acquires t i (suc k)) (acquired-place t L) (rw (ancestor-parent-of t 𝓐 i h k b) (acquires-at (suc k) b)))))
-      (λ _. behind (tail s L - 1) (lands (λ p. p ≡ Link L (tail s L - 1)) (Link L (tail s L - 1)) refl)))
+  swap-turn k l e = turn (From-swap t i k) (Swap (ancestor t i k)) e (λ _. by)
+    where
+      by : {x : Row-result} → Branch t i s (Swap (ancestor t i k)) x → From-swap t i k (place (x .state) i)
+      by (swap-root _ _ _) = entered (here Inside)
+      by (swap-inner _ n _) = let b = ancestor-not-root t 𝓐 i h k l (omega (arith, n)) in alone b (climbs k b)
+      by (swap-behind _ _) = let q = tail s (ancestor t i k) - 1 in behind q (here (Link (ancestor t i k) q))
 
   pub link-turn : (l q : ℕ) → place s i ≡ Link l q → after ≡ Wait l
-  unfolding row link-row
-  link-turn l q e = turn (λ p. p ≡ Wait l) (Link l q) e (lands (λ p. p ≡ Wait l) (Wait l) refl)
+  link-turn l q e = turn (λ p. p ≡ Wait l) (Link l q) e (λ _. by)
+    where
+      by : {x : Row-result} → Branch t i s (Link l q) x → place (x .state) i ≡ Wait l
+      by (link-writes _ _) = here (Wait l)
 
   -- WAIT: Inside, the next domain, or it stays
   pub woken-turn : (k : ℕ) → k < height t i → place s i ≡ Wait (ancestor t i k) → status s (record-at t i k) ≡ acquire-parent → Acquires t i (suc k) after
-  unfolding row wait-row
-  woken-turn k b e v =
-      let x = status s (record-at t i k) in
-      turn (Acquires t i (suc k)) (Wait (ancestor t i k)) e
-      (rw (own-record-at t 𝓐 i h k (omega arith), ne-eqb (ancestor t i k) 0 (omega (arith, ancestor-inner t 𝓐 i h k b)), ne-eqb x wait-word (omega arith), eq-eqb x acquire-parent v)
-      (lands (Acquires t i (suc k)) (acquired-place t (ancestor t i k)) (rw (ancestor-parent-of t 𝓐 i h k b) (acquires-at (suc k) b))))
+  woken-turn k b e v = turn (Acquires t i (suc k)) (Wait (ancestor t i k)) e (λ _. by)
+    where
+      word : status s (own-record t i (ancestor t i k)) ≡ acquire-parent
+      word = rw (own-record-at t 𝓐 i h k (omega arith)) v
+
+      root : {C : Type 0} → ancestor t i k ≡ 0 → C
+      root z = absurd (omega (arith, ancestor-inner t 𝓐 i h k b))
+
+      by : {x : Row-result} → Branch t i s (Wait (ancestor t i k)) x → Acquires t i (suc k) (place (x .state) i)
+      by (wait-acquires _ _ _) = climbs k b
+      by (wait-root-locked _ z _) = root z
+      by (wait-root-granted _ z _) = root z
+      by (wait-ungranted _ _ w) = absurd (omega (arith, word))
+      by (wait-passed _ _ _ n _) = absurd (n word)
+      by (wait-crossed _ _ _ n _) = absurd (n word)
 
   -- a status that sends Inside: at the root UNLOCKED, below it a count
-  ready-by :
-      (k : ℕ) → k ≤ height t i → place s i ≡ Wait (ancestor t i k) → (k ≡ height t i → status s (record-at t i k) ≡ 0) → (k < height t i → status s (record-at t i k) ≤ 65535) →
-      (b : Bool) → eqb (ancestor t i k) 0 ≡ b → after ≡ Inside
-  unfolding row wait-row
-  ready-by k l e top low true z =
-      let free = top (ancestor-zero t 𝓐 i h k l (eqb-true (ancestor t i k) 0 z)) in
-      turn (λ p. p ≡ Inside) (Wait (ancestor t i k)) e
-      (rw (own-record-at t 𝓐 i h k l, z, ne-eqb (status s (record-at t i k)) locked (omega arith)) (lands (λ p. p ≡ Inside) Inside refl))
-  ready-by k l e top low false z =
-      let n = eqb-false (ancestor t i k) 0 z in
-      let count = low (ancestor-not-root t 𝓐 i h k l (omega arith)) in
-      let x = status s (record-at t i k) in
-      turn (λ p. p ≡ Inside) (Wait (ancestor t i k)) e
-      (rw (own-record-at t 𝓐 i h k l, z, ne-eqb x wait-word (omega arith), ne-eqb x acquire-parent (omega arith)) (lands (λ p. p ≡ Inside) Inside refl))
-
   pub ready-turn :
       (k : ℕ) → k ≤ height t i → place s i ≡ Wait (ancestor t i k) → (k ≡ height t i → status s (record-at t i k) ≡ 0) → (k < height t i → status s (record-at t i k) ≤ 65535) → after ≡ Inside
-  ready-turn k l e top low = ready-by k l e top low _ refl
+  ready-turn k l e top low = turn (λ p. p ≡ Inside) (Wait (ancestor t i k)) e (λ _. by)
+    where
+      own : own-record t i (ancestor t i k) ≡ record-at t i k
+      own = own-record-at t 𝓐 i h k l
+
+      count : ancestor t i k ≢ 0 → status s (own-record t i (ancestor t i k)) ≤ 65535
+      count n = rw own (low (ancestor-not-root t 𝓐 i h k l (omega (arith, n))))
+
+      by : {x : Row-result} → Branch t i s (Wait (ancestor t i k)) x → place (x .state) i ≡ Inside
+      by (wait-root-granted _ _ _) = here Inside
+      by (wait-passed _ _ _ _ _) = here Inside
+      by (wait-crossed _ _ _ _ _) = here Inside
+      by (wait-root-locked _ z w) = absurd (let free = top (ancestor-zero t 𝓐 i h k l z) in let w′ = rw own at w in omega arith)
+      by (wait-ungranted _ n w) = absurd (omega (arith, count n))
+      by (wait-acquires _ n w) = absurd (omega (arith, count n))
 
   -- a status that stays
-  wait-by :
-      (k : ℕ) → k ≤ height t i → place s i ≡ Wait (ancestor t i k) → (b : Bool) → eqb (ancestor t i k) 0 ≡ b →
-      status s (record-at t i k) ≡ cond b locked wait-word → after ≡ Wait (ancestor t i k)
-  unfolding row wait-row
-  wait-by k l e true z v =
-      turn (λ p. p ≡ Wait (ancestor t i k)) (Wait (ancestor t i k)) e
-      (rw (own-record-at t 𝓐 i h k l, z, eq-eqb (status s (record-at t i k)) locked v) e)
-  wait-by k l e false z v =
-      turn (λ p. p ≡ Wait (ancestor t i k)) (Wait (ancestor t i k)) e
-      (rw (own-record-at t 𝓐 i h k l, z, eq-eqb (status s (record-at t i k)) wait-word v) e)
-
   pub wait-turn : (k : ℕ) → k ≤ height t i → place s i ≡ Wait (ancestor t i k) → status s (record-at t i k) ≡ waiting-word (ancestor t i k) → after ≡ Wait (ancestor t i k)
-  wait-turn k l e v = wait-by k l e _ refl v
+  unfolding row
+  wait-turn k l e v =
+      let z : after ≡ place (row t i (Wait (ancestor t i k)) s .state) i = ap (λ x. place x i) (next-words t 𝓐 bits c i h) ∙ ap (λ x. place (row t i x s .state) i) e in
+      z ∙ rw (ungranted-row t i s (ancestor t i k) (rw (own-record-at t 𝓐 i h k l) v)) e
 
   pub watch-turn : place s i ≡ Watch → (after ≡ Inside) ⊎ (after ≡ Watch)
-  unfolding row watch-row
-  watch-turn e =
-      turn (λ p. (p ≡ Inside) ⊎ (p ≡ Watch)) Watch e
-      (by-test (λ (x : Row-result). (place (x .state) i ≡ Inside) ⊎ (place (x .state) i ≡ Watch)) (eqb (status s (own-record t i 0)) (s .grant)) _ _
-      (λ _. inl (lands (λ p. p ≡ Inside) Inside refl)) (λ _. inr e))
+  watch-turn e = turn (λ p. (p ≡ Inside) ⊎ (p ≡ Watch)) Watch e (λ _. by)
+    where
+      by : {x : Row-result} → Branch t i s Watch x → (place (x .state) i ≡ Inside) ⊎ (place (x .state) i ≡ Watch)
+      by (watch-shown _) = inl (here Inside)
+      by (watch-unshown _) = inr e
 
   pub shown-turn : place s i ≡ Watch → status s (record-at t i (height t i)) ≡ s .grant → after ≡ Inside
-  unfolding row watch-row
-  shown-turn e v =
-      turn (λ p. p ≡ Inside) Watch e
-      (rw (root-record t 𝓐 i h, eq-eqb (status s (record-at t i (height t i))) (s .grant) v) (lands (λ p. p ≡ Inside) Inside refl))
+  shown-turn e v = turn (λ p. p ≡ Inside) Watch e (λ _. by)
+    where
+      by : {x : Row-result} → Branch t i s Watch x → place (x .state) i ≡ Inside
+      by (watch-shown _) = here Inside
+      by (watch-unshown n) = absurd ((rw (root-record t 𝓐 i h) at n) v)
 
   -- RELEASING
   pub inside-turn : place s i ≡ Inside → Releases t i 0 after
-  unfolding row leave-row ancestor
-  inside-turn e = turn (Releases t i 0) Inside e (lands (Releases t i 0) (release-place t (t .home i)) (releases-at 0 (omega arith)))
+  unfolding ancestor
+  inside-turn e = turn (Releases t i 0) Inside e (λ _. by)
+    where
+      by : {x : Row-result} → Branch t i s Inside x → Releases t i 0 (place (x .state) i)
+      by inside-leaves = lands (Releases t i 0) (release-place t (t .home i)) (releases-at 0 (omega arith))
 
   pub check-turn : (k : ℕ) → k < height t i → place s i ≡ Check (ancestor t i k) → From-check t i k after
-  unfolding row check-row
-  check-turn k b e =
-      let L = ancestor t i k in
-      let I = own-record t i L in
-      turn (From-check t i k) (Check L) e
-      (by-test (λ (x : Row-result). From-check t i k (place (x .state) i)) (ltb (status s I) (t .threshold L) && not (eqb (next s I) none)) _ _
-      (λ z.
-      let less = ltb-true (status s I) (t .threshold L) (and-both _ _ z .0) in
-      let p = Grant L (next s I - 1) (status s I + 1) in
-      passes (next s I - 1) (status s I + 1) (lands (λ q. q ≡ p) p refl) (omega (arith, bits L)))
-      (λ _. goes-up (lands (Releases t i (suc k)) (release-place t (t .parent L)) (rw (ancestor-parent-of t 𝓐 i h k b) (releases-at (suc k) b)))))
+  check-turn k b e = turn (From-check t i k) (Check (ancestor t i k)) e (λ _. by)
+    where
+      by : {x : Row-result} → Branch t i s (Check (ancestor t i k)) x → From-check t i k (place (x .state) i)
+      by (check-passes _ less _) =
+          let L = ancestor t i k in
+          let I = own-record t i L in
+          passes (next s I - 1) (status s I + 1) (here (Grant L (next s I - 1) (status s I + 1))) (omega (arith, bits L))
+      by (check-releases _ _) =
+          goes-up (lands (Releases t i (suc k)) (release-place t (t .parent (ancestor t i k))) (rw (ancestor-parent-of t 𝓐 i h k b) (releases-at (suc k) b)))
 
   pub help-turn : (l : ℕ) → place s i ≡ Help l → From-help l after
-  unfolding row help-row
-  help-turn l e =
-      let n = next s (own-record t i l) in
-      turn (From-help l) (Help l) e
-      (by-test (λ (x : Row-result). From-help l (place (x .state) i)) (eqb n none) _ _
-      (λ _. to-cas (lands (λ p. p ≡ Cas l) (Cas l) refl))
-      (λ _. to-grant (n - 1) (lands (λ p. p ≡ Grant l (n - 1) (release-word l)) (Grant l (n - 1) (release-word l)) refl)))
+  help-turn l e = turn (From-help l) (Help l) e (λ _. by)
+    where
+      by : {x : Row-result} → Branch t i s (Help l) x → From-help l (place (x .state) i)
+      by (help-alone _ _) = to-cas (here (Cas l))
+      by (help-linked _ v _ at) = let m = next s (own-record t i l) - 1 in to-grant m (here (Grant l m v) ∙ ap (Grant l m) (word-is at))
 
   pub linger-turn : (l : ℕ) → place s i ≡ Linger l → next s (own-record t i l) ≢ 0 → (r : ℕ) × (after ≡ Grant l r (release-word l))
-  unfolding row linger-row
-  linger-turn l e n =
-      let m = next s (own-record t i l) in
-      let p = Grant l (m - 1) (release-word l) in
-      (m - 1, turn (λ q. q ≡ p) (Linger l) e (rw (ne-eqb m none n) (lands (λ q. q ≡ p) p refl)))
+  linger-turn l e n = turn (λ p. (r : ℕ) × (p ≡ Grant l r (release-word l))) (Linger l) e (λ _. by)
+    where
+      by : {x : Row-result} → Branch t i s (Linger l) x → (r : ℕ) × (place (x .state) i ≡ Grant l r (release-word l))
+      by (linger-alone _ z) = absurd (n z)
+      by (linger-linked _ v _ at) = let m = next s (own-record t i l) - 1 in (m, here (Grant l m v) ∙ ap (Grant l m) (word-is at))
 
   pub linger-stays : (l : ℕ) → place s i ≡ Linger l → next s (own-record t i l) ≡ 0 → after ≡ Linger l
-  unfolding row linger-row
-  linger-stays l e n = turn (λ q. q ≡ Linger l) (Linger l) e (rw (eq-eqb (next s (own-record t i l)) none n) e)
+  linger-stays l e n = turn (λ q. q ≡ Linger l) (Linger l) e (λ _. by)
+    where
+      by : {x : Row-result} → Branch t i s (Linger l) x → place (x .state) i ≡ Linger l
+      by (linger-alone _ _) = e
+      by (linger-linked _ v z at) = absurd (z n)
 
   pub cas-turn : (k : ℕ) → k ≤ height t i → place s i ≡ Cas (ancestor t i k) → (after ≡ Linger (ancestor t i k)) ⊎ (after ≡ done-at t i k)
-  unfolding row cas-row
-  cas-turn k b e =
-      let L = ancestor t i k in
-      turn (λ p. (p ≡ Linger L) ⊎ (p ≡ done-at t i k)) (Cas L) e
-      (by-test (λ (x : Row-result). (place (x .state) i ≡ Linger L) ⊎ (place (x .state) i ≡ done-at t i k)) (eqb (tail s L) (own-record t i L + 1)) _ _
-      (λ _. inr (lands (λ p. p ≡ done-at t i k) (done-place t i L) (done-place-at t 𝓐 i h k b)))
-      (λ _. inl (lands (λ p. p ≡ Linger L) (Linger L) refl)))
+  cas-turn k b e = turn (λ p. (p ≡ Linger (ancestor t i k)) ⊎ (p ≡ done-at t i k)) (Cas (ancestor t i k)) e (λ _. by)
+    where
+      by : {x : Row-result} → Branch t i s (Cas (ancestor t i k)) x → (place (x .state) i ≡ Linger (ancestor t i k)) ⊎ (place (x .state) i ≡ done-at t i k)
+      by (cas-last _ _) = inr (here (done-place t i (ancestor t i k)) ∙ done-place-at t 𝓐 i h k b)
+      by (cas-not-last _ _) = inl (here (Linger (ancestor t i k)))
 
   pub grant-turn : (k r v : ℕ) → k ≤ height t i → place s i ≡ Grant (ancestor t i k) r v → after ≡ done-at t i k
-  unfolding row grant-row
-  grant-turn k r v b e =
-      turn (λ p. p ≡ done-at t i k) (Grant (ancestor t i k) r v) e (lands (λ p. p ≡ done-at t i k) (done-place t i (ancestor t i k)) (done-place-at t 𝓐 i h k b))
+  grant-turn k r v b e = turn (λ p. p ≡ done-at t i k) (Grant (ancestor t i k) r v) e (λ _. by)
+    where
+      by : {x : Row-result} → Branch t i s (Grant (ancestor t i k) r v) x → place (x .state) i ≡ done-at t i k
+      by (grant-writes _ _ _) = here (done-place t i (ancestor t i k)) ∙ done-place-at t 𝓐 i h k b
 
   pub raise-turn : place s i ≡ Raise → after ≡ done-at t i (height t i)
-  unfolding row raise-row
-  raise-turn e =
-      let z : done-place t i 0 ≡ done-at t i (height t i) = ap (done-place t i) (sym (ancestor-root t 𝓐 i h)) ∙ done-place-at t 𝓐 i h (height t i) (omega arith) in
-      turn (λ p. p ≡ done-at t i (height t i)) Raise e (lands (λ p. p ≡ done-at t i (height t i)) (done-place t i 0) z)
+  raise-turn e = turn (λ p. p ≡ done-at t i (height t i)) Raise e (λ _. by)
+    where
+      by : {x : Row-result} → Branch t i s Raise x → place (x .state) i ≡ done-at t i (height t i)
+      by raise-counts = here (done-place t i 0) ∙ ap (done-place t i) (sym (ancestor-root t 𝓐 i h)) ∙ done-place-at t 𝓐 i h (height t i) (omega arith)

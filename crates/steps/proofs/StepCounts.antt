@@ -19,7 +19,7 @@ use Rattle.model.specs.Scans.{any-below}
 use Rattle.model.specs.Trees.{Tree, tree-of, is-ticket, on-path, child, own-record, is-record, is-member}
 use Rattle.model.specs.Places.{place-words, words-of, place-of}
 use Rattle.model.specs.States.{none, tail, status, place, wrap}
-use Rattle.model.specs.Steps.{kind-number, Row-result, acquired-place, is-watched, shown-members, swap-row, draw-row, row, step}
+use Rattle.model.specs.Steps.{kind-number, Row-result, acquired-place, is-watched, shown-members, row, step}
 use Rattle.model.specs.WellFormed.{queue-on-path, good-place}
 use Rattle.model.specs.Refusals.{tree-refusal}
 use Rattle.model.specs.Tenures.{checks-at, domain-tenures, longest-told}
@@ -27,13 +27,14 @@ use Rattle.model.specs.Counters.{each-with-index, counters-after}
 use Rattle.model.specs.Laws.{Formed}
 use Rattle.model.proofs.Tests.{and-both, by-test, any-same}
 use Rattle.model.proofs.Places.{words-of-place, watch-numbers}
+use Rattle.model.proofs.Branches.{Branch, swap-root, swap-inner, swap-behind, draw-shown, draw-unshown, branch}
 use Rattle.model.proofs.Trees.Accepted.{Accepted, accepted}
 use Rattle.model.proofs.Trees.Paths.{on-path-root}
 use Rattle.model.proofs.Trees.Records.{member-record, child-inner}
 use Rattle.model.proofs.Trees.Tickets.{queue-facts}
 use Rattle.model.proofs.Laws.Facts.{well-formed-facts}
 use Rattle.model.proofs.Laws.Form.{valid}
-use Rattle.model.proofs.Laws.Given.{given-from, given-idle, given-prep, given-swap, given-link, given-wait, given-inside, given-check, given-help, given-cas, given-linger, given-grant, given-draw, given-watch, given-raise}
+use Rattle.model.proofs.Laws.Given.{given-from, given-at, gives}
 use Rattle.model.proofs.Trees.Reading.{home-read}
 use Rattle.refusals.specs.Arrays.{parents-in}
 use Rattle.refusals.specs.Counts.{counters-in}
@@ -48,32 +49,26 @@ use Rattle.steps.proofs.StepTenures.{Start-of, nobody, of-thread, of-do
 stored-place : (ps : List PlaceWords) (i : ℕ) (q : PlaceWords) → i < length ps → getD (set ps i q) i (place-words 0 0 0 0) ≡ q
 stored-place ps i q h = getD-set-same ps i q (place-words 0 0 0 0) h
 
-three-ways : (f : Row-result → Bool) (a b : Bool) (x y z : Row-result) → f x ≡ false → f y ≡ false → f z ≡ true → f (cond a (cond b x y) z) ≡ not a
-three-ways f true true x y z p q r = p
-three-ways f true false x y z p q r = q
-three-ways f false b x y z p q r = r
-
-two-ways : (f : Row-result → Bool) (a : Bool) (x z : Row-result) → f x ≡ false → f z ≡ true → f (cond a x z) ≡ not a
-two-ways f true x z p r = p
-two-ways f false x z p r = r
-
 -- of the place behind a Swap: Link exactly where the tail was not none
 swap-after :
-    (t : Tree) (i l : ℕ) (s : State) → i < length (s .places) →
-    eqb (getD (swap-row t i l s .state .places) i (place-words 0 0 0 0) .row) 3 ≡ not (eqb (tail s l) none)
-unfolding swap-row
-swap-after t i l s h =
-    three-ways (λ r. eqb (getD (r .state .places) i (place-words 0 0 0 0) .row) 3) (eqb (tail s l) none) (eqb l 0) _ _ _ (at Inside) (at (acquired-place t l) ∙ acquired) (at (Link l (tail s l - 1)))
+    (t : Tree) (i l : ℕ) (s : State) → i < length (s .places) → {x : Row-result} → Branch t i s (Swap l) x →
+    eqb (getD (x .state .places) i (place-words 0 0 0 0) .row) 3 ≡ not (eqb (tail s l) none)
+swap-after t i l s h = by
   where
     at : (p : Place) → eqb (getD (set (s .places) i (words-of p)) i (place-words 0 0 0 0) .row) 3 ≡ eqb (words-of p .row) 3
     at p = ap (λ (q : PlaceWords). eqb (q .row) 3) (stored-place (s .places) i (words-of p) h)
 
-    acquired : eqb (words-of (acquired-place t l) .row) 3 ≡ false
-    acquired = by-test (λ p. eqb (words-of p .row) 3 ≡ false) (is-ticket t (t .parent l)) Draw (Prep (t .parent l)) (λ e. refl) (λ e. refl)
+    acquired-row : eqb (words-of (acquired-place t l) .row) 3 ≡ false
+    acquired-row = by-test (λ p. eqb (words-of p .row) 3 ≡ false) (is-ticket t (t .parent l)) Draw (Prep (t .parent l)) (λ e. refl) (λ e. refl)
 
-draw-kind : (t : Tree) (i : ℕ) (s : State) → eqb (kind-number (draw-row t i s .kind)) 1 ≡ not (eqb (s .ticket) (s .grant))
-unfolding draw-row
-draw-kind t i s = two-ways (λ r. eqb (kind-number (r .kind)) 1) (eqb (s .ticket) (s .grant)) _ _ refl refl
+    by : {x : Row-result} → Branch t i s (Swap l) x → eqb (getD (x .state .places) i (place-words 0 0 0 0) .row) 3 ≡ not (eqb (tail s l) none)
+    by (swap-root _ z e) = at Inside ∙ sym (ap not (eq-eqb (tail s l) none e))
+    by (swap-inner _ z e) = at (acquired-place t l) ∙ acquired-row ∙ sym (ap not (eq-eqb (tail s l) none e))
+    by (swap-behind _ e) = at (Link l (tail s l - 1)) ∙ sym (ap not (ne-eqb (tail s l) none e))
+
+draw-kind : (t : Tree) (i : ℕ) (s : State) {x : Row-result} → Branch t i s Draw x → eqb (kind-number (x .kind)) 1 ≡ not (eqb (s .ticket) (s .grant))
+draw-kind t i s (draw-shown e) = sym (ap not (eq-eqb (s .ticket) (s .grant) e))
+draw-kind t i s (draw-unshown e) = sym (ap not (ne-eqb (s .ticket) (s .grant) e))
 
 -- a record that a thread works with, or none, by a test
 module _ (t : Tree) (𝓐 : Accepted t) (m : ℕ) (ps : List ℕ) (same : (e : ℕ) → parents-in m ps .parent e ≡ t .parent e) where
@@ -177,63 +172,64 @@ module _ (w : TreeWords) (ok : tree-refusal (tree-of w) .number ≡ 0) (i : ℕ)
     same-parents x = refl
 
     from-swap : (l : ℕ) → place s i ≡ Swap l → good-place t i (Swap l) ≡ true → Both
-    unfolding started-in checks-at good-place step row
+    unfolding started-in checks-at good-place step given-at
     from-swap l z g =
         let y = row-is (Swap l) z in
         let a : eqb (said .place .row) 3 ≡ not (eqb (tail s l) none) =
-        ap (λ (x : PlaceWords). eqb (x .row) 3) (sym after) ∙ ap (λ (p : Place). eqb (getD (row t i p s .state .places) i (place-words 0 0 0 0) .row) 3) z ∙ swap-after t i l s room in
+        ap (λ (x : PlaceWords). eqb (x .row) 3) (sym after) ∙ ap (λ (p : Place). eqb (getD (row t i p s .state .places) i (place-words 0 0 0 0) .row) 3) z ∙ swap-after t i l s room (branch t i s (Swap l)) in
         let c : started ≡ cond (not (eqb (tail s l) none)) 0 (taken-in (w .domains) (w .parents) h l) = rw (y, a) in
         finish (λ x. absurd (omega (arith, ap (λ (v : PlaceWords). v .row) y))) (λ x. absurd (omega (arith, ap (λ (v : PlaceWords). v .row) y)))
-        (rw (c, z, given-swap t i l s) (own-started t 𝓐 (w .domains) (w .parents) same-parents (eqb (tail s l) none) i l h b (queue-facts t i l g .0) home))
+        (rw (c, z, gives t i (Swap l) s) (own-started t 𝓐 (w .domains) (w .parents) same-parents (eqb (tail s l) none) i l h b (queue-facts t i l g .0) home))
         (λ d. rw z)
 
     from-draw : place s i ≡ Draw → Both
-    unfolding started-in checks-at row
+    unfolding started-in checks-at given-at
     from-draw z =
         let y = row-is Draw z in
-        let a : eqb (said .kind) 1 ≡ not (eqb (s .ticket) (s .grant)) = ap (λ v. eqb v 1) (D .kind-told) ∙ ap (λ (p : Place). eqb (kind-number (row t i p s .kind)) 1) z ∙ draw-kind t i s in
+        let a : eqb (said .kind) 1 ≡ not (eqb (s .ticket) (s .grant)) = ap (λ v. eqb v 1) (D .kind-told) ∙ ap (λ (p : Place). eqb (kind-number (row t i p s .kind)) 1) z ∙ draw-kind t i s (branch t i s Draw) in
         let c : started ≡ cond (not (eqb (s .ticket) (s .grant))) 0 (taken-in (w .domains) (w .parents) h 0) = rw (y, a) in
         finish (λ x. absurd (omega (arith, ap (λ (v : PlaceWords). v .row) y))) (λ x. absurd (omega (arith, ap (λ (v : PlaceWords). v .row) y)))
-        (rw (c, z, given-draw t i s) (own-started t 𝓐 (w .domains) (w .parents) same-parents (eqb (s .ticket) (s .grant)) i 0 h b (on-path-root t 𝓐 i b) home))
+        (rw (c, z, gives t i Draw s) (own-started t 𝓐 (w .domains) (w .parents) same-parents (eqb (s .ticket) (s .grant)) i 0 h b (on-path-root t 𝓐 i b) home))
         (λ d. rw z)
 
     from-grant : (l r v : ℕ) → place s i ≡ Grant l r v → good-place t i (Grant l r v) ≡ true → Both
-    unfolding started-in checks-at good-place
+    unfolding started-in checks-at good-place given-at
     from-grant l r v z g =
         let y = row-is (Grant l r v) z in
         let c : started ≡ record-domain-in r = rw y in
         finish (λ x. absurd (omega (arith, ap (λ (v : PlaceWords). v .row) y))) (λ x. absurd (omega (arith, ap (λ (v : PlaceWords). v .row) y)))
-        (rw (c, z, given-grant t i l r v s) (granted-started t 𝓐 (w .domains) (w .parents) same-parents l r (and-both (queue-on-path t i l) (is-member t l r) g .1)))
+        (rw (c, z, gives t i (Grant l r v) s) (granted-started t 𝓐 (w .domains) (w .parents) same-parents l r (and-both (queue-on-path t i l) (is-member t l r) g .1)))
         (λ d. rw z)
 
     from-check : (l : ℕ) → place s i ≡ Check l → good-place t i (Check l) ≡ true → Both
-    unfolding good-place
+    unfolding good-place given-at
     from-check l z g =
         let y = row-is (Check l) z in
         let n = eqb-false l 0 (not-true (eqb l 0) (and-both (on-path t i l) (not (eqb l 0)) g .1)) in
         let both = C .check (ap (λ (v : PlaceWords). v .row) y) in
-        let nothing : given-from t i (place s i) s ≡ [] = ap (λ (p : Place). given-from t i p s) z ∙ given-check t i l s in
+        let nothing : given-from t i (place s i) s ≡ [] = ap (λ (p : Place). given-from t i p s) z ∙ gives t i (Check l) s in
         let there : place (step t i s .state) i ≡ place-of (said .place) = ap place-of after in
         (both .0 ∙ check-added t i l s z n nothing (said .place) there ts, both .1 ∙ ap (λ d. raised-at ls (cond (eqb (said .place .row) 10) d 0) (said .place .word)) (ap (λ (v : PlaceWords). v .domain) y) ∙ check-raised t i l s z n nothing (said .place) there ls)
 
     from-raise : place s i ≡ Raise → ((d : ℕ) → d < 64 → d ≢ 0 → getD shown d false ≡ eqb (status s (256 + d)) (wrap (s .grant + 1)) && is-watched t s (256 + d)) → Both
+    unfolding given-at
     from-raise z m =
         let y = row-is Raise z in
         let g = C .raise (ap (λ (v : PlaceWords). v .row) y) in
-        let given : given-from t i (place s i) s ≡ shown-members t s (wrap (s .grant + 1)) = ap (λ (p : Place). given-from t i p s) z ∙ given-raise t i s in
+        let given : given-from t i (place s i) s ≡ shown-members t s (wrap (s .grant + 1)) = ap (λ (p : Place). given-from t i p s) z ∙ gives t i Raise s in
         (raise-added t i s z shown given m ts ts′ ls ls′ g, raise-raised t i s z shown given m ts ts′ ls ls′ g)
 
     by-place : (p : Place) → place s i ≡ p → good-place t i p ≡ true → (place s i ≡ Raise → (d : ℕ) → d < 64 → d ≢ 0 → getD shown d false ≡ eqb (status s (256 + d)) (wrap (s .grant + 1)) && is-watched t s (256 + d)) → Both
-    unfolding started-in checks-at good-place
-    by-place Idle z g m = quiet Idle z (given-idle t i s) refl (λ x. absurd (omega arith)) (λ x. absurd (omega arith)) (λ d. refl)
-    by-place (Prep l) z g m = quiet (Prep l) z (given-prep t i l s) refl (λ x. absurd (omega arith)) (λ x. absurd (omega arith)) (λ d. refl)
-    by-place (Link l p) z g m = quiet (Link l p) z (given-link t i l p s) refl (λ x. absurd (omega arith)) (λ x. absurd (omega arith)) (λ d. refl)
-    by-place (Wait l) z g m = quiet (Wait l) z (given-wait t i l s) refl (λ x. absurd (omega arith)) (λ x. absurd (omega arith)) (λ d. refl)
-    by-place Inside z g m = quiet Inside z (given-inside t i s) refl (λ x. absurd (omega arith)) (λ x. absurd (omega arith)) (λ d. refl)
-    by-place (Help l) z g m = quiet (Help l) z (given-help t i l s) refl (λ x. absurd (omega arith)) (λ x. absurd (omega arith)) (λ d. refl)
-    by-place (Cas l) z g m = quiet (Cas l) z (given-cas t i l s) refl (λ x. absurd (omega arith)) (λ x. absurd (omega arith)) (λ d. refl)
-    by-place (Linger l) z g m = quiet (Linger l) z (given-linger t i l s) refl (λ x. absurd (omega arith)) (λ x. absurd (omega arith)) (λ d. refl)
-    by-place Watch z g m = quiet Watch z (given-watch t i s) refl (λ x. absurd (omega arith)) (λ x. absurd (omega arith)) (λ d. refl)
+    unfolding started-in checks-at good-place given-at
+    by-place Idle z g m = quiet Idle z (gives t i Idle s) refl (λ x. absurd (omega arith)) (λ x. absurd (omega arith)) (λ d. refl)
+    by-place (Prep l) z g m = quiet (Prep l) z (gives t i (Prep l) s) refl (λ x. absurd (omega arith)) (λ x. absurd (omega arith)) (λ d. refl)
+    by-place (Link l p) z g m = quiet (Link l p) z (gives t i (Link l p) s) refl (λ x. absurd (omega arith)) (λ x. absurd (omega arith)) (λ d. refl)
+    by-place (Wait l) z g m = quiet (Wait l) z (gives t i (Wait l) s) refl (λ x. absurd (omega arith)) (λ x. absurd (omega arith)) (λ d. refl)
+    by-place Inside z g m = quiet Inside z (gives t i Inside s) refl (λ x. absurd (omega arith)) (λ x. absurd (omega arith)) (λ d. refl)
+    by-place (Help l) z g m = quiet (Help l) z (gives t i (Help l) s) refl (λ x. absurd (omega arith)) (λ x. absurd (omega arith)) (λ d. refl)
+    by-place (Cas l) z g m = quiet (Cas l) z (gives t i (Cas l) s) refl (λ x. absurd (omega arith)) (λ x. absurd (omega arith)) (λ d. refl)
+    by-place (Linger l) z g m = quiet (Linger l) z (gives t i (Linger l) s) refl (λ x. absurd (omega arith)) (λ x. absurd (omega arith)) (λ d. refl)
+    by-place Watch z g m = quiet Watch z (gives t i Watch s) refl (λ x. absurd (omega arith)) (λ x. absurd (omega arith)) (λ d. refl)
     by-place (Swap l) z g m = from-swap l z g
     by-place (Check l) z g m = from-check l z g
     by-place (Grant l r v) z g m = from-grant l r v z g

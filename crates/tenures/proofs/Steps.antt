@@ -4,13 +4,12 @@ use mathlib.Core.Bool.{Bool, true, false, cond}
 use Prim.Native.Nat.{ℕ, _<_}
 use native.Mathlib.Omega.{arith}
 use Rattle.model.specs.declared.Place.{Place}
-use Rattle.model.specs.declared.Place.the-variants.{Idle, Prep}
+use Rattle.model.specs.declared.Place.the-variants.{Idle}
 use Rattle.model.specs.declared.State.{State as WordState}
 use Rattle.model.specs.Trees.{Tree, is-ticket, is-member, is-leaf}
 use Rattle.model.specs.Places.{place-domain}
 use Rattle.model.specs.States.{place}
 use Rattle.model.specs.Steps.{draw-row, prep-row, row}
-use Rattle.model.specs.Runs.{ended-in}
 use Rattle.model.specs.WellFormed.{queue-on-path, good-place}
 use Rattle.model.specs.Laws.{Sixteen-bit}
 use Rattle.model.specs.Tenures.{taken-from, given}
@@ -42,7 +41,7 @@ module _ (t : Tree) (𝓐 : Accepted t) (bits : Sixteen-bit t) (two : 1 < t .dom
 
   -- IDLE: the thread starts, and does Prep at home
   idle-by : g .stage i ≡ out → (b : Bool) → is-ticket t (t .home i) ≡ b → Row-moves t g i (t .home i) Idle (cond b (draw-row t i s) (prep-row t i (t .home i) s))
-  unfolding ancestor given taken-from ended-in prep-row
+  unfolding ancestor given taken-from
   idle-by e true z = absurd (home-lower t 𝓐 two i h (ticket-facts t (t .home i) z .1))
   idle-by e false z =
       let x = prep-moves t 𝓐 s room (started-by g i) i h (started t 𝓐 s room g i h o e) 0 (omega arith) (put-same (g .stage) i (climb 0) i refl) (λ m b q. absurd (omega arith)) in
@@ -60,9 +59,9 @@ module _ (t : Tree) (𝓐 : Accepted t) (bits : Sixteen-bit t) (two : 1 < t .dom
   row-moves y q e (at-prep k l c) = prep-moves t 𝓐 s room g i h o k l e c
   row-moves y q e (at-swap k l c n v) = swap-moves t 𝓐 s room g i h o k l (queue-there k q) e c n v
   row-moves y q e (at-link k p l c d a n v) = link-moves t 𝓐 s room g i h o k p l d e c a n v
-  row-moves y q e (at-wait k p l c d a n v) = wait-moves t 𝓐 s room g i h o rep k l v _ refl
+  row-moves y q e (at-wait k p l c d a n v) = wait-moves t 𝓐 s room g i h o rep k l v
   row-moves y q e (at-woken k b c v z) = woken-moves t 𝓐 s room g i h o k b e c v z
-  row-moves y q e (at-ready k l c v p) = ready-moves t 𝓐 s room g i h o bits k l e c v _ refl
+  row-moves y q e (at-ready k l c v p) = ready-moves t 𝓐 s room g i h o bits k l e c v
   row-moves y q e (at-inside c) = leave-moves t 𝓐 s room g i h o e c
   row-moves y q e (at-check k b c) = check-moves t 𝓐 s room g i h o k b e c
   row-moves y q e (at-pass k r v b c n z f) = pass-moves t 𝓐 s room g i h o k r v b e c n z f

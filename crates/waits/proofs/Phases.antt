@@ -1,21 +1,22 @@
 -- A thread is on its way from the beginning of an attempt to its entry, and no step begins another one there. Assumes nothing.
 use mathlib.Core.Path.{_≡_, refl, sym, _∙_}
-use mathlib.Core.Bool.{Bool, true, false, _&&_, not, cond, true≢false}
+use mathlib.Core.Bool.{Bool, true, false, _&&_, not, true≢false}
 use mathlib.Core.Logic.{_≢_}
 use Prim.Native.Nat.{ℕ, _-_, _+_, _<_}
 use native.Mathlib.Omega.{arith}
-use lib.Dec.{eqb, ltb}
+use lib.Dec.{eqb}
 use lib.ListN.{set}
-use borrow.Author.Tests.{eq-eqb, ne-eqb, eqb-true, eqb-false, not-true}
+use borrow.Author.Tests.{eq-eqb, ne-eqb, eqb-true, not-true}
 use Rattle.model.specs.declared.Place.{Place}
 use Rattle.model.specs.declared.Place.the-variants.{Idle, Prep, Swap, Link, Wait, Inside, Check, Help, Cas, Linger, Grant, Draw, Watch, Raise, Invalid}
 use Rattle.model.specs.declared.State.{State}
 use Rattle.model.specs.Trees.{Tree, is-ticket, is-child, is-leaf, child, own-record}
 use Rattle.model.specs.Places.{words-of}
-use Rattle.model.specs.States.{none, locked, wait-word, acquire-parent, tail, next, status}
-use Rattle.model.specs.Steps.{is-entry, Row-result, acquired-place, release-place, done-place, release-word, passed-entry, crossed-entry, enters, prep-row, swap-row, link-row, wait-row, leave-row, check-row, help-row, cas-row, linger-row, grant-row, draw-row, watch-row, raise-row, row}
+use Rattle.model.specs.States.{tail, next, status}
+use Rattle.model.specs.Steps.{is-entry, Row-result, acquired-place, release-place, done-place, row}
 use Rattle.model.specs.WellFormed.{good-place}
 use Rattle.model.proofs.Tests.{by-test, any-none}
+use Rattle.model.proofs.Branches.{Branch, idle-draws, idle-prepares, prepares, swap-root, swap-inner, swap-behind, link-writes, wait-root-locked, wait-root-granted, wait-ungranted, wait-acquires, wait-passed, wait-crossed, inside-leaves, check-passes, check-releases, help-alone, help-linked, cas-last, cas-not-last, linger-alone, linger-linked, grant-writes, draw-shown, draw-unshown, watch-shown, watch-unshown, raise-counts, invalid-stays, branch}
 use Rattle.model.proofs.Trees.Accepted.{Accepted}
 use Rattle.model.proofs.Trees.Paths.{path-real}
 use Rattle.model.proofs.Trees.Tickets.{queue-facts}
@@ -90,96 +91,88 @@ module _ (t : Tree) (𝓐 : Accepted t) (i : ℕ) (h : i < t .threads) where
     abbrev Of : Place → Row-result → Type 0
     Of p x = Phase t i s p x
 
-    draw-phase : (p : Place) → (b : Bool) → begins-from t i p ≡ b → on-way t i p ≡ not b → Of p (draw-row t i s)
-    unfolding draw-row on-way is-entry
-    draw-phase p true f g = by-test (Of p) (eqb (s .ticket) (s .grant)) _ _ (λ _. at-once refl refl f g) (λ _. sets-out Watch refl refl f g refl)
-    draw-phase p false f g = by-test (Of p) (eqb (s .ticket) (s .grant)) _ _ (λ _. arrives refl refl f g) (λ _. goes Watch refl refl f (sym g))
+    -- what Draw does, from Idle or from Draw, where it begins an attempt or not
+    draw-phase : (p : Place) (b : Bool) → begins-from t i p ≡ b → on-way t i p ≡ not b → {x : Row-result} → Branch t i s Draw x → Of p x
+    unfolding on-way is-entry
+    draw-phase p true f g (draw-shown e) = at-once refl refl f g
+    draw-phase p true f g (draw-unshown e) = sets-out Watch refl refl f g refl
+    draw-phase p false f g (draw-shown e) = arrives refl refl f g
+    draw-phase p false f g (draw-unshown e) = goes Watch refl refl f (sym g)
 
-    idle-phase : Of Idle (row t i Idle s)
-    unfolding row begins-from on-way prep-row is-entry draws swaps-at
-    idle-phase =
-        by-test (Of Idle) (is-ticket t (t .home i)) (draw-row t i s) _ (λ e. draw-phase Idle true (rw e) refl)
-        (λ e. goes (Swap (t .home i)) refl refl (rw e) (rw (eq-eqb (t .home i) (t .home i) refl)))
-
-    own-draw : Of Draw (row t i Draw s)
-    unfolding row begins-from on-way draws swaps-at
-    own-draw = by (is-ticket t (t .home i)) refl
+    own-draw : {x : Row-result} → Branch t i s Draw x → Of Draw x
+    unfolding begins-from on-way draws swaps-at
+    own-draw {x} b = by (is-ticket t (t .home i)) refl
       where
-        by : (b : Bool) → is-ticket t (t .home i) ≡ b → Of Draw (draw-row t i s)
-        by true e = draw-phase Draw true (rw e) (rw e)
-        by false e = draw-phase Draw false (rw e) (rw e)
+        by : (c : Bool) → is-ticket t (t .home i) ≡ c → Of Draw x
+        by true e = draw-phase Draw true (rw e) (rw e) b
+        by false e = draw-phase Draw false (rw e) (rw e) b
 
-    swap-phase : (l : ℕ) → good-place t i (Swap l) ≡ true → Of (Swap l) (row t i (Swap l) s)
-    unfolding row swap-row good-place begins-from on-way is-entry draws swaps-at
-    swap-phase l good = by (eqb l (t .home i)) refl
+    -- a Swap at home begins an attempt
+    swap-phase : (l : ℕ) → good-place t i (Swap l) ≡ true → (b : Bool) → eqb l (t .home i) ≡ b → {x : Row-result} → Branch t i s (Swap l) x → Of (Swap l) x
+    unfolding good-place begins-from on-way is-entry draws swaps-at
+    swap-phase l good true e = by
       where
         facts : (is-ticket t l ≡ false) × (l < t .domains)
         facts = let q = queue-facts t i l good in (q .1, path-real t 𝓐 i h l (q .0))
 
-        by : (b : Bool) → eqb l (t .home i) ≡ b → Of (Swap l) (row t i (Swap l) s)
-        by true e =
-            let same = eqb-true l (t .home i) e in
-            let starts : begins-from t i (Swap l) ≡ true = rw (← same, facts .0, eq-eqb l l refl) in
-            let before : on-way t i (Swap l) ≡ false = rw e in
-            by-test (Of (Swap l)) (eqb (tail s l) none) _ _
-            (λ _. by-test (Of (Swap l)) (eqb l 0) _ _ (λ _. at-once refl refl starts before)
-            (λ z. let n = eqb-false l 0 z in sets-out (acquired-place t l) refl refl starts before (acquired-on l (omega arith) (facts .1))))
-            (λ _. sets-out (Link l (tail s l - 1)) refl refl starts before refl)
-        by false e =
-            let starts : begins-from t i (Swap l) ≡ false = begins-none (Swap l) refl e in
-            let before : on-way t i (Swap l) ≡ true = rw e in
-            by-test (Of (Swap l)) (eqb (tail s l) none) _ _
-            (λ _. by-test (Of (Swap l)) (eqb l 0) _ _ (λ _. arrives refl refl starts before)
-            (λ z. let n = eqb-false l 0 z in goes (acquired-place t l) refl refl starts (acquired-on l (omega arith) (facts .1) ∙ sym before)))
-            (λ _. goes (Link l (tail s l - 1)) refl refl starts (sym before))
+        starts : begins-from t i (Swap l) ≡ true
+        starts = let same = eqb-true l (t .home i) e in rw (← same, facts .0, eq-eqb l l refl)
 
-    wait-phase : (l : ℕ) → good-place t i (Wait l) ≡ true → Of (Wait l) (row t i (Wait l) s)
-    unfolding row wait-row good-place on-way is-entry draws swaps-at
-    wait-phase l good =
-        let q = queue-facts t i l good in
-        let v = status s (own-record t i l) in
-        let starts : begins-from t i (Wait l) ≡ false = begins-none (Wait l) refl refl in
-        by-test (Of (Wait l)) (eqb l 0) _ _
-        (λ _. by-test (Of (Wait l)) (eqb v locked) _ _ (λ _. rests refl refl starts) (λ _. arrives refl refl starts refl))
-        (λ z. by-test (Of (Wait l)) (eqb v wait-word) _ _ (λ _. rests refl refl starts)
-        (λ _. by-test (Of (Wait l)) (eqb v acquire-parent) _ _
-        (λ _. let n = eqb-false l 0 z in goes (acquired-place t l) refl refl starts (acquired-on l (omega arith) (path-real t 𝓐 i h l (q .0))))
-        (λ _. passes (eqb l (t .home i)) starts)))
+        before : on-way t i (Swap l) ≡ false
+        before = rw e
+
+        by : {x : Row-result} → Branch t i s (Swap l) x → Of (Swap l) x
+        by (swap-root _ z n) = at-once refl refl starts before
+        by (swap-inner _ z n) = sets-out (acquired-place t l) refl refl starts before (acquired-on l (omega arith) (facts .1))
+        by (swap-behind _ n) = sets-out (Link l (tail s l - 1)) refl refl starts before refl
+    swap-phase l good false e = by
       where
-        passes : (b : Bool) → begins-from t i (Wait l) ≡ false → Of (Wait l) (enters (cond b passed-entry crossed-entry) i s)
-        passes true f = arrives refl refl f refl
-        passes false f = arrives refl refl f refl
+        starts : begins-from t i (Swap l) ≡ false
+        starts = begins-none (Swap l) refl e
+
+        before : on-way t i (Swap l) ≡ true
+        before = rw e
+
+        by : {x : Row-result} → Branch t i s (Swap l) x → Of (Swap l) x
+        by (swap-root _ z n) = arrives refl refl starts before
+        by (swap-inner _ z n) =
+            goes (acquired-place t l) refl refl starts (acquired-on l (omega arith) (path-real t 𝓐 i h l (queue-facts t i l good .0)) ∙ sym before)
+        by (swap-behind _ n) = goes (Link l (tail s l - 1)) refl refl starts (sym before)
 
     -- the row of a good place
+    branch-phase : {p : Place} {x : Row-result} → good-place t i p ≡ true → Branch t i s p x → Of p x
+    unfolding good-place begins-from on-way is-entry draws swaps-at
+    branch-phase g (idle-draws e b) = draw-phase Idle true (rw e) refl b
+    branch-phase g (idle-prepares e (prepares l v c)) = goes (Swap l) refl refl (rw e) (rw (eq-eqb l l refl))
+    branch-phase g (prepares l v c) = goes (Swap l) refl refl (begins-none (Prep l) refl refl) refl
+    branch-phase g (swap-root l z n) = swap-phase l g _ refl (swap-root l z n)
+    branch-phase g (swap-inner l z n) = swap-phase l g _ refl (swap-inner l z n)
+    branch-phase g (swap-behind l n) = swap-phase l g _ refl (swap-behind l n)
+    branch-phase g (link-writes l p) = goes (Wait l) refl refl (begins-none (Link l p) refl refl) refl
+    branch-phase g (wait-root-locked l z v) = rests refl refl (begins-none (Wait l) refl refl)
+    branch-phase g (wait-root-granted l z v) = arrives refl refl (begins-none (Wait l) refl refl) refl
+    branch-phase g (wait-ungranted l z v) = rests refl refl (begins-none (Wait l) refl refl)
+    branch-phase g (wait-acquires l z v) =
+        goes (acquired-place t l) refl refl (begins-none (Wait l) refl refl) (acquired-on l (omega arith) (path-real t 𝓐 i h l (queue-facts t i l g .0)))
+    branch-phase g (wait-passed l z v y a) = arrives refl refl (begins-none (Wait l) refl refl) refl
+    branch-phase g (wait-crossed l z v y a) = arrives refl refl (begins-none (Wait l) refl refl) refl
+    branch-phase g inside-leaves = goes (release-place t (t .home i)) refl refl (begins-none Inside refl refl) (released (t .home i))
+    branch-phase g (check-passes l v n) =
+        goes (Grant l (next s (own-record t i l) - 1) (status s (own-record t i l) + 1)) refl refl (begins-none (Check l) refl refl) refl
+    branch-phase g (check-releases l e) = goes (release-place t (t .parent l)) refl refl (begins-none (Check l) refl refl) (released (t .parent l))
+    branch-phase g (help-alone l n) = goes (Cas l) refl refl (begins-none (Help l) refl refl) refl
+    branch-phase g (help-linked l v n c) = goes (Grant l (next s (own-record t i l) - 1) v) refl refl (begins-none (Help l) refl refl) refl
+    branch-phase g (cas-last l e) = goes (done-place t i l) refl refl (begins-none (Cas l) refl refl) (finished-there l)
+    branch-phase g (cas-not-last l e) = goes (Linger l) refl refl (begins-none (Cas l) refl refl) refl
+    branch-phase g (linger-alone l n) = rests refl refl (begins-none (Linger l) refl refl)
+    branch-phase g (linger-linked l v n c) = goes (Grant l (next s (own-record t i l) - 1) v) refl refl (begins-none (Linger l) refl refl) refl
+    branch-phase g (grant-writes l r w) = goes (done-place t i l) refl refl (begins-none (Grant l r w) refl refl) (finished-there l)
+    branch-phase g (draw-shown e) = own-draw (draw-shown e)
+    branch-phase g (draw-unshown e) = own-draw (draw-unshown e)
+    branch-phase g (watch-shown e) = arrives refl refl (begins-none Watch refl refl) refl
+    branch-phase g (watch-unshown e) = rests refl refl (begins-none Watch refl refl)
+    branch-phase g raise-counts = goes (done-place t i 0) refl refl (begins-none Raise refl refl) (finished-there 0)
+    branch-phase g invalid-stays = rests refl refl (begins-none Invalid refl refl)
+
     pub phase : (p : Place) → good-place t i p ≡ true → Of p (row t i p s)
-    unfolding row prep-row link-row leave-row check-row help-row cas-row linger-row grant-row watch-row raise-row on-way is-entry draws swaps-at
-    phase Idle g = idle-phase
-    phase (Prep l) g = goes (Swap l) refl refl (begins-none (Prep l) refl refl) refl
-    phase (Swap l) g = swap-phase l g
-    phase (Link l p) g = goes (Wait l) refl refl (begins-none (Link l p) refl refl) refl
-    phase (Wait l) g = wait-phase l g
-    phase Inside g = goes (release-place t (t .home i)) refl refl (begins-none Inside refl refl) (released (t .home i))
-    phase (Check l) g =
-        let f = begins-none (Check l) refl refl in
-        let v = status s (own-record t i l) in
-        let n = next s (own-record t i l) in
-        by-test (Of (Check l)) (ltb v (t .threshold l) && not (eqb n none)) _ _ (λ _. goes (Grant l (n - 1) (v + 1)) refl refl f refl)
-        (λ _. goes (release-place t (t .parent l)) refl refl f (released (t .parent l)))
-    phase (Help l) g =
-        let f = begins-none (Help l) refl refl in
-        let n = next s (own-record t i l) in
-        by-test (Of (Help l)) (eqb n none) _ _ (λ _. goes (Cas l) refl refl f refl) (λ _. goes (Grant l (n - 1) (release-word l)) refl refl f refl)
-    phase (Cas l) g =
-        let f = begins-none (Cas l) refl refl in
-        by-test (Of (Cas l)) (eqb (tail s l) (own-record t i l + 1)) _ _ (λ _. goes (done-place t i l) refl refl f (finished-there l)) (λ _. goes (Linger l) refl refl f refl)
-    phase (Linger l) g =
-        let f = begins-none (Linger l) refl refl in
-        let n = next s (own-record t i l) in
-        by-test (Of (Linger l)) (eqb n none) _ _ (λ _. rests refl refl f) (λ _. goes (Grant l (n - 1) (release-word l)) refl refl f refl)
-    phase (Grant l r w) g = goes (done-place t i l) refl refl (begins-none (Grant l r w) refl refl) (finished-there l)
-    phase Draw g = own-draw
-    phase Watch g =
-        let f = begins-none Watch refl refl in
-        by-test (Of Watch) (eqb (status s (own-record t i 0)) (s .grant)) _ _ (λ _. arrives refl refl f refl) (λ _. rests refl refl f)
-    phase Raise g = goes (done-place t i 0) refl refl (begins-none Raise refl refl) (finished-there 0)
-    phase Invalid g = rests refl refl (begins-none Invalid refl refl)
+    phase p g = branch-phase g (branch t i s p)

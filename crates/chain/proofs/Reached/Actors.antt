@@ -10,7 +10,7 @@ use Rattle.model.specs.declared.Place.{Place}
 use Rattle.model.specs.declared.Place.the-variants.{Wait, Linger, Watch}
 use Rattle.model.specs.declared.State.{State as WordState}
 use Rattle.model.specs.Trees.{Tree, is-ticket, own-record}
-use Rattle.model.specs.Places.{words-of, place-domain}
+use Rattle.model.specs.Places.{place-domain}
 use Rattle.model.specs.States.{next, status, place}
 use Rattle.model.specs.Steps.{Kind, stay, other, root-entry, passed-entry, crossed-entry, leaving, is-kind, row, step}
 use Rattle.model.specs.Acts.{acts}
@@ -31,6 +31,7 @@ use Rattle.claims.proofs.Words.View.{Words, words-in}
 use Rattle.claims.proofs.Words.Represents.{waiting-word, letting-go-low, Fits, at-idle, at-prep, at-swap, at-link, at-wait, at-woken, at-ready, at-inside, at-check, at-pass, at-help, at-cas, at-linger, at-grant, at-draw, at-watch, at-shown, at-raise}
 use Rattle.claims.proofs.Claims.Reached.{Queued}
 use Rattle.claims.proofs.Claims.Queues.{Acting, acting-index, index-acting, in-queue}
+use Rattle.model.proofs.Laws.Kinds.{may-stay}
 use Rattle.claims.proofs.Claims.Moving.{woken-moves, ready-moves, shown-moves}
 use Rattle.chain.specs.Chain.{stays}
 use Rattle.chain.proofs.Linking.{stays-at, linger-stays, moves-on}
@@ -103,34 +104,34 @@ module _ (t : Tree) (𝓐 : Accepted t) (bits : Sixteen-bit t) (s : WordState) (
     watches : g .stage i ≡ queued (height t i) → t .ticket-root ≡ true → Waits i Watch
 
   module _ (i : ℕ) (h : i < t .threads) (still : stays t s i ≡ true) where
-    no-stay : {C : Type 0} (p : Place) → place s i ≡ p → good-place t i p ≡ true → eqb (words-of p .row) 4 ≡ false → eqb (words-of p .row) 9 ≡ false → eqb (words-of p .row) 12 ≡ false → C
-    no-stay p e y a b c = absurd (false≢true (sym (stays-at t s i p e ∙ moves-on t s i p y a b c) ∙ still))
+    no-stay : {C : Type 0} (p : Place) → place s i ≡ p → may-stay p ≡ false → C
+    no-stay p e f = absurd (false≢true (sym (stays-at t s i p e ∙ moves-on t s i p f) ∙ still))
 
     kind-there : (p : Place) → place s i ≡ p → row t i p s .kind ≡ stay
     kind-there p e = rw e at (row-stays t s i still)
 
     waits-at : {p : Place} {x : Stage} → place s i ≡ p → g .stage i ≡ x → good-place t i p ≡ true → Fits t w g i p x → Waits i p
-    unfolding words-in row
-    waits-at e y o at-idle = no-stay _ e o refl refl refl
-    waits-at e y o (at-prep k l c) = no-stay _ e o refl refl refl
-    waits-at e y o (at-swap k l c n v) = no-stay _ e o refl refl refl
-    waits-at e y o (at-link k p l c d a n v) = no-stay _ e o refl refl refl
+    unfolding words-in row may-stay
+    waits-at e y o at-idle = no-stay _ e refl
+    waits-at e y o (at-prep k l c) = no-stay _ e refl
+    waits-at e y o (at-swap k l c n v) = no-stay _ e refl
+    waits-at e y o (at-link k p l c d a n v) = no-stay _ e refl
     waits-at e y o (at-wait k p l c d a n v) = waits k p l y d a n v
     waits-at e y o (at-woken k b c v z) = absurd (woken-moves t 𝓐 bits s q i h k b v (kind-there _ e))
-    waits-at e y o (at-ready k l c v p) = absurd (ready-moves t 𝓐 bits s q i h k l y (λ b. c k b b) v _ refl (kind-there _ e))
-    waits-at e y o (at-inside c) = no-stay _ e o refl refl refl
-    waits-at e y o (at-check k b c) = no-stay _ e o refl refl refl
-    waits-at e y o (at-pass k r v b c n z f) = no-stay _ e o refl refl refl
-    waits-at e y o (at-help k l c) = no-stay _ e o refl refl refl
-    waits-at e y o (at-cas k l c) = no-stay _ e o refl refl refl
+    waits-at e y o (at-ready k l c v p) = absurd (ready-moves t 𝓐 bits s q i h k l y (λ b. c k b b) v (kind-there _ e))
+    waits-at e y o (at-inside c) = no-stay _ e refl
+    waits-at e y o (at-check k b c) = no-stay _ e refl
+    waits-at e y o (at-pass k r v b c n z f) = no-stay _ e refl
+    waits-at e y o (at-help k l c) = no-stay _ e refl
+    waits-at e y o (at-cas k l c) = no-stay _ e refl
     waits-at e y o (at-linger k l c n) =
         let z : eqb (next s (own-record t i (ancestor t i k))) 0 ≡ true = sym (stays-at t s i (Linger (ancestor t i k)) e ∙ linger-stays t s i (ancestor t i k)) ∙ still in
         lingers k l (rw y (omega (arith, letting-go-low (height t i) k))) n (rw (own-record-at t 𝓐 i h k l) at (eqb-true (next s (own-record t i (ancestor t i k))) 0 z))
-    waits-at e y o (at-grant k r l c n) = no-stay _ e o refl refl refl
-    waits-at e y o (at-draw k l r c) = no-stay _ e o refl refl refl
+    waits-at e y o (at-grant k r l c n) = no-stay _ e refl
+    waits-at e y o (at-draw k l r c) = no-stay _ e refl
     waits-at e y o (at-watch k l r c) = watches (y ∙ ap queued l) r
     waits-at e y o (at-shown r c) = absurd (shown-moves t 𝓐 bits s q i h r y (kind-there _ e))
-    waits-at e y o (at-raise r c) = no-stay _ e o refl refl refl
+    waits-at e y o (at-raise r c) = no-stay _ e refl
 
     pub stay-waits : Waits i (place s i)
     unfolding words-in

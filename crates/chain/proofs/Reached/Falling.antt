@@ -27,6 +27,7 @@ use Rattle.claims.proofs.Words.Outcome.{member-small}
 use Rattle.claims.proofs.Claims.Reached.{Queued}
 use Rattle.chain.specs.Chain.{stays, acts-ahead, ticket-before, acts-holding, looked-to}
 use Rattle.chain.specs.Tables.{waits-in}
+use Rattle.model.proofs.Laws.Kinds.{may-stay}
 use Rattle.chain.proofs.Linking.{stays-at, wait-stays, moves-on}
 use Rattle.chain.proofs.Reached.Orders.{position, position-small, position-next}
 use Rattle.chain.proofs.Reached.Actors.{Waits, waits, lingers, watches, stay-waits, stands-before}
@@ -121,7 +122,7 @@ module _ (t : Tree) (𝓐 : Accepted t) (bits : Sixteen-bit t) (s : WordState) (
   -- A LINK FALLS
   module _ (a b : ℕ) (ha : a < t .threads) (hb : b < t .threads) (still : stays t s a ≡ true) where
     link-falls : (p : Place) → good-place t a p ≡ true → Waits t 𝓐 bits s q a p → looked-to t s a p b ≡ true → rank b < rank-at a p
-    unfolding looked-to acts-ahead acts-holding rank-at good-place
+    unfolding looked-to acts-ahead acts-holding rank-at good-place may-stay
     link-falls _ o (waits k p l e nt f n v) looked =
         let d = ancestor t a k in
         let both = and-both (acts t s b d) (eqb (next s (own-record t b d)) (own-record t a d + 1)) looked in
@@ -130,8 +131,7 @@ module _ (t : Tree) (𝓐 : Accepted t) (bits : Sixteen-bit t) (s : WordState) (
         omega (arith, rank-bound b d hb (both .0), position-next (g .queue d) (own-record t b d) (own-record t a d) before (once d))
     link-falls _ o (lingers k l c n z) looked =
         let x = link-place (place s b) (own-record t a (ancestor t a k)) looked in
-        let good : good-place t b (Link (x .0) (own-record t a (ancestor t a k))) ≡ true = rw (x .1) at (q .facts .places b .used hb) in
-        let moves = stays-at t s b _ (x .1) ∙ moves-on t s b _ good refl refl refl in
+        let moves = stays-at t s b _ (x .1) ∙ moves-on t s b (Link (x .0) (own-record t a (ancestor t a k))) refl in
         omega (arith, rank-none b moves)
     link-falls _ o (watches e r) looked =
         let both = and-both (acts t s b 0) (eqb (status s (own-record t b 0)) (ticket-before (status s (own-record t a 0)))) looked in

@@ -1,6 +1,6 @@
 -- While the thread ahead takes no step, the one behind can only stay: a step of any other thread leaves the link as it is. Assumes nothing.
 use mathlib.Core.Path.{_≡_, refl, sym, ap, _∙_}
-use mathlib.Core.Bool.{true, false, _||_, not, false≢true}
+use mathlib.Core.Bool.{true, false, _||_, false≢true}
 use mathlib.Core.Logic.{_≢_}
 use Prim.Native.Nat.{ℕ, suc, _+_, _≤_, _<_}
 use native.Mathlib.Omega.{arith}
@@ -12,7 +12,7 @@ use Rattle.model.specs.declared.State.{State as WordState}
 use Rattle.model.specs.Trees.{Tree, is-ticket, on-path, own-record, is-member}
 use Rattle.model.specs.Places.{words-of, place-domain}
 use Rattle.model.specs.States.{next, status, place, wrap}
-use Rattle.model.specs.Steps.{row, raise-row}
+use Rattle.model.specs.Steps.{row}
 use Rattle.model.specs.Acts.{sends-inside, acts-at, acts}
 use Rattle.model.specs.WellFormed.{queue-on-path, good-place}
 use Rattle.model.specs.Laws.{Sixteen-bit}
@@ -38,7 +38,7 @@ use Rattle.chain.specs.Chain.{stays, acts-ahead, links, ticket-before, a
 use Rattle.chain.specs.Tables.{waits-in}
 use Rattle.chain.proofs.Linking.{stays-at, wait-stays, linger-stays, watch-stays}
 use Rattle.chain.proofs.Reached.Orders.{after-same}
-use Rattle.chain.proofs.Reached.Rows.{place-kept, status-kept, next-kept, grant-kept}
+use Rattle.chain.proofs.Reached.Rows.{raise-grant, place-kept, status-kept, next-kept, grant-kept}
 use Rattle.chain.proofs.Reached.Actors.{Placed, placed, Waits, waits, lingers, watches, stay-waits, same-thread, acting-there, queued-there, stands-before}
 use Rattle.chain.proofs.Reached.Ahead.{link-place, Linking, linking-there, behind-first, held, grant-small, short}
 
@@ -320,8 +320,7 @@ module _ (t : Tree) (𝓐 : Accepted t) (bits : Sixteen-bit t) (s : WordState) (
             (count-later B (g .queue 0) f (queued-there t 𝓐 bits s q 0 b ahead)) same-ticket)
 
         raised-grant : place s c ≡ Raise → after-step .grant ≡ wrap (s .grant + 1)
-        unfolding row raise-row
-        raised-grant e = ap (λ p. row t c p s .state .grant) e
+        raised-grant e = ap (λ p. row t c p s .state .grant) e ∙ raise-grant t s c
 
         watch-kept : stays t s a ≡ true → (stays t after-step a ≡ true) × (looked-to t after-step a Watch b ≡ true)
         unfolding looked-to acts-holding row

@@ -1,9 +1,8 @@
 -- What a row of the step table leaves alone: the places of other threads, the words of other records, the grant. Assumes nothing.
-use mathlib.Core.Path.{_≡_, refl, sym, ap, _∙_}
-use mathlib.Core.Bool.{_&&_, not}
+use mathlib.Core.Path.{_≡_, refl, sym, ap}
+use mathlib.Core.Bool.{true}
 use mathlib.Core.Logic.{_≢_}
-use Prim.Native.Nat.{ℕ, _+_}
-use lib.Dec.{eqb, ltb}
+use Prim.Native.Nat.{ℕ, _+_, _-_}
 use lib.ListN.{getD, set}
 use lib.Seq.{getD-set-other}
 use Rattle.model.specs.declared.Place.{Place}
@@ -11,124 +10,135 @@ use Rattle.model.specs.declared.Place.the-variants.{Idle, Prep, Swap, Link, Wai
 use Rattle.model.specs.declared.PlaceWords.{PlaceWords}
 use Rattle.model.specs.declared.State.{State}
 use Rattle.model.specs.Trees.{Tree, is-ticket, own-record}
-use Rattle.model.specs.Places.{place-words, place-of, place-domain}
-use Rattle.model.specs.States.{acquire-parent, wait-word, locked, none, tail, next, status, place}
-use Rattle.model.specs.Steps.{Row-result, prep-row, swap-row, link-row, wait-row, leave-row, check-row, help-row, cas-row, linger-row, grant-row, draw-row, watch-row, raise-row, row}
-use Rattle.model.proofs.Tests.{by-test}
+use Rattle.model.specs.Places.{place-words, words-of, place-of, place-domain}
+use Rattle.model.specs.States.{cohort-start, unlocked, none, tail, next, status, place, wrap}
+use Rattle.model.specs.Steps.{Row-result, acquired-place, release-place, done-place, row}
+use Rattle.model.proofs.Branches.{Branch, idle-draws, idle-prepares, prepares, swap-root, swap-inner, swap-behind, link-writes, wait-root-locked, wait-root-granted, wait-ungranted, wait-acquires, wait-passed, wait-crossed, inside-leaves, check-passes, check-releases, help-alone, help-linked, cas-last, cas-not-last, linger-alone, linger-linked, grant-writes, draw-shown, draw-unshown, watch-shown, watch-unshown, raise-counts, invalid-stays, branch}
 use Rattle.model.proofs.Trees.Tickets.{ticket-facts}
 
 module _ (t : Tree) (s : State) (c : ℕ) where
-  -- another thread's place
-  module _ (j : ℕ) (n : j ≢ c) where
-    abbrev Same-place : Row-result → Type 0
-    Same-place x = place (x .state) j ≡ place s j
+  -- the own record at a place's domain
+  abbrev own : Place → ℕ
+  own p = own-record t c (place-domain (t .home c) p)
 
-    elsewhere : (q : PlaceWords) → place-of (getD (set (s .places) c q) j (place-words 0 0 0 0)) ≡ place s j
-    elsewhere q = ap place-of (getD-set-other (s .places) c j q (place-words 0 0 0 0) n)
+  -- what a row of thread c leaves alone: the places of others; the status and the next of other records than the own one there, the one that is granted and the one in Link; the grant, but for Raise
+  record Leaves (p : Place) (n : State) : Type 0 where
+    places : (j : ℕ) → j ≢ c → place n j ≡ place s j
+    statuses : (r : ℕ) → r ≢ own p → ((l w : ℕ) → p ≢ Grant l r w) → status n r ≡ status s r
+    nexts : (r : ℕ) → r ≢ own p → ((l : ℕ) → p ≢ Link l r) → next n r ≡ next s r
+    grant : p ≢ Raise → n .grant ≡ s .grant
 
-    pub place-kept : (p : Place) → Same-place (row t c p s)
-    unfolding row prep-row swap-row link-row wait-row leave-row check-row help-row cas-row linger-row grant-row draw-row watch-row raise-row
-    place-kept Idle = by-test Same-place (is-ticket t (t .home c)) _ _ (λ z. by-test Same-place (eqb (s .ticket) (s .grant)) _ _ (λ _. elsewhere _) (λ _. elsewhere _)) (λ _. elsewhere _)
-    place-kept (Prep l) = elsewhere _
-    place-kept (Swap l) = by-test Same-place (eqb (tail s l) none) _ _ (λ _. by-test Same-place (eqb l 0) _ _ (λ _. elsewhere _) (λ _. elsewhere _)) (λ _. elsewhere _)
-    place-kept (Link l p) = elsewhere _
-    place-kept (Wait l) =
-        let v = status s (own-record t c l) in
-        by-test Same-place (eqb l 0) _ _ (λ _. by-test Same-place (eqb v locked) _ _ (λ _. refl) (λ _. elsewhere _))
-        (λ _. by-test Same-place (eqb v wait-word) _ _ (λ _. refl) (λ _. by-test Same-place (eqb v acquire-parent) _ _ (λ _. elsewhere _) (λ _. elsewhere _)))
-    place-kept Inside = elsewhere _
-    place-kept (Check l) =
-        let r = own-record t c l in
-        by-test Same-place (ltb (status s r) (t .threshold l) && not (eqb (next s r) none)) _ _ (λ _. elsewhere _) (λ _. elsewhere _)
-    place-kept (Help l) = by-test Same-place (eqb (next s (own-record t c l)) none) _ _ (λ _. elsewhere _) (λ _. elsewhere _)
-    place-kept (Cas l) = by-test Same-place (eqb (tail s l) (own-record t c l + 1)) _ _ (λ _. elsewhere _) (λ _. elsewhere _)
-    place-kept (Linger l) = by-test Same-place (eqb (next s (own-record t c l)) none) _ _ (λ _. refl) (λ _. elsewhere _)
-    place-kept (Grant l p w) = elsewhere _
-    place-kept Draw = by-test Same-place (eqb (s .ticket) (s .grant)) _ _ (λ _. elsewhere _) (λ _. elsewhere _)
-    place-kept Watch = by-test Same-place (eqb (status s (own-record t c 0)) (s .grant)) _ _ (λ _. elsewhere _) (λ _. refl)
-    place-kept Raise = elsewhere _
-    place-kept Invalid = refl
+  elsewhere : (q : PlaceWords) (j : ℕ) → j ≢ c → place-of (getD (set (s .places) c q) j (place-words 0 0 0 0)) ≡ place s j
+  elsewhere q j n = ap place-of (getD-set-other (s .places) c j q (place-words 0 0 0 0) n)
 
-  -- the status of another record than the own one there and the one that is granted
-  module _ (r : ℕ) where
-    abbrev Same-status : Row-result → Type 0
-    Same-status x = status (x .state) r ≡ status s r
+  -- a stay
+  unmoved : (p : Place) → Leaves p s
+  unmoved p = record { places = λ j n. refl; statuses = λ r n g. refl; nexts = λ r n g. refl; grant = λ g. refl }
 
-    pub status-kept : (p : Place) → r ≢ own-record t c (place-domain (t .home c) p) → ((l w : ℕ) → p ≢ Grant l r w) → Same-status (row t c p s)
-    unfolding row prep-row swap-row link-row wait-row leave-row check-row help-row cas-row linger-row grant-row draw-row watch-row raise-row
-    status-kept Idle n g = by-test Same-status (is-ticket t (t .home c)) _ _ (λ z. by-test Same-status (eqb (s .ticket) (s .grant)) _ _ (λ _. getD-set-other (s .statuses) _ r _ 0 (λ e. n (e ∙ ap (own-record t c) (sym (ticket-facts t (t .home c) z .1))))) (λ _. getD-set-other (s .statuses) _ r _ 0 (λ e. n (e ∙ ap (own-record t c) (sym (ticket-facts t (t .home c) z .1)))))) (λ _. getD-set-other (s .statuses) _ r _ 0 n)
-    status-kept (Prep l) n g = getD-set-other (s .statuses) _ r _ 0 n
-    status-kept (Swap l) n g = by-test Same-status (eqb (tail s l) none) _ _ (λ _. by-test Same-status (eqb l 0) _ _ (λ _. getD-set-other (s .statuses) _ r _ 0 n) (λ _. getD-set-other (s .statuses) _ r _ 0 n)) (λ _. refl)
-    status-kept (Link l p) n g = refl
-    status-kept (Wait l) n g =
-        let v = status s (own-record t c l) in
-        by-test Same-status (eqb l 0) _ _ (λ _. by-test Same-status (eqb v locked) _ _ (λ _. refl) (λ _. refl))
-        (λ _. by-test Same-status (eqb v wait-word) _ _ (λ _. refl) (λ _. by-test Same-status (eqb v acquire-parent) _ _ (λ _. getD-set-other (s .statuses) _ r _ 0 n) (λ _. refl)))
-    status-kept Inside n g = refl
-    status-kept (Check l) n g =
-        let r = own-record t c l in
-        by-test Same-status (ltb (status s r) (t .threshold l) && not (eqb (next s r) none)) _ _ (λ _. refl) (λ _. refl)
-    status-kept (Help l) n g = by-test Same-status (eqb (next s (own-record t c l)) none) _ _ (λ _. refl) (λ _. refl)
-    status-kept (Cas l) n g = by-test Same-status (eqb (tail s l) (own-record t c l + 1)) _ _ (λ _. refl) (λ _. refl)
-    status-kept (Linger l) n g = by-test Same-status (eqb (next s (own-record t c l)) none) _ _ (λ _. refl) (λ _. refl)
-    status-kept (Grant l p w) n g = getD-set-other (s .statuses) p r w 0 (λ e. g l w (ap (λ y. Grant l y w) (sym e)))
-    status-kept Draw n g = by-test Same-status (eqb (s .ticket) (s .grant)) _ _ (λ _. getD-set-other (s .statuses) _ r _ 0 n) (λ _. getD-set-other (s .statuses) _ r _ 0 n)
-    status-kept Watch n g = by-test Same-status (eqb (status s (own-record t c 0)) (s .grant)) _ _ (λ _. refl) (λ _. refl)
-    status-kept Raise n g = refl
-    status-kept Invalid n g = refl
+  -- only a place, a tail or the ticket are stored
+  placed : (p q : Place) {n : State} → n .places ≡ set (s .places) c (words-of q) → n .statuses ≡ s .statuses → n .nexts ≡ s .nexts → n .grant ≡ s .grant → Leaves p n
+  placed p q e f h k =
+      record {
+        places = λ j n. rw e (elsewhere (words-of q) j n);
+        statuses = λ r n g. rw f;
+        nexts = λ r n g. rw h;
+        grant = λ g. k;
+      }
 
-  -- the next of another record than the own one there and the one in Link
-  module _ (r : ℕ) where
-    abbrev Same-next : Row-result → Type 0
-    Same-next x = next (x .state) r ≡ next s r
+  -- and the own status
+  marked : (p q : Place) (v : ℕ) {n : State} → n .places ≡ set (s .places) c (words-of q) → n .statuses ≡ set (s .statuses) (own p) v → n .nexts ≡ s .nexts → n .grant ≡ s .grant → Leaves p n
+  marked p q v e f h k =
+      record {
+        places = λ j n. rw e (elsewhere (words-of q) j n);
+        statuses = λ r n g. rw f (getD-set-other (s .statuses) (own p) r v 0 n);
+        nexts = λ r n g. rw h;
+        grant = λ g. k;
+      }
 
-    pub next-kept : (p : Place) → r ≢ own-record t c (place-domain (t .home c) p) → ((l : ℕ) → p ≢ Link l r) → Same-next (row t c p s)
-    unfolding row prep-row swap-row link-row wait-row leave-row check-row help-row cas-row linger-row grant-row draw-row watch-row raise-row
-    next-kept Idle n g = by-test Same-next (is-ticket t (t .home c)) _ _ (λ z. by-test Same-next (eqb (s .ticket) (s .grant)) _ _ (λ _. refl) (λ _. refl)) (λ _. getD-set-other (s .nexts) _ r _ 0 n)
-    next-kept (Prep l) n g = getD-set-other (s .nexts) _ r _ 0 n
-    next-kept (Swap l) n g = by-test Same-next (eqb (tail s l) none) _ _ (λ _. by-test Same-next (eqb l 0) _ _ (λ _. refl) (λ _. refl)) (λ _. refl)
-    next-kept (Link l p) n g = getD-set-other (s .nexts) p r _ 0 (λ e. g l (ap (λ y. Link l y) (sym e)))
-    next-kept (Wait l) n g =
-        let v = status s (own-record t c l) in
-        by-test Same-next (eqb l 0) _ _ (λ _. by-test Same-next (eqb v locked) _ _ (λ _. refl) (λ _. refl))
-        (λ _. by-test Same-next (eqb v wait-word) _ _ (λ _. refl) (λ _. by-test Same-next (eqb v acquire-parent) _ _ (λ _. refl) (λ _. refl)))
-    next-kept Inside n g = refl
-    next-kept (Check l) n g =
-        let r = own-record t c l in
-        by-test Same-next (ltb (status s r) (t .threshold l) && not (eqb (next s r) none)) _ _ (λ _. refl) (λ _. refl)
-    next-kept (Help l) n g = by-test Same-next (eqb (next s (own-record t c l)) none) _ _ (λ _. refl) (λ _. refl)
-    next-kept (Cas l) n g = by-test Same-next (eqb (tail s l) (own-record t c l + 1)) _ _ (λ _. refl) (λ _. refl)
-    next-kept (Linger l) n g = by-test Same-next (eqb (next s (own-record t c l)) none) _ _ (λ _. refl) (λ _. refl)
-    next-kept (Grant l p w) n g = refl
-    next-kept Draw n g = by-test Same-next (eqb (s .ticket) (s .grant)) _ _ (λ _. refl) (λ _. refl)
-    next-kept Watch n g = by-test Same-next (eqb (status s (own-record t c 0)) (s .grant)) _ _ (λ _. refl) (λ _. refl)
-    next-kept Raise n g = refl
-    next-kept Invalid n g = refl
+  -- and the own next
+  readied : (p q : Place) (v : ℕ) {n : State} → n .places ≡ set (s .places) c (words-of q) → n .statuses ≡ set (s .statuses) (own p) v → n .nexts ≡ set (s .nexts) (own p) none → n .grant ≡ s .grant → Leaves p n
+  readied p q v e f h k =
+      record {
+        places = λ j n. rw e (elsewhere (words-of q) j n);
+        statuses = λ r n g. rw f (getD-set-other (s .statuses) (own p) r v 0 n);
+        nexts = λ r n g. rw h (getD-set-other (s .nexts) (own p) r none 0 n);
+        grant = λ g. k;
+      }
 
-  -- the grant, but for Raise
-  module _ where
-    abbrev Same-grant : Row-result → Type 0
-    Same-grant x = x .state .grant ≡ s .grant
+  -- a draw from Idle is at home, which is the root
+  at-home : (v : ℕ) → is-ticket t (t .home c) ≡ true → set (s .statuses) (own-record t c 0) v ≡ set (s .statuses) (own Idle) v
+  at-home v z = ap (λ l. set (s .statuses) (own-record t c l) v) (sym (ticket-facts t (t .home c) z .1))
 
-    pub grant-kept : (p : Place) → p ≢ Raise → Same-grant (row t c p s)
-    unfolding row prep-row swap-row link-row wait-row leave-row check-row help-row cas-row linger-row grant-row draw-row watch-row raise-row
-    grant-kept Idle g = by-test Same-grant (is-ticket t (t .home c)) _ _ (λ z. by-test Same-grant (eqb (s .ticket) (s .grant)) _ _ (λ _. refl) (λ _. refl)) (λ _. refl)
-    grant-kept (Prep l) g = refl
-    grant-kept (Swap l) g = by-test Same-grant (eqb (tail s l) none) _ _ (λ _. by-test Same-grant (eqb l 0) _ _ (λ _. refl) (λ _. refl)) (λ _. refl)
-    grant-kept (Link l p) g = refl
-    grant-kept (Wait l) g =
-        let v = status s (own-record t c l) in
-        by-test Same-grant (eqb l 0) _ _ (λ _. by-test Same-grant (eqb v locked) _ _ (λ _. refl) (λ _. refl))
-        (λ _. by-test Same-grant (eqb v wait-word) _ _ (λ _. refl) (λ _. by-test Same-grant (eqb v acquire-parent) _ _ (λ _. refl) (λ _. refl)))
-    grant-kept Inside g = refl
-    grant-kept (Check l) g =
-        let r = own-record t c l in
-        by-test Same-grant (ltb (status s r) (t .threshold l) && not (eqb (next s r) none)) _ _ (λ _. refl) (λ _. refl)
-    grant-kept (Help l) g = by-test Same-grant (eqb (next s (own-record t c l)) none) _ _ (λ _. refl) (λ _. refl)
-    grant-kept (Cas l) g = by-test Same-grant (eqb (tail s l) (own-record t c l + 1)) _ _ (λ _. refl) (λ _. refl)
-    grant-kept (Linger l) g = by-test Same-grant (eqb (next s (own-record t c l)) none) _ _ (λ _. refl) (λ _. refl)
-    grant-kept (Grant l p w) g = refl
-    grant-kept Draw g = by-test Same-grant (eqb (s .ticket) (s .grant)) _ _ (λ _. refl) (λ _. refl)
-    grant-kept Watch g = by-test Same-grant (eqb (status s (own-record t c 0)) (s .grant)) _ _ (λ _. refl) (λ _. refl)
-    grant-kept Raise g = absurd (g refl)
-    grant-kept Invalid g = refl
+  branch-leaves : {p : Place} {x : Row-result} → Branch t c s p x → Leaves p (x .state)
+  branch-leaves (idle-draws z (draw-shown e)) = marked Idle Inside (s .ticket) refl (at-home (s .ticket) z) refl refl
+  branch-leaves (idle-draws z (draw-unshown e)) = marked Idle Watch (s .ticket) refl (at-home (s .ticket) z) refl refl
+  branch-leaves (idle-prepares z (prepares l v at)) = readied Idle (Swap l) v refl refl refl refl
+  branch-leaves (prepares l v at) = readied (Prep l) (Swap l) v refl refl refl refl
+  branch-leaves (swap-root l z e) = marked (Swap l) Inside unlocked refl refl refl refl
+  branch-leaves (swap-inner l z e) = marked (Swap l) (acquired-place t l) cohort-start refl refl refl refl
+  branch-leaves (swap-behind l e) = placed (Swap l) (Link l (tail s l - 1)) refl refl refl refl
+  branch-leaves (link-writes l p) =
+      record {
+        places = elsewhere (words-of (Wait l));
+        statuses = λ r n g. refl;
+        nexts = λ r n g. getD-set-other (s .nexts) p r (own-record t c l + 1) 0 (λ e. g l (ap (Link l) (sym e)));
+        grant = λ g. refl;
+      }
+  branch-leaves (wait-root-locked l z e) = unmoved (Wait l)
+  branch-leaves (wait-root-granted l z e) = placed (Wait l) Inside refl refl refl refl
+  branch-leaves (wait-ungranted l z e) = unmoved (Wait l)
+  branch-leaves (wait-acquires l z e) = marked (Wait l) (acquired-place t l) cohort-start refl refl refl refl
+  branch-leaves (wait-passed l z e f a) = placed (Wait l) Inside refl refl refl refl
+  branch-leaves (wait-crossed l z e f a) = placed (Wait l) Inside refl refl refl refl
+  branch-leaves inside-leaves = placed Inside (release-place t (t .home c)) refl refl refl refl
+  branch-leaves (check-passes l e n) = placed (Check l) (Grant l (next s (own-record t c l) - 1) (status s (own-record t c l) + 1)) refl refl refl refl
+  branch-leaves (check-releases l e) = placed (Check l) (release-place t (t .parent l)) refl refl refl refl
+  branch-leaves (help-alone l n) = placed (Help l) (Cas l) refl refl refl refl
+  branch-leaves (help-linked l v n at) = placed (Help l) (Grant l (next s (own-record t c l) - 1) v) refl refl refl refl
+  branch-leaves (cas-last l e) = placed (Cas l) (done-place t c l) refl refl refl refl
+  branch-leaves (cas-not-last l e) = placed (Cas l) (Linger l) refl refl refl refl
+  branch-leaves (linger-alone l n) = unmoved (Linger l)
+  branch-leaves (linger-linked l v n at) = placed (Linger l) (Grant l (next s (own-record t c l) - 1) v) refl refl refl refl
+  branch-leaves (grant-writes l p w) =
+      record {
+        places = elsewhere (words-of (done-place t c l));
+        statuses = λ r n g. getD-set-other (s .statuses) p r w 0 (λ e. g l w (ap (λ y. Grant l y w) (sym e)));
+        nexts = λ r n g. refl;
+        grant = λ g. refl;
+      }
+  branch-leaves (draw-shown e) = marked Draw Inside (s .ticket) refl refl refl refl
+  branch-leaves (draw-unshown e) = marked Draw Watch (s .ticket) refl refl refl refl
+  branch-leaves (watch-shown e) = placed Watch Inside refl refl refl refl
+  branch-leaves (watch-unshown e) = unmoved Watch
+  branch-leaves raise-counts =
+      record { places = elsewhere (words-of (done-place t c 0)); statuses = λ r n g. refl; nexts = λ r n g. refl; grant = λ g. absurd (g refl) }
+  branch-leaves invalid-stays = unmoved Invalid
+
+  row-leaves : (p : Place) → Leaves p (row t c p s .state)
+  row-leaves p = branch-leaves (branch t c s p)
+
+  pub place-kept : (j : ℕ) → j ≢ c → (p : Place) → place (row t c p s .state) j ≡ place s j
+  place-kept j n p = row-leaves p .places j n
+
+  pub status-kept : (r : ℕ) (p : Place) → r ≢ own-record t c (place-domain (t .home c) p) → ((l w : ℕ) → p ≢ Grant l r w) → status (row t c p s .state) r ≡ status s r
+  status-kept r p n g = row-leaves p .statuses r n g
+
+  pub next-kept : (r : ℕ) (p : Place) → r ≢ own-record t c (place-domain (t .home c) p) → ((l : ℕ) → p ≢ Link l r) → next (row t c p s .state) r ≡ next s r
+  next-kept r p n g = row-leaves p .nexts r n g
+
+  pub grant-kept : (p : Place) → p ≢ Raise → row t c p s .state .grant ≡ s .grant
+  grant-kept p g = row-leaves p .grant g
+
+  -- Raise counts it
+  pub raise-grant : row t c Raise s .state .grant ≡ wrap (s .grant + 1)
+  raise-grant = by (branch t c s Raise)
+    where
+      by : {x : Row-result} → Branch t c s Raise x → x .state .grant ≡ wrap (s .grant + 1)
+      by raise-counts = refl
+
+  -- Link stores the next
+  pub link-nexts : (l p : ℕ) → row t c (Link l p) s .state .nexts ≡ set (s .nexts) p (own-record t c l + 1)
+  link-nexts l p = by (branch t c s (Link l p))
+    where
+      by : {x : Row-result} → Branch t c s (Link l p) x → x .state .nexts ≡ set (s .nexts) p (own-record t c l + 1)
+      by (link-writes _ _) = refl

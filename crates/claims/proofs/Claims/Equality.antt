@@ -1,18 +1,18 @@
 -- At every Check reached from fresh the status is a count from 1 to the threshold. Assumes nothing.
 use mathlib.Core.Path.{_≡_, refl, ap, _∙_}
-use mathlib.Core.Bool.{not}
+use mathlib.Core.Logic.{inl, inr}
 use Prim.Native.Nat.{ℕ, suc, _≤_, _<_}
 use native.Mathlib.Omega.{arith}
-use lib.Dec.{eqb, ltb}
-use borrow.Author.Tests.{eq-eqb, ne-eqb, lt-ltb, le-ltb}
+use borrow.Author.Tests.{eq-eqb, ne-eqb}
 use Rattle.model.specs.declared.Place.{Place}
 use Rattle.model.specs.declared.Place.the-variants.{Check}
 use Rattle.model.specs.declared.State.{State as WordState}
 use Rattle.model.specs.Trees.{Tree, own-record}
-use Rattle.model.specs.States.{status, place, fresh-state}
-use Rattle.model.specs.Steps.{check-row, row, step}
+use Rattle.model.specs.States.{none, next, status, place, fresh-state}
+use Rattle.model.specs.Steps.{Row-result, step-from, step}
 use Rattle.model.specs.Runs.{run-of, run}
 use Rattle.claims.specs.Reached.{equality-check-row, Counts-at-check, Equality-law}
+use Rattle.model.proofs.Branches.{Branch, check-passes, check-releases, check-branch, branch}
 use Rattle.model.proofs.Trees.Index.{ancestor, height, record-at}
 use Rattle.model.proofs.Trees.Accepted.{Accepted, accepted}
 use Rattle.model.proofs.Trees.Paths.{ancestor-inner}
@@ -51,13 +51,22 @@ checking l e (at-watch k b r c) = absurd (let z : _≡_ {A = ℕ} 0 1 = cc in om
 checking l e (at-shown r c) = absurd (let z : _≡_ {A = ℕ} 0 1 = cc in omega arith)
 checking l e (at-raise r c) = absurd (let z : _≡_ {A = ℕ} 0 1 = cc in omega arith)
 
--- at or below the threshold, below it and other than it are one test
-pub same-test : (v h : ℕ) → v ≤ h → ltb v h ≡ not (eqb v h)
-same-test v h b = same-or v h _ (λ z. rw (eq-eqb v h z) (le-ltb v h (omega arith))) (λ z. rw (ne-eqb v h z) (lt-ltb v h (omega arith)))
+-- at or below the threshold, below it and other than it are one test, so the row by equality comes to the same
+pub same-by-equality :
+    (t : Tree) (i l : ℕ) (s : WordState) → status s (own-record t i l) ≤ t .threshold l → {x : Row-result} → Branch t i s (Check l) x → x ≡ equality-check-row t i l s
+unfolding equality-check-row
+same-by-equality t i l s within (check-passes _ less some) =
+    rw (ne-eqb (status s (own-record t i l)) (t .threshold l) (λ z. omega arith), ne-eqb (next s (own-record t i l)) none some)
+same-by-equality t i l s within (check-releases _ why) =
+    let v = status s (own-record t i l) in
+    let h = t .threshold l in
+    let n = next s (own-record t i l) in
+    same-or v h _ (λ z. rw (eq-eqb v h z))
+    (λ z. elim why [ inl reached ↦ absurd (z (omega arith)) | inr alone ↦ rw (ne-eqb v h z, eq-eqb n none alone) ])
 
 counts-at-check :
     (t : Tree) → Accepted t → (s : WordState) → Queued t s → (i l : ℕ) → i < t .threads → place s i ≡ Check l → Counts-at-check t s i l
-unfolding words-in low step row check-row equality-check-row
+unfolding words-in low step
 counts-at-check t 𝓐 s q i l h e =
     let rep = q .represents in
     let x = checking l e (rep .fits i h) in
@@ -73,8 +82,8 @@ counts-at-check t 𝓐 s q i l h e =
     record {
       started = omega (arith, counts .0);
       within = within;
-      same-row = rw (same-test (status s (own-record t i l)) (t .threshold l) within);
-      same-step = rw (e, same-test (status s (own-record t i l)) (t .threshold l) within);
+      same-row = same-by-equality t i l s within (check-branch t i s l);
+      same-step = rw e (ap (step-from t i (Check l)) (same-by-equality t i l s within (branch t i s (Check l))));
     }
 
 pub equality-law : Equality-law

@@ -1,33 +1,34 @@
 -- In every state reached from fresh in which a thread is not Idle, one that is not Idle has a next step that is no stay. Assumes nothing.
 use mathlib.Core.Path.{_≡_, refl, sym, ap, _∙_}
-use mathlib.Core.Bool.{Bool, true, false, cond, not, _&&_, false≢true}
+use mathlib.Core.Bool.{true, false, false≢true}
 use mathlib.Core.List.{List, [], _∷_}
 use mathlib.Core.Logic.{_≢_}
-use Prim.Native.Nat.{ℕ, suc, _+_, _≤_, _<_}
+use Prim.Native.Nat.{ℕ, suc, _≤_, _<_}
 use native.Mathlib.Omega.{arith}
-use lib.Dec.{eqb, ltb}
-use borrow.Author.Tests.{eqb-true, eqb-false, eq-eqb, ne-eqb}
+use lib.Dec.{eqb}
 use Rattle.model.specs.declared.Place.{Place}
-use Rattle.model.specs.declared.Place.the-variants.{Idle, Link, Linger}
+use Rattle.model.specs.declared.Place.the-variants.{Idle, Link, Linger, Watch}
 use Rattle.model.specs.declared.State.{State as WordState}
 use Rattle.model.specs.Trees.{Tree, tree-of, is-ticket, own-record}
-use Rattle.model.specs.States.{acquire-parent, wait-word, locked, none, tail, next, status, place, fresh-state}
-use Rattle.model.specs.Steps.{Kind, stay, passed-entry, crossed-entry, kind-number, Row-result, prep-row, swap-row, link-row, wait-row, leave-row, check-row, help-row, cas-row, linger-row, grant-row, draw-row, watch-row, raise-row, row, step}
-use Rattle.model.specs.Runs.{steps, state-after, run-of, run}
+use Rattle.model.specs.Places.{words-of}
+use Rattle.model.specs.States.{acquire-parent, next, status, place, fresh-state}
+use Rattle.model.specs.Steps.{Kind, stay, other, root-entry, is-kind, is-entry, Row-result, wait-row, watch-row, row, step}
+use Rattle.model.specs.Runs.{run-of, run}
 use Rattle.model.specs.WellFormed.{good-place}
 use Rattle.model.specs.Answers.{fresh-answer}
 use Rattle.model.specs.Laws.{Sixteen-bit, Form-law, Kind-law}
 use Rattle.model.specs.Calls.{joined}
 use Rattle.claims.specs.Reached.{Move-law, List-move-law}
-use Rattle.model.proofs.Tests.{by-test}
 use Rattle.model.proofs.Places.{not-idle}
+use Rattle.model.proofs.Branches.{Branch, linger-alone, linger-linked, watch-shown, watch-unshown, watch-branch, branch}
+use Rattle.model.proofs.Waiting.{acquiring-row, Granted, granted-root, granted-inner, granted-row}
 use Rattle.model.proofs.Trees.Index.{ancestor, height, record-at}
 use Rattle.model.proofs.Trees.Accepted.{Accepted, accepted, sixteen-bit}
 use Rattle.model.proofs.Trees.Tickets.{ticket-yes, queue-facts}
 use Rattle.model.proofs.Trees.Paths.{ancestor-inner, ancestor-root, ancestor-zero, ancestor-not-root}
 use Rattle.model.proofs.Trees.Records.{own-record-at, root-record}
 use Rattle.model.proofs.Laws.Form.{form-law}
-use Rattle.model.proofs.Laws.Kinds.{kind-law}
+use Rattle.model.proofs.Laws.Kinds.{may-stay, goes-on, no-stay, kind-law}
 use Rattle.model.proofs.Lists.{less-or, first, first-rest, count}
 use Rattle.claims.proofs.Queues.Paths.{laws}
 use Rattle.claims.proofs.Queues.Moves.{Stage, out, queued, ready, low, acts, reach, State}
@@ -43,16 +44,13 @@ use Rattle.claims.proofs.Claims.Reached.{Queued, from-fresh}
 use Rattle.claims.proofs.Claims.Calls.{starts-here, joined-threads}
 use Rattle.claims.proofs.Claims.Accepts.{last-reached}
 
--- a kind of another number than a stay's
-no-stay : (k : Kind) → eqb (kind-number k) 0 ≡ false → k ≢ stay
-no-stay k f e = eqb-false _ _ f (ap kind-number e)
-
 abbrev pub Moves : Row-result → Type 0
 Moves x = x .kind ≢ stay
 
-passing-moves : (b : Bool) → cond b passed-entry crossed-entry ≢ stay
-passing-moves true = no-stay passed-entry refl
-passing-moves false = no-stay crossed-entry refl
+-- an entry is no stay
+entry-moves : (k : Kind) → is-entry k ≡ true → k ≢ stay
+unfolding is-entry
+entry-moves k f e = false≢true (sym (ap is-entry e) ∙ f)
 
 -- a thread that is not Idle, and a step of it that is no stay
 pub record Mover (t : Tree) (s : WordState) : Type 0 where
@@ -91,67 +89,57 @@ module _ (t : Tree) (𝓐 : Accepted t) (bits : Sixteen-bit t) (s : WordState) (
     someone p e n m = record { thread = i; real = h; not-idle = rw e n; moves = rw e m }
 
     -- THE ROWS
-    swap-moves : (l : ℕ) → Moves (swap-row t i l s)
-    unfolding swap-row
-    swap-moves l =
-        by-test Moves (eqb (tail s l) none) _ _ (λ _. by-test Moves (eqb l 0) _ _ (λ _. no-stay _ refl) (λ _. no-stay _ refl)) (λ _. no-stay _ refl)
-
-    check-moves : (l : ℕ) → Moves (check-row t i l s)
-    unfolding check-row
-    check-moves l =
-        by-test Moves (ltb (status s (own-record t i l)) (t .threshold l) && not (eqb (next s (own-record t i l)) none)) _ _ (λ _. no-stay _ refl) (λ _. no-stay _ refl)
-
-    help-moves : (l : ℕ) → Moves (help-row t i l s)
-    unfolding help-row
-    help-moves l = by-test Moves (eqb (next s (own-record t i l)) none) _ _ (λ _. no-stay _ refl) (λ _. no-stay _ refl)
-
-    cas-moves : (l : ℕ) → Moves (cas-row t i l s)
-    unfolding cas-row
-    cas-moves l = by-test Moves (eqb (tail s l) (own-record t i l + 1)) _ _ (λ _. no-stay _ refl) (λ _. no-stay _ refl)
-
-    draw-moves : Moves (draw-row t i s)
-    unfolding draw-row
-    draw-moves = by-test Moves (eqb (s .ticket) (s .grant)) _ _ (λ _. no-stay _ refl) (λ _. no-stay _ refl)
+    row-moves : (p : Place) → may-stay p ≡ false → Moves (row t i p s)
+    row-moves p f = no-stay _ (goes-on f (branch t i s p))
 
     -- granted, and to acquire the parent
     pub woken-moves : (k : ℕ) → k < height t i → w .statuses (record-at t i k) ≡ acquire-parent → Moves (wait-row t i (ancestor t i k) s)
-    unfolding wait-row words-in
+    unfolding words-in is-kind
     woken-moves k b v =
-        let inner = ne-eqb (ancestor t i k) 0 (omega (arith, ancestor-inner t 𝓐 i h k b)) in
-        let x = status s (record-at t i k) in
-        rw (own-record-at t 𝓐 i h k (omega arith), inner, ne-eqb x wait-word (omega arith), eq-eqb x acquire-parent v) (no-stay _ refl)
+        let inner = ancestor-inner t 𝓐 i h k b in
+        rw (acquiring-row t i s (ancestor t i k) (λ z. omega arith) (rw (own-record-at t 𝓐 i h k (omega arith)) v)) (no-stay other refl)
 
     -- granted the lock: UNLOCKED at the root, else a count
     pub ready-moves :
         (k : ℕ) → k ≤ height t i → g .stage i ≡ ready → (k < height t i → w .statuses (record-at t i k) ≡ g .tally (record-at t i k)) →
-        (k ≡ height t i → w .statuses (record-at t i k) ≡ 0) → (b : Bool) → eqb (ancestor t i k) 0 ≡ b → Moves (wait-row t i (ancestor t i k) s)
-    unfolding wait-row words-in low
-    ready-moves k l e c v true z =
-        let free = v (ancestor-zero t 𝓐 i h k l (eqb-true (ancestor t i k) 0 z)) in
-        rw (own-record-at t 𝓐 i h k l, z, ne-eqb (status s (record-at t i k)) locked (omega arith)) (no-stay _ refl)
-    ready-moves k l e c v false z =
-        let n = eqb-false (ancestor t i k) 0 z in
+        (k ≡ height t i → w .statuses (record-at t i k) ≡ 0) → Moves (wait-row t i (ancestor t i k) s)
+    unfolding words-in low is-kind
+    ready-moves k l e c v =
+        by (granted-row t i s (ancestor t i k)
+        (λ z. let free = v (ancestor-zero t 𝓐 i h k l z) in rw own (λ y. omega arith))
+        (λ n.
         let b = ancestor-not-root t 𝓐 i h k l (omega (arith, n)) in
         let first-there = inv .threads i .heads k (rw e (omega arith)) in
         let fits = inv .counts (ancestor t i k) (record-at t i k) n first-there .1 in
         let count = c b in
-        let small = bits (ancestor t i k) in
-        let x = status s (record-at t i k) in
-        rw (own-record-at t 𝓐 i h k l, z, ne-eqb x wait-word (omega arith), ne-eqb x acquire-parent (omega arith)) (passing-moves (eqb (ancestor t i k) (t .home i)))
+        rw own (omega (arith, bits (ancestor t i k)))))
+      where
+        own : own-record t i (ancestor t i k) ≡ record-at t i k
+        own = own-record-at t 𝓐 i h k l
+
+        by : {x : Row-result} → Granted t i s (ancestor t i k) x → Moves x
+        by (granted-root z) = no-stay root-entry refl
+        by (granted-inner n kind entry) = entry-moves kind entry
 
     -- shown its ticket
     pub shown-moves : t .ticket-root ≡ true → g .stage i ≡ ready → Moves (watch-row t i s)
-    unfolding watch-row words-in low
-    shown-moves root e =
-        let R = record-at t i (height t i) in
-        let head : first (g .queue 0) ≡ suc R = rw (ancestor-root t 𝓐 i h) at (inv .threads i .heads (height t i) (rw e (omega arith))) in
-        let same = tickets-first (w .statuses) (w .grant) (w .ticket) R (g .queue 0) (rep .numbered root .held) head in
-        rw (root-record t 𝓐 i h, eq-eqb (status s R) (s .grant) same) (no-stay _ refl)
+    unfolding words-in low is-kind
+    shown-moves root e = by (watch-branch t i s)
+      where
+        shown : status s (record-at t i (height t i)) ≡ s .grant
+        shown =
+            let R = record-at t i (height t i) in
+            let head : first (g .queue 0) ≡ suc R = rw (ancestor-root t 𝓐 i h) at (inv .threads i .heads (height t i) (rw e (omega arith))) in
+            tickets-first (w .statuses) (w .grant) (w .ticket) R (g .queue 0) (rep .numbered root .held) head
+
+        by : {x : Row-result} → Branch t i s Watch x → Moves x
+        by (watch-shown _) = no-stay root-entry refl
+        by (watch-unshown n) = absurd ((rw (root-record t 𝓐 i h) at n) shown)
 
   -- whoever stands behind a record without next is in Link, and moves
   link-behind :
       (d r m : ℕ) (ys : List ℕ) → is-ticket t d ≡ false → g .queue d ≡ r ∷ m ∷ ys → next s r ≡ 0 → Mover t s
-  unfolding words-in reach row link-row
+  unfolding words-in reach may-stay
   link-behind d r m ys nt shape quiet = by (ungranted N (b .waits) (rep .fits S real))
     where
       b : Second t g d m
@@ -167,7 +155,7 @@ module _ (t : Tree) (𝓐 : Accepted t) (bits : Sixteen-bit t) (s : WordState) (
       real = inv .threads S .real (rw (b .waits) (omega arith))
 
       by : Ungranted t w g S N (place s S) → Mover t s
-      by (linking p e nd a z) = someone S real (Link (ancestor t S N) p) e (not-idle _ refl) (no-stay _ refl)
+      by (linking p e nd a z) = someone S real (Link (ancestor t S N) p) e (not-idle _ refl) (row-moves S real (Link (ancestor t S N) p) refl)
       by (waiting p e c a z) =
           let a′ : after (r ∷ m ∷ ys) p ≡ suc m = rw (b .place, b .mine, shape) at a in
           let one : count m (r ∷ m ∷ ys) ≤ 1 = rw shape at (inv .once d m) in
@@ -180,38 +168,41 @@ module _ (t : Tree) (𝓐 : Accepted t) (bits : Sixteen-bit t) (s : WordState) (
     -- LINGER: with a next it moves; without one, the member behind is in Link
     linger-someone :
         (k : ℕ) → k ≤ height t i → place s i ≡ Linger (ancestor t i k) → g .stage i ≡ letting-go (height t i) k →
-        w .tails (ancestor t i k) ≢ suc (record-at t i k) → (b : Bool) → eqb (next s (record-at t i k)) 0 ≡ b → Mover t s
-    unfolding words-in row linger-row good-place
-    linger-someone k l y e n true z =
+        w .tails (ancestor t i k) ≢ suc (record-at t i k) → {x : Row-result} → row t i (Linger (ancestor t i k)) s ≡ x → Branch t i s (Linger (ancestor t i k)) x → Mover t s
+    unfolding words-in good-place is-kind
+    linger-someone k l y e n same (linger-alone _ none-next) =
+        let quiet : next s (record-at t i k) ≡ 0 = rw (own-record-at t 𝓐 i h k l) at none-next in
         let good : good-place t i (Linger (ancestor t i k)) ≡ true = rw y at (q .facts .places i .used h) in
         let nt = queue-facts t i (ancestor t i k) good .1 in
         let first-there : k < low (height t i) (g .stage i) = rw e (omega (arith, letting-go-low (height t i) k)) in
         let shape = first-rest (record-at t i k) (g .queue (ancestor t i k)) (inv .threads i .heads k first-there) in
         let two = two-there (record-at t i k) (g .queue (ancestor t i k)) _ shape (λ f. n (rep .linked (ancestor t i k) nt .last ∙ f)) in
-        link-behind (ancestor t i k) (record-at t i k) (two .0) (two .1) nt (two .2) (eqb-true (next s (record-at t i k)) 0 z)
-    linger-someone k l y e n false z =
-        someone i h (Linger (ancestor t i k)) y (not-idle _ refl) (rw (own-record-at t 𝓐 i h k l, z) (no-stay _ refl))
+        link-behind (ancestor t i k) (record-at t i k) (two .0) (two .1) nt (two .2) quiet
+    linger-someone k l y e n same (linger-linked _ v _ _) = someone i h (Linger (ancestor t i k)) y (not-idle _ refl) (rw same (no-stay other refl))
+
+    moves-from : {p : Place} → place s i ≡ p → eqb (words-of p .row) 0 ≡ false → may-stay p ≡ false → Found i
+    moves-from {p} y n f = can-move (someone i h p y (not-idle p n) (row-moves i h p f))
 
     found-at : {p : Place} {x : Stage} → place s i ≡ p → g .stage i ≡ x → Fits t w g i p x → Found i
-    unfolding row prep-row link-row leave-row grant-row raise-row
+    unfolding row may-stay
     found-at y e at-idle = idles y e
-    found-at y e (at-prep k l c) = can-move (someone i h _ y (not-idle _ refl) (no-stay _ refl))
-    found-at y e (at-swap k l c n v) = can-move (someone i h _ y (not-idle _ refl) (swap-moves i h (ancestor t i k)))
-    found-at y e (at-link k p l c d a n v) = can-move (someone i h _ y (not-idle _ refl) (no-stay _ refl))
+    found-at y e (at-prep k l c) = moves-from y refl refl
+    found-at y e (at-swap k l c n v) = moves-from y refl refl
+    found-at y e (at-link k p l c d a n v) = moves-from y refl refl
     found-at y e (at-wait k p l c d a n v) = stands k e
     found-at y e (at-woken k b c v z) = can-move (someone i h _ y (not-idle _ refl) (woken-moves i h k b v))
-    found-at y e (at-ready k l c v p) = can-move (someone i h _ y (not-idle _ refl) (ready-moves i h k l e (λ b. c k b b) v _ refl))
-    found-at y e (at-inside c) = can-move (someone i h _ y (not-idle _ refl) (no-stay _ refl))
-    found-at y e (at-check k b c) = can-move (someone i h _ y (not-idle _ refl) (check-moves i h (ancestor t i k)))
-    found-at y e (at-pass k r v b c n z f) = can-move (someone i h _ y (not-idle _ refl) (no-stay _ refl))
-    found-at y e (at-help k l c) = can-move (someone i h _ y (not-idle _ refl) (help-moves i h (ancestor t i k)))
-    found-at y e (at-cas k l c) = can-move (someone i h _ y (not-idle _ refl) (cas-moves i h (ancestor t i k)))
-    found-at y e (at-linger k l c n) = can-move (linger-someone k l y e n _ refl)
-    found-at y e (at-grant k r l c n) = can-move (someone i h _ y (not-idle _ refl) (no-stay _ refl))
-    found-at y e (at-draw k l r c) = can-move (someone i h _ y (not-idle _ refl) (draw-moves i h))
+    found-at y e (at-ready k l c v p) = can-move (someone i h _ y (not-idle _ refl) (ready-moves i h k l e (λ b. c k b b) v))
+    found-at y e (at-inside c) = moves-from y refl refl
+    found-at y e (at-check k b c) = moves-from y refl refl
+    found-at y e (at-pass k r v b c n z f) = moves-from y refl refl
+    found-at y e (at-help k l c) = moves-from y refl refl
+    found-at y e (at-cas k l c) = moves-from y refl refl
+    found-at y e (at-linger k l c n) = can-move (linger-someone k l y e n refl (branch t i s (Linger (ancestor t i k))))
+    found-at y e (at-grant k r l c n) = moves-from y refl refl
+    found-at y e (at-draw k l r c) = moves-from y refl refl
     found-at y e (at-watch k l r c) = stands k e
     found-at y e (at-shown r c) = can-move (someone i h _ y (not-idle _ refl) (shown-moves i h r e))
-    found-at y e (at-raise r c) = can-move (someone i h _ y (not-idle _ refl) (no-stay _ refl))
+    found-at y e (at-raise r c) = moves-from y refl refl
 
     found : Found i
     unfolding words-in

@@ -6,7 +6,7 @@ use mathlib.Core.Logic.{_≢_}
 use Prim.Native.Nat.{ℕ, suc, _+_, _≤_, _<_}
 use native.Mathlib.Omega.{arith}
 use lib.Dec.{eqb}
-use borrow.Author.Tests.{eq-eqb, ne-eqb, eqb-false}
+use borrow.Author.Tests.{ne-eqb, eqb-false}
 use Rattle.model.specs.declared.Place.{Place}
 use Rattle.model.specs.declared.Place.the-variants.{Idle, Prep, Swap, Link, Wait, Inside, Check, Help, Cas, Linger, Grant, Draw, Watch, Raise, Invalid}
 use Rattle.model.specs.declared.State.{State as WordState}
@@ -17,6 +17,7 @@ use Rattle.model.specs.Runs.{steps, state-after, run-of, run}
 use Rattle.model.specs.Refusals.{tree-refusal}
 use Rattle.model.specs.Laws.{All-threads, Sixteen-bit, then-run, waits-below, entries-from-below, Passed-law}
 use Rattle.claims.specs.Reached.{Passing-law, Threshold-one-law}
+use Rattle.model.proofs.Waiting.{ungranted-row, acquiring-row}
 use Rattle.model.proofs.Trees.Index.{ancestor, height, record-at}
 use Rattle.model.proofs.Trees.Accepted.{Accepted, accepted}
 use Rattle.model.proofs.Trees.Paths.{ancestor-not-root}
@@ -63,15 +64,15 @@ module _ (t : Tree) (𝓐 : Accepted t) (s : WordState) (q : Queued t s) (i l : 
 
   -- with a status that stays or acquires the parent, the step is no entry
   stays-out : status s (own-record t i l) ≡ wait-word → is-entry (wait-row t i l s .kind) ≡ false
-  unfolding wait-row is-entry
-  stays-out v = rw (ne-eqb l 0 n, eq-eqb (status s (own-record t i l)) wait-word v)
+  unfolding is-entry
+  stays-out v = rw (ungranted-row t i s l (rw (ne-eqb l 0 n) v))
 
   climbs : status s (own-record t i l) ≡ acquire-parent → is-entry (wait-row t i l s .kind) ≡ false
-  unfolding wait-row is-entry
-  climbs v = rw (ne-eqb l 0 n, ne-eqb (status s (own-record t i l)) wait-word (λ z. omega arith), eq-eqb (status s (own-record t i l)) acquire-parent v)
+  unfolding is-entry
+  climbs v = rw (acquiring-row t i s l n v)
 
   enough : Waiting t w (q .queues) i l (q .queues .stage i) → is-entry (wait-row t i l s .kind) ≡ true → 2 ≤ t .threshold l
-  unfolding words-in low waiting-word
+  unfolding words-in low
   enough (ungranted k b z v) e = absurd (false≢true (sym (stays-out (ap (status s) (own k b z) ∙ v ∙ ap waiting-word (sym z) ∙ rw (ne-eqb l 0 n))) ∙ e))
   enough (woken k b z v) e = absurd (false≢true (sym (climbs (ap (status s) (own k b z) ∙ v)) ∙ e))
   enough (passed-on k b z r p) e =

@@ -1,19 +1,18 @@
 -- The rows of a ticket lock at the root by which a thread acquires it: Draw, Idle's own where the root is home, and Watch. Assumes nothing.
 use mathlib.Core.Path.{_≡_, refl, sym, ap, _∙_}
-use mathlib.Core.Bool.{Bool, true, false}
+use mathlib.Core.Bool.{true, false}
 use mathlib.Core.List.{List, [], _∷_, _++_}
 use mathlib.Core.Logic.{_≢_}
 use Prim.Native.Nat.{ℕ, suc, _+_, _≤_, _<_}
 use native.Mathlib.Omega.{arith}
-use lib.Dec.{eqb}
 use lib.ListN.{length}
-use borrow.Author.Tests.{eqb-true, eqb-false, eq-eqb, ne-eqb}
 use Rattle.model.specs.declared.Place.{Place}
-use Rattle.model.specs.declared.Place.the-variants.{Inside, Watch}
+use Rattle.model.specs.declared.Place.the-variants.{Inside, Draw, Watch}
 use Rattle.model.specs.declared.State.{State as WordState}
 use Rattle.model.specs.Trees.{Tree, is-ticket}
 use Rattle.model.specs.States.{wrap, status}
-use Rattle.model.specs.Steps.{is-entry, draw-row, watch-row}
+use Rattle.model.specs.Steps.{Row-result, is-entry, draw-row, watch-row}
+use Rattle.model.proofs.Branches.{Branch, draw-shown, draw-unshown, watch-shown, watch-unshown, draw-branch, watch-branch}
 use Rattle.model.proofs.Trees.Index.{ancestor, height, record-at}
 use Rattle.model.proofs.Trees.Accepted.{Accepted}
 use Rattle.model.proofs.Trees.Tickets.{queue-lower}
@@ -133,42 +132,51 @@ module _ (t : Tree) (𝓐 : Accepted t) (s : WordState) (room : Room s) (g : Sta
         (λ j hj n. join-apart t 𝓐 w g i h o k within (drawn Watch) g′ refl refl e j hj n (put-other (w .places) i Watch j n)
         (put-other (g .stage) i (queued k) j n) others-kept (λ r q. refl) (λ d r q z. z))
 
-    draw-by :
-        (d : ℕ) → L ≡ d → g .stage i ≡ climb k → Counted t w g i k → (b : Bool) → eqb (s .ticket) (s .grant) ≡ b → Outcome t g i d (draw-row t i s)
-    unfolding draw-row row-shown standing-shown entry-shown is-entry words-in
-    draw-by d z e c true y =
-        let same = eqb-true (s .ticket) (s .grant) y in
-        rw (root-record t 𝓐 i h, ← top, y)
-        (outcome _ _ (draw-placed s room i few Inside R (s .ticket) (wrap (s .ticket + 1)) (record-small t 𝓐 i h k within)) (draw-enters e c same)
-        (more (join-root i k e there (nobody-there same)) done))
-    draw-by d z e c false y =
-        let other = eqb-false (s .ticket) (s .grant) y in
-        let f = somebody-there other in
-        rw (root-record t 𝓐 i h, ← top, y)
-        (outcome _ _ (draw-placed s room i few Watch R (s .ticket) (wrap (s .ticket + 1)) (record-small t 𝓐 i h k within)) (draw-watches e c other)
-        (more (begins-at t g _ L d R z (join-behind i k (f .0) e (f .1))) done))
-
     pub draw-outcome : (d : ℕ) → L ≡ d → g .stage i ≡ climb k → Counted t w g i k → Outcome t g i d (draw-row t i s)
-    draw-outcome d z e c = draw-by d z e c _ refl
+    unfolding row-shown standing-shown entry-shown is-entry words-in
+    draw-outcome d z e c = by (draw-branch t i s)
+      where
+        by : {x : Row-result} → Branch t i s Draw x → Outcome t g i d x
+        by (draw-shown same) =
+            rw (root-record t 𝓐 i h, ← top)
+            (outcome _ _ (draw-placed s room i few Inside R (s .ticket) (wrap (s .ticket + 1)) (record-small t 𝓐 i h k within)) (draw-enters e c same)
+            (more (join-root i k e there (nobody-there same)) done))
+        by (draw-unshown other) =
+            let f = somebody-there other in
+            rw (root-record t 𝓐 i h, ← top)
+            (outcome _ _ (draw-placed s room i few Watch R (s .ticket) (wrap (s .ticket + 1)) (record-small t 𝓐 i h k within)) (draw-watches e c other)
+            (more (begins-at t g _ L d R z (join-behind i k (f .0) e (f .1))) done))
 
   -- WATCH: not shown yet
-  pub watch-outcome : Represents t w g → g .stage i ≡ queued (height t i) → Outcome t g i 0 (watch-row t i s)
-  unfolding watch-row row-shown standing-shown entry-shown is-entry words-in low acts
-  watch-outcome rep e =
+  pub not-shown : g .stage i ≡ queued (height t i) → status s (record-at t i (height t i)) ≢ s .grant
+  unfolding words-in low acts
+  not-shown e =
       let old = o .numbered root in
       let R = record-at t i (height t i) in
       let stands : 1 ≤ count R (rest (g .queue (ancestor t i (height t i)))) = rw e at (inv .threads i .stands (rw e (omega arith))) in
       let behind : 1 ≤ count R (rest (g .queue 0)) = rw (ancestor-root t 𝓐 i h) at stands in
-      let other = tickets-rest (w .statuses) (w .grant) (w .ticket) R (g .queue 0) (old .small) (root-short t 𝓐 g inv) (old .held) behind in
-      rw (root-record t 𝓐 i h, ne-eqb (status s R) (s .grant) other) (outcome _ g (record { same = refl; room = room }) rep done)
+      tickets-rest (w .statuses) (w .grant) (w .ticket) R (g .queue 0) (old .small) (root-short t 𝓐 g inv) (old .held) behind
+
+  pub watch-outcome : Represents t w g → g .stage i ≡ queued (height t i) → Outcome t g i 0 (watch-row t i s)
+  unfolding row-shown standing-shown entry-shown is-entry words-in low acts
+  watch-outcome rep e = by (watch-branch t i s)
+    where
+      by : {x : Row-result} → Branch t i s Watch x → Outcome t g i 0 x
+      by (watch-shown same) = absurd (not-shown e (rw (root-record t 𝓐 i h) at same))
+      by (watch-unshown _) = outcome _ g (record { same = refl; room = room }) rep done
 
   -- shown: the first at the root
-  pub shown-outcome : g .stage i ≡ ready → Counted t w g i (height t i) → Outcome t g i 0 (watch-row t i s)
-  unfolding watch-row row-shown standing-shown entry-shown is-entry words-in low
-  shown-outcome e c =
-      let old = o .numbered root in
+  pub is-shown : g .stage i ≡ ready → status s (record-at t i (height t i)) ≡ s .grant
+  unfolding words-in low
+  is-shown e =
       let R = record-at t i (height t i) in
       let head : first (g .queue 0) ≡ suc R = rw (ancestor-root t 𝓐 i h) at (inv .threads i .heads (height t i) (rw e (omega arith))) in
-      let same = tickets-first (w .statuses) (w .grant) (w .ticket) R (g .queue 0) (old .held) head in
-      rw (root-record t 𝓐 i h, eq-eqb (status s R) (s .grant) same)
-      (outcome _ (entered-state t 𝓐 s room g i h o) (placed s room i few Inside) (entered t 𝓐 s room g i h o e c) (more (enter i e) done))
+      tickets-first (w .statuses) (w .grant) (w .ticket) R (g .queue 0) (o .numbered root .held) head
+
+  pub shown-outcome : g .stage i ≡ ready → Counted t w g i (height t i) → Outcome t g i 0 (watch-row t i s)
+  unfolding row-shown standing-shown entry-shown is-entry
+  shown-outcome e c = by (watch-branch t i s)
+    where
+      by : {x : Row-result} → Branch t i s Watch x → Outcome t g i 0 x
+      by (watch-shown _) = outcome _ (entered-state t 𝓐 s room g i h o) (placed s room i few Inside) (entered t 𝓐 s room g i h o e c) (more (enter i e) done)
+      by (watch-unshown other) = absurd ((rw (root-record t 𝓐 i h) at other) (is-shown e))

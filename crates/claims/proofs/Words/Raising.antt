@@ -14,9 +14,10 @@ use Rattle.model.specs.declared.State.{State as WordState}
 use Rattle.model.specs.Trees.{Tree, is-ticket, own-record}
 use Rattle.model.specs.Places.{is-watch}
 use Rattle.model.specs.States.{wrap, status, place}
-use Rattle.model.specs.Steps.{is-entry, done-place, is-watched, shown-members, raise-row}
+use Rattle.model.specs.Steps.{Row-result, is-entry, done-place, is-watched, shown-members, raise-row}
 use Rattle.model.specs.WellFormed.{good-place}
 use Rattle.model.proofs.Tests.{and-both, any-found, any-one, filter-none, filter-one}
+use Rattle.model.proofs.Branches.{Branch, raise-counts, raise-branch}
 use Rattle.model.proofs.Trees.Index.{ancestor, height, record-at}
 use Rattle.model.proofs.Trees.Accepted.{Accepted}
 use Rattle.model.proofs.Trees.Tickets.{ticket-yes, queue-lower, queue-facts}
@@ -166,9 +167,9 @@ module _ (t : Tree) (𝓐 : Accepted t) (s : WordState) (room : Room s) (g : Sta
         (put-other (g .stage) i (down k) j n) (λ r q. refl) (λ r q. refl) (λ r q. refl)
         (λ m p q nd a. (rw (put-other (g .queue) L [] (ancestor t j m) (λ y. queue-lower t (ancestor t j m) nd ticket (y ∙ there))) a, refl)) (λ d r q z. z))
 
-    raise-alone : Outcome t g i 0 (raise-row t i s)
-    unfolding raise-row row-shown standing-shown ends-shown entry-shown is-entry words-in
-    raise-alone =
+    raise-alone : {x : Row-result} → Branch t i s Raise x → Outcome t g i 0 x
+    unfolding row-shown standing-shown ends-shown entry-shown is-entry words-in
+    raise-alone raise-counts =
         rw (nobody-shown, done-root)
         (outcome _ empty-state (grant-placed s room i few (done-at t i k) raised) emptied (silent (let-go i k (root e refl) shape) done))
 
@@ -324,15 +325,15 @@ module _ (t : Tree) (𝓐 : Accepted t) (s : WordState) (room : Room s) (g : Sta
               (λ y. left-alone (handed-apart j hj z y) (o .others j hj z)));
         }
 
-    raise-hands : Outcome t g i 0 (raise-row t i s)
-    unfolding raise-row row-shown standing-shown ends-shown entry-shown is-entry words-in
-    raise-hands =
+    raise-hands : {x : Row-result} → Branch t i s Raise x → Outcome t g i 0 x
+    unfolding row-shown standing-shown ends-shown entry-shown is-entry words-in
+    raise-hands raise-counts =
         rw (r-shown, done-root)
         (outcome _ handed-state (grant-placed s room i few (done-at t i k) raised) handed-over (more (ends-at t g _ L 0 r there handed) done))
 
   raise-by : (xs : List ℕ) → g .queue L ≡ R ∷ xs → Outcome t g i 0 (raise-row t i s)
-  raise-by [] q = raise-alone q
-  raise-by (r ∷ ys) q = raise-hands r ys q
+  raise-by [] q = raise-alone q (raise-branch t i s)
+  raise-by (r ∷ ys) q = raise-hands r ys q (raise-branch t i s)
 
   pub raise-outcome : Outcome t g i 0 (raise-row t i s)
   raise-outcome = raise-by (rest (g .queue L)) (first-rest R (g .queue L) head)

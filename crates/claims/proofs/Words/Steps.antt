@@ -54,9 +54,9 @@ module _ (t : Tree) (𝓐 : Accepted t) (bits : Sixteen-bit t) (s : WordState) (
   row-outcome y q e (at-prep k l c) = prep-outcome t 𝓐 s room g i h o k l e c
   row-outcome y q e (at-swap k l c n v) = swap-outcome t 𝓐 s room g i h o k l (queue-there k q) e c n v
   row-outcome y q e (at-link k p l c d a n v) = link-outcome t 𝓐 s room g i h o k p l d e c a n v
-  row-outcome y q e (at-wait k p l c d a n v) = wait-outcome t 𝓐 s room g i h o rep k l v _ refl
+  row-outcome y q e (at-wait k p l c d a n v) = wait-outcome t 𝓐 s room g i h o rep k l v
   row-outcome y q e (at-woken k b c v z) = woken-outcome t 𝓐 s room g i h o k b e c v z
-  row-outcome y q e (at-ready k l c v p) = ready-outcome t 𝓐 s room g i h o bits k l e c v _ refl
+  row-outcome y q e (at-ready k l c v p) = ready-outcome t 𝓐 s room g i h o bits k l e c v
   row-outcome y q e (at-inside c) = leave-outcome t 𝓐 s room g i h o e c
   row-outcome y q e (at-check k b c) = check-outcome t 𝓐 s room g i h o k b e c
   row-outcome y q e (at-pass k r v b c n z f) = pass-outcome t 𝓐 s room g i h o k r v b e c n z f

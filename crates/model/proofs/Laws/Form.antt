@@ -1,24 +1,25 @@
 -- FORM. Fresh states are well formed, and steps and runs keep a state well formed. Assumes nothing.
 use mathlib.Core.Path.{_≡_, refl, sym, ap, _∙_}
-use mathlib.Core.Bool.{Bool, true, false, _&&_, not, cond, false≢true}
+use mathlib.Core.Bool.{Bool, true, false, not, cond, false≢true}
 use mathlib.Core.Logic.{_≢_, _⊎_, inl, inr}
-use Prim.Native.Nat.{ℕ, zero, suc, _+_, _-_, _%_, _≤_, _<_}
+use Prim.Native.Nat.{ℕ, zero, suc, _+_, _-_, _≤_, _<_}
 use native.Mathlib.Omega.{arith}
-use lib.Dec.{eqb, ltb}
+use lib.Dec.{eqb}
 use lib.ListN.{getD, replicate, length-replicate}
 use lib.Seq.{getD-set-same}
-use borrow.Author.Tests.{eqb-false, ltb-true, not-true}
+use borrow.Author.Tests.{eqb-false, not-true}
 use Rattle.model.specs.declared.Place.{Place}
 use Rattle.model.specs.declared.Place.the-variants.{Idle, Prep, Swap, Link, Wait, Inside, Check, Help, Cas, Linger, Grant, Draw, Watch, Raise, Invalid}
 use Rattle.model.specs.declared.State.{State}
 use Rattle.model.specs.Trees.{Tree, is-ticket, on-path, child, own-record, is-record, is-member, owner-domain}
 use Rattle.model.specs.Places.{place-words, words-of, place-of, is-watch}
-use Rattle.model.specs.States.{acquire-parent, wait-word, locked, unlocked, cohort-start, root-word, none, tail, next, status, place, wrap, with-tail, with-status, with-place, with-ticket, with-grant, fresh-words, fresh-state}
-use Rattle.model.specs.Steps.{Row-result, acquire-place, acquired-place, release-place, done-place, release-word, prep-row, swap-row, link-row, wait-row, leave-row, check-row, help-row, cas-row, linger-row, grant-row, draw-row, watch-row, raise-row, row, step}
+use Rattle.model.specs.States.{unlocked, cohort-start, none, tail, next, status, place, wrap, with-tail, with-status, with-place, with-ticket, with-grant, fresh-words, fresh-state}
+use Rattle.model.specs.Steps.{Row-result, acquired-place, release-place, done-place, step}
 use Rattle.model.specs.WellFormed.{queue-on-path, good-place, well-formed}
 use Rattle.model.specs.Laws.{Sixteen-bit, Formed, Form-law}
 use Rattle.model.proofs.Tests.{by-test, and-both}
 use Rattle.model.proofs.Places.{words-of-place}
+use Rattle.model.proofs.Branches.{prepared, about-to-grant, Branch, idle-draws, idle-prepares, prepares, swap-root, swap-inner, swap-behind, link-writes, wait-root-locked, wait-root-granted, wait-ungranted, wait-acquires, wait-passed, wait-crossed, inside-leaves, check-passes, check-releases, help-alone, help-linked, cas-last, cas-not-last, linger-alone, linger-linked, grant-writes, draw-shown, draw-unshown, watch-shown, watch-unshown, raise-counts, invalid-stays, branch, at-root, below-root}
 use Rattle.model.proofs.Trees.Accepted.{Accepted, accepted}
 use Rattle.model.proofs.Trees.Tickets.{ticket-facts, ticket-lower, queue-lower, queue-facts, queue-yes}
 use Rattle.model.proofs.Trees.Paths.{on-path-home, on-path-root, on-path-parent}
@@ -93,9 +94,6 @@ some-next t r v (inr m) n = m .1
 one-more : (n : ℕ) → n + 1 - 1 ≡ n
 one-more n = omega arith
 
-root-word-fits : (l a b : ℕ) → Sixty-four-bit a → Sixty-four-bit b → Sixty-four-bit (root-word l a b)
-root-word-fits l a b f g = by-test Sixty-four-bit (eqb l 0) a b (λ _. f) (λ _. g)
-
 -- the facts after a step
 abbrev Kept : Tree → Row-result → Type 0
 Kept t x = Facts t (x .state)
@@ -168,87 +166,25 @@ module _ (t : Tree) (b : Sixteen-bit t) (𝓐 : Accepted t) (i : ℕ) (h : i < t
     unfolding good-place is-watch
     grant-fits l w o q n f = (rw (queue-yes t i l o q, successor l o n), f, refl)
 
-    prep-keeps : (l : ℕ) → on-path t i l ≡ true → is-ticket t l ≡ false → Kept t (prep-row t i l s)
-    unfolding prep-row good-place is-watch
-    prep-keeps l o q =
+    -- the own record of a domain with a queue, prepared with a word
+    prepared-keeps : (l v : ℕ) → on-path t i l ≡ true → is-ticket t l ≡ false → Sixty-four-bit v → Kept t (prepared t i s l v)
+    unfolding good-place is-watch
+    prepared-keeps l v o q f =
         let I = own-record t i l in
-        let a = marked l I (root-word l locked wait-word) q (own-record-member t 𝓐 i h l o) (root-word-fits l locked wait-word (omega arith) (omega arith)) in
+        let a = marked l I v q (own-record-member t 𝓐 i h l o) f in
         let c = next-keeps t _ a I none (inl refl) in
         placed c (Swap l) (queue-yes t i l o q, omega arith, refl)
 
-    swap-keeps : (l : ℕ) → on-path t i l ≡ true → is-ticket t l ≡ false → Kept t (swap-row t i l s)
-    unfolding swap-row good-place is-watch
-    swap-keeps l o q =
+    -- the own record as the tail, with a status
+    swapped-in : (l v : ℕ) → on-path t i l ≡ true → is-ticket t l ≡ false → Sixty-four-bit v → Facts t (with-tail l (own-record t i l + 1) (with-status (own-record t i l) v s))
+    swapped-in l v o q f =
         let I = own-record t i l in
         let m = own-record-member t 𝓐 i h l o in
-        let grown : (v : ℕ) → Sixty-four-bit v → Facts t (with-tail l (I + 1) (with-status I v s)) =
-        λ v f. tail-keeps t _ (marked l I v q m f) l (I + 1) (inr (q, rw (one-more I) m)) in
-        by-test (Kept t) (eqb (tail s l) none) _ _
-        (λ e. by-test (Kept t) (eqb l 0) _ _
-        (λ z. placed (grown unlocked (omega arith)) Inside (refl, omega arith, refl))
-        (λ z. placed (grown cohort-start (omega arith)) (acquired-place t l) (climb-fits l (eqb-false l 0 z) o)))
-        (λ e. placed (tail-keeps t s k l (I + 1) (inr (q, rw (one-more I) m))) (Link l (tail s l - 1))
-        (rw (queue-yes t i l o q, some-tail t l (tail s l) (k .tails l) (eqb-false (tail s l) 0 e)), omega arith, refl))
+        tail-keeps t _ (marked l I v q m f) l (I + 1) (inr (q, rw (one-more I) m))
 
-    link-keeps : (l p : ℕ) → on-path t i l ≡ true → is-ticket t l ≡ false → is-member t l p ≡ true → Kept t (link-row t i l p s)
-    unfolding link-row good-place is-watch
-    link-keeps l p o q m =
-        let I = own-record t i l in
-        let n = own-record-member t 𝓐 i h l o in
-        let a = next-keeps t s k p (I + 1) (inr (member-record t 𝓐 l p m, rw (one-more I, member-owner t 𝓐 l p m) n)) in
-        placed a (Wait l) (queue-yes t i l o q, omega arith, refl)
-
-    wait-keeps : (l : ℕ) → on-path t i l ≡ true → is-ticket t l ≡ false → Kept t (wait-row t i l s)
-    unfolding wait-row good-place is-watch
-    wait-keeps l o q =
-        let I = own-record t i l in
-        let v = status s I in
-        by-test (Kept t) (eqb l 0) _ _
-        (λ z. by-test (Kept t) (eqb v locked) _ _ (λ _. k) (λ _. placed k Inside (refl, omega arith, refl)))
-        (λ z. by-test (Kept t) (eqb v wait-word) _ _ (λ _. k)
-        (λ _. by-test (Kept t) (eqb v acquire-parent) _ _
-        (λ _. placed (marked l I cohort-start q (own-record-member t 𝓐 i h l o) (omega arith)) (acquired-place t l) (climb-fits l (eqb-false l 0 z) o))
-        (λ _. placed k Inside (refl, omega arith, refl))))
-
-    leave-keeps : Kept t (leave-row t i s)
-    unfolding leave-row
-    leave-keeps = placed k (release-place t (t .home i)) (release-fits (t .home i) (on-path-home t 𝓐 i h))
-
-    check-keeps : (l : ℕ) → on-path t i l ≡ true → l ≢ 0 → Kept t (check-row t i l s)
-    unfolding check-row
-    check-keeps l o n =
-        let I = own-record t i l in
-        by-test (Kept t) (ltb (status s I) (t .threshold l) && not (eqb (next s I) none)) _ _
-        (λ e.
-        let both = and-both (ltb (status s I) (t .threshold l)) (not (eqb (next s I) none)) e in
-        let below = ltb-true (status s I) (t .threshold l) (both .0) in
-        placed k _ (grant-fits l (status s I + 1) o (ticket-lower t l n) (eqb-false (next s I) 0 (not-true _ (both .1))) (omega (arith, b l))))
-        (λ _. placed k _ (release-fits (t .parent l) (on-path-parent t 𝓐 i h l (omega arith) o)))
-
-    help-keeps : (l : ℕ) → on-path t i l ≡ true → is-ticket t l ≡ false → Kept t (help-row t i l s)
-    unfolding help-row good-place is-watch
-    help-keeps l o q =
-        let n = next s (own-record t i l) in
-        by-test (Kept t) (eqb n none) _ _ (λ _. placed k (Cas l) (queue-yes t i l o q, omega arith, refl))
-        (λ e. placed k (Grant l (n - 1) (release-word l)) (grant-fits l (release-word l) o q (eqb-false n 0 e) (root-word-fits l unlocked acquire-parent (omega arith) (omega arith))))
-
-    cas-keeps : (l : ℕ) → on-path t i l ≡ true → is-ticket t l ≡ false → Kept t (cas-row t i l s)
-    unfolding cas-row good-place is-watch
-    cas-keeps l o q =
-        by-test (Kept t) (eqb (tail s l) (own-record t i l + 1)) _ _
-        (λ _. placed (tail-keeps t s k l none (inl refl)) (done-place t i l) (done-fits l o))
-        (λ _. placed k (Linger l) (queue-yes t i l o q, omega arith, refl))
-
-    linger-keeps : (l : ℕ) → on-path t i l ≡ true → is-ticket t l ≡ false → Kept t (linger-row t i l s)
-    unfolding linger-row
-    linger-keeps l o q =
-        let n = next s (own-record t i l) in
-        by-test (Kept t) (eqb n none) _ _ (λ _. k)
-        (λ linked. placed k (Grant l (n - 1) (release-word l)) (grant-fits l (release-word l) o q (eqb-false n 0 linked) (root-word-fits l unlocked acquire-parent (omega arith) (omega arith))))
-
-    grant-row-keeps : (l r w : ℕ) → on-path t i l ≡ true → is-ticket t l ≡ false → is-member t l r ≡ true → Sixty-four-bit w → Kept t (grant-row t i l r w s)
-    unfolding grant-row
-    grant-row-keeps l r w o q m f = placed (marked l r w q m f) (done-place t i l) (done-fits l o)
+    -- about to grant the successor a word
+    grant-next : (l w : ℕ) → on-path t i l ≡ true → is-ticket t l ≡ false → next s (own-record t i l) ≢ 0 → Sixty-four-bit w → Kept t (about-to-grant t i s l w)
+    grant-next l w o q n f = placed k (Grant l (next s (own-record t i l) - 1) w) (grant-fits l w o q n f)
 
     -- the rows of a ticket lock at the root
     root-there : on-path t i 0 ≡ true
@@ -264,61 +200,72 @@ module _ (t : Tree) (b : Sixteen-bit t) (𝓐 : Accepted t) (i : ℕ) (h : i < t
         ticket-keeps t _ (status-keeps t s k I (s .ticket) (record-good 0 root-there) (omega arith) (λ j hj w q. omega arith))
         (wrap (s .ticket + 1)) (wrap-fits (s .ticket + 1)) e
 
-    draw-keeps : t .ticket-root ≡ true → Kept t (draw-row t i s)
-    unfolding draw-row good-place is-watch
-    draw-keeps e =
-        let I = own-record t i 0 in
-        let f = k .typed .ticket-fits in
-        by-test (Kept t) (eqb (s .ticket) (s .grant)) _ _
-        (λ _. placed (drawn-keeps e) Inside (refl, omega arith, refl))
-        (λ _. place-keeps t _ (drawn-keeps e) i Watch h e (omega arith)
-        (λ _. rw (getD-set-same (s .statuses) I (s .ticket) 0 (omega (arith, k .typed .statuses-room, root-small))) (omega arith)))
-
-    watch-keeps : Kept t (watch-row t i s)
-    unfolding watch-row good-place is-watch
-    watch-keeps = by-test (Kept t) (eqb (status s (own-record t i 0)) (s .grant)) _ _ (λ _. placed k Inside (refl, omega arith, refl)) (λ _. k)
-
-    raise-keeps : t .ticket-root ≡ true → Kept t (raise-row t i s)
-    unfolding raise-row
-    raise-keeps e = placed (grant-keeps t s k (wrap (s .grant + 1)) (wrap-fits (s .grant + 1)) e) (done-place t i 0) (done-fits 0 root-there)
-
-    idle-keeps : Kept t (row t i Idle s)
-    unfolding row
-    idle-keeps =
-        by-test (Kept t) (is-ticket t (t .home i)) _ _ (λ z. draw-keeps (ticket-facts t (t .home i) z .0)) (λ z. prep-keeps (t .home i) (on-path-home t 𝓐 i h) z)
-
-    row-keeps : (p : Place) → good-place t i p ≡ true → Sixty-four-bit (words-of p .word) → Kept t (row t i p s)
-    unfolding row good-place
-    row-keeps Idle g f = idle-keeps
-    row-keeps (Prep l) g f = let q = queue-facts t i l g in prep-keeps l (q .0) (q .1)
-    row-keeps (Swap l) g f = let q = queue-facts t i l g in swap-keeps l (q .0) (q .1)
-    row-keeps (Link l p) g f =
+    row-keeps : {p : Place} {x : Row-result} → good-place t i p ≡ true → Sixty-four-bit (words-of p .word) → Branch t i s p x → Kept t x
+    unfolding good-place is-watch
+    row-keeps g f (idle-draws z b) = row-keeps (ticket-facts t (t .home i) z .0) (omega arith) b
+    row-keeps g f (idle-prepares z b) = row-keeps (queue-yes t i (t .home i) (on-path-home t 𝓐 i h) z) (omega arith) b
+    row-keeps g f (prepares l v (at-root z)) = let q = queue-facts t i l g in prepared-keeps l _ (q .0) (q .1) (omega arith)
+    row-keeps g f (prepares l v (below-root z)) = let q = queue-facts t i l g in prepared-keeps l _ (q .0) (q .1) (omega arith)
+    row-keeps g f (swap-root l z e) = let q = queue-facts t i l g in placed (swapped-in l unlocked (q .0) (q .1) (omega arith)) Inside (refl, omega arith, refl)
+    row-keeps g f (swap-inner l z e) =
+        let q = queue-facts t i l g in
+        placed (swapped-in l cohort-start (q .0) (q .1) (omega arith)) (acquired-place t l) (climb-fits l z (q .0))
+    row-keeps g f (swap-behind l e) =
+        let q = queue-facts t i l g in
+        let I = own-record t i l in
+        placed (tail-keeps t s k l (I + 1) (inr (q .1, rw (one-more I) (own-record-member t 𝓐 i h l (q .0))))) (Link l (tail s l - 1))
+        (rw (queue-yes t i l (q .0) (q .1), some-tail t l (tail s l) (k .tails l) e), omega arith, refl)
+    row-keeps g f (link-writes l p) =
         let c = and-both (queue-on-path t i l) (is-member t l p) g in
         let q = queue-facts t i l (c .0) in
-        link-keeps l p (q .0) (q .1) (c .1)
-    row-keeps (Wait l) g f = let q = queue-facts t i l g in wait-keeps l (q .0) (q .1)
-    row-keeps Inside g f = leave-keeps
-    row-keeps (Check l) g f =
+        let n = own-record-member t 𝓐 i h l (q .0) in
+        let I = own-record t i l in
+        let a = next-keeps t s k p (I + 1) (inr (member-record t 𝓐 l p (c .1), rw (one-more I, member-owner t 𝓐 l p (c .1)) n)) in
+        placed a (Wait l) (queue-yes t i l (q .0) (q .1), omega arith, refl)
+    row-keeps g f (wait-root-locked l z e) = k
+    row-keeps g f (wait-root-granted l z e) = placed k Inside (refl, omega arith, refl)
+    row-keeps g f (wait-ungranted l z e) = k
+    row-keeps g f (wait-acquires l z e) =
+        let q = queue-facts t i l g in
+        placed (marked l (own-record t i l) cohort-start (q .1) (own-record-member t 𝓐 i h l (q .0)) (omega arith)) (acquired-place t l) (climb-fits l z (q .0))
+    row-keeps g f (wait-passed l z e y a) = placed k Inside (refl, omega arith, refl)
+    row-keeps g f (wait-crossed l z e y a) = placed k Inside (refl, omega arith, refl)
+    row-keeps g f inside-leaves = placed k (release-place t (t .home i)) (release-fits (t .home i) (on-path-home t 𝓐 i h))
+    row-keeps g f (check-passes l e n) =
         let c = and-both (on-path t i l) (not (eqb l 0)) g in
-        check-keeps l (c .0) (eqb-false l 0 (not-true (eqb l 0) (c .1)))
-    row-keeps (Help l) g f = let q = queue-facts t i l g in help-keeps l (q .0) (q .1)
-    row-keeps (Cas l) g f = let q = queue-facts t i l g in cas-keeps l (q .0) (q .1)
-    row-keeps (Linger l) g f = let q = queue-facts t i l g in linger-keeps l (q .0) (q .1)
-    row-keeps (Grant l r w) g f =
+        grant-next l (status s (own-record t i l) + 1) (c .0) (ticket-lower t l (eqb-false l 0 (not-true (eqb l 0) (c .1)))) n (omega (arith, b l))
+    row-keeps g f (check-releases l e) =
+        let c = and-both (on-path t i l) (not (eqb l 0)) g in
+        let n = eqb-false l 0 (not-true (eqb l 0) (c .1)) in
+        placed k (release-place t (t .parent l)) (release-fits (t .parent l) (on-path-parent t 𝓐 i h l (omega arith) (c .0)))
+    row-keeps g f (help-alone l n) = placed k (Cas l) (g, omega arith, refl)
+    row-keeps g f (help-linked l v n (at-root z)) = let q = queue-facts t i l g in grant-next l _ (q .0) (q .1) n (omega arith)
+    row-keeps g f (help-linked l v n (below-root z)) = let q = queue-facts t i l g in grant-next l _ (q .0) (q .1) n (omega arith)
+    row-keeps g f (cas-last l e) = placed (tail-keeps t s k l none (inl refl)) (done-place t i l) (done-fits l (queue-facts t i l g .0))
+    row-keeps g f (cas-not-last l e) = placed k (Linger l) (g, omega arith, refl)
+    row-keeps g f (linger-alone l n) = k
+    row-keeps g f (linger-linked l v n (at-root z)) = let q = queue-facts t i l g in grant-next l _ (q .0) (q .1) n (omega arith)
+    row-keeps g f (linger-linked l v n (below-root z)) = let q = queue-facts t i l g in grant-next l _ (q .0) (q .1) n (omega arith)
+    row-keeps g f (grant-writes l r w) =
         let c = and-both (queue-on-path t i l) (is-member t l r) g in
         let q = queue-facts t i l (c .0) in
-        grant-row-keeps l r w (q .0) (q .1) (c .1) f
-    row-keeps Draw g f = draw-keeps g
-    row-keeps Watch g f = watch-keeps
-    row-keeps Raise g f = raise-keeps g
-    row-keeps Invalid g f = absurd (false≢true g)
+        placed (marked l r w (q .1) (c .1) f) (done-place t i l) (done-fits l (q .0))
+    row-keeps g f (draw-shown e) = placed (drawn-keeps g) Inside (refl, omega arith, refl)
+    row-keeps g f (draw-unshown e) =
+        let small = k .typed .ticket-fits in
+        place-keeps t _ (drawn-keeps g) i Watch h g (omega arith)
+        (λ _. rw (getD-set-same (s .statuses) (own-record t i 0) (s .ticket) 0 (omega (arith, k .typed .statuses-room, root-small))) (omega arith))
+    row-keeps g f (watch-shown e) = placed k Inside (refl, omega arith, refl)
+    row-keeps g f (watch-unshown e) = k
+    row-keeps g f raise-counts = placed (grant-keeps t s k (wrap (s .grant + 1)) (wrap-fits (s .grant + 1)) g) (done-place t i 0) (done-fits 0 root-there)
+    row-keeps g f invalid-stays = absurd (false≢true g)
 
     pub step-keeps : Facts t (step t i s .state)
     unfolding step
     step-keeps =
         let x = getD (s .places) i (place-words 0 0 0 0) in
         let good = k .places i .used h in
-        row-keeps (place s i) good (rw (words-of-place x (valid t i (place-of x) good)) (k .typed .words-fit i))
+        row-keeps good (rw (words-of-place x (valid t i (place-of x) good)) (k .typed .words-fit i)) (branch t i s (place s i))
 
 pub form-law : Form-law
 unfolding Form-law

@@ -1,80 +1,39 @@
 -- What a step gives: at most once to a record, and only to a member's; and the length that it tells. Assumes nothing.
-use mathlib.Core.Path.{_≡_, refl, sym, ap, _∙_}
+use mathlib.Core.Path.{_≡_, refl}
 use mathlib.Core.Bool.{Bool, true, false, _&&_, not, cond, false≢true}
 use mathlib.Core.List.{List, [], _∷_, _++_, append-nil}
 use mathlib.Core.Logic.{_≢_}
-use Prim.Native.Nat.{ℕ, zero, suc, _+_, _-_, _≤_, _<_, max}
+use Prim.Native.Nat.{ℕ, _+_, _-_, _≤_, _<_, max}
 use native.Mathlib.Omega.{arith}
 use native.Mathlib.Decide.{decLt}
 use lib.Dec.{eqb, ltb}
-use lib.ListN.{length, getD, List·getD-eq-default, length-set}
-use borrow.Author.Tests.{eqb-true, eqb-false, eq-eqb, ltb-true, lt-ltb, le-ltb}
+use lib.ListN.{length, List·getD-eq-default, length-set}
+use borrow.Author.Tests.{eqb-true, eqb-false, eq-eqb, ne-eqb, ltb-true, le-ltb}
 use Rattle.model.specs.declared.Place.{Place}
 use Rattle.model.specs.declared.Place.the-variants.{Idle, Prep, Swap, Link, Wait, Inside, Check, Help, Cas, Linger, Grant, Draw, Watch, Raise, Invalid}
 use Rattle.model.specs.declared.State.{State}
-use Rattle.model.specs.Scans.{any-below}
-use Rattle.model.specs.Trees.{Tree, is-ticket, on-path, own-record, is-record, is-member, under}
+use Rattle.model.specs.Trees.{Tree, is-ticket, on-path, own-record, is-record, is-member}
 use Rattle.model.specs.Places.{place-words, words-of, place-of, is-watch}
-use Rattle.model.specs.States.{acquire-parent, wait-word, locked, none, tail, next, status, place, wrap, with-place}
-use Rattle.model.specs.Steps.{is-entry, Standing, unchanged, begins, ends, Row-result, moves, stays, enters, Step, step-from, release-place, prep-row, swap-row, link-row, wait-row, leave-row, check-row, help-row, cas-row, linger-row, grant-row, draw-row, watch-row, is-watched, shown-members, raise-row, row, step}
+use Rattle.model.specs.States.{none, tail, next, status, place, wrap, with-place}
+use Rattle.model.specs.Steps.{is-entry, Row-result, step-from, release-place, is-watched, shown-members, row, step}
 use Rattle.model.specs.Runs.{ended-in, occurrences}
 use Rattle.model.specs.WellFormed.{queue-on-path, good-place}
 use Rattle.model.specs.Tenures.{finds-none, taken-from, given, starts, checks-at, word-to-grant, told-length}
 use Rattle.model.proofs.Tests.{and-both, by-test, any-one}
 use Rattle.model.proofs.Places.{place-stored}
+use Rattle.model.proofs.Branches.{Branch, idle-draws, idle-prepares, prepares, swap-root, swap-inner, swap-behind, link-writes, wait-root-locked, wait-root-granted, wait-ungranted, wait-acquires, wait-passed, wait-crossed, inside-leaves, check-passes, check-releases, help-alone, help-linked, cas-last, cas-not-last, linger-alone, linger-linked, grant-writes, draw-shown, draw-unshown, watch-shown, watch-unshown, raise-counts, invalid-stays, branch}
 use Rattle.model.proofs.Trees.Accepted.{Accepted}
 use Rattle.model.proofs.Trees.Paths.{on-path-root, path-real}
 use Rattle.model.proofs.Trees.Records.{own-record-member, member-record}
 use Rattle.model.proofs.Trees.Tickets.{queue-facts}
-use Rattle.model.proofs.Counted.{occurrences-join, filter-occurs}
-
--- WHO IS GRANTED: nobody, but by Grant and Raise
-abbrev Ends-none : Row-result → Type 0
-Ends-none r = ended-in (r .standing) ≡ []
-
-either : (b : Bool) (x y : Row-result) → Ends-none x → Ends-none y → Ends-none (cond b x y)
-either b x y p q = by-test Ends-none b x y (λ e. p) (λ e. q)
-
-draw-ends-none : (t : Tree) (i : ℕ) (s : State) → Ends-none (draw-row t i s)
-unfolding ended-in draw-row
-draw-ends-none t i s = either (eqb (s .ticket) (s .grant)) _ _ refl refl
-
-swap-ends-none : (t : Tree) (i l : ℕ) (s : State) → Ends-none (swap-row t i l s)
-unfolding ended-in swap-row
-swap-ends-none t i l s = either (eqb (tail s l) none) _ _ (either (eqb l 0) _ _ refl refl) refl
-
-wait-ends-none : (t : Tree) (i l : ℕ) (s : State) → Ends-none (wait-row t i l s)
-unfolding ended-in wait-row
-wait-ends-none t i l s =
-    let v = status s (own-record t i l) in
-    either (eqb l 0) _ _ (either (eqb v locked) _ _ refl refl) (either (eqb v wait-word) _ _ refl (either (eqb v acquire-parent) _ _ refl refl))
-
-check-ends-none : (t : Tree) (i l : ℕ) (s : State) → Ends-none (check-row t i l s)
-unfolding ended-in check-row
-check-ends-none t i l s = either (ltb (status s (own-record t i l)) (t .threshold l) && not (eqb (next s (own-record t i l)) none)) _ _ refl refl
-
-help-ends-none : (t : Tree) (i l : ℕ) (s : State) → Ends-none (help-row t i l s)
-unfolding ended-in help-row
-help-ends-none t i l s = either (eqb (next s (own-record t i l)) none) _ _ refl refl
-
-cas-ends-none : (t : Tree) (i l : ℕ) (s : State) → Ends-none (cas-row t i l s)
-unfolding ended-in cas-row
-cas-ends-none t i l s = either (eqb (tail s l) (own-record t i l + 1)) _ _ refl refl
-
-linger-ends-none : (t : Tree) (i l : ℕ) (s : State) → Ends-none (linger-row t i l s)
-unfolding ended-in linger-row
-linger-ends-none t i l s = either (eqb (next s (own-record t i l)) none) _ _ refl refl
-
-watch-ends-none : (t : Tree) (i : ℕ) (s : State) → Ends-none (watch-row t i s)
-unfolding ended-in watch-row
-watch-ends-none t i s = either (eqb (status s (own-record t i 0)) (s .grant)) _ _ refl refl
+use Rattle.model.proofs.Counted.{filter-occurs}
 
 -- what a step gives is what it grants or shows, or takes at once; of a row by its place
-abbrev pub given-from : Tree → (thread : ℕ) → Place → State → List ℕ
-given-from t i p s = ended-in (row t i p s .standing) ++ taken-from t (step-from t i p (row t i p s)) p
+abbrev given-by : Tree → (thread : ℕ) → Place → Row-result → List ℕ
+given-by t i p x = ended-in (x .standing) ++ taken-from t (step-from t i p x) p
 
-taken : {A : Type 0} (xs ys : List A) → xs ≡ [] → xs ++ ys ≡ ys
-taken xs ys e = rw e
+abbrev pub given-from : Tree → (thread : ℕ) → Place → State → List ℕ
+given-from t i p s = given-by t i p (row t i p s)
 
 -- the record of a Swap that finds none, and of a draw that enters
 abbrev pub swap-given : Tree → (thread domain : ℕ) → State → List ℕ
@@ -83,80 +42,59 @@ swap-given t i l s = cond (eqb (tail s l) none) (own-record t i l ∷ []) []
 abbrev pub draw-given : Tree → (thread : ℕ) → State → List ℕ
 draw-given t i s = cond (eqb (s .ticket) (s .grant)) (own-record t i 0 ∷ []) []
 
-pub given-idle : (t : Tree) (i : ℕ) (s : State) → given-from t i Idle s ≡ []
-unfolding row taken-from ended-in prep-row
-given-idle t i s = taken _ [] (either (is-ticket t (t .home i)) (draw-row t i s) (prep-row t i (t .home i) s) (draw-ends-none t i s) refl)
+-- the records that the row of a place gives
+unfoldable pub given-at : Tree → (thread : ℕ) → Place → State → List ℕ
+given-at t i Idle s = []
+given-at t i (Prep l) s = []
+given-at t i (Swap l) s = swap-given t i l s
+given-at t i (Link l p) s = []
+given-at t i (Wait l) s = []
+given-at t i Inside s = []
+given-at t i (Check l) s = []
+given-at t i (Help l) s = []
+given-at t i (Cas l) s = []
+given-at t i (Linger l) s = []
+given-at t i (Grant l r w) s = r ∷ []
+given-at t i Draw s = draw-given t i s
+given-at t i Watch s = []
+given-at t i Raise s = shown-members t s (wrap (s .grant + 1))
+given-at t i Invalid s = []
 
-pub given-prep : (t : Tree) (i l : ℕ) (s : State) → given-from t i (Prep l) s ≡ []
-unfolding row taken-from ended-in prep-row
-given-prep t i l s = refl
+branch-gives : {t : Tree} {i : ℕ} {s : State} {p : Place} {x : Row-result} → Branch t i s p x → given-by t i p x ≡ given-at t i p s
+unfolding given-at taken-from ended-in finds-none is-entry
+branch-gives (idle-draws z (draw-shown e)) = refl
+branch-gives (idle-draws z (draw-unshown e)) = refl
+branch-gives (idle-prepares z (prepares l v c)) = refl
+branch-gives (prepares l v c) = refl
+branch-gives {s = s} (swap-root l z e) = rw (eq-eqb (tail s l) none e)
+branch-gives {s = s} (swap-inner l z e) = rw (eq-eqb (tail s l) none e)
+branch-gives {s = s} (swap-behind l e) = rw (ne-eqb (tail s l) none e)
+branch-gives (link-writes l p) = refl
+branch-gives (wait-root-locked l z e) = refl
+branch-gives (wait-root-granted l z e) = refl
+branch-gives (wait-ungranted l z e) = refl
+branch-gives (wait-acquires l z e) = refl
+branch-gives (wait-passed l z e f a) = refl
+branch-gives (wait-crossed l z e f a) = refl
+branch-gives inside-leaves = refl
+branch-gives (check-passes l e n) = refl
+branch-gives (check-releases l e) = refl
+branch-gives (help-alone l n) = refl
+branch-gives (help-linked l v n c) = refl
+branch-gives (cas-last l e) = refl
+branch-gives (cas-not-last l e) = refl
+branch-gives (linger-alone l n) = refl
+branch-gives (linger-linked l v n c) = refl
+branch-gives (grant-writes l r w) = refl
+branch-gives {s = s} (draw-shown e) = rw (eq-eqb (s .ticket) (s .grant) e)
+branch-gives {s = s} (draw-unshown e) = rw (ne-eqb (s .ticket) (s .grant) e)
+branch-gives (watch-shown e) = refl
+branch-gives (watch-unshown e) = refl
+branch-gives {t = t} {s = s} raise-counts = append-nil (shown-members t s (wrap (s .grant + 1)))
+branch-gives invalid-stays = refl
 
-pub given-swap : (t : Tree) (i l : ℕ) (s : State) → given-from t i (Swap l) s ≡ swap-given t i l s
-unfolding row taken-from swap-row finds-none
-given-swap t i l s = taken (ended-in (swap-row t i l s .standing)) _ (swap-ends-none t i l s) ∙ ap (λ b. cond b (own-record t i l ∷ []) []) (by (eqb (tail s l) none) refl)
-  where
-    found : (b c : Bool) (x y z : Row-result) → finds-none (x .standing) ≡ true → finds-none (y .standing) ≡ true → finds-none (z .standing) ≡ false → finds-none (cond b (cond c x y) z .standing) ≡ b
-    found true true x y z p q r = p
-    found true false x y z p q r = q
-    found false c x y z p q r = r
-
-    by : (b : Bool) → eqb (tail s l) none ≡ b → finds-none (swap-row t i l s .standing) ≡ eqb (tail s l) none
-    by b e = found (eqb (tail s l) none) (eqb l 0) _ _ _ refl refl refl
-
-pub given-link : (t : Tree) (i l p : ℕ) (s : State) → given-from t i (Link l p) s ≡ []
-unfolding row taken-from ended-in link-row
-given-link t i l p s = refl
-
-pub given-wait : (t : Tree) (i l : ℕ) (s : State) → given-from t i (Wait l) s ≡ []
-unfolding row taken-from
-given-wait t i l s = taken (ended-in (wait-row t i l s .standing)) [] (wait-ends-none t i l s)
-
-pub given-inside : (t : Tree) (i : ℕ) (s : State) → given-from t i Inside s ≡ []
-unfolding row taken-from ended-in leave-row
-given-inside t i s = refl
-
-pub given-check : (t : Tree) (i l : ℕ) (s : State) → given-from t i (Check l) s ≡ []
-unfolding row taken-from
-given-check t i l s = taken (ended-in (check-row t i l s .standing)) [] (check-ends-none t i l s)
-
-pub given-help : (t : Tree) (i l : ℕ) (s : State) → given-from t i (Help l) s ≡ []
-unfolding row taken-from
-given-help t i l s = taken (ended-in (help-row t i l s .standing)) [] (help-ends-none t i l s)
-
-pub given-cas : (t : Tree) (i l : ℕ) (s : State) → given-from t i (Cas l) s ≡ []
-unfolding row taken-from
-given-cas t i l s = taken (ended-in (cas-row t i l s .standing)) [] (cas-ends-none t i l s)
-
-pub given-linger : (t : Tree) (i l : ℕ) (s : State) → given-from t i (Linger l) s ≡ []
-unfolding row taken-from
-given-linger t i l s = taken (ended-in (linger-row t i l s .standing)) [] (linger-ends-none t i l s)
-
-pub given-grant : (t : Tree) (i l r w : ℕ) (s : State) → given-from t i (Grant l r w) s ≡ r ∷ []
-unfolding row taken-from ended-in grant-row
-given-grant t i l r w s = refl
-
-pub given-draw : (t : Tree) (i : ℕ) (s : State) → given-from t i Draw s ≡ draw-given t i s
-unfolding row taken-from draw-row is-entry
-given-draw t i s = taken (ended-in (draw-row t i s .standing)) _ (draw-ends-none t i s) ∙ ap (λ b. cond b (own-record t i 0 ∷ []) []) by
-  where
-    enters-then : (b : Bool) (x y : Row-result) → is-entry (x .kind) ≡ true → is-entry (y .kind) ≡ false → is-entry (cond b x y .kind) ≡ b
-    enters-then true x y p q = p
-    enters-then false x y p q = q
-
-    by : is-entry (draw-row t i s .kind) ≡ eqb (s .ticket) (s .grant)
-    by = enters-then (eqb (s .ticket) (s .grant)) _ _ refl refl
-
-pub given-watch : (t : Tree) (i : ℕ) (s : State) → given-from t i Watch s ≡ []
-unfolding row taken-from
-given-watch t i s = taken (ended-in (watch-row t i s .standing)) [] (watch-ends-none t i s)
-
-pub given-raise : (t : Tree) (i : ℕ) (s : State) → given-from t i Raise s ≡ shown-members t s (wrap (s .grant + 1))
-unfolding row taken-from ended-in raise-row
-given-raise t i s = append-nil (shown-members t s (wrap (s .grant + 1)))
-
-pub given-invalid : (t : Tree) (i : ℕ) (s : State) → given-from t i Invalid s ≡ []
-unfolding row taken-from ended-in
-given-invalid t i s = refl
+pub gives : (t : Tree) (i : ℕ) (p : Place) (s : State) → given-from t i p s ≡ given-at t i p s
+gives t i p s = branch-gives (branch t i s p)
 
 -- AT MOST ONCE
 one-occurs : (b : Bool) (m r : ℕ) → occurrences m (cond b (r ∷ []) []) ≤ 1
@@ -171,27 +109,27 @@ shown-once t s v m =
     rw (filter-occurs 320 f m)
     (by-test (λ n. n ≤ 1) (ltb m 320) (cond (f m) 1 0) 0 (λ e. by-test (λ n. n ≤ 1) (f m) 1 0 (λ y. omega arith) (λ y. omega arith)) (λ e. omega arith))
 
-given-few : (t : Tree) (i : ℕ) (p : Place) (s : State) (m : ℕ) → occurrences m (given-from t i p s) ≤ 1
-unfolding occurrences
-given-few t i Idle s m = rw (given-idle t i s) (omega arith)
-given-few t i (Prep l) s m = rw (given-prep t i l s) (omega arith)
-given-few t i (Swap l) s m = rw (given-swap t i l s) (one-occurs (eqb (tail s l) none) m (own-record t i l))
-given-few t i (Link l p) s m = rw (given-link t i l p s) (omega arith)
-given-few t i (Wait l) s m = rw (given-wait t i l s) (omega arith)
-given-few t i Inside s m = rw (given-inside t i s) (omega arith)
-given-few t i (Check l) s m = rw (given-check t i l s) (omega arith)
-given-few t i (Help l) s m = rw (given-help t i l s) (omega arith)
-given-few t i (Cas l) s m = rw (given-cas t i l s) (omega arith)
-given-few t i (Linger l) s m = rw (given-linger t i l s) (omega arith)
-given-few t i (Grant l r w) s m = rw (given-grant t i l r w s) (one-occurs true m r)
-given-few t i Draw s m = rw (given-draw t i s) (one-occurs (eqb (s .ticket) (s .grant)) m (own-record t i 0))
-given-few t i Watch s m = rw (given-watch t i s) (omega arith)
-given-few t i Raise s m = rw (given-raise t i s) (shown-once t s (wrap (s .grant + 1)) m)
-given-few t i Invalid s m = rw (given-invalid t i s) (omega arith)
+given-few : (t : Tree) (i : ℕ) (p : Place) (s : State) (m : ℕ) → occurrences m (given-at t i p s) ≤ 1
+unfolding occurrences given-at
+given-few t i Idle s m = omega arith
+given-few t i (Prep l) s m = omega arith
+given-few t i (Swap l) s m = one-occurs (eqb (tail s l) none) m (own-record t i l)
+given-few t i (Link l p) s m = omega arith
+given-few t i (Wait l) s m = omega arith
+given-few t i Inside s m = omega arith
+given-few t i (Check l) s m = omega arith
+given-few t i (Help l) s m = omega arith
+given-few t i (Cas l) s m = omega arith
+given-few t i (Linger l) s m = omega arith
+given-few t i (Grant l r w) s m = one-occurs true m r
+given-few t i Draw s m = one-occurs (eqb (s .ticket) (s .grant)) m (own-record t i 0)
+given-few t i Watch s m = omega arith
+given-few t i Raise s m = shown-once t s (wrap (s .grant + 1)) m
+given-few t i Invalid s m = omega arith
 
 pub starts-few : (t : Tree) (i : ℕ) (s : State) (d : ℕ) → starts t d (step t i s) ≤ 1
 unfolding starts given step
-starts-few t i s d = by-test (λ n. n ≤ 1) (eqb d 0) 0 (occurrences (256 + d) (given-from t i (place s i) s)) (λ e. omega arith) (λ e. given-few t i (place s i) s (256 + d))
+starts-few t i s d = by-test (λ n. n ≤ 1) (eqb d 0) 0 (occurrences (256 + d) (given-from t i (place s i) s)) (λ e. omega arith) (λ e. rw (gives t i (place s i) s) (given-few t i (place s i) s (256 + d)))
 
 -- ONLY TO A MEMBER'S RECORD, of a step of a thread of the tree from a good place
 record Member-of-some (t : Tree) (m : ℕ) : Type 0 where
@@ -226,23 +164,23 @@ module _ (t : Tree) (𝓐 : Accepted t) where
       by true false z h = absurd (omega arith)
       by false b z h = absurd (omega arith)
 
-  given-member : (i : ℕ) → i < t .threads → (p : Place) → good-place t i p ≡ true → (s : State) (m : ℕ) → 1 ≤ occurrences m (given-from t i p s) → Member-of-some t m
-  unfolding occurrences good-place
-  given-member i b Idle g s m h = absurd (omega (arith, ap (occurrences m) (given-idle t i s)))
-  given-member i b (Prep l) g s m h = absurd (omega (arith, ap (occurrences m) (given-prep t i l s)))
-  given-member i b (Swap l) g s m h = one-member t (eqb (tail s l) none) m (own-record t i l) l (own-record-member t 𝓐 i b l (queue-facts t i l g .0)) (rw (given-swap t i l s) at h)
-  given-member i b (Link l p) g s m h = absurd (omega (arith, ap (occurrences m) (given-link t i l p s)))
-  given-member i b (Wait l) g s m h = absurd (omega (arith, ap (occurrences m) (given-wait t i l s)))
-  given-member i b Inside g s m h = absurd (omega (arith, ap (occurrences m) (given-inside t i s)))
-  given-member i b (Check l) g s m h = absurd (omega (arith, ap (occurrences m) (given-check t i l s)))
-  given-member i b (Help l) g s m h = absurd (omega (arith, ap (occurrences m) (given-help t i l s)))
-  given-member i b (Cas l) g s m h = absurd (omega (arith, ap (occurrences m) (given-cas t i l s)))
-  given-member i b (Linger l) g s m h = absurd (omega (arith, ap (occurrences m) (given-linger t i l s)))
-  given-member i b (Grant l r w) g s m h = one-member t true m r l (and-both (queue-on-path t i l) (is-member t l r) g .1) (rw (given-grant t i l r w s) at h)
-  given-member i b Draw g s m h = one-member t (eqb (s .ticket) (s .grant)) m (own-record t i 0) 0 (own-record-member t 𝓐 i b 0 (on-path-root t 𝓐 i b)) (rw (given-draw t i s) at h)
-  given-member i b Watch g s m h = absurd (omega (arith, ap (occurrences m) (given-watch t i s)))
-  given-member i b Raise g s m h = shown-member s (wrap (s .grant + 1)) m (rw (given-raise t i s) at h)
-  given-member i b Invalid g s m h = absurd (false≢true g)
+  given-member : (i : ℕ) → i < t .threads → (p : Place) → good-place t i p ≡ true → (s : State) (m : ℕ) → 1 ≤ occurrences m (given-at t i p s) → Member-of-some t m
+  unfolding occurrences good-place given-at
+  given-member i b Idle g s m h = absurd (omega arith)
+  given-member i b (Prep l) g s m h = absurd (omega arith)
+  given-member i b (Swap l) g s m h = one-member t (eqb (tail s l) none) m (own-record t i l) l (own-record-member t 𝓐 i b l (queue-facts t i l g .0)) h
+  given-member i b (Link l p) g s m h = absurd (omega arith)
+  given-member i b (Wait l) g s m h = absurd (omega arith)
+  given-member i b Inside g s m h = absurd (omega arith)
+  given-member i b (Check l) g s m h = absurd (omega arith)
+  given-member i b (Help l) g s m h = absurd (omega arith)
+  given-member i b (Cas l) g s m h = absurd (omega arith)
+  given-member i b (Linger l) g s m h = absurd (omega arith)
+  given-member i b (Grant l r w) g s m h = one-member t true m r l (and-both (queue-on-path t i l) (is-member t l r) g .1) h
+  given-member i b Draw g s m h = one-member t (eqb (s .ticket) (s .grant)) m (own-record t i 0) 0 (own-record-member t 𝓐 i b 0 (on-path-root t 𝓐 i b)) h
+  given-member i b Watch g s m h = absurd (omega arith)
+  given-member i b Raise g s m h = shown-member s (wrap (s .grant + 1)) m h
+  given-member i b Invalid g s m h = absurd (omega arith)
 
   record-domain : (d : ℕ) → is-record t (256 + d) ≡ true → d < t .domains
   unfolding is-record
@@ -259,7 +197,7 @@ module _ (t : Tree) (𝓐 : Accepted t) where
       by : (c : Bool) → eqb d 0 ≡ c → 1 ≤ cond c 0 (occurrences (256 + d) (given-from t i (place s i) s)) → (d ≢ 0) × (d < t .domains)
       by true e h = absurd (omega arith)
       by false e h =
-          let m = given-member i b (place s i) g s (256 + d) h in
+          let m = given-member i b (place s i) g s (256 + d) (rw (gives t i (place s i) s) at h) in
           (eqb-false d 0 e, record-domain d (member-record t 𝓐 (m .domain) (256 + d) (m .member)))
 
 -- THE LENGTH THAT A STEP TELLS. The word that a stored place will grant is the place's, or none where there is no such thread
@@ -280,27 +218,17 @@ release-word-none t d = by (is-ticket t d) (eqb d 0)
     by false true = refl
     by false false = refl
 
-check-word : (t : Tree) (i l : ℕ) (s : State) → word-to-grant (place (check-row t i l s .state) i) ≤ t .threshold l
-unfolding check-row word-to-grant
-check-word t i l s = by (ltb v (t .threshold l)) (not (eqb (next s (own-record t i l)) none)) refl
-  where
-    v : ℕ
-    v = status s (own-record t i l)
-
-    n : ℕ
-    n = next s (own-record t i l)
-
-    by : (a b : Bool) → ltb v (t .threshold l) ≡ a → word-to-grant (place (cond (a && b) (moves (with-place i (Grant l (n - 1) (v + 1)) s)) (moves (with-place i (release-place t (t .parent l)) s)) .state) i) ≤ t .threshold l
-    by true true e = let w = stored-word i (Grant l (n - 1) (v + 1)) s in omega (arith, ltb-true v (t .threshold l) e)
-    by true false e = let w = stored-word i (release-place t (t .parent l)) s in omega (arith, release-word-none t (t .parent l))
-    by false b e = let w = stored-word i (release-place t (t .parent l)) s in omega (arith, release-word-none t (t .parent l))
+check-word : {t : Tree} {i l : ℕ} {s : State} {x : Row-result} → Branch t i s (Check l) x → word-to-grant (place (x .state) i) ≤ t .threshold l
+unfolding word-to-grant
+check-word {t} {i} {l} {s} (check-passes _ less n) = omega (arith, stored-word i (Grant l (next s (own-record t i l) - 1) (status s (own-record t i l) + 1)) s)
+check-word {t} {i} {l} {s} (check-releases _ e) = omega (arith, stored-word i (release-place t (t .parent l)) s, release-word-none t (t .parent l))
 
 -- the length that a Check at the domain tells
 abbrev pub checked-length : (domain : ℕ) → Place → (after : State) → (thread : ℕ) → ℕ
 checked-length d p n i = cond (checks-at d p) (word-to-grant (place n i)) 0
 
 checked-within : (t : Tree) (i : ℕ) (p : Place) (s : State) (d : ℕ) → checked-length d p (row t i p s .state) i ≤ t .threshold d
-unfolding checks-at row
+unfolding checks-at
 checked-within t i Idle s d = omega arith
 checked-within t i (Prep l) s d = omega arith
 checked-within t i (Swap l) s d = omega arith
@@ -309,8 +237,8 @@ checked-within t i (Wait l) s d = omega arith
 checked-within t i Inside s d = omega arith
 checked-within t i (Check l) s d = by (eqb l d) refl
   where
-    by : (b : Bool) → eqb l d ≡ b → cond b (word-to-grant (place (check-row t i l s .state) i)) 0 ≤ t .threshold d
-    by true e = rw (← eqb-true l d e) (check-word t i l s)
+    by : (b : Bool) → eqb l d ≡ b → cond b (word-to-grant (place (row t i (Check l) s .state) i)) 0 ≤ t .threshold d
+    by true e = rw (← eqb-true l d e) (check-word (branch t i s (Check l)))
     by false e = omega arith
 checked-within t i (Help l) s d = omega arith
 checked-within t i (Cas l) s d = omega arith

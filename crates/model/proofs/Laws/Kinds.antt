@@ -1,22 +1,23 @@
 -- KINDS. A stay changes nothing, and only a stay; an entry arrives Inside; where root entries, passed entries and crossed entries come from. Assumes nothing.
 use mathlib.Core.Path.{_≡_, refl, sym, ap, _∙_}
-use mathlib.Core.Bool.{Bool, true, false, cond, _&&_, _||_, not, false≢true}
+use mathlib.Core.Bool.{Bool, true, false, _||_, not, false≢true, true≢false}
 use mathlib.Core.Logic.{_≢_, _⊎_, inl, inr}
 use Prim.Native.Nat.{ℕ, _+_, _-_, _<_}
 use native.Mathlib.Omega.{arith}
-use lib.Dec.{eqb, ltb}
-use borrow.Author.Tests.{eqb-true, eqb-false, not-true}
+use lib.Dec.{eqb}
+use borrow.Author.Tests.{eqb-false, not-true}
 use Rattle.model.specs.declared.Place.{Place}
 use Rattle.model.specs.declared.Place.the-variants.{Idle, Prep, Swap, Link, Wait, Inside, Check, Help, Cas, Linger, Grant, Draw, Watch, Raise, Invalid}
 use Rattle.model.specs.declared.State.{State}
 use Rattle.model.specs.Trees.{Tree, is-ticket, on-path, child, own-record}
 use Rattle.model.specs.Places.{words-of}
-use Rattle.model.specs.States.{acquire-parent, wait-word, locked, none, tail, next, status, place, with-place}
-use Rattle.model.specs.Steps.{Kind, stay, other, root-entry, passed-entry, crossed-entry, leaving, is-entry, Row-result, enters, passing-kind, acquire-place, acquired-place, release-place, done-place, release-word, prep-row, swap-row, link-row, wait-row, leave-row, check-row, help-row, cas-row, linger-row, grant-row, draw-row, watch-row, raise-row, row, step}
+use Rattle.model.specs.States.{tail, next, status, place, with-place}
+use Rattle.model.specs.Steps.{Kind, stay, other, root-entry, passed-entry, crossed-entry, leaving, kind-number, is-kind, is-entry, Row-result, acquire-place, acquired-place, release-place, done-place, row, step}
 use Rattle.model.specs.WellFormed.{good-place}
 use Rattle.model.specs.Laws.{Enters-root, by-swap, by-wait, by-draw, by-watch, by-own-draw, Tells-kind, Kind-law}
 use Rattle.model.proofs.Tests.{by-test, and-both, or-neither}
 use Rattle.model.proofs.Places.{place-stored}
+use Rattle.model.proofs.Branches.{Branch, idle-draws, idle-prepares, prepares, swap-root, swap-inner, swap-behind, link-writes, wait-root-locked, wait-root-granted, wait-ungranted, wait-acquires, wait-passed, wait-crossed, inside-leaves, check-passes, check-releases, help-alone, help-linked, cas-last, cas-not-last, linger-alone, linger-linked, grant-writes, draw-shown, draw-unshown, watch-shown, watch-unshown, raise-counts, invalid-stays, branch}
 use Rattle.model.proofs.Trees.Accepted.{Accepted, accepted}
 use Rattle.model.proofs.Trees.Paths.{path-real}
 use Rattle.model.proofs.Laws.Facts.{Facts, well-formed-facts}
@@ -62,147 +63,121 @@ module _ (t : Tree) (𝓐 : Accepted t) (i : ℕ) (h : i < t .threads) (s : Stat
   done-moves : (p : Place) (l : ℕ) → Moves-to p Idle → Moves-to p (Help (child t i l)) → Moves-to p (done-place t i l)
   done-moves p l f g = by-test (Moves-to p) (eqb l (t .home i)) Idle (Help (child t i l)) (λ _. f) (λ _. g)
 
-  prep-outcome : (p : Place) (l : ℕ) → Moves-to p (Swap l) → p ≢ Inside → Of p (prep-row t i l s)
-  unfolding prep-row
-  prep-outcome p l f n = moved (Swap l) refl (stored (Swap l)) f n
+  -- a parent is another domain
+  parent-moves : (l : ℕ) → on-path t i l ≡ true → l ≢ 0 → Moves-to (Check l) (release-place t (t .parent l))
+  parent-moves l o n =
+      let d = t .parent l in
+      let lower = 𝓐 .parent-lower l (omega arith) (path-real t 𝓐 i h l o) in
+      release-moves (Check l) d (moves-to (Check l) Raise refl) (moves-to (Check l) (Help d) refl)
+      (λ e. let z = ap (λ x. words-of x .domain) e in omega arith, λ e. let z = ap (λ x. words-of x .row) e in omega arith)
 
-  swap-outcome : (l : ℕ) → Of (Swap l) (swap-row t i l s)
-  unfolding swap-row
-  swap-outcome l =
-      by-test (Of (Swap l)) (eqb (tail s l) none) _ _
-      (λ e. by-test (Of (Swap l)) (eqb l 0) _ _
-      (λ z. entered-root refl (stored Inside) (by-swap (ap Swap (eqb-true l 0 z))))
-      (λ z. moved (acquired-place t l) refl (stored (acquired-place t l))
-      (acquire-moves (Swap l) (t .parent l) (moves-to (Swap l) Draw refl) (moves-to (Swap l) (Prep (t .parent l)) refl)) (not-inside (Swap l) refl)))
-      (λ e. moved (Link l (tail s l - 1)) refl (stored (Link l (tail s l - 1))) (moves-to (Swap l) (Link l (tail s l - 1)) refl) (not-inside (Swap l) refl))
+  -- moves to places that are not Inside
+  goes : {x : Row-result} (p q : Place) → x .kind ≡ other → place (x .state) i ≡ place (with-place i q s) i → eqb (words-of p .row) 5 ≡ false → Moves-to p q → Of p x
+  goes p q k e n f = moved q k (e ∙ stored q) f (not-inside p n)
 
-  link-outcome : (l p : ℕ) → Of (Link l p) (link-row t i l p s)
-  unfolding link-row
-  link-outcome l p = moved (Wait l) refl (stored (Wait l)) (moves-to (Link l p) (Wait l) refl) (not-inside (Link l p) refl)
+  climbs : {x : Row-result} (p : Place) (l : ℕ) → x .kind ≡ other → place (x .state) i ≡ place (with-place i (acquired-place t l) s) i → eqb (words-of p .row) 5 ≡ false →
+      Moves-to p Draw → Moves-to p (Prep (t .parent l)) → Of p x
+  climbs p l k e n f g = goes p (acquired-place t l) k e n (acquire-moves p (t .parent l) f g)
 
-  -- from Wait below the root
-  passes-on : (l : ℕ) → l ≢ 0 → Of (Wait l) (enters (passing-kind t i l) i s)
-  passes-on l n = by (eqb l (t .home i)) refl
-    where
-      by : (b : Bool) → eqb l (t .home i) ≡ b → Of (Wait l) (enters (cond b passed-entry crossed-entry) i s)
-      by true e = let same = eqb-true l (t .home i) e in entered-passed refl (stored Inside) (λ z. n (same ∙ z), ap Wait same)
-      by false e = entered-crossed refl (stored Inside) (l, n, eqb-false l (t .home i) e, refl)
+  finishes : {x : Row-result} (p : Place) (l : ℕ) → x .kind ≡ other → place (x .state) i ≡ place (with-place i (done-place t i l) s) i → eqb (words-of p .row) 5 ≡ false →
+      Moves-to p Idle → Moves-to p (Help (child t i l)) → Of p x
+  finishes p l k e n f g = goes p (done-place t i l) k e n (done-moves p l f g)
 
-  wait-outcome : (l : ℕ) → Of (Wait l) (wait-row t i l s)
-  unfolding wait-row
-  wait-outcome l =
-      let v = status s (own-record t i l) in
-      let O = Of (Wait l) in
-      by-test O (eqb l 0) _ _
-      (λ z. by-test O (eqb v locked) _ _ (λ _. stayed refl refl (not-inside _ refl)) (λ _. entered-root refl (stored Inside) (by-wait (ap Wait (eqb-true l 0 z)))))
-      (λ z. by-test O (eqb v wait-word) _ _ (λ _. stayed refl refl (not-inside _ refl))
-      (λ _. by-test O (eqb v acquire-parent) _ _
-      (λ _. moved (acquired-place t l) refl (stored (acquired-place t l))
-      (acquire-moves (Wait l) (t .parent l) (moves-to (Wait l) Draw refl) (moves-to (Wait l) (Prep (t .parent l)) refl)) (not-inside (Wait l) refl))
-      (λ _. passes-on l (eqb-false l 0 z))))
-
-  leave-outcome : Of Inside (leave-row t i s)
-  unfolding leave-row
-  leave-outcome =
+  row-outcome : {p : Place} {x : Row-result} → good-place t i p ≡ true → Branch t i s p x → Of p x
+  unfolding good-place
+  row-outcome g (idle-draws z (draw-shown e)) = entered-root refl (stored Inside) (by-own-draw refl z)
+  row-outcome g (idle-draws z (draw-unshown e)) = goes Idle Watch refl refl refl (moves-to Idle Watch refl)
+  row-outcome g (idle-prepares z (prepares l v c)) = goes Idle (Swap l) refl refl refl (moves-to Idle (Swap l) refl)
+  row-outcome g (prepares l v c) = goes (Prep l) (Swap l) refl refl refl (moves-to (Prep l) (Swap l) refl)
+  row-outcome g (swap-root l z e) = entered-root refl (stored Inside) (by-swap (ap Swap z))
+  row-outcome g (swap-inner l z e) = climbs (Swap l) l refl refl refl (moves-to (Swap l) Draw refl) (moves-to (Swap l) (Prep (t .parent l)) refl)
+  row-outcome g (swap-behind l e) = let q = Link l (tail s l - 1) in goes (Swap l) q refl refl refl (moves-to (Swap l) q refl)
+  row-outcome g (link-writes l p) = goes (Link l p) (Wait l) refl refl refl (moves-to (Link l p) (Wait l) refl)
+  row-outcome g (wait-root-locked l z e) = stayed refl refl (not-inside (Wait l) refl)
+  row-outcome g (wait-root-granted l z e) = entered-root refl (stored Inside) (by-wait (ap Wait z))
+  row-outcome g (wait-ungranted l z e) = stayed refl refl (not-inside (Wait l) refl)
+  row-outcome g (wait-acquires l z e) = climbs (Wait l) l refl refl refl (moves-to (Wait l) Draw refl) (moves-to (Wait l) (Prep (t .parent l)) refl)
+  row-outcome g (wait-passed l z e f same) = entered-passed refl (stored Inside) (λ y. z (same ∙ y), ap Wait same)
+  row-outcome g (wait-crossed l z e f apart) = entered-crossed refl (stored Inside) (l, z, apart, refl)
+  row-outcome g inside-leaves =
       let d = t .home i in
       left (release-place t d) refl (stored (release-place t d))
       (release-moves Inside d (moves-to Inside Raise refl) (moves-to Inside (Help d) refl) (moves-to Inside (Check d) refl)) refl
-
-  -- a parent is another domain
-  check-outcome : (l : ℕ) → on-path t i l ≡ true → l ≢ 0 → Of (Check l) (check-row t i l s)
-  unfolding check-row
-  check-outcome l o n =
-      let I = own-record t i l in
-      let d = t .parent l in
-      let lower = 𝓐 .parent-lower l (omega arith) (path-real t 𝓐 i h l o) in
-      let to = Grant l (next s I - 1) (status s I + 1) in
-      by-test (Of (Check l)) (ltb (status s I) (t .threshold l) && not (eqb (next s I) none)) _ _
-      (λ _. moved to refl (stored to) (moves-to (Check l) to refl) (not-inside (Check l) refl))
-      (λ _. moved (release-place t d) refl (stored (release-place t d))
-      (release-moves (Check l) d (moves-to (Check l) Raise refl) (moves-to (Check l) (Help d) refl)
-      (λ e. let z = ap (λ x. words-of x .domain) e in omega arith, λ e. let z = ap (λ x. words-of x .row) e in omega arith)) (not-inside (Check l) refl))
-
-  help-outcome : (l : ℕ) → Of (Help l) (help-row t i l s)
-  unfolding help-row
-  help-outcome l =
-      let n = next s (own-record t i l) in
-      let to = Grant l (n - 1) (release-word l) in
-      by-test (Of (Help l)) (eqb n none) _ _
-      (λ _. moved (Cas l) refl (stored (Cas l)) (moves-to (Help l) (Cas l) refl) (not-inside (Help l) refl))
-      (λ _. moved to refl (stored to) (moves-to (Help l) to refl) (not-inside (Help l) refl))
-
-  cas-outcome : (l : ℕ) → Of (Cas l) (cas-row t i l s)
-  unfolding cas-row
-  cas-outcome l =
-      let d = child t i l in
-      by-test (Of (Cas l)) (eqb (tail s l) (own-record t i l + 1)) _ _
-      (λ _. moved (done-place t i l) refl (stored (done-place t i l))
-      (done-moves (Cas l) l (moves-to (Cas l) Idle refl) (moves-to (Cas l) (Help d) refl)) (not-inside (Cas l) refl))
-      (λ _. moved (Linger l) refl (stored (Linger l)) (moves-to (Cas l) (Linger l) refl) (not-inside (Cas l) refl))
-
-  linger-outcome : (l : ℕ) → Of (Linger l) (linger-row t i l s)
-  unfolding linger-row
-  linger-outcome l =
-      let n = next s (own-record t i l) in
-      let to = Grant l (n - 1) (release-word l) in
-      by-test (Of (Linger l)) (eqb n none) _ _ (λ _. stayed refl refl (not-inside _ refl))
-      (λ _. moved to refl (stored to) (moves-to (Linger l) to refl) (not-inside (Linger l) refl))
-
-  grant-outcome : (l r w : ℕ) → Of (Grant l r w) (grant-row t i l r w s)
-  unfolding grant-row
-  grant-outcome l r w =
-      let p = Grant l r w in
-      let d = child t i l in
-      moved (done-place t i l) refl (stored (done-place t i l))
-      (done-moves p l (moves-to p Idle refl) (moves-to p (Help d) refl)) (not-inside p refl)
-
-  draw-outcome : (p : Place) → Enters-root t i p → Moves-to p Watch → p ≢ Inside → Of p (draw-row t i s)
-  unfolding draw-row
-  draw-outcome p m f n =
-      by-test (Of p) (eqb (s .ticket) (s .grant)) _ _ (λ _. entered-root refl (stored Inside) m) (λ _. moved Watch refl (stored Watch) f n)
-
-  watch-outcome : Of Watch (watch-row t i s)
-  unfolding watch-row
-  watch-outcome =
-      by-test (Of Watch) (eqb (status s (own-record t i 0)) (s .grant)) _ _
-      (λ _. entered-root refl (stored Inside) (by-watch refl)) (λ _. stayed refl refl (not-inside Watch refl))
-
-  raise-outcome : Of Raise (raise-row t i s)
-  unfolding raise-row
-  raise-outcome =
-      let d = child t i 0 in
-      moved (done-place t i 0) refl (stored (done-place t i 0))
-      (done-moves Raise 0 (moves-to Raise Idle refl) (moves-to Raise (Help d) refl)) (not-inside Raise refl)
-
-  idle-outcome : Of Idle (row t i Idle s)
-  unfolding row
-  idle-outcome =
-      by-test (Of Idle) (is-ticket t (t .home i)) _ _
-      (λ z. draw-outcome Idle (by-own-draw refl z) (moves-to Idle Watch refl) (not-inside Idle refl))
-      (λ z. prep-outcome Idle (t .home i) (moves-to Idle (Swap (t .home i)) refl) (not-inside Idle refl))
-
-  row-outcome : (p : Place) → good-place t i p ≡ true → Of p (row t i p s)
-  unfolding row good-place
-  row-outcome Idle g = idle-outcome
-  row-outcome (Prep l) g = prep-outcome (Prep l) l (moves-to (Prep l) (Swap l) refl) (not-inside (Prep l) refl)
-  row-outcome (Swap l) g = swap-outcome l
-  row-outcome (Link l p) g = link-outcome l p
-  row-outcome (Wait l) g = wait-outcome l
-  row-outcome Inside g = leave-outcome
-  row-outcome (Check l) g =
+  row-outcome g (check-passes l e n) = let q = Grant l (next s (own-record t i l) - 1) (status s (own-record t i l) + 1) in goes (Check l) q refl refl refl (moves-to (Check l) q refl)
+  row-outcome g (check-releases l e) =
       let c = and-both (on-path t i l) (not (eqb l 0)) g in
-      check-outcome l (c .0) (eqb-false l 0 (not-true (eqb l 0) (c .1)))
-  row-outcome (Help l) g = help-outcome l
-  row-outcome (Cas l) g = cas-outcome l
-  row-outcome (Linger l) g = linger-outcome l
-  row-outcome (Grant l r w) g = grant-outcome l r w
-  row-outcome Draw g = draw-outcome Draw (by-draw refl) (moves-to Draw Watch refl) (not-inside Draw refl)
-  row-outcome Watch g = watch-outcome
-  row-outcome Raise g = raise-outcome
-  row-outcome Invalid g = absurd (false≢true g)
+      goes (Check l) (release-place t (t .parent l)) refl refl refl (parent-moves l (c .0) (eqb-false l 0 (not-true (eqb l 0) (c .1))))
+  row-outcome g (help-alone l n) = goes (Help l) (Cas l) refl refl refl (moves-to (Help l) (Cas l) refl)
+  row-outcome g (help-linked l v n c) = let q = Grant l (next s (own-record t i l) - 1) v in goes (Help l) q refl refl refl (moves-to (Help l) q refl)
+  row-outcome g (cas-last l e) = finishes (Cas l) l refl refl refl (moves-to (Cas l) Idle refl) (moves-to (Cas l) (Help (child t i l)) refl)
+  row-outcome g (cas-not-last l e) = goes (Cas l) (Linger l) refl refl refl (moves-to (Cas l) (Linger l) refl)
+  row-outcome g (linger-alone l n) = stayed refl refl (not-inside (Linger l) refl)
+  row-outcome g (linger-linked l v n c) = let q = Grant l (next s (own-record t i l) - 1) v in goes (Linger l) q refl refl refl (moves-to (Linger l) q refl)
+  row-outcome g (grant-writes l r w) = let p = Grant l r w in finishes p l refl refl refl (moves-to p Idle refl) (moves-to p (Help (child t i l)) refl)
+  row-outcome g (draw-shown e) = entered-root refl (stored Inside) (by-draw refl)
+  row-outcome g (draw-unshown e) = goes Draw Watch refl refl refl (moves-to Draw Watch refl)
+  row-outcome g (watch-shown e) = entered-root refl (stored Inside) (by-watch refl)
+  row-outcome g (watch-unshown e) = stayed refl refl (not-inside Watch refl)
+  row-outcome g raise-counts = finishes Raise 0 refl refl refl (moves-to Raise Idle refl) (moves-to Raise (Help (child t i 0)) refl)
+  row-outcome g invalid-stays = absurd (false≢true g)
 
   pub step-outcome : Outcome t s i (place s i) (row t i (place s i) s)
-  step-outcome = row-outcome (place s i) (k .places i .used h)
+  step-outcome = row-outcome (k .places i .used h) (branch t i s (place s i))
+
+-- WHICH ROWS MAY STAY
+unfoldable pub may-stay : Place → Bool
+may-stay Idle = false
+may-stay (Prep l) = false
+may-stay (Swap l) = false
+may-stay (Link l p) = false
+may-stay (Wait l) = true
+may-stay Inside = false
+may-stay (Check l) = false
+may-stay (Help l) = false
+may-stay (Cas l) = false
+may-stay (Linger l) = true
+may-stay (Grant l r w) = false
+may-stay Draw = false
+may-stay Watch = true
+may-stay Raise = false
+may-stay Invalid = true
+
+pub goes-on : {t : Tree} {i : ℕ} {s : State} {p : Place} {x : Row-result} → may-stay p ≡ false → Branch t i s p x → is-kind stay (x .kind) ≡ false
+unfolding may-stay is-kind
+goes-on f (idle-draws z (draw-shown e)) = refl
+goes-on f (idle-draws z (draw-unshown e)) = refl
+goes-on f (idle-prepares z (prepares l v c)) = refl
+goes-on f (prepares l v c) = refl
+goes-on f (swap-root l z e) = refl
+goes-on f (swap-inner l z e) = refl
+goes-on f (swap-behind l e) = refl
+goes-on f (link-writes l p) = refl
+goes-on f (wait-root-locked l z e) = absurd (true≢false f)
+goes-on f (wait-root-granted l z e) = refl
+goes-on f (wait-ungranted l z e) = absurd (true≢false f)
+goes-on f (wait-acquires l z e) = refl
+goes-on f (wait-passed l z e y a) = refl
+goes-on f (wait-crossed l z e y a) = refl
+goes-on f inside-leaves = refl
+goes-on f (check-passes l e n) = refl
+goes-on f (check-releases l e) = refl
+goes-on f (help-alone l n) = refl
+goes-on f (help-linked l v n c) = refl
+goes-on f (cas-last l e) = refl
+goes-on f (cas-not-last l e) = refl
+goes-on f (linger-alone l n) = absurd (true≢false f)
+goes-on f (linger-linked l v n c) = refl
+goes-on f (grant-writes l r w) = refl
+goes-on f (draw-shown e) = refl
+goes-on f (draw-unshown e) = refl
+goes-on f (watch-shown e) = refl
+goes-on f (watch-unshown e) = absurd (true≢false f)
+goes-on f raise-counts = refl
+goes-on f invalid-stays = absurd (true≢false f)
+
+pub no-stay : (k : Kind) → is-kind stay k ≡ false → k ≢ stay
+unfolding is-kind
+no-stay k f e = eqb-false 0 (kind-number k) f (sym (ap kind-number e))
 
 -- FROM OUTCOMES TO KINDS
 pub entry-kinds : (k : Kind) → is-entry k ≡ true → (k ≡ root-entry) ⊎ ((k ≡ passed-entry) ⊎ (k ≡ crossed-entry))

@@ -1,26 +1,26 @@
 -- WORDS. In states reached from fresh: statuses of members of domains other than the root, and the words that Grant writes there. Assumes nothing.
 use mathlib.Core.Path.{_≡_, refl, sym, _∙_}
-use mathlib.Core.Bool.{true, _&&_, not}
+use mathlib.Core.Bool.{true}
 use mathlib.Core.List.{List}
 use mathlib.Core.Logic.{_≢_, _⊎_, inl, inr}
 use Prim.Native.Nat.{ℕ, _+_, _-_, _≤_, _<_}
 use native.Mathlib.Omega.{arith}
-use lib.Dec.{eqb, ltb}
-use borrow.Author.Tests.{eqb-true, ltb-true, ne-eqb}
+use lib.Dec.{eqb}
 use Rattle.model.specs.declared.Place.{Place}
 use Rattle.model.specs.declared.Place.the-variants.{Idle, Prep, Swap, Link, Wait, Inside, Check, Help, Cas, Linger, Grant, Draw, Watch, Raise, Invalid}
 use Rattle.model.specs.declared.State.{State}
 use Rattle.model.specs.Trees.{Tree, is-ticket, on-path, child, own-record, is-member}
 use Rattle.model.specs.Places.{place-words, words-of, place-of}
-use Rattle.model.specs.States.{acquire-parent, wait-word, locked, unlocked, cohort-start, root-word, none, tail, next, status, place, with-tail, with-next, with-status, with-place, with-ticket, with-grant, wrap, fresh-words, fresh-state}
-use Rattle.model.specs.Steps.{Row-result, acquire-place, acquired-place, release-place, done-place, release-word, prep-row, swap-row, link-row, wait-row, leave-row, check-row, help-row, cas-row, linger-row, grant-row, draw-row, watch-row, raise-row, row, step}
+use Rattle.model.specs.States.{acquire-parent, wait-word, unlocked, cohort-start, none, tail, next, status, place, with-tail, with-next, with-status, with-place, with-ticket, with-grant, wrap, fresh-words, fresh-state}
+use Rattle.model.specs.Steps.{Row-result, acquire-place, acquired-place, release-place, done-place, step}
 use Rattle.model.specs.Runs.{run}
 use Rattle.model.specs.WellFormed.{queue-on-path, good-place}
 use Rattle.model.specs.Laws.{Sixteen-bit, All-threads, Word-law}
 use Rattle.model.proofs.Tests.{by-test, and-both}
 use Rattle.model.proofs.Places.{place-of-words}
+use Rattle.model.proofs.Branches.{prepared, about-to-grant, drawn, Branch, idle-draws, idle-prepares, prepares, swap-root, swap-inner, swap-behind, link-writes, wait-root-locked, wait-root-granted, wait-ungranted, wait-acquires, wait-passed, wait-crossed, inside-leaves, check-passes, check-releases, help-alone, help-linked, cas-last, cas-not-last, linger-alone, linger-linked, grant-writes, draw-shown, draw-unshown, watch-shown, watch-unshown, raise-counts, invalid-stays, branch, at-root, below-root}
 use Rattle.model.proofs.Trees.Accepted.{Accepted, accepted}
-use Rattle.model.proofs.Trees.Tickets.{queue-facts}
+use Rattle.model.proofs.Trees.Tickets.{ticket-facts, queue-facts, queue-yes}
 use Rattle.model.proofs.Trees.Paths.{on-path-home, on-path-root, path-real}
 use Rattle.model.proofs.Trees.Records.{member-once, own-record-member}
 use Rattle.model.proofs.Laws.Facts.{Facts, set-all}
@@ -106,9 +106,6 @@ module _ (t : Tree) (𝓐 : Accepted t) (i : ℕ) (h : i < t .threads) where
   start-word : (l : ℕ) → on-path t i l ≡ true → l ≢ 0 → Good-word t l cohort-start
   start-word l o n = inr (inr (𝓐 .threshold-some l (omega arith) (path-real t 𝓐 i h l o)))
 
-  release-word-good : (l : ℕ) → l ≢ 0 → Good-word t l (release-word l)
-  release-word-good l n = rw (ne-eqb l 0 n) (inl refl)
-
   acquire-good : (d : ℕ) → Good-grant t (acquire-place t d)
   unfolding Good-grant
   acquire-good d = by-test (Good-grant t) (is-ticket t d) Draw (Prep d) (λ _. tt) (λ _. tt)
@@ -130,113 +127,67 @@ module _ (t : Tree) (𝓐 : Accepted t) (i : ℕ) (h : i < t .threads) where
   started {n} a l o = status-store t n a (own-record t i l) cohort-start (own-word l cohort-start o (start-word l o))
 
   module _ (s : State) (k : Good-words t s) where
-    prep-keeps : (l : ℕ) → on-path t i l ≡ true → Kept t (prep-row t i l s)
-    unfolding prep-row Good-grant
-    prep-keeps l o =
-        let I = own-record t i l in
-        let a = status-store t s k I (root-word l locked wait-word) (own-word l _ o (λ n. rw (ne-eqb l 0 n) (inr (inl refl)))) in
-        placed (next-store t _ a I none) (Swap l) tt
+    -- the own record of a domain, prepared with a word
+    prepared-keeps : (l v : ℕ) → on-path t i l ≡ true → (l ≢ 0 → Good-word t l v) → Kept t (prepared t i s l v)
+    unfolding Good-grant
+    prepared-keeps l v o f =
+        let a = status-store t s k (own-record t i l) v (own-word l v o f) in
+        placed (next-store t _ a (own-record t i l) none) (Swap l) tt
 
-    swap-keeps : (l : ℕ) → on-path t i l ≡ true → Kept t (swap-row t i l s)
-    unfolding swap-row Good-grant
-    swap-keeps l o =
-        let I = own-record t i l in
-        let a = tail-store t s k l (I + 1) in
-        by-test (Kept t) (eqb (tail s l) none) _ _
-        (λ e. by-test (Kept t) (eqb l 0) _ _
-        (λ z. placed (status-store t _ a I unlocked (own-word l unlocked o (λ n. absurd (n (eqb-true l 0 z))))) Inside tt)
-        (λ z. placed (started a l o) (acquired-place t l) (acquire-good (t .parent l))))
-        (λ e. placed a (Link l (tail s l - 1)) tt)
+    -- about to grant the successor a word
+    grant-next : (l v : ℕ) → (l ≢ 0 → Good-word t l v) → Kept t (about-to-grant t i s l v)
+    unfolding Good-grant
+    grant-next l v f = placed k (Grant l (next s (own-record t i l) - 1) v) f
 
-    link-keeps : (l p : ℕ) → Kept t (link-row t i l p s)
-    unfolding link-row Good-grant
-    link-keeps l p = placed (next-store t s k p (own-record t i l + 1)) (Wait l) tt
-
-    wait-keeps : (l : ℕ) → on-path t i l ≡ true → Kept t (wait-row t i l s)
-    unfolding wait-row Good-grant
-    wait-keeps l o =
-        let v = status s (own-record t i l) in
-        by-test (Kept t) (eqb l 0) _ _ (λ z. by-test (Kept t) (eqb v locked) _ _ (λ _. k) (λ _. placed k Inside tt))
-        (λ z. by-test (Kept t) (eqb v wait-word) _ _ (λ _. k)
-        (λ _. by-test (Kept t) (eqb v acquire-parent) _ _
-        (λ _. placed (started k l o) (acquired-place t l) (acquire-good (t .parent l)))
-        (λ _. placed k Inside tt)))
+    -- a ticket is drawn at the root alone
+    drawn-keeps : Good-words t (drawn t i s)
+    drawn-keeps =
+        let marked = status-store t s k (own-record t i 0) (s .ticket) (own-word 0 (s .ticket) (on-path-root t 𝓐 i h) (λ n. absurd (n refl))) in
+        ticket-store t _ marked (wrap (s .ticket + 1))
 
     -- Check grants one more than a status below the threshold
-    check-keeps : (l : ℕ) → Kept t (check-row t i l s)
-    unfolding check-row Good-grant
-    check-keeps l =
+    row-keeps : {p : Place} {x : Row-result} → good-place t i p ≡ true → Good-grant t p → Branch t i s p x → Kept t x
+    unfolding good-place Good-grant
+    row-keeps g f (idle-draws z b) = row-keeps (ticket-facts t (t .home i) z .0) tt b
+    row-keeps g f (idle-prepares z b) = row-keeps (queue-yes t i (t .home i) (on-path-home t 𝓐 i h) z) tt b
+    row-keeps g f (prepares l v (at-root z)) = prepared-keeps l _ (queue-facts t i l g .0) (λ n. absurd (n z))
+    row-keeps g f (prepares l v (below-root z)) = prepared-keeps l _ (queue-facts t i l g .0) (λ _. inr (inl refl))
+    row-keeps g f (swap-root l z e) =
         let I = own-record t i l in
-        by-test (Kept t) (ltb (status s I) (t .threshold l) && not (eqb (next s I) none)) _ _
-        (λ e.
-        let below = ltb-true (status s I) (t .threshold l) (and-both (ltb (status s I) (t .threshold l)) (not (eqb (next s I) none)) e .0) in
-        placed k (Grant l (next s I - 1) (status s I + 1)) (λ n. inr (inr (omega arith))))
-        (λ _. placed k (release-place t (t .parent l)) (release-good (t .parent l)))
-
-    help-keeps : (l : ℕ) → Kept t (help-row t i l s)
-    unfolding help-row Good-grant
-    help-keeps l =
-        let n = next s (own-record t i l) in
-        by-test (Kept t) (eqb n none) _ _ (λ _. placed k (Cas l) tt)
-        (λ _. placed k (Grant l (n - 1) (release-word l)) (release-word-good l))
-
-    cas-keeps : (l : ℕ) → Kept t (cas-row t i l s)
-    unfolding cas-row Good-grant
-    cas-keeps l =
-        by-test (Kept t) (eqb (tail s l) (own-record t i l + 1)) _ _
-        (λ _. placed (tail-store t s k l none) (done-place t i l) (done-good l))
-        (λ _. placed k (Linger l) tt)
-
-    linger-keeps : (l : ℕ) → Kept t (linger-row t i l s)
-    unfolding linger-row Good-grant
-    linger-keeps l =
-        let n = next s (own-record t i l) in
-        by-test (Kept t) (eqb n none) _ _ (λ _. k) (λ _. placed k (Grant l (n - 1) (release-word l)) (release-word-good l))
-
-    grant-keeps : (l r w : ℕ) → is-member t l r ≡ true → (l ≢ 0 → Good-word t l w) → Kept t (grant-row t i l r w s)
-    unfolding grant-row
-    grant-keeps l r w m f = placed (status-store t s k r w (for-member l r w m f)) (done-place t i l) (done-good l)
-
-    draw-keeps : Kept t (draw-row t i s)
-    unfolding draw-row Good-grant
-    draw-keeps =
-        let marked = status-store t s k (own-record t i 0) (s .ticket) (own-word 0 (s .ticket) (on-path-root t 𝓐 i h) (λ n. absurd (n refl))) in
-        let drawn = ticket-store t _ marked (wrap (s .ticket + 1)) in
-        by-test (Kept t) (eqb (s .ticket) (s .grant)) _ _ (λ _. placed drawn Inside tt) (λ _. placed drawn Watch tt)
-
-    watch-keeps : Kept t (watch-row t i s)
-    unfolding watch-row Good-grant
-    watch-keeps = by-test (Kept t) (eqb (status s (own-record t i 0)) (s .grant)) _ _ (λ _. placed k Inside tt) (λ _. k)
-
-    raise-keeps : Kept t (raise-row t i s)
-    unfolding raise-row
-    raise-keeps = placed (grant-store t s k (wrap (s .grant + 1))) (done-place t i 0) (done-good 0)
-
-    idle-keeps : Kept t (row t i Idle s)
-    unfolding row
-    idle-keeps = by-test (Kept t) (is-ticket t (t .home i)) _ _ (λ _. draw-keeps) (λ _. prep-keeps (t .home i) (on-path-home t 𝓐 i h))
-
-    row-keeps : (p : Place) → good-place t i p ≡ true → Good-grant t p → Kept t (row t i p s)
-    unfolding row leave-row good-place Good-grant
-    row-keeps Idle g f = idle-keeps
-    row-keeps (Prep l) g f = prep-keeps l (queue-facts t i l g .0)
-    row-keeps (Swap l) g f = swap-keeps l (queue-facts t i l g .0)
-    row-keeps (Link l p) g f = link-keeps l p
-    row-keeps (Wait l) g f = wait-keeps l (queue-facts t i l g .0)
-    row-keeps Inside g f = placed k (release-place t (t .home i)) (release-good (t .home i))
-    row-keeps (Check l) g f = check-keeps l
-    row-keeps (Help l) g f = help-keeps l
-    row-keeps (Cas l) g f = cas-keeps l
-    row-keeps (Linger l) g f = linger-keeps l
-    row-keeps (Grant l r w) g f = grant-keeps l r w (and-both (queue-on-path t i l) (is-member t l r) g .1) f
-    row-keeps Draw g f = draw-keeps
-    row-keeps Watch g f = watch-keeps
-    row-keeps Raise g f = raise-keeps
-    row-keeps Invalid g f = k
+        placed (status-store t _ (tail-store t s k l (I + 1)) I unlocked (own-word l unlocked (queue-facts t i l g .0) (λ n. absurd (n z)))) Inside tt
+    row-keeps g f (swap-inner l z e) =
+        placed (started (tail-store t s k l (own-record t i l + 1)) l (queue-facts t i l g .0)) (acquired-place t l) (acquire-good (t .parent l))
+    row-keeps g f (swap-behind l e) = placed (tail-store t s k l (own-record t i l + 1)) (Link l (tail s l - 1)) tt
+    row-keeps g f (link-writes l p) = placed (next-store t s k p (own-record t i l + 1)) (Wait l) tt
+    row-keeps g f (wait-root-locked l z e) = k
+    row-keeps g f (wait-root-granted l z e) = placed k Inside tt
+    row-keeps g f (wait-ungranted l z e) = k
+    row-keeps g f (wait-acquires l z e) = placed (started k l (queue-facts t i l g .0)) (acquired-place t l) (acquire-good (t .parent l))
+    row-keeps g f (wait-passed l z e y a) = placed k Inside tt
+    row-keeps g f (wait-crossed l z e y a) = placed k Inside tt
+    row-keeps g f inside-leaves = placed k (release-place t (t .home i)) (release-good (t .home i))
+    row-keeps g f (check-passes l e n) = grant-next l (status s (own-record t i l) + 1) (λ _. inr (inr (omega arith)))
+    row-keeps g f (check-releases l e) = placed k (release-place t (t .parent l)) (release-good (t .parent l))
+    row-keeps g f (help-alone l n) = placed k (Cas l) tt
+    row-keeps g f (help-linked l v n (at-root z)) = grant-next l _ (λ y. absurd (y z))
+    row-keeps g f (help-linked l v n (below-root z)) = grant-next l _ (λ _. inl refl)
+    row-keeps g f (cas-last l e) = placed (tail-store t s k l none) (done-place t i l) (done-good l)
+    row-keeps g f (cas-not-last l e) = placed k (Linger l) tt
+    row-keeps g f (linger-alone l n) = k
+    row-keeps g f (linger-linked l v n (at-root z)) = grant-next l _ (λ y. absurd (y z))
+    row-keeps g f (linger-linked l v n (below-root z)) = grant-next l _ (λ _. inl refl)
+    row-keeps g f (grant-writes l r w) =
+        placed (status-store t s k r w (for-member l r w (and-both (queue-on-path t i l) (is-member t l r) g .1) f)) (done-place t i l) (done-good l)
+    row-keeps g f (draw-shown e) = placed drawn-keeps Inside tt
+    row-keeps g f (draw-unshown e) = placed drawn-keeps Watch tt
+    row-keeps g f (watch-shown e) = placed k Inside tt
+    row-keeps g f (watch-unshown e) = k
+    row-keeps g f raise-counts = placed (grant-store t s k (wrap (s .grant + 1))) (done-place t i 0) (done-good 0)
+    row-keeps g f invalid-stays = k
 
     pub words-kept : Facts t s → Good-words t (step t i s .state)
     unfolding step
-    words-kept f = row-keeps (place s i) (f .places i .used h) (k .grants i)
+    words-kept f = row-keeps (f .places i .used h) (k .grants i) (branch t i s (place s i))
 
 -- in every state reached from fresh
 pub reached-good-words : (t : Tree) → Sixteen-bit t → Accepted t → (start : ℕ) (is : List ℕ) → All-threads t is → Good-words t (run t is (fresh-state t start) .state)
