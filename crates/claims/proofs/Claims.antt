@@ -7,6 +7,7 @@ pub mod Calls
 pub mod Demand
 pub mod Accepts
 pub mod Equality
+pub mod PassedCounts
 pub mod Passing
 pub mod Acting
 pub mod Queues

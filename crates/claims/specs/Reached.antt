@@ -22,7 +22,7 @@ use Rattle.model.specs.Laws.{All-threads, Sixteen-bit}
 use Rattle.model.specs.Calls.{Ask, one-step, a-run, Call, state-in, answer, call-refusal, asked-entries, joined, Names}
 use Rattle.claims.specs.Claim.{Claim}
 
--- NOT EMPTY: in a list, a call that names the tree and existing threads, with room, is accepted, so long as the list's schedule together with the call's own is shorter than 2^63
+-- NOT EMPTY: in a list, a call that names the tree and existing threads, with room, is accepted, so long as the list's schedule together with the call's own has at most 2^63 entries
 -- the state that the last call of a list returned
 unfoldable pub last-state : List Call → LockState → LockState
 last-state [] s = s
@@ -37,7 +37,7 @@ unfoldable pub Never-refused : Type 0
 Never-refused =
     (w : TreeWords) (start : ℕ) (cs : List Call) → fresh-answer w start .number ≡ 0 → Names (tree-of w) cs (fresh-answer w start .state) →
     (c : Call) → tree-of (c .tree) ≡ tree-of w → Asks-well (tree-of w) (c .ask) →
-    length (joined cs (fresh-answer w start .state)) + length (asked-entries (c .ask)) < most-counted → call-refusal c (last-state cs (fresh-answer w start .state)) ≡ accepted
+    length (joined cs (fresh-answer w start .state)) + length (asked-entries (c .ask)) ≤ most-counted → call-refusal c (last-state cs (fresh-answer w start .state)) ≡ accepted
 
 -- THE LISTING'S TEST. Check as the listing has it, by equality with the threshold
 unfoldable pub equality-check-row : Tree → (thread domain : ℕ) → State → Row-result
@@ -60,6 +60,13 @@ unfoldable pub Equality-law : Type 0
 Equality-law =
     (t : Tree) → Sixteen-bit t → tree-refusal t .number ≡ 0 → (start : ℕ) (is : List ℕ) → All-threads t is → (i l : ℕ) → i < t .threads →
     place (run t is (fresh-state t start) .state) i ≡ Check l → Counts-at-check t (run t is (fresh-state t start) .state) i l
+
+-- COUNTS PASSED ON. From fresh, the count that Check passes on is one more than a count that has started, so from 2 to the threshold
+unfoldable pub Passed-count-law : Type 0
+Passed-count-law =
+    (t : Tree) → Sixteen-bit t → tree-refusal t .number ≡ 0 → (start : ℕ) (is : List ℕ) → All-threads t is → (i l r v : ℕ) → i < t .threads →
+    (let s = run t is (fresh-state t start) .state in
+    place s i ≡ Check l → place (step t i s .state) i ≡ Grant l r v → (2 ≤ v) × (v ≤ t .threshold l))
 
 -- PASSING ON. From fresh, an entry from Wait below the root is at a domain whose threshold is at least 2
 unfoldable pub Passing-law : Type 0
