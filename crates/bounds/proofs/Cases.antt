@@ -14,5 +14,8 @@ unfolding same-numbers any-below all-below largest-below read-word tree-of is-ch
 cases-hold = refl
 
 pub rounds-cases-hold : all rounds-cases ≡ true
-unfolding same-numbers any-below all-below largest-below filter-below read-word tree-of is-child is-member is-leaf depth-from depth level meets on-path under domain-allowance allowance refusal accepted lowest-bad first-refusal bad-domains bad-threads bad-parent too-deep no-threshold bad-home empty-domain tree-tests tree-refusal capped members largest-allowance levels entry-rounds tenure-rounds acquire-from acquire-rounds acquire-bound release-bound everyone-bound rounds-answer rounds-cases
+unfolding same-numbers any-below all-below largest-below filter-below read-word tree-of is-child is-member is-leaf depth-from depth level meets on-path under
+    domain-allowance allowance refusal accepted lowest-bad first-refusal bad-domains bad-threads bad-parent too-deep no-threshold bad-home empty-domain
+    tree-tests tree-refusal capped members largest-allowance levels entry-rounds tenure-rounds acquire-from acquire-rounds acquire-bound release-bound
+    everyone-bound rounds-answer rounds-cases
 rounds-cases-hold = refl

@@ -86,11 +86,11 @@ filled-none t few = record { done = λ c a b. absurd (omega arith); rest = λ c 
 pub filled-next :
     (t : Tree) (d : ℕ) (ws : List ℕ) (x : ℕ) → Filled t (suc d) ws → d < length ws → d < t .domains → x ≡ capped (allowance t (256 + d)) →
     Filled t d (set ws d x)
-filled-next t d ws x 𝓕 l s e =
+filled-next t d ws x filled l s e =
     record {
-      done = λ c a b. same-or c d _ (λ z. rw z (getD-set-same ws d x 0 l ∙ e)) (λ z. getD-set-other ws d c x 0 z ∙ 𝓕 .done c (omega arith) b);
-      rest = λ c h. getD-set-other ws d c x 0 (omega arith) ∙ 𝓕 .rest c (omega arith);
-      behind = λ c h. getD-set-other ws d c x 0 (omega arith) ∙ 𝓕 .behind c h;
+      done = λ c a b. same-or c d _ (λ z. rw z (getD-set-same ws d x 0 l ∙ e)) (λ z. getD-set-other ws d c x 0 z ∙ filled .done c (omega arith) b);
+      rest = λ c h. getD-set-other ws d c x 0 (omega arith) ∙ filled .rest c (omega arith);
+      behind = λ c h. getD-set-other ws d c x 0 (omega arith) ∙ filled .behind c h;
     }
 
 -- all domains' but the root's: the words of the buffer
@@ -98,27 +98,27 @@ word-of :
     (t : Tree) (ws : List ℕ) → Filled t 1 ws → (x : ℕ) (a b : Bool) → eqb x 0 ≡ a → ltb x (t .domains) ≡ b →
     getD ws x 0 ≡ allowance-word t (0 + x)
 unfolding allowance-word
-word-of t ws 𝓕 x true b e g = let z : 0 + x ≡ x = omega arith in rw (z, e) (𝓕 .rest x (omega (arith, eqb-true x 0 e)))
-word-of t ws 𝓕 x false true e g =
+word-of t ws filled x true b e g = let z : 0 + x ≡ x = omega arith in rw (z, e) (filled .rest x (omega (arith, eqb-true x 0 e)))
+word-of t ws filled x false true e g =
     let z : 0 + x ≡ x = omega arith in
-    rw (z, e, g) (𝓕 .done x (omega (arith, eqb-false x 0 e)) (ltb-true x (t .domains) g))
-word-of t ws 𝓕 x false false e g = let z : 0 + x ≡ x = omega arith in rw (z, e, g) (𝓕 .behind x (ltb-false x (t .domains) g))
+    rw (z, e, g) (filled .done x (omega (arith, eqb-false x 0 e)) (ltb-true x (t .domains) g))
+word-of t ws filled x false false e g = let z : 0 + x ≡ x = omega arith in rw (z, e, g) (filled .behind x (ltb-false x (t .domains) g))
 
 pub filled-all : (t : Tree) (ws : List ℕ) → Filled t 1 ws → length ws ≡ 64 → ws ≡ words-from (allowance-word t) 64 0
-filled-all t ws 𝓕 l = listed (allowance-word t) ws 64 0 l (λ x h. word-of t ws 𝓕 x (eqb x 0) (ltb x (t .domains)) refl refl)
+filled-all t ws filled l = listed (allowance-word t) ws 64 0 l (λ x h. word-of t ws filled x (eqb x 0) (ltb x (t .domains)) refl refl)
 
-module _ (t : Tree) (𝓐 : Accepted t) where
+module _ (t : Tree) (valid : Accepted t) where
   -- the children of d come behind it, so their words are there
   pub member-word :
       (d : ℕ) (ws : List ℕ) → Filled t (suc d) ws →
       cond (is-leaf t d) 1 (largest-below (t .domains) (λ c. cond (is-child t d c) (getD ws c 0) 0)) ≡ capped (member-allowance t d)
   unfolding member-allowance
-  member-word d ws 𝓕 = go (is-leaf t d) refl
+  member-word d ws filled = go (is-leaf t d) refl
     where
       child : (c : ℕ) → c < t .domains → (b : Bool) → is-child t d c ≡ b → cond (is-child t d c) (getD ws c 0) 0 ≡ capped (cond (is-child t d c) (allowance t (256 + c)) 0)
       child c s true e =
           let k = child-facts t d c e in
-          rw e (𝓕 .done c (omega (arith, 𝓐 .parent-lower c (k .no-root) s, k .hangs)) s)
+          rw e (filled .done c (omega (arith, valid .parent-lower c (k .no-root) s, k .hangs)) s)
       child c s false e = rw e (sym (capped-small 0 (omega arith)))
 
       go :
@@ -131,4 +131,4 @@ module _ (t : Tree) (𝓐 : Accepted t) where
   pub next-word :
       (d : ℕ) (ws : List ℕ) → Filled t (suc d) ws → 0 < d → d < t .domains →
       capped (t .threshold d * capped (member-allowance t d)) ≡ capped (allowance t (256 + d))
-  next-word d ws 𝓕 p s = capped-times (t .threshold d) (member-allowance t d) (𝓐 .threshold-some d p s) ∙ ap capped (sym (allowance-domain t 𝓐 d))
+  next-word d ws filled p s = capped-times (t .threshold d) (member-allowance t d) (valid .threshold-some d p s) ∙ ap capped (sym (allowance-domain t valid d))

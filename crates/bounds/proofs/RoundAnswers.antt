@@ -9,7 +9,7 @@ use Rattle.model.specs.declared.TreeWords.{TreeWords}
 use Rattle.model.specs.Trees.{tree-of}
 use Rattle.model.specs.Refusals.{tree-refusal}
 use Rattle.refusals.specs.declared.Refusal.{Refusal}
-use Rattle.refusals.specs.Arrays.{told}
+use Rattle.refusals.specs.Arrays.{refusal-words}
 use Rattle.starvation_freedom.specs.Bounds.{everyone-bound}
 use Rattle.bounds.specs.declared.RoundsReply.{RoundsReply}
 use Rattle.bounds.specs.Answers.{capped, allowances-answer, allowances-left, rounds-answer}
@@ -26,13 +26,13 @@ allowed-left w b ws ok e =
     record { allowed = λ c p s. rw e (word-left w b ok c p s (omega arith)) }
 
 pub rounds-refused :
-    (w : TreeWords) (r : Refusal) → r ≡ told (allowances-answer w) → r .number ≢ 0 →
+    (w : TreeWords) (r : Refusal) → r ≡ refusal-words (allowances-answer w) → r .number ≢ 0 →
     _≡_ {A = RoundsReply} (record { number = r .number; place = r .place; rounds = 0; turns = 0 }) (rounds-answer w)
 unfolding rounds-answer allowances-answer
 rounds-refused w r e n = rw (e, ne-eqb (tree-refusal (tree-of w) .number) 0 (λ z. n (ap (λ (x : Refusal). x .number) e ∙ z)))
 
 pub rounds-accepted :
-    (w : TreeWords) (r : Refusal) (most turns : ℕ) → r ≡ told (allowances-answer w) → r .number ≡ 0 → most ≡ capped (everyone-bound (tree-of w)) →
+    (w : TreeWords) (r : Refusal) (most turns : ℕ) → r ≡ refusal-words (allowances-answer w) → r .number ≡ 0 → most ≡ capped (everyone-bound (tree-of w)) →
     turns ≡ capped (most * w .threads) →
     _≡_ {A = RoundsReply} (record { number = r .number; place = r .place; rounds = most; turns = turns }) (rounds-answer w)
 unfolding rounds-answer allowances-answer

@@ -53,72 +53,72 @@ unfolding member-word is-member is-child tree-of
 member-words-same w ws d = refl
 
 pub acquired-all : (t : Tree) (n m : ℕ) (ws : List ℕ) → n ≡ m → Acquired t n ws → Acquired t m ws
-acquired-all t n m ws e 𝓠 = rw (← e) 𝓠
+acquired-all t n m ws e acquired-so-far = rw (← e) acquired-so-far
 
 -- LEVELS
 module _ (w : TreeWords) (ok : tree-refusal (tree-of w) .number ≡ 0) where
   abbrev t : Tree
   t = tree-of w
 
-  𝓐 : Accepted t
-  𝓐 = accepted t ok
+  valid : Accepted t
+  valid = accepted t ok
 
   pub few-domains : w .domains ≤ 64
   unfolding tree-of
-  few-domains = 𝓐 .few-domains
+  few-domains = valid .few-domains
 
   pub few-threads : w .threads ≤ 256
   unfolding tree-of
-  few-threads = 𝓐 .few-threads
+  few-threads = valid .few-threads
 
   pub parent-below : (d p : ℕ) → 0 < d → d < w .domains → p ≡ getD (w .parents) d 0 → p < d
   unfolding tree-of
-  parent-below d p h s e = rw (e, ← parent-read w d h s) (𝓐 .parent-lower d h s)
+  parent-below d p h s e = rw (e, ← parent-read w d h s) (valid .parent-lower d h s)
 
   pub home-below : (i h : ℕ) → i < w .threads → h ≡ getD (w .homes) i 0 → h < w .domains
   unfolding tree-of
-  home-below i h s e = rw (e, ← home-read w i s) (𝓐 .home-real i s)
+  home-below i h s e = rw (e, ← home-read w i s) (valid .home-real i s)
 
   -- one step up the way from d
   pub level-up : (d n x p : ℕ) → 0 < x → x < w .domains → p ≡ getD (w .parents) x 0 → n + depth t x ≡ level t d → n + 1 + depth t p ≡ level t d
   unfolding tree-of
   level-up d n x p h s e g =
-      let deep = depth-child t 𝓐 x h s in
+      let deep = depth-child t valid x h s in
       let same : depth t p ≡ depth t (t .parent x) = ap (depth t) (e ∙ sym (parent-read w x h s)) in
       omega arith
 
   pub level-few : (d : ℕ) → d < w .domains → level t d ≤ 6
   unfolding tree-of
-  level-few d s = 𝓐 .flat d s
+  level-few d s = valid .flat d s
 
   pub level-done : (d n x : ℕ) → x ≡ 0 → n + depth t x ≡ level t d → n ≡ level t d
-  level-done d n x z e = let top = depth-zero t 𝓐 x z in omega arith
+  level-done d n x z e = let top = depth-zero t valid x z in omega arith
 
   -- THE LARGEST ALLOWANCE of a domain's members
   member-value : (ws : List ℕ) → Allowed t ws → (d m : ℕ) → Member t d m → cond (ltb m 256) 1 (getD ws (m - 256) 0) ≡ capped (allowance t m)
-  member-value ws 𝓦 d m (a-thread i s q) =
-      let h : i < 256 = omega (arith, 𝓐 .few-threads) in
+  member-value ws words-allowed d m (a-thread i s q) =
+      let h : i < 256 = omega (arith, valid .few-threads) in
       rw (lt-ltb i 256 h, thread-allowance t i h) (sym (capped-small 1 (omega arith)))
-  member-value ws 𝓦 d m (a-domain c p s q) =
+  member-value ws words-allowed d m (a-domain c p s q) =
       let z : 256 + c - 256 ≡ c = omega arith in
-      rw (le-ltb (256 + c) 256 (omega arith), z) (𝓦 .allowed c p s)
+      rw (le-ltb (256 + c) 256 (omega arith), z) (words-allowed .allowed c p s)
 
   member-words : (ws : List ℕ) → Allowed t ws → (d m : ℕ) (b : Bool) → is-member t d m ≡ b → member-word t ws d m ≡ capped (cond (is-member t d m) (allowance t m) 0)
   unfolding member-word
-  member-words ws 𝓦 d m false e = rw e (sym (capped-small 0 (omega arith)))
-  member-words ws 𝓦 d m true e = rw e (member-value ws 𝓦 d m (member-facts t d m e))
+  member-words ws words-allowed d m false e = rw e (sym (capped-small 0 (omega arith)))
+  member-words ws words-allowed d m true e = rw e (member-value ws words-allowed d m (member-facts t d m e))
 
   largest-words : (ws : List ℕ) → Allowed t ws → (d : ℕ) → largest-below 320 (member-word t ws d) ≡ capped (largest-allowance t d)
   unfolding largest-allowance
-  largest-words ws 𝓦 d = capped-largest 320 _ _ (λ m s. member-words ws 𝓦 d m (is-member t d m) refl)
+  largest-words ws words-allowed d = capped-largest 320 _ _ (λ m s. member-words ws words-allowed d m (is-member t d m) refl)
 
   -- THE ROUNDS above a domain, by the words of those below its number
   above-word : (d : ℕ) (ws : List ℕ) → Acquired t d ws → d < t .domains → cond (eqb d 0) 1 (getD ws (t .parent d) 0) ≡ capped (above-rounds t d)
   unfolding above-rounds
-  above-word d ws 𝓠 s =
+  above-word d ws acquired-so-far s =
       same-or d 0 _
       (λ z. rw (eq-eqb d 0 z) (sym (capped-small 1 (omega arith))))
-      (λ z. rw (ne-eqb d 0 z) (𝓠 .acquired (t .parent d) (𝓐 .parent-lower d (omega arith) s)))
+      (λ z. rw (ne-eqb d 0 z) (acquired-so-far .acquired (t .parent d) (valid .parent-lower d (omega arith) s)))
 
   -- the steps of the code, each number cut
   pub acquire-word :
@@ -128,9 +128,9 @@ module _ (w : TreeWords) (ok : tree-refusal (tree-of w) .number ≡ 0) where
       entries ≡ capped ((2 + deepest) * most) → entered ≡ capped (above + entries) → tenure ≡ capped (entered + 5 * here) →
       tenures ≡ capped (others * tenure) → waited ≡ capped (3 + tenures) → r ≡ capped (waited + above) → r ≡ capped (acquire-rounds t d)
   unfolding tree-of first-rounds tenure-rounds entry-rounds
-  acquire-word d deepest above others most here entries entered tenure tenures waited r vs ws 𝓦 𝓠 s deep up rest large level₁ e₁ e₂ e₃ e₄ e₅ e₆ =
-      rw (e₆, e₅, e₄, e₃, e₂, e₁, deep, up, rest, large ∙ member-words-same w vs d, level₁, above-word d ws 𝓠 s, largest-words vs 𝓦 d)
-      (steps (levels t) (above-rounds t d) (members t d - 1) (largest-allowance t d) (level t d) ∙ ap capped (sym (acquire-at t 𝓐 d s)))
+  acquire-word d deepest above others most here entries entered tenure tenures waited r vs ws words-allowed acquired-so-far s deep up rest large level₁ e₁ e₂ e₃ e₄ e₅ e₆ =
+      rw (e₆, e₅, e₄, e₃, e₂, e₁, deep, up, rest, large ∙ member-words-same w vs d, level₁, above-word d ws acquired-so-far s, largest-words vs words-allowed d)
+      (steps (levels t) (above-rounds t d) (members t d - 1) (largest-allowance t d) (level t d) ∙ ap capped (sym (acquire-at t valid d s)))
     where
       steps :
           (l a n m k : ℕ) →
@@ -142,11 +142,11 @@ module _ (w : TreeWords) (ok : tree-refusal (tree-of w) .number ≡ 0) where
 
   -- one domain's more
   pub acquired-next : (d n x : ℕ) (ws : List ℕ) → n ≡ d + 1 → d < w .domains → Acquired t d ws → x ≡ capped (acquire-rounds t d) → Acquired t n (set ws d x)
-  acquired-next d n x ws z s 𝓠 e =
-      let room = 𝓠 .room in
+  acquired-next d n x ws z s acquired-so-far e =
+      let room = acquired-so-far .room in
       let few = few-domains in
       record {
-        acquired = λ c h. same-or c d _ (λ y. rw y (getD-set-same ws d x 0 (omega arith) ∙ e)) (λ y. getD-set-other ws d c x 0 y ∙ 𝓠 .acquired c (omega arith));
+        acquired = λ c h. same-or c d _ (λ y. rw y (getD-set-same ws d x 0 (omega arith) ∙ e)) (λ y. getD-set-other ws d c x 0 y ∙ acquired-so-far .acquired c (omega arith));
         room = length-set ws d x ∙ room;
       }
 
@@ -155,9 +155,9 @@ module _ (w : TreeWords) (ok : tree-refusal (tree-of w) .number ≡ 0) where
       (i h here x r : ℕ) (ws : List ℕ) → Acquired t (w .domains) ws → i < w .threads → h ≡ getD (w .homes) i 0 → here ≡ level t h → x ≡ getD ws h 0 →
       r ≡ capped (x + 6 * here) → r ≡ capped (acquire-bound t i + release-bound t i)
   unfolding acquire-bound release-bound
-  thread-word i h here x r ws 𝓠 s e g f k =
+  thread-word i h here x r ws acquired-so-far s e g f k =
       let home : h ≡ t .home i = e ∙ sym (home-read w i s) in
-      rw (k, f, g, 𝓠 .acquired h (home-below i h s e), ← home) (capped-left (acquire-rounds t h) (6 * level t h))
+      rw (k, f, g, acquired-so-far .acquired h (home-below i h s e), ← home) (capped-left (acquire-rounds t h) (6 * level t h))
 
   pub everyone-word : (r n : ℕ) → n ≡ w .threads → r ≡ largest-below n (λ i. capped (acquire-bound t i + release-bound t i)) → r ≡ capped (everyone-bound t)
   unfolding everyone-bound tree-of

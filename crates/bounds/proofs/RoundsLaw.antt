@@ -16,13 +16,13 @@ use Rattle.bounds.specs.Laws.{Rounds-law, Entering-law}
 use Rattle.bounds.proofs.Law.{small, large}
 
 module _ (w : TreeWords) (ok : tree-refusal (tree-of w) .number ≡ 0) where
-  rounds-told : rounds-answer w .rounds ≡ capped (everyone-bound (tree-of w))
+  rounds-answered : rounds-answer w .rounds ≡ capped (everyone-bound (tree-of w))
   unfolding rounds-answer
-  rounds-told = rw (eq-eqb (tree-refusal (tree-of w) .number) 0 ok)
+  rounds-answered = rw (eq-eqb (tree-refusal (tree-of w) .number) 0 ok)
 
-  turns-told : rounds-answer w .turns ≡ capped (everyone-bound (tree-of w) * w .threads)
+  turns-answered : rounds-answer w .turns ≡ capped (everyone-bound (tree-of w) * w .threads)
   unfolding rounds-answer
-  turns-told = rw (eq-eqb (tree-refusal (tree-of w) .number) 0 ok)
+  turns-answered = rw (eq-eqb (tree-refusal (tree-of w) .number) 0 ok)
 
 -- a number that was cut is 2 ^ 64 less 1
 uncut : (n m : ℕ) → m ≡ capped n → m + 1 < 2 ^ 64 → m ≡ n
@@ -33,10 +33,10 @@ pub rounds-law : Rounds-law
 unfolding Rounds-law rounds-answer
 rounds-law w ok =
     record {
-      rounds-exact = λ h. rounds-told w ok ∙ small _ h;
-      rounds-cut = λ h. rw (rounds-told w ok) (large _ h);
-      turns-exact = λ h. turns-told w ok ∙ small _ h;
-      turns-cut = λ h. rw (turns-told w ok) (large _ h);
+      rounds-exact = λ h. rounds-answered w ok ∙ small _ h;
+      rounds-cut = λ h. rw (rounds-answered w ok) (large _ h);
+      turns-exact = λ h. turns-answered w ok ∙ small _ h;
+      turns-cut = λ h. rw (turns-answered w ok) (large _ h);
     }
 
 -- where the turns were not cut, neither were the rounds
@@ -44,16 +44,16 @@ rounds-whole : (w : TreeWords) → tree-refusal (tree-of w) .number ≡ 0 → ro
 unfolding tree-of
 rounds-whole w ok h =
     let some = accepted (tree-of w) ok .some-thread in
-    let turns = uncut _ _ (turns-told w ok) h in
+    let turns = uncut _ _ (turns-answered w ok) h in
     let fewer = le-mul-of-pos-right (everyone-bound (tree-of w)) some in
-    rounds-told w ok ∙ small _ (omega arith)
+    rounds-answered w ok ∙ small _ (omega arith)
 
 pub entering-law : Entering-law
 unfolding Entering-law Everyone-law rounds-answer tree-of
 entering-law w ok start before all =
     let law = everyone-law (tree-of w) (sixteen-bit w) ok start before all in
     record {
-      in-rounds = λ h S rs i s. law .in-rounds S (rw (uncut _ _ (rounds-told w ok) h) at rs) i s;
-      by-round-robin = λ h i s. rw (uncut _ _ (rounds-told w ok) h) (law .by-round-robin i s);
-      turns = λ h. rw (rounds-whole w ok h, uncut _ _ (turns-told w ok) h) (law .turns);
+      in-rounds = λ h S rs i s. law .in-rounds S (rw (uncut _ _ (rounds-answered w ok) h) at rs) i s;
+      by-round-robin = λ h i s. rw (uncut _ _ (rounds-answered w ok) h) (law .by-round-robin i s);
+      turns = λ h. rw (rounds-whole w ok h, uncut _ _ (turns-answered w ok) h) (law .turns);
     }

@@ -13,16 +13,16 @@ use Rattle.model.specs.Trees.{tree-of, is-child, is-leaf}
 use Rattle.model.specs.Refusals.{tree-refusal}
 use Rattle.model.proofs.Trees.Accepted.{accepted}
 use Rattle.refusals.specs.declared.Refusal.{Refusal}
-use Rattle.refusals.specs.Arrays.{parents-in, told}
+use Rattle.refusals.specs.Arrays.{parents-in, refusal-words}
 use Rattle.refusals.proofs.Reading.{threshold-in}
 use Rattle.bounds.specs.Answers.{capped, allowances-answer, allowances-left}
 use Rattle.bounds.proofs.Filling.{Filled, filled-next, filled-all, member-word, next-word}
 
-pub refused-left : (w : TreeWords) (b : List ℕ) (r : Refusal) → r ≡ told (allowances-answer w) → r .number ≢ 0 → b ≡ allowances-left w b
+pub refused-left : (w : TreeWords) (b : List ℕ) (r : Refusal) → r ≡ refusal-words (allowances-answer w) → r .number ≢ 0 → b ≡ allowances-left w b
 unfolding allowances-left
 refused-left w b r e n = rw (ne-eqb (allowances-answer w .number) 0 (λ z. n (ap (λ x. x .number) e ∙ z)))
 
-pub accepted-number : (w : TreeWords) (r : Refusal) → r ≡ told (allowances-answer w) → r .number ≡ 0 → tree-refusal (tree-of w) .number ≡ 0
+pub accepted-number : (w : TreeWords) (r : Refusal) → r ≡ refusal-words (allowances-answer w) → r .number ≡ 0 → tree-refusal (tree-of w) .number ≡ 0
 unfolding allowances-answer
 accepted-number w r e z = sym (ap (λ (x : Refusal). x .number) e) ∙ z
 
@@ -30,7 +30,7 @@ pub accepted-left :
     (w : TreeWords) (b ws : List ℕ) (d : ℕ) → tree-refusal (tree-of w) .number ≡ 0 → d ≡ 1 → Filled (tree-of w) d ws → length ws ≡ 64 →
     ws ≡ allowances-left w b
 unfolding allowances-left allowances-answer
-accepted-left w b ws d ok e 𝓕 l = rw (eq-eqb (tree-refusal (tree-of w) .number) 0 ok) (filled-all (tree-of w) ws (rw e at 𝓕) l)
+accepted-left w b ws d ok e filled l = rw (eq-eqb (tree-refusal (tree-of w) .number) 0 ok) (filled-all (tree-of w) ws (rw e at filled) l)
 
 -- one domain more: its threshold times the largest word of its members
 pub filled-more :
@@ -41,10 +41,10 @@ pub filled-more :
     (largest-below (w .domains) (λ c. cond (is-child (parents-in (w .domains) (w .parents)) k c) (getD ws c 0) 0)) →
     (x ≡ capped (getD (w .thresholds) k 0 * m)) × (getD (w .thresholds) k 0 < 65536) → Filled (tree-of w) k (set ws k x)
 unfolding tree-of is-leaf is-child
-filled-more w ok k d ws m x z p s few l 𝓕 e h =
-    let 𝓐 = accepted (tree-of w) ok in
-    let 𝓖 : Filled (tree-of w) (suc k) ws = rw z at 𝓕 in
+filled-more w ok k d ws m x z p s few l filled e h =
+    let valid = accepted (tree-of w) ok in
+    let so-far : Filled (tree-of w) (suc k) ws = rw z at filled in
     let threshold = threshold-in (w .domains) (w .threads) (w .parents) (w .thresholds) (w .homes) k p (omega arith) (h .1) in
-    let member = e ∙ member-word (tree-of w) 𝓐 k ws 𝓖 in
-    filled-next (tree-of w) k ws x 𝓖 (omega arith) (omega arith)
-    (h .0 ∙ rw (member, ← threshold) (next-word (tree-of w) 𝓐 k ws 𝓖 p (omega arith)))
+    let member = e ∙ member-word (tree-of w) valid k ws so-far in
+    filled-next (tree-of w) k ws x so-far (omega arith) (omega arith)
+    (h .0 ∙ rw (member, ← threshold) (next-word (tree-of w) valid k ws so-far p (omega arith)))

@@ -35,5 +35,5 @@ unfoldable pub rounds-answer : TreeWords → RoundsReply
 rounds-answer w =
     let r = tree-refusal (tree-of w) in
     let everyone = everyone-bound (tree-of w) in
-    let told : ℕ → ℕ = λ n. cond (eqb (r .number) 0) (capped n) 0 in
-    record { number = r .number; place = r .place; rounds = told everyone; turns = told (everyone * w .threads) }
+    let answered : ℕ → ℕ = λ n. cond (eqb (r .number) 0) (capped n) 0 in
+    record { number = r .number; place = r .place; rounds = answered everyone; turns = answered (everyone * w .threads) }

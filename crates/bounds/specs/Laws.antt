@@ -34,7 +34,7 @@ unfoldable pub Rounds-law : Type 0
 Rounds-law = (w : TreeWords) → rounds-answer w .number ≡ 0 → Tells-rounds w
 
 -- WHAT THE ROUNDS ARE, from every state reached from fresh. Below 2 ^ 64 less 1, every thread enters in any so many rounds, joined; by round robin these are as many turns as answered, where the turns are below 2 ^ 64 less 1 too
-pub record Enters-as-told (w : TreeWords) (s : State) : Type 0 where
+pub record Enters-as-answered (w : TreeWords) (s : State) : Type 0 where
   pub in-rounds :
       rounds-answer w .rounds + 1 < 2 ^ 64 → (S : List ℕ) → Rounds (tree-of w) (rounds-answer w .rounds) S → (i : ℕ) → i < w .threads →
       1 ≤ occurrences i (run (tree-of w) S s .trace)
@@ -46,4 +46,4 @@ pub record Enters-as-told (w : TreeWords) (s : State) : Type 0 where
 unfoldable pub Entering-law : Type 0
 Entering-law =
     (w : TreeWords) → rounds-answer w .number ≡ 0 → (start : ℕ) (before : List ℕ) → All-threads (tree-of w) before →
-    Enters-as-told w (run (tree-of w) before (fresh-state (tree-of w) start) .state)
+    Enters-as-answered w (run (tree-of w) before (fresh-state (tree-of w) start) .state)

@@ -6,7 +6,7 @@ ghost use lib.Dec.{eqb};
 ghost use lib.ListN.{getD};
 ghost use Rattle.model.specs.Trees.{tree-of, level};
 ghost use Rattle.model.specs.Refusals.{tree-refusal};
-ghost use Rattle.refusals.specs.Arrays.{told};
+ghost use Rattle.refusals.specs.Arrays.{refusal-words};
 ghost use Rattle.starvation_freedom.specs.Bounds.{members, levels, acquire-rounds, acquire-bound, release-bound, everyone-bound};
 ghost use Rattle.bounds.specs.Answers.{capped, allowances-answer, allowances-left, rounds-answer};
 ghost use Rattle.bounds.specs.Arrays.{Allowed, Acquired};
@@ -48,7 +48,7 @@ fn threshold_product(threshold: u16, most: u64) -> u64
 
 // The allowances of an accepted tree, in a buffer of room for 64 domains; refused, that buffer as it came. A child's number is above its parent's, so the last domain comes first.
 pub fn allowances(tree: TreeWords, buffer: &mut [u64; 64]) -> Refusal
-    ensures { λ r. ⌜ r ≡ told (allowances-answer tree) ⌝ }
+    ensures { λ r. ⌜ r ≡ refusal-words (allowances-answer tree) ⌝ }
     ensures { λ r. ⌜ now (buffer .exit) ≡ allowances-left tree (now (buffer .entry)) ⌝ }
 {
     let refusal = refusals::tree_refusal_of(

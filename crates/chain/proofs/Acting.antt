@@ -21,7 +21,7 @@ use Rattle.model.proofs.Trees.Accepted.{Accepted}
 use Rattle.model.proofs.Trees.Paths.{ancestor-real, path-index, on-path-at, on-path-root}
 use Rattle.model.proofs.Trees.Records.{record-small, own-record-at, owner-at, member-owner}
 use Rattle.model.proofs.Lists.{less-or}
-use Rattle.model.proofs.Laws.Form.{valid}
+use Rattle.model.proofs.Laws.Form.{not-invalid}
 use Rattle.chain.specs.Chain.{acts-ahead}
 use Rattle.chain.specs.Tables.{acts-from, Owned-nexts, names-below, ticket-key}
 
@@ -71,12 +71,12 @@ module _ (t : Tree) (s : State) (i : ℕ) where
   acts-words Raise g d h = sym (le-leb 0 d (omega arith))
   acts-words Invalid g d h = absurd (false≢true g)
 
-  module _ (𝓐 : Accepted t) (real : i < t .threads) (good : good-place t i (place s i) ≡ true) where
+  module _ (valid : Accepted t) (real : i < t .threads) (good : good-place t i (place s i) ≡ true) where
     abbrev pub from : ℕ
     from = let q = getD (s .places) i (place-words 0 0 0 0) in acts-from q (there (q .domain))
 
     pub acts-test : (d : ℕ) → d < 256 → acts-at t s i (place s i) d ≡ leb from d
-    acts-test d h = rw (words-of-place (getD (s .places) i (place-words 0 0 0 0)) (valid t i (place s i) good)) at (acts-words (place s i) good d h)
+    acts-test d h = rw (words-of-place (getD (s .places) i (place-words 0 0 0 0)) (not-invalid t i (place s i) good)) at (acts-words (place s i) good d h)
 
     -- a thread acts for a record whose next names r exactly where a domain of its path does
     module _ (own : Owned-nexts t (s .nexts)) where
@@ -84,11 +84,11 @@ module _ (t : Tree) (s : State) (i : ℕ) where
       names-at r k = leb from (ancestor t i k) && eqb (getD (s .nexts) (record-at t i k) 0) (r + 1)
 
       small : (k : ℕ) → ancestor t i k < 256
-      small k = let a = ancestor-real t 𝓐 i real k in let f = 𝓐 .few-domains in omega arith
+      small k = let a = ancestor-real t valid i real k in let f = valid .few-domains in omega arith
 
       ahead-at : (k r : ℕ) → k ≤ height t i → acts-ahead t s (ancestor t i k) r i ≡ names-at r k
       unfolding acts-ahead acts
-      ahead-at k r l = rw (on-path-at t 𝓐 i real k l, acts-test (ancestor t i k) (small k), own-record-at t 𝓐 i real k l) refl
+      ahead-at k r l = rw (on-path-at t valid i real k l, acts-test (ancestor t i k) (small k), own-record-at t valid i real k l) refl
 
       pub names-ahead : (r : ℕ) → names-below (suc (height t i)) t (s .nexts) from i r ≡ acts-ahead t s (owner-domain t r) r i
       unfolding acts-ahead acts
@@ -99,14 +99,14 @@ module _ (t : Tree) (s : State) (i : ℕ) where
           let k = x .index in
           let l : k ≤ height t i = omega (arith, x .below) in
           let named : getD (s .nexts) (record-at t i k) 0 ≡ r + 1 = eqb-true _ _ (and-both (leb from (ancestor t i k)) (eqb (getD (s .nexts) (record-at t i k) 0) (r + 1)) (x .holds) .1) in
-          let m = own .owned (record-at t i k) (record-small t 𝓐 i real k l) (λ z. omega arith) in
+          let m = own .owned (record-at t i k) (record-small t valid i real k l) (λ z. omega arith) in
           let z : getD (s .nexts) (record-at t i k) 0 - 1 ≡ r = omega arith in
-          let m′ : is-member t (ancestor t i k) r ≡ true = rw (z, owner-at t 𝓐 i real k l) at m in
-          rw (member-owner t 𝓐 (ancestor t i k) r m′) (ahead-at k r l ∙ x .holds))
+          let m′ : is-member t (ancestor t i k) r ≡ true = rw (z, owner-at t valid i real k l) at m in
+          rw (member-owner t valid (ancestor t i k) r m′) (ahead-at k r l ∙ x .holds))
           (λ e.
           let d = owner-domain t r in
           let both = and-both (on-path t i d && acts-at t s i (place s i) d) (eqb (next s (own-record t i d)) (r + 1)) e in
-          let o = path-index t 𝓐 i real d (and-both (on-path t i d) (acts-at t s i (place s i) d) (both .0) .0) in
+          let o = path-index t valid i real d (and-both (on-path t i d) (acts-at t s i (place s i) d) (both .0) .0) in
           any-found (suc (height t i)) (names-at r) (o .index) (omega (arith, o .within)) (sym (ahead-at (o .index) r (o .within)) ∙ ap (λ x. acts-ahead t s x r i) (o .there) ∙ e))
 
     -- at the root
@@ -114,4 +114,4 @@ module _ (t : Tree) (s : State) (i : ℕ) where
     unfolding acts
     ticket-there v =
         let z : leb from 0 ≡ eqb from 0 = same-tests (leb from 0) (eqb from 0) (λ e. eq-eqb from 0 (let b = leb-true from 0 e in omega arith)) (λ e. le-leb from 0 (let b = eqb-true from 0 e in omega arith)) in
-        rw (on-path-root t 𝓐 i real, acts-test 0 (omega arith), z) refl
+        rw (on-path-root t valid i real, acts-test 0 (omega arith), z) refl

@@ -19,10 +19,10 @@ use Rattle.model.proofs.Refusing.{numbered}
 use Rattle.model.proofs.Laws.Calls.{early-facts}
 use Rattle.model.proofs.Trees.Reading.{threads-read}
 use Rattle.refusals.specs.declared.Refusal.{Refusal}
-use Rattle.refusals.specs.Arrays.{told, tree-state-tests, schedule-room-tests}
+use Rattle.refusals.specs.Arrays.{refusal-words, tree-state-tests, schedule-room-tests}
 use Rattle.refusals.proofs.Scanning.{single-hit, single-missed}
 use Rattle.refusals.proofs.Joining.{first-decides, other-decides, state-numbered}
-use Rattle.refusals.proofs.RunTests.{told-not, told-zero}
+use Rattle.refusals.proofs.RunTests.{refusal-words-not, refusal-words-zero}
 use Rattle.chain.specs.declared.ChainReply.{ChainReply}
 use Rattle.chain.specs.Chain.{chain}
 use Rattle.chain.specs.Answers.{bad-buffer, bad-chain, chain-tests, chain-refusal, chain-reply, chain-refused, chain-buffer, chain-answer, buffer-answer}
@@ -100,17 +100,17 @@ module _ (w : TreeWords) (s : LockState) (i : ℕ) (b : List ℕ) where
   unfolding chain-answer buffer-answer chain-reply chain-buffer refusal
   refuses n p e z y f = rw (e, ne-eqb n 0 z) (f, refl)
 
-  module _ (r : Refusal) (e : r ≡ told (first-refusal (run-tests-before-19 (tree-of w) s (i ∷ []) 1))) where
+  module _ (r : Refusal) (e : r ≡ refusal-words (first-refusal (run-tests-before-19 (tree-of w) s (i ∷ []) 1))) where
     pub early-answered : (r .number ≡ 0 → ⊥) → (y : ChainReply) → y ≡ chain-refused (refusal (r .number) (r .place)) → Answers y b
     unfolding refusal
     early-answered n q f =
         let x = first-refusal (run-tests-before-19 (tree-of w) s (i ∷ []) 1) in
-        let y = refused-early (tree-of w) s i (length b) (told-not r x e n) in
-        refuses (x .number) (x .place) y (told-not r x e n) q (f ∙ ap (λ v. record { number = v .number; place = v .place; length = 0 }) e)
+        let y = refused-early (tree-of w) s i (length b) (refusal-words-not r x e n) in
+        refuses (x .number) (x .place) y (refusal-words-not r x e n) q (f ∙ ap (λ v. record { number = v .number; place = v .place; length = 0 }) e)
 
     module _ (z : r .number ≡ 0) where
       passed : first-refusal (run-tests-before-19 (tree-of w) s (i ∷ []) 1) .number ≡ 0
-      passed = told-zero r _ e z
+      passed = refusal-words-zero r _ e z
 
       pub answered-20 : length b < w .threads → (y : ChainReply) → y ≡ chain-refused (refusal 20 0) → Answers y b
       answered-20 h = refuses 20 0 (refused-20 (tree-of w) s i (length b) passed (rw (threads-read w) h)) (λ y. omega arith)

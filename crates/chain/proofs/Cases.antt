@@ -82,9 +82,20 @@ same-cases (c ∷ cs) e =
     rw (same-case c (a .0), same-cases cs (a .1))
 
 cases-sized : all-sized cases ≡ true
-unfolding any-below all-below filter-below read-word tree-of is-ticket is-child is-leaf depth-from depth level meets on-path child-from child own-record is-record is-member owner-domain under place-of is-idle is-watch fresh-words is-kind prep-row swap-row link-row wait-row leave-row check-row help-row cas-row linger-row grant-row draw-row watch-row is-watched shown-members raise-row row step steps state-after run-of run occurrences sends-inside acts-at acts good-tail queue-on-path good-place good-counters refusal accepted bad-domains bad-threads bad-parent too-deep no-threshold bad-home empty-domain tree-tests bad-entry padded tree at-ticket-root counters two-homes root-alone two-in-root same-numbers stays acts-ahead acts-holding looked-to looks-to only among chain-from chain three-in-root three-in-ticket cases case-sized all-sized
+unfolding any-below all-below filter-below read-word tree-of is-ticket is-child is-leaf depth-from depth level meets on-path child-from child own-record
+    is-record is-member owner-domain under place-of is-idle is-watch fresh-words is-kind prep-row swap-row link-row wait-row leave-row check-row help-row
+    cas-row linger-row grant-row draw-row watch-row is-watched shown-members raise-row row step steps state-after run-of run occurrences sends-inside acts-at
+    acts good-tail queue-on-path good-place good-counters refusal accepted bad-domains bad-threads bad-parent too-deep no-threshold bad-home empty-domain
+    tree-tests bad-entry padded tree at-ticket-root counters two-homes root-alone two-in-root same-numbers stays acts-ahead acts-holding looked-to looks-to
+    only among chain-from chain three-in-root three-in-ticket cases case-sized all-sized
 cases-sized = refl
 
 pub cases-hold : all-hold cases ≡ true
-unfolding fresh-counters good-count good-counts any-below all-below filter-below read-word tree-of is-ticket is-child is-leaf depth-from depth level meets on-path child-from child own-record is-record is-member owner-domain under place-of is-idle is-watch fresh-words is-kind prep-row swap-row link-row wait-row leave-row check-row help-row cas-row linger-row grant-row draw-row watch-row is-watched shown-members raise-row row step steps state-after run-of run occurrences sends-inside acts-at acts good-tail queue-on-path good-place good-counters refusal accepted lowest-bad first-refusal bad-domains bad-threads bad-parent too-deep no-threshold bad-home empty-domain tree-tests bad-entry padded tree at-ticket-root counters two-homes root-alone two-in-root same-numbers stays acts-ahead acts-holding looked-to looks-to only among chain-from chain bad-buffer bad-chain chain-reply chain-buffer three-in-root three-in-ticket cases walked formed-by-walks walked-refusal holds-by-walks all-hold-by-walks
+unfolding fresh-counters good-count good-counts any-below all-below filter-below read-word tree-of is-ticket is-child is-leaf depth-from depth level meets
+    on-path child-from child own-record is-record is-member owner-domain under place-of is-idle is-watch fresh-words is-kind prep-row swap-row link-row
+    wait-row leave-row check-row help-row cas-row linger-row grant-row draw-row watch-row is-watched shown-members raise-row row step steps state-after run-of
+    run occurrences sends-inside acts-at acts good-tail queue-on-path good-place good-counters refusal accepted lowest-bad first-refusal bad-domains
+    bad-threads bad-parent too-deep no-threshold bad-home empty-domain tree-tests bad-entry padded tree at-ticket-root counters two-homes root-alone
+    two-in-root same-numbers stays acts-ahead acts-holding looked-to looks-to only among chain-from chain bad-buffer bad-chain chain-reply chain-buffer
+    three-in-root three-in-ticket cases walked formed-by-walks walked-refusal holds-by-walks all-hold-by-walks
 cases-hold = same-cases cases cases-sized ∙ refl

@@ -17,7 +17,7 @@ use Rattle.model.proofs.Tests.{and-both, or-cases, all-each}
 use Rattle.model.proofs.Trees.Accepted.{Accepted}
 use Rattle.chain.specs.Tables.{Owned-nexts}
 
-module _ (t : Tree) (𝓐 : Accepted t) (s : State) (form : well-formed t s ≡ true) where
+module _ (t : Tree) (valid : Accepted t) (s : State) (form : well-formed t s ≡ true) where
   parts : (all-below 320 (good-next t s) ≡ true) × (all-below 256 (good-thread t s) ≡ true)
   unfolding well-formed
   parts =
@@ -40,7 +40,7 @@ module _ (t : Tree) (𝓐 : Accepted t) (s : State) (form : well-formed t s ≡ 
     both : (good-place t i (place s i) ≡ true) × (good-watch t s i ≡ true)
     unfolding good-thread
     both =
-        let one : cond (ltb i (t .threads)) (good-place t i (place s i) && good-watch t s i) (is-idle (place s i)) ≡ true = all-each 256 _ (parts .1) i (omega (arith, 𝓐 .few-threads)) in
+        let one : cond (ltb i (t .threads)) (good-place t i (place s i) && good-watch t s i) (is-idle (place s i)) ≡ true = all-each 256 _ (parts .1) i (omega (arith, valid .few-threads)) in
         and-both (good-place t i (place s i)) (good-watch t s i) (rw (lt-ltb i (t .threads) h) at one)
 
     pub place-good : good-place t i (place s i) ≡ true

@@ -26,7 +26,7 @@ use Rattle.model.proofs.Trees.Accepted.{Accepted, accepted}
 use Rattle.model.proofs.Trees.Tickets.{queue-facts}
 use Rattle.model.proofs.Trees.Paths.{on-path-root}
 use Rattle.model.proofs.Lists.{same-or}
-use Rattle.model.proofs.Laws.Form.{valid, replicate-all}
+use Rattle.model.proofs.Laws.Form.{not-invalid, replicate-all}
 use Rattle.model.proofs.Trees.Reading.{threads-read}
 use Rattle.chain.specs.Chain.{acts-ahead}
 use Rattle.chain.specs.Tables.{more-if, count-below, acts-from, Noted, link-key, ticket-key, Tables}
@@ -56,8 +56,8 @@ module _ (w : TreeWords) (ok : tree-refusal (tree-of w) .number ≡ 0) (s : Stat
   abbrev pub t : Tree
   t = tree-of w
 
-  abbrev pub 𝓐 : Accepted t
-  𝓐 = accepted t ok
+  abbrev pub valid : Accepted t
+  valid = accepted t ok
 
   pub real : n < t .threads
   real = rw (threads-read w) h
@@ -74,47 +74,47 @@ module _ (w : TreeWords) (ok : tree-refusal (tree-of w) .number ≡ 0) (s : Stat
   -- the domain of a place is on the thread's path
   domain-there : (p : Place) → good-place t n p ≡ true → on-path t n (words-of p .domain) ≡ true
   unfolding good-place
-  domain-there Idle g = on-path-root t 𝓐 n real
+  domain-there Idle g = on-path-root t valid n real
   domain-there (Prep l) g = queue-facts t n l g .0
   domain-there (Swap l) g = queue-facts t n l g .0
   domain-there (Link l p) g = queue-facts t n l (and-both (queue-on-path t n l) (trees.is-member t l p) g .0) .0
   domain-there (Wait l) g = queue-facts t n l g .0
-  domain-there Inside g = on-path-root t 𝓐 n real
+  domain-there Inside g = on-path-root t valid n real
   domain-there (Check l) g = and-both (on-path t n l) _ g .0
   domain-there (Help l) g = queue-facts t n l g .0
   domain-there (Cas l) g = queue-facts t n l g .0
   domain-there (Linger l) g = queue-facts t n l g .0
   domain-there (Grant l r x) g = queue-facts t n l (and-both (queue-on-path t n l) (trees.is-member t l r) g .0) .0
-  domain-there Draw g = on-path-root t 𝓐 n real
-  domain-there Watch g = on-path-root t 𝓐 n real
-  domain-there Raise g = on-path-root t 𝓐 n real
-  domain-there Invalid g = on-path-root t 𝓐 n real
+  domain-there Draw g = on-path-root t valid n real
+  domain-there Watch g = on-path-root t valid n real
+  domain-there Raise g = on-path-root t valid n real
+  domain-there Invalid g = on-path-root t valid n real
 
   pub on-its-path : on-path t n (words .domain) ≡ true
   on-its-path =
-      let g = place-good t 𝓐 s form n real in
-      rw (words-of-place words (valid t n (place s n) g)) at (domain-there (place s n) g)
+      let g = place-good t valid s form n real in
+      rw (words-of-place words (not-invalid t n (place s n) g)) at (domain-there (place s n) g)
 
   pub root-on-path : on-path t n 0 ≡ true
-  root-on-path = on-path-root t 𝓐 n real
+  root-on-path = on-path-root t valid n real
 
   pub fill-next :
       (a l k a′ : List ℕ) → Tables t s n a l k → Noted t (s .nexts) from n (suc (height t n)) a a′ → length a′ ≡ 320 →
       Tables t s (suc n) a′ (set l n (link-key words)) (set k n (ticket-key from root-status))
   unfolding count-below
   fill-next a l k a′ x y e =
-      let g = place-good t 𝓐 s form n real in
-      let few = 𝓐 .few-threads in
+      let g = place-good t valid s form n real in
+      let few = valid .few-threads in
       record {
         ahead-room = e;
         linking-room = length-set l n (link-key words) ∙ x .linking-room;
         tickets-room = length-set k n (ticket-key from root-status) ∙ x .tickets-room;
         ahead-counts = λ r b. y .count r b
-            ∙ ap (λ z. more-if z (getD a r 0) n) (names-ahead t s n 𝓐 real g (owned-nexts t 𝓐 s form) r)
+            ∙ ap (λ z. more-if z (getD a r 0) n) (names-ahead t s n valid real g (owned-nexts t valid s form) r)
             ∙ ap (λ z. more-if (acts-ahead t s (owner-domain t r) r n) z n) (x .ahead-counts r b);
         linking-keys = stored l n (λ j. link-key (getD (s .places) j (place-words 0 0 0 0))) (link-key words) (omega (arith, x .linking-room, real)) refl (x .linking-keys);
         ticket-keys = stored k n (λ j. cond (acts t s j 0 && ltb (status s (own-record t j 0)) 65536) (status s (own-record t j 0) + 1) 0) (ticket-key from root-status)
-            (omega (arith, x .tickets-room, real)) (ticket-there t s n 𝓐 real g root-status) (x .ticket-keys);
+            (omega (arith, x .tickets-room, real)) (ticket-there t s n valid real g root-status) (x .ticket-keys);
       }
 
   -- with the numbers that the calls return

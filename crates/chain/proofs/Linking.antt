@@ -24,7 +24,7 @@ use Rattle.model.proofs.Branches.{Branch, wait-root-locked, wait-root-granted, 
 use Rattle.model.proofs.Trees.Accepted.{Accepted}
 use Rattle.model.proofs.Trees.Records.{own-record-member, member-owner, member-small}
 use Rattle.model.proofs.Lists.{same-or}
-use Rattle.model.proofs.Laws.Form.{valid}
+use Rattle.model.proofs.Laws.Form.{not-invalid}
 use Rattle.model.proofs.Laws.Kinds.{may-stay, goes-on}
 use Rattle.chain.specs.Chain.{stays, acts-ahead, links, ticket-before, acts-holding, looked-to, looks-to, only}
 use Rattle.chain.specs.Tables.{count-below, Tables, link, waits-in, Sound-place, link-by}
@@ -109,15 +109,15 @@ ticket-test true v u h =
     and-none false = refl
 ticket-test false v u h = ne-eqb 0 (u + 1) (λ z. omega arith)
 
-module _ (t : Tree) (𝓐 : Accepted t) (s : State) (form : well-formed t s ≡ true) (xs ks vs : List ℕ) (tables : Tables t s (t .threads) xs ks vs) (i : ℕ) (h : i < t .threads) where
+module _ (t : Tree) (valid : Accepted t) (s : State) (form : well-formed t s ≡ true) (xs ks vs : List ℕ) (tables : Tables t s (t .threads) xs ks vs) (i : ℕ) (h : i < t .threads) where
   few : t .threads ≤ 256
-  few = 𝓐 .few-threads
+  few = valid .few-threads
 
   abbrev words : ℕ → PlaceWords
   words j = getD (s .places) j (place-words 0 0 0 0)
 
   same-words : (j : ℕ) → j < t .threads → words-of (place s j) ≡ words j
-  same-words j b = words-of-place (words j) (valid t j (place s j) (place-good t 𝓐 s form j b))
+  same-words j b = words-of-place (words j) (not-invalid t j (place s j) (place-good t valid s form j b))
 
   -- a link by the place
   link-at : (p : Place) → place s i ≡ p → link t s i ≡ cond (is-kind stay (row t i p s .kind)) (only (filter-below (t .threads) (looked-to t s i p))) 400
@@ -134,9 +134,9 @@ module _ (t : Tree) (𝓐 : Accepted t) (s : State) (form : well-formed t s ≡ 
 
   ahead-there : (l : ℕ) → on-path t i l ≡ true → getD xs (own-record t i l) 0 ≡ count-below (t .threads) (acts-ahead t s l (own-record t i l))
   ahead-there l o =
-      let m = own-record-member t 𝓐 i h l o in
+      let m = own-record-member t valid i h l o in
       let r = own-record t i l in
-      tables .ahead-counts r (member-small t 𝓐 l r m) ∙ ap (λ d. count-below (t .threads) (acts-ahead t s d r)) (member-owner t 𝓐 l r m)
+      tables .ahead-counts r (member-small t valid l r m) ∙ ap (λ d. count-below (t .threads) (acts-ahead t s d r)) (member-owner t valid l r m)
 
   linking-there : (r : ℕ) → count-below (t .threads) (λ j. eqb (getD ks j 0) (r + 1)) ≡ count-below (t .threads) (λ j. links (place s j) r)
   linking-there r =
@@ -172,12 +172,12 @@ module _ (t : Tree) (𝓐 : Accepted t) (s : State) (form : well-formed t s ≡ 
   place-link (Grant l r w) e g o = rw (link-at (Grant l r w) e, moves-on t s i (Grant l r w) refl) refl
   place-link Draw e g o = rw (link-at Draw e, moves-on t s i Draw refl) refl
   place-link Raise e g o = rw (link-at Raise e, moves-on t s i Raise refl) refl
-  place-link Invalid e g o = absurd (valid t i Invalid g refl)
+  place-link Invalid e g o = absurd (not-invalid t i Invalid g refl)
 
   module _ (o : on-path t i (words i .domain) ≡ true) where
     pub link-is : by-words (words i) ≡ link t s i
     link-is =
-        let g = place-good t 𝓐 s form i h in
+        let g = place-good t valid s form i h in
         rw (same-words i h) at (place-link (place s i) refl g (rw (same-words i h) o))
 
     pub sound-place : Sound-place t (s .statuses) i (words i)
@@ -187,7 +187,7 @@ module _ (t : Tree) (𝓐 : Accepted t) (s : State) (form : well-formed t s ≡ 
           ticket = λ e.
               let z : place s i ≡ Watch = watch-words (place s i) (ap (λ x. x .row) (same-words i h) ∙ e) in
               let d : words i .domain ≡ 0 = ap (λ x. x .domain) (sym (same-words i h)) ∙ ap (λ x. words-of x .domain) z in
-              rw d (watched t 𝓐 s form i h z);
+              rw d (watched t valid s form i h z);
         }
 
     -- a link is 400, or at most one more than a thread

@@ -54,8 +54,8 @@ module _ (w : TreeWords) (ok : tree-refusal (tree-of w) .number ≡ 0) (ns : Lis
   abbrev t : Tree
   t = tree-of w
 
-  𝓐 : Accepted t
-  𝓐 = accepted t ok
+  valid : Accepted t
+  valid = accepted t ok
 
   real : j < t .threads
   real = rw (threads-read w) h
@@ -63,20 +63,20 @@ module _ (w : TreeWords) (ok : tree-refusal (tree-of w) .number ≡ 0) (ns : Lis
   -- the record that a next on the path names is a member's there
   named : (k q : ℕ) → k ≤ height t j → getD ns (record-at t j k) 0 ≡ q + 1 → is-member t (ancestor t j k) q ≡ true
   named k q l e =
-      let m = own .owned (record-at t j k) (record-small t 𝓐 j real k l) (λ z. omega arith) in
+      let m = own .owned (record-at t j k) (record-small t valid j real k l) (λ z. omega arith) in
       let z : getD ns (record-at t j k) 0 - 1 ≡ q = omega arith in
-      rw (z, owner-at t 𝓐 j real k l) at m
+      rw (z, owner-at t valid j real k l) at m
 
   pub named-small : (k q : ℕ) → k ≤ height t j → getD ns (record-at t j k) 0 ≡ q + 1 → q < 320
-  named-small k q l e = member-small t 𝓐 (ancestor t j k) q (named k q l e)
+  named-small k q l e = member-small t valid (ancestor t j k) q (named k q l e)
 
   -- not by a domain before
   named-once : (k q : ℕ) → k ≤ height t j → getD ns (record-at t j k) 0 ≡ q + 1 → names-below k t ns from j q ≡ false
   named-once k q l e =
       any-false k _ (λ m b f.
       let both = and-both (leb from (ancestor t j m)) (eqb (getD ns (record-at t j m) 0) (q + 1)) f in
-      let same = member-once t 𝓐 (ancestor t j m) (ancestor t j k) q (named m q (omega arith) (eqb-true _ _ (both .1))) (named k q l e) in
-      let z = ancestor-injective t 𝓐 j real m k (omega arith) l same in
+      let same = member-once t valid (ancestor t j m) (ancestor t j k) q (named m q (omega arith) (eqb-true _ _ (both .1))) (named k q l e) in
+      let z = ancestor-injective t valid j real m k (omega arith) l same in
       omega arith)
 
   pub note-first : (xs : List ℕ) → Noted t ns from j 0 xs xs
@@ -128,12 +128,12 @@ module _ (w : TreeWords) (ok : tree-refusal (tree-of w) .number ≡ 0) (ns : Lis
         count = λ q b. so-far .count q b ∙ ap (λ x. more-if x (getD xs q 0) j) (sym (any-longer (suc (height t j)) k _ (omega arith) (λ m a c.
             same-or k m (leb from (ancestor t j m) && eqb (getD ns (record-at t j m) 0) (q + 1) ≡ false)
             (λ e. let z : ancestor t j m < from = rw e at low in rw (lt-leb from (ancestor t j m) z))
-            (λ e. let s = ancestor-strict t 𝓐 j real k m (omega arith) (omega arith) in rw (lt-leb from (ancestor t j m) (omega arith))))));
+            (λ e. let s = ancestor-strict t valid j real k m (omega arith) (omega arith) in rw (lt-leb from (ancestor t j m) (omega arith))))));
       }
 
   -- at the root the whole path is noted
   pub note-root : (k : ℕ) → k ≤ height t j → ancestor t j k ≡ 0 → (xs ys : List ℕ) → Noted t ns from j (suc k) xs ys → Noted t ns from j (suc (height t j)) xs ys
-  note-root k l e xs ys x = let z = ancestor-zero t 𝓐 j real k l e in rw z at x
+  note-root k l e xs ys x = let z = ancestor-zero t valid j real k l e in rw z at x
 
 -- a walk that notes: at the domain c with the record r, the domains before it noted
 pub record Noting (t : Tree) (ns : List ℕ) (from j : ℕ) (before after : List ℕ) (r c : ℕ) : Type 0 where

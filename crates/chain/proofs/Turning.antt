@@ -25,8 +25,8 @@ module _ (w : TreeWords) (ok : tree-refusal (tree-of w) .number ≡ 0) (s : Stat
   abbrev t : Tree
   t = tree-of w
 
-  𝓐 : Accepted t
-  𝓐 = accepted t ok
+  valid : Accepted t
+  valid = accepted t ok
 
   all-tables : Tables t s (t .threads) xs ks vs
   unfolding tree-of
@@ -36,7 +36,7 @@ module _ (w : TreeWords) (ok : tree-refusal (tree-of w) .number ≡ 0) (s : Stat
   start-real = rw (threads-read w) h
 
   pub turn-first : Follows t s start (set (replicate 256 0) 0 start) (set (replicate 256 false) start true) start 1
-  turn-first = follow-first t s start (𝓐 .few-threads) start-real
+  turn-first = follow-first t s start (valid .few-threads) start-real
 
   module _ (found : List ℕ) (seen : List Bool) (i n : ℕ) (x : Follows t s start found seen i n) where
     pub turn-real : i < w .threads
@@ -46,25 +46,25 @@ module _ (w : TreeWords) (ok : tree-refusal (tree-of w) .number ≡ 0) (s : Stat
     turn-within = rw (threads-read w) at (x .within)
 
     pub turn-sound : Sound-place t (s .statuses) i (getD (s .places) i (place-words 0 0 0 0))
-    turn-sound = sound-place t 𝓐 s form xs ks vs all-tables i (x .real) (on-its-path w ok s form i turn-real)
+    turn-sound = sound-place t valid s form xs ks vs all-tables i (x .real) (on-its-path w ok s form i turn-real)
 
     module _ (one : ℕ) (e : one ≡ link-by t (s .nexts) (s .statuses) xs ks vs (s .grant) (getD (s .places) i (place-words 0 0 0 0)) i) where
       is-link : one ≡ link t s i
-      is-link = e ∙ link-is t 𝓐 s form xs ks vs all-tables i (x .real) (on-its-path w ok s form i turn-real)
+      is-link = e ∙ link-is t valid s form xs ks vs all-tables i (x .real) (on-its-path w ok s form i turn-real)
 
       small : link t s i ≢ 400 → link t s i ≤ t .threads
-      small = link-small t 𝓐 s form xs ks vs all-tables i (x .real) (on-its-path w ok s form i turn-real)
+      small = link-small t valid s form xs ks vs all-tables i (x .real) (on-its-path w ok s form i turn-real)
 
       few : only (looks-to t s i) ≤ 300
-      few = only-few t 𝓐 s form xs ks vs all-tables i (x .real) (on-its-path w ok s form i turn-real)
+      few = only-few t valid s form xs ks vs all-tables i (x .real) (on-its-path w ok s form i turn-real)
 
       pub turn-ends : one ≡ 400 → Followed (w .threads) (chain t s start) found n
       unfolding tree-of
-      turn-ends z = follow-ends t s start (𝓐 .few-threads) start-real found seen i n x small few (sym is-link ∙ z)
+      turn-ends z = follow-ends t s start (valid .few-threads) start-real found seen i n x small few (sym is-link ∙ z)
 
       pub turn-nobody : one ≡ 0 → Followed (w .threads) (chain t s start) found 0
       unfolding tree-of
-      turn-nobody z = follow-nobody t s start (𝓐 .few-threads) start-real found seen i n x small few (sym is-link ∙ z)
+      turn-nobody z = follow-nobody t s start (valid .few-threads) start-real found seen i n x small few (sym is-link ∙ z)
 
       module _ (p : one ≢ 400) (q : one ≢ 0) where
         p′ : link t s i ≢ 400
@@ -75,18 +75,18 @@ module _ (w : TreeWords) (ok : tree-refusal (tree-of w) .number ≡ 0) (s : Stat
 
         pub turn-small : one - 1 < w .threads
         turn-small =
-            let b = next-real t s start (𝓐 .few-threads) start-real found seen i n x small few p′ q′ in
+            let b = next-real t s start (valid .few-threads) start-real found seen i n x small few p′ q′ in
             let z = threads-read w in
             rw is-link (omega arith)
 
         pub turn-full : n ≡ w .threads → Followed (w .threads) (chain t s start) found 0
         unfolding tree-of
-        turn-full z = follow-full t s start (𝓐 .few-threads) start-real found seen i n x small few p′ q′ (z ∙ sym (threads-read w))
+        turn-full z = follow-full t s start (valid .few-threads) start-real found seen i n x small few p′ q′ (z ∙ sym (threads-read w))
 
         pub turn-back : getD seen (one - 1) false ≡ true → Followed (w .threads) (chain t s start) found 0
         unfolding tree-of
-        turn-back z = follow-back t s start (𝓐 .few-threads) start-real found seen i n x small few p′ q′ (rw is-link at z)
+        turn-back z = follow-back t s start (valid .few-threads) start-real found seen i n x small few p′ q′ (rw is-link at z)
 
         pub turn-next : n ≢ w .threads → getD seen (one - 1) false ≡ false → Follows t s start (set found n (one - 1)) (set seen (one - 1) true) (one - 1) (n + 1)
         turn-next y z =
-            rw is-link (follow-next t s start (𝓐 .few-threads) start-real found seen i n x small few p′ q′ (λ v. y (v ∙ threads-read w)) (rw is-link at z))
+            rw is-link (follow-next t s start (valid .few-threads) start-real found seen i n x small few p′ q′ (λ v. y (v ∙ threads-read w)) (rw is-link at z))

@@ -1,7 +1,7 @@
 -- The third demand: what holds along every schedule from fresh, and the one claim of a list of calls.
 pub mod Reached
 pub mod Alone
-pub mod Order
+pub mod InOrder
 pub mod Bounded
 pub mod Calls
 pub mod Demand
@@ -10,5 +10,5 @@ pub mod Equality
 pub mod PassedCounts
 pub mod Passing
 pub mod Acting
-pub mod Queues
+pub mod QueueLaw
 pub mod Moving

@@ -11,7 +11,7 @@ use Rattle.model.specs.Refusals.{Refusal, refusal, accepted}
 use Rattle.file_writer.specs.declared.WriteReply.{WriteReply}
 use Rattle.file_writer.specs.Writing.{written-file}
 use Rattle.file_writer.specs.Refusals.{write-refusal}
-use Rattle.file_writer.specs.Answers.{write-reply, told-length, file-buffer, write-answer, file-buffer-answer}
+use Rattle.file_writer.specs.Answers.{write-reply, answered-length, file-buffer, write-answer, file-buffer-answer}
 
 abbrev pub replied : (number place length : ℕ) → WriteReply
 replied n p l = record { number = n; place = p; length = l }
@@ -25,7 +25,7 @@ module _ (w : TreeWords) (is b : List ℕ) where
 
   pub answer-accepted :
       write-refusal (tree-of w) is (length b) ≡ accepted →
-      (replied 0 0 (told-length (tree-of w) is) ≡ write-answer w is b)
+      (replied 0 0 (answered-length (tree-of w) is) ≡ write-answer w is b)
       × (written-file (tree-of w) is ++ drop (length (written-file (tree-of w) is)) b ≡ file-buffer-answer w is b)
   unfolding write-answer file-buffer-answer write-reply file-buffer accepted refusal
   answer-accepted e = rw e (refl, refl)

@@ -11,5 +11,9 @@ use Rattle.file_writer.specs.Answers.{write-reply, file-buffer, write-an
 use Rattle.file_writer.specs.Cases.{writes, refuses, edges, unread, empty-leaf, cases, holds, all-hold}
 
 pub cases-hold : all-hold cases ≡ true
-unfolding any-below read-word tree-of is-child is-leaf depth-from depth level meets on-path under refusal accepted lowest-bad first-refusal bad-domains bad-threads bad-parent too-deep no-threshold bad-home empty-domain tree-tests bad-length bad-entry padded tree at-ticket-root two-homes first-entries root-alone two-in-root same-numbers written-domain written-domains written-thread written-threads written-schedule first-byte written-tree written-file bad-file-length bad-file-room write-tests write-refusal write-reply file-buffer write-answer file-buffer-answer writes refuses edges unread empty-leaf cases holds all-hold
+unfolding any-below read-word tree-of is-child is-leaf depth-from depth level meets on-path under refusal accepted lowest-bad first-refusal bad-domains
+    bad-threads bad-parent too-deep no-threshold bad-home empty-domain tree-tests bad-length bad-entry padded tree at-ticket-root two-homes first-entries
+    root-alone two-in-root same-numbers written-domain written-domains written-thread written-threads written-schedule first-byte written-tree written-file
+    bad-file-length bad-file-room write-tests write-refusal write-reply file-buffer write-answer file-buffer-answer writes refuses edges unread empty-leaf
+    cases holds all-hold
 cases-hold = refl

@@ -13,7 +13,7 @@ use Rattle.model.specs.Laws.{Numbered, Refusal-law, Refuses-exactly}
 use Rattle.model.proofs.Refusing.{numbered, tests-pass}
 use Rattle.model.proofs.Laws.Refusals.{refusal-law, tree-numbered}
 use Rattle.refusals.specs.declared.Refusal.{Refusal}
-use Rattle.refusals.specs.Arrays.{told, threads-in, schedule-room-tests}
+use Rattle.refusals.specs.Arrays.{refusal-words, threads-in, schedule-room-tests}
 use Rattle.refusals.proofs.Joining.{first-decides, other-decides}
 use Rattle.refusals.proofs.Scanning.{single-hit, single-missed}
 use Rattle.schedules.proofs.Alone.{schedule-decides, alone-decides}
@@ -78,12 +78,12 @@ write-refusal-law t is room =
     }
 
 -- the code tests a schedule with a trace buffer of its length, so that 13 refuses nothing
-pub schedule-told :
+pub schedule-refusal-words :
     (w : TreeWords) (is : List ℕ) (s : Refusal) → tree-refusal (tree-of w) .number ≡ 0 →
-    s ≡ told (first-refusal (schedule-room-tests (threads-in (w .threads)) is (length is))) → s ≡ told (first-refusal (schedule-tests (tree-of w) is))
+    s ≡ refusal-words (first-refusal (schedule-room-tests (threads-in (w .threads)) is (length is))) → s ≡ refusal-words (first-refusal (schedule-tests (tree-of w) is))
 unfolding bad-entry tree-of
-schedule-told w is s ok e =
-    e ∙ ap told (sym (schedule-decides w ok is (length is)) ∙ alone-decides w ok is (length is) (omega arith))
+schedule-refusal-words w is s ok e =
+    e ∙ ap refusal-words (sym (schedule-decides w ok is (length is)) ∙ alone-decides w ok is (length is) (omega arith))
 
 -- a schedule that passes 11 is short
 pub short-schedule : (t : Tree) (is : List ℕ) → first-refusal (schedule-tests t is) .number ≡ 0 → length is ≤ 65536

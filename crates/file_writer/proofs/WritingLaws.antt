@@ -29,7 +29,7 @@ use Rattle.file_call.proofs.FileRun.{zero-start}
 use Rattle.file_call.proofs.FileClaim.{described-law}
 use Rattle.file_writer.specs.Writing.{written-file}
 use Rattle.file_writer.specs.Refusals.{write-refusal}
-use Rattle.file_writer.specs.Answers.{told-length, write-answer, write-reply, file-buffer-answer}
+use Rattle.file_writer.specs.Answers.{answered-length, write-answer, write-reply, file-buffer-answer}
 use Rattle.file_writer.specs.Laws.{Write-refusal-law, file-left, Lock-file-for, Read-back-law, Shortest-law, Too-long-law, Circle-law, Keeps-rest, Buffer-law}
 use Rattle.file_writer.proofs.Refusing.{write-refusal-law}
 use Rattle.file_writer.proofs.Answering.{replied, answer-refused, answer-accepted}
@@ -73,20 +73,20 @@ module _ (w : TreeWords) (is b : List ℕ) (e : write-answer w is b .number ≡ 
   unfolding write-answer write-reply
   good = write-facts (tree-of w) is (length b) e
 
-  told :
-      (replied 0 0 (told-length (tree-of w) is) ≡ write-answer w is b)
+  answered :
+      (replied 0 0 (answered-length (tree-of w) is) ≡ write-answer w is b)
       × (written-file (tree-of w) is ++ drop (length (written-file (tree-of w) is)) b ≡ file-buffer-answer w is b)
   unfolding Write-refusal-law
-  told =
+  answered =
       answer-accepted w is b
       (write-refusal-law (tree-of w) is (length b) .accepts (good .tree) (good .schedule) (good .short) (good .fits))
 
-  length-told : write-answer w is b .length ≡ length (written-file (tree-of w) is)
-  length-told = sym (ap (λ r. r .length) (told .0))
+  length-answered : write-answer w is b .length ≡ length (written-file (tree-of w) is)
+  length-answered = sym (ap (λ r. r .length) (answered .0))
 
   left : file-left w is b ≡ written-file (tree-of w) is
   left =
-      ap (λ n. take n (file-buffer-answer w is b)) length-told ∙ ap (take (length (written-file (tree-of w) is))) (sym (told .1))
+      ap (λ n. take n (file-buffer-answer w is b)) length-answered ∙ ap (take (length (written-file (tree-of w) is))) (sym (answered .1))
       ∙ take-at (written-file (tree-of w) is) (drop (length (written-file (tree-of w) is)) b) _ refl
 
 module _ (w : TreeWords) (ok : tree-refusal (tree-of w) .number ≡ 0) where
@@ -119,7 +119,7 @@ read-back-law w is b e =
 
 pub shortest-law : Shortest-law
 unfolding Shortest-law
-shortest-law w is b e bytes x = rw (length-told w is b e) (none-shorter w (good w is b e .tree) is bytes x)
+shortest-law w is b e bytes x = rw (length-answered w is b e) (none-shorter w (good w is b e .tree) is bytes x)
 
 pub too-long-law : Too-long-law
 unfolding Too-long-law Write-refusal-law refusal accepted
@@ -149,8 +149,8 @@ too-long-law w is room tree schedule = (
 rest-accepted : (w : TreeWords) (is b : List ℕ) → write-answer w is b .number ≡ 0 → Keeps-rest w is b
 rest-accepted w is b e =
     let file = written-file (tree-of w) is in
-    let buffer = sym (told w is b e .1) in
-    let n = length-told w is b e in
+    let buffer = sym (answered w is b e .1) in
+    let n = length-answered w is b e in
     record {
       long = ap length buffer ∙ simp (length-append, length-drop) (omega (arith, good w is b e .fits));
       behind = rw (n, buffer) (drop-at file (drop (length file) b) (length file) refl);

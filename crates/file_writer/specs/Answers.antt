@@ -15,15 +15,15 @@ use Rattle.file_writer.specs.Refusals.{write-refusal}
 unfoldable pub write-reply : Refusal → (file-length : ℕ) → WriteReply
 write-reply r n = record { number = r .number; place = r .place; length = cond (eqb (r .number) 0) n 0 }
 
-abbrev pub told-length : Tree → (schedule : List ℕ) → ℕ
-told-length t is = length (written-file t is)
+abbrev pub answered-length : Tree → (schedule : List ℕ) → ℕ
+answered-length t is = length (written-file t is)
 
 -- the buffer by the call's refusal: the file at its front and nothing behind it; refused, as it came
 unfoldable pub file-buffer : Refusal → (buffer file : List ℕ) → List ℕ
 file-buffer r b bs = cond (eqb (r .number) 0) (bs ++ drop (length bs) b) b
 
 unfoldable pub write-answer : TreeWords → (schedule buffer : List ℕ) → WriteReply
-write-answer w is b = write-reply (write-refusal (tree-of w) is (length b)) (told-length (tree-of w) is)
+write-answer w is b = write-reply (write-refusal (tree-of w) is (length b)) (answered-length (tree-of w) is)
 
 unfoldable pub file-buffer-answer : TreeWords → (schedule buffer : List ℕ) → List ℕ
 file-buffer-answer w is b = file-buffer (write-refusal (tree-of w) is (length b)) b (written-file (tree-of w) is)

@@ -16,8 +16,8 @@ use Rattle.model.specs.Calls.{one-step, stepped, answer}
 use Rattle.host.specs.declared.Answer.{Answer}
 use Rattle.host.specs.declared.StepAnswer.{StepAnswer}
 
-abbrev pub fresh-number : FreshReply → Answer
-fresh-number r = record { number = r .number; place = r .place }
+abbrev pub fresh-without-state : FreshReply → Answer
+fresh-without-state r = record { number = r .number; place = r .place }
 
 -- what a fresh call leaves of a state that the host keeps: accepted, the fresh state; refused, the state as it came
 unfoldable pub fresh-left : FreshReply → (before : LockState) → LockState
@@ -27,8 +27,8 @@ fresh-left r s = cond (eqb (r .number) 0) (r .state) s
 abbrev pub fresh-kept : FreshReply → (before : LockState) → FreshReply
 fresh-kept r s = record { number = r .number; place = r .place; state = fresh-left r s }
 
-abbrev pub step-told : StepReply → StepAnswer
-step-told r = record { number = r .number; place = r .place; kind = r .kind; domain = r .domain }
+abbrev pub step-without-state : StepReply → StepAnswer
+step-without-state r = record { number = r .number; place = r .place; kind = r .kind; domain = r .domain }
 
 -- so an accepted fresh call in place leaves the fresh state, and a refused one the state as it came
 pub record Leaves (w : TreeWords) (start : ℕ) (s : LockState) : Type 0 where
@@ -45,5 +45,5 @@ with-state a s = record { number = a .number; place = a .place; kind = a .kind; 
 -- whatever a step in place returns and leaves by its contract is the answer of that step as a call of a list, so the third demand's claim speaks of it
 unfoldable pub In-place-law : Type 0
 In-place-law =
-    (w : TreeWords) (s : LockState) (i : ℕ) (returned : StepAnswer) (left : LockState) → returned ≡ step-told (step-answer w s i) → left ≡ step-answer w s i .state →
+    (w : TreeWords) (s : LockState) (i : ℕ) (returned : StepAnswer) (left : LockState) → returned ≡ step-without-state (step-answer w s i) → left ≡ step-answer w s i .state →
     stepped (with-state returned left) ≡ answer (record { tree = w; ask = one-step i }) s

@@ -4,7 +4,7 @@ ghost use Rattle.bounds.specs.Answers.{allowances-answer, allowances-left, roun
 ghost use Rattle.chain.specs.Answers.{chain-answer, buffer-answer};
 ghost use Rattle.model.specs.Answers.{fresh-answer, step-answer, run-answer, trace-answer};
 ghost use Rattle.host.specs.Answers.{answer-of};
-ghost use Rattle.host.specs.InPlace.{fresh-kept, fresh-left, fresh-number, step-told};
+ghost use Rattle.host.specs.InPlace.{fresh-kept, fresh-left, fresh-without-state, step-without-state};
 ghost use Rattle.file_call.specs.FileAnswers.{file-answer, output-answer};
 ghost use Rattle.file_writer.specs.Answers.{write-answer, file-buffer-answer};
 ghost use Rattle.journal.specs.Answers.{journal-answer};
@@ -89,7 +89,7 @@ fn fresh_kept(tree: TreeWords, state: LockState, start: u16) -> FreshReply
 // A fresh lock, written where the host keeps its state; refused, the state as it came.
 #[no_mangle]
 pub extern "C" fn hmcs_fresh_in_place(tree: TreeWords, state: &mut LockState, start: u16) -> Answer
-    ensures { λ r. ⌜ (r ≡ fresh-number (fresh-answer tree start)) × (now (state .exit) ≡ fresh-left (fresh-answer tree start) (now (state .entry))) ⌝ }
+    ensures { λ r. ⌜ (r ≡ fresh-without-state (fresh-answer tree start)) × (now (state .exit) ≡ fresh-left (fresh-answer tree start) (now (state .entry))) ⌝ }
 {
     let kept = fresh_kept(tree, *state, start);
     *state = kept.state;
@@ -106,7 +106,7 @@ pub extern "C" fn hmcs_step_in_place(
     state: &mut LockState,
     thread: u16,
 ) -> StepAnswer
-    ensures { λ r. ⌜ (r ≡ step-told (step-answer tree (now (state .entry)) thread)) × (now (state .exit) ≡ step-answer tree (now (state .entry)) thread .state) ⌝ }
+    ensures { λ r. ⌜ (r ≡ step-without-state (step-answer tree (now (state .entry)) thread)) × (now (state .exit) ≡ step-answer tree (now (state .entry)) thread .state) ⌝ }
 {
     let r = hmcs_step(tree, *state, thread);
     *state = r.state;

@@ -13,5 +13,10 @@ use Rattle.journal.specs.Answers.{kind-checked, entry-checked, checked, 
 use Rattle.journal.specs.Cases.{empty-leaf, enters-written-out, enters-by-default, handed-over, crosses, cases, holds, all-hold}
 
 pub cases-hold : all-hold cases ≡ true
-unfolding any-below filter-below all-below read-word tree-of is-ticket is-child is-leaf depth-from depth level meets on-path child-from child own-record is-record is-member owner-domain under place-of is-watch is-idle is-inside fresh-words fresh-state is-kind is-entry prep-row swap-row link-row wait-row leave-row check-row help-row cas-row linger-row grant-row draw-row watch-row is-watched shown-members raise-row row step refusal accepted lowest-bad first-refusal bad-domains bad-threads bad-parent too-deep no-threshold bad-home empty-domain tree-tests tree-refusal fresh-answer padded tree at-ticket-root two-homes two-in-root three-levels kind-checked entry-checked checked journal-refusal empty-leaf enters-written-out enters-by-default handed-over crosses cases holds all-hold
+unfolding any-below filter-below all-below read-word tree-of is-ticket is-child is-leaf depth-from depth level meets on-path child-from child own-record
+    is-record is-member owner-domain under place-of is-watch is-idle is-inside fresh-words fresh-state is-kind is-entry prep-row swap-row link-row wait-row
+    leave-row check-row help-row cas-row linger-row grant-row draw-row watch-row is-watched shown-members raise-row row step refusal accepted lowest-bad
+    first-refusal bad-domains bad-threads bad-parent too-deep no-threshold bad-home empty-domain tree-tests tree-refusal fresh-answer padded tree
+    at-ticket-root two-homes two-in-root three-levels kind-checked entry-checked checked journal-refusal empty-leaf enters-written-out enters-by-default
+    handed-over crosses cases holds all-hold
 cases-hold = refl

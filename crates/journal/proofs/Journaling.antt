@@ -27,26 +27,26 @@ use Rattle.model.proofs.Laws.Calls.{early-accepted}
 use Rattle.model.proofs.Laws.Counters.{counter-form-law}
 use Rattle.model.proofs.Laws.Refusals.{accepted-number}
 use Rattle.refusals.specs.Lowest.{Lowest}
-use Rattle.refusals.specs.declared.Refusal.{Refusal as Told-refusal}
-use Rattle.refusals.specs.Arrays.{told}
-use Rattle.refusals.proofs.RunTests.{told-not, told-zero}
+use Rattle.refusals.specs.declared.Refusal.{Refusal as Refusal-words}
+use Rattle.refusals.specs.Arrays.{refusal-words}
+use Rattle.refusals.proofs.RunTests.{refusal-words-not, refusal-words-zero}
 use Rattle.journal.specs.declared.Piece.{Piece}
 use Rattle.journal.specs.Reading.{position-after, Stretch, Piece-read}
 use Rattle.journal.specs.Answers.{fresh-lock, checked, journal-refusal, replied, journal-answer}
 use Rattle.journal.specs.Laws.{kind-numbers}
 use Rattle.journal.proofs.Stepping.{stretch-threads, stretch-moves, Same-kinds, goes-on, stops-here, stopped-by, ended}
-use Rattle.steps.specs.Running.{step-code, told-front, fresh-from}
-use Rattle.journal.specs.Reading.{other-kind-told}
+use Rattle.steps.specs.Running.{step-code, codes-front, fresh-from}
+use Rattle.journal.specs.Reading.{other-kind}
 use Rattle.steps.proofs.Starting.{fresh-from-zero}
-use Rattle.steps.proofs.ToldStep.{code-kind}
+use Rattle.steps.proofs.StepCodes.{code-kind}
 
 -- WHAT IS TOLD OF A STEP has its kind in the lowest three bits
-told-kind : (b : List ℕ) (xs : List Step) (j : ℕ) → j < length xs → length xs ≤ length b → getD (told-front b xs) j 0 % 8 ≡ getD (kind-numbers xs) j 0
-unfolding told-front kind-numbers
-told-kind b [] j h f = absurd (omega arith)
-told-kind [] (x ∷ xs) j h f = absurd (omega arith)
-told-kind (c ∷ b) (x ∷ xs) zero h f = code-kind x
-told-kind (c ∷ b) (x ∷ xs) (suc j) h f = told-kind b xs j (omega arith) (omega arith)
+kind-of-code : (b : List ℕ) (xs : List Step) (j : ℕ) → j < length xs → length xs ≤ length b → getD (codes-front b xs) j 0 % 8 ≡ getD (kind-numbers xs) j 0
+unfolding codes-front kind-numbers
+kind-of-code b [] j h f = absurd (omega arith)
+kind-of-code [] (x ∷ xs) j h f = absurd (omega arith)
+kind-of-code (c ∷ b) (x ∷ xs) zero h f = code-kind x
+kind-of-code (c ∷ b) (x ∷ xs) (suc j) h f = kind-of-code b xs j (omega arith) (omega arith)
 
 module _ (w : TreeWords) (bs : List ℕ) where
   abbrev t : Tree
@@ -63,13 +63,13 @@ module _ (w : TreeWords) (bs : List ℕ) where
   answers ok s p b g r e = rw (eq-eqb (tree-refusal t .number) 0 ok) (ap replied (sym e ∙ g .ahead))
 
   -- the tree, by what the code was told of it
-  module _ (r : Told-refusal) (e : r ≡ told (tree-refusal t)) where
+  module _ (r : Refusal-words) (e : r ≡ refusal-words (tree-refusal t)) where
     pub tree-refused : (r .number ≡ 0 → ⊥) → record { number = r .number; place = r .place } ≡ journal-answer w bs
     unfolding journal-answer journal-refusal
-    tree-refused n = rw (e, ne-eqb (tree-refusal t .number) 0 (told-not r _ e n))
+    tree-refused n = rw (e, ne-eqb (tree-refusal t .number) 0 (refusal-words-not r _ e n))
 
     pub tree-passes : r .number ≡ 0 → tree-refusal t .number ≡ 0
-    tree-passes z = told-zero r _ e z
+    tree-passes z = refusal-words-zero r _ e z
 
   module _ (ok : tree-refusal t .number ≡ 0) where
     fresh-is : fresh-lock w ≡ fresh-words
@@ -112,22 +112,22 @@ module _ (w : TreeWords) (bs : List ℕ) where
       moves = omega (arith, stretch-moves read, long)
 
       -- its kinds against those that were told
-      module _ (told₀ told : List ℕ) (e : told ≡ told-front told₀ (steps t is s)) (room : c .count ≤ length told₀) (m : ℕ) (low : Lowest (c .count) (other-kind-told kinds told) m) where
-        kind-told : (j : ℕ) → j < c .count → getD told j 0 % 8 ≡ getD (kind-numbers (steps t is s)) j 0
-        kind-told j h =
+      module _ (codes₀ codes : List ℕ) (e : codes ≡ codes-front codes₀ (steps t is s)) (room : c .count ≤ length codes₀) (m : ℕ) (low : Lowest (c .count) (other-kind kinds codes) m) where
+        kind-of-step : (j : ℕ) → j < c .count → getD codes j 0 % 8 ≡ getD (kind-numbers (steps t is s)) j 0
+        kind-of-step j h =
             let n : length (steps t is s) ≡ c .count = steps-length t is s ∙ long in
-            ap (λ v. getD v j 0 % 8) e ∙ told-kind told₀ (steps t is s) j (omega (arith, n)) (omega (arith, n))
+            ap (λ v. getD v j 0 % 8) e ∙ kind-of-code codes₀ (steps t is s) j (omega (arith, n)) (omega (arith, n))
 
         same-kinds : (n : ℕ) → n ≤ m → Same-kinds t s is ks n
         same-kinds n h j l =
             let q : j < c .count = omega (arith, low .within) in
-            getD-take (c .count) kinds j 0 q ∙ eqb-true (getD kinds j 0) (getD told j 0 % 8) (not-false _ (low .passed j (omega arith))) ∙ kind-told j q
+            getD-take (c .count) kinds j 0 q ∙ eqb-true (getD kinds j 0) (getD codes j 0 % 8) (not-false _ (low .passed j (omega arith))) ∙ kind-of-step j q
 
         -- 26 at the first entry whose kind is another
         pub differs : m < c .count → (place : ℕ) → place ≡ position-after m bs p b → replied (refusal 26 place) ≡ journal-answer w bs
         differs h place f =
-            let other : getD kinds m 0 ≢ getD told m 0 % 8 = eqb-false (getD kinds m 0) (getD told m 0 % 8) (not-true _ (low .fails h)) in
-            let stops = stops-here t bs read s m (omega (arith, long)) (same-kinds m (omega arith)) (λ z. other (sym (getD-take (c .count) kinds m 0 h) ∙ z ∙ sym (kind-told m h))) in
+            let other : getD kinds m 0 ≢ getD codes m 0 % 8 = eqb-false (getD kinds m 0) (getD codes m 0 % 8) (not-true _ (low .fails h)) in
+            let stops = stops-here t bs read s m (omega (arith, long)) (same-kinds m (omega arith)) (λ z. other (sym (getD-take (c .count) kinds m 0 h) ∙ z ∙ sym (kind-of-step m h))) in
             rw f (answers ok s p b g (refusal 26 (position-after m bs p b)) stops)
 
         module _ (h : c .count ≤ m) where

@@ -103,9 +103,9 @@ pub record Piece-read (known : ℕ) (bytes : List ℕ) (position before : ℕ) (
   pub full : piece .number ≡ 0 → piece .position < length bytes → (room : ℕ) → room ≤ length threads → room ≤ length kinds → room ≤ piece .count
 
 -- the kind that an entry names is not the one told of its step: a step's number has its kind in the lowest three bits
-abbrev pub other-kind-told : (kinds told : List ℕ) → (entry : ℕ) → Bool
-other-kind-told ks cs j = not (eqb (getD ks j 0) (getD cs j 0 % 8))
+abbrev pub other-kind : (kinds codes : List ℕ) → (entry : ℕ) → Bool
+other-kind ks cs j = not (eqb (getD ks j 0) (getD cs j 0 % 8))
 
 -- so many entries name the kinds that were told of their steps
-abbrev pub All-as-told : (kinds told : List ℕ) → (count : ℕ) → Type 0
-All-as-told ks cs n = (j : ℕ) → j < n → other-kind-told ks cs j ≡ false
+abbrev pub All-same-kinds : (kinds codes : List ℕ) → (count : ℕ) → Type 0
+All-same-kinds ks cs n = (j : ℕ) → j < n → other-kind ks cs j ≡ false

@@ -11,8 +11,8 @@ ghost use Rattle.model.specs.Refusals.{refusal, first-refusal, tree-refusal, ru
 ghost use Rattle.refusals.specs.Lowest.{Lowest};
 ghost use Rattle.model.specs.Laws.{Typed};
 ghost use Rattle.steps.specs.Rows.{state-in};
-ghost use Rattle.steps.specs.Running.{told-front};
-ghost use Rattle.journal.specs.Reading.{other-kind-told, All-as-told};
+ghost use Rattle.steps.specs.Running.{codes-front};
+ghost use Rattle.journal.specs.Reading.{other-kind, All-same-kinds};
 ghost use Rattle.journal.specs.Answers.{replied, journal-answer};
 use crate::JournalReply;
 use model::PlaceWords;
@@ -30,30 +30,30 @@ fn marked(mark: u16, kind: u8, code: u16) -> u16
 }
 
 // 0 where all of some entries name the kinds that the run's loop told of their steps. It looks at all of them, so that many can be compared at once.
-fn any_difference(kinds: &[u8], told: &[u16], count: usize) -> u16
+fn any_difference(kinds: &[u8], codes: &[u16], count: usize) -> u16
     requires { ⌜ count ≤ length (now kinds) ⌝ }
-    requires { ⌜ count ≤ length (now told) ⌝ }
-    ensures { λ r. ⌜ (r ≡ 0 → All-as-told (now (kinds .entry)) (now (told .entry)) count) ⌝ }
+    requires { ⌜ count ≤ length (now codes) ⌝ }
+    ensures { λ r. ⌜ (r ≡ 0 → All-same-kinds (now (kinds .entry)) (now (codes .entry)) count) ⌝ }
 {
     let mut mark: u16 = 0;
     let mut k: usize = 0;
     while k < count {
-        mark = marked(mark, kinds[k], told[k]);
+        mark = marked(mark, kinds[k], codes[k]);
         k += 1;
     }
     mark
 }
 
 // The first of some entries whose kind is not what the run's loop told of its step; how many there are, where none is.
-fn first_difference(kinds: &[u8], told: &[u16], count: usize) -> usize
+fn first_difference(kinds: &[u8], codes: &[u16], count: usize) -> usize
     requires { ⌜ count ≤ length (now kinds) ⌝ }
-    requires { ⌜ count ≤ length (now told) ⌝ }
-    ensures { λ r. ⌜ Lowest count (other-kind-told (now (kinds .entry)) (now (told .entry))) r ⌝ }
+    requires { ⌜ count ≤ length (now codes) ⌝ }
+    ensures { λ r. ⌜ Lowest count (other-kind (now (kinds .entry)) (now (codes .entry))) r ⌝ }
 {
     let mut k: usize = 0;
     while k < count {
         let kind = kinds[k] as u16;
-        if kind != told[k] % 8 {
+        if kind != codes[k] % 8 {
             return k;
         }
         k += 1;
@@ -62,16 +62,16 @@ fn first_difference(kinds: &[u8], told: &[u16], count: usize) -> usize
 }
 
 // How many entries, from the first on, name the kinds that the run's loop told of their steps. The first that does not is looked for only where there is one.
-fn as_told(kinds: &[u8], told: &[u16], count: usize) -> usize
+fn first_other_kind(kinds: &[u8], codes: &[u16], count: usize) -> usize
     requires { ⌜ count ≤ length (now kinds) ⌝ }
-    requires { ⌜ count ≤ length (now told) ⌝ }
-    ensures { λ r. ⌜ Lowest count (other-kind-told (now (kinds .entry)) (now (told .entry))) r ⌝ }
+    requires { ⌜ count ≤ length (now codes) ⌝ }
+    ensures { λ r. ⌜ Lowest count (other-kind (now (kinds .entry)) (now (codes .entry))) r ⌝ }
 {
-    let mark = any_difference(kinds, told, count);
+    let mark = any_difference(kinds, codes, count);
     if mark == 0 {
         return count;
     }
-    first_difference(kinds, told, count)
+    first_difference(kinds, codes, count)
 }
 
 fn answer_at(number: u32, place: usize) -> JournalReply
@@ -92,13 +92,13 @@ fn run_piece(
     threads: &[u16],
     count: usize,
     trace: &mut [u16],
-    told: &mut [u16],
+    codes: &mut [u16],
 ) -> Places
     requires { ⌜ count ≤ length (now threads) ⌝ }
     requires { ⌜ Typed (state-in (now tails) (now nexts) (now statuses) (now ticket) (now granted) places) ⌝ }
     requires { ⌜ first-refusal (run-tests-before-19 (tree-of tree) (lock-state (state-in (now tails) (now nexts) (now statuses) (now ticket) (now granted) places) fresh-counters) (take count (now threads)) (length (now trace))) .number ≡ 0 ⌝ }
     ensures { λ r. ⌜ state-in (now (tails .exit)) (now (nexts .exit)) (now (statuses .exit)) (now (ticket .exit)) (now (granted .exit)) (r .places) ≡ run (tree-of tree) (take count (now (threads .entry))) (state-in (now (tails .entry)) (now (nexts .entry)) (now (statuses .entry)) (now (ticket .entry)) (now (granted .entry)) places) .state ⌝ }
-    ensures { λ r. ⌜ now (told .exit) ≡ told-front (now (told .entry)) (steps (tree-of tree) (take count (now (threads .entry))) (state-in (now (tails .entry)) (now (nexts .entry)) (now (statuses .entry)) (now (ticket .entry)) (now (granted .entry)) places)) ⌝ }
+    ensures { λ r. ⌜ now (codes .exit) ≡ codes-front (now (codes .entry)) (steps (tree-of tree) (take count (now (threads .entry))) (state-in (now (tails .entry)) (now (nexts .entry)) (now (statuses .entry)) (now (ticket .entry)) (now (granted .entry)) places)) ⌝ }
 {
     let mut counts = [0u32; 6];
     let mut entries = [0u64; 64];
@@ -115,7 +115,7 @@ fn run_piece(
         &threads[0..count],
         trace,
         &mut counts,
-        told,
+        codes,
         &mut entries,
         &mut tenures,
         &mut longest,
@@ -129,13 +129,13 @@ pub(crate) fn check_entries(
     threads: &mut [u16],
     kinds: &mut [u8],
     trace: &mut [u16],
-    told: &mut [u16],
+    codes: &mut [u16],
 ) -> JournalReply
     requires { ⌜ tree-refusal (tree-of tree) .number ≡ 0 ⌝ }
     requires { ⌜ length (now threads) ≡ 1024 ⌝ }
     requires { ⌜ length (now kinds) ≡ 1024 ⌝ }
     requires { ⌜ length (now trace) ≡ 1024 ⌝ }
-    requires { ⌜ length (now told) ≡ 1024 ⌝ }
+    requires { ⌜ length (now codes) ≡ 1024 ⌝ }
     ensures { λ r. ⌜ r ≡ journal-answer tree (now (journal .entry)) ⌝ }
 {
     let fresh = steps::fresh_state(0);
@@ -161,9 +161,9 @@ pub(crate) fn check_entries(
             threads,
             count,
             trace,
-            told,
+            codes,
         );
-        let same = as_told(kinds, told, count);
+        let same = first_other_kind(kinds, codes, count);
         if same < count {
             let place = crate::position_after(journal, position, before, same);
             return answer_at(26, place);

@@ -53,7 +53,7 @@ puts-elsewhere : {s n : State} {i : ℕ} {p : Place} → Puts s n i p → (j : �
 puts-elsewhere {s} {n} {i} {p} (moved e) j d = rw e (ap place-of (getD-set-other (s .places) i j (words-of p) (place-words 0 0 0 0) d))
 puts-elsewhere {s} {n} {i} {p} (stayed e q) j d = rw e
 
-module _ (t : Tree) (𝓐 : Accepted t) (i : ℕ) (h : i < t .threads) (s : State) (room : i < length (s .places)) where
+module _ (t : Tree) (valid : Accepted t) (i : ℕ) (h : i < t .threads) (s : State) (room : i < length (s .places)) where
   -- what a domain's lines leave, at the root or elsewhere
   swap-control : (k : ℕ) → k ≤ height t i → Corresponds t i (control (at-root (ancestor t i k) line-67 line-9) (acquire-stack t i k)) (Swap (ancestor t i k))
   swap-control k l = c-swap k l
@@ -87,12 +87,12 @@ module _ (t : Tree) (𝓐 : Accepted t) (i : ℕ) (h : i < t .threads) (s : Stat
   unfolding memory-of
   prep-together k l (prepares _ _ (branches.at-root z)) =
       let e = eq-eqb (ancestor t i k) 0 z in
-      rw (own-record-at t 𝓐 i h k l, e)
+      rw (own-record-at t valid i h k l, e)
       (together (goes line-67 (acquire-stack t i k) _) (Swap (ancestor t i k)) (prep-root t i (ancestor t i k) (record-at t i k) (acquire-back k) (acquire-callers t i k) (memory-of s)) refl
       (moved refl) (rw e at (swap-control k l)))
   prep-together k l (prepares _ _ (below-root z)) =
       let e = ne-eqb (ancestor t i k) 0 z in
-      rw (own-record-at t 𝓐 i h k l, e)
+      rw (own-record-at t valid i h k l, e)
       (together (goes line-9 (acquire-stack t i k) _) (Swap (ancestor t i k)) (prep-elsewhere t i (ancestor t i k) (record-at t i k) (acquire-back k) (acquire-callers t i k) (memory-of s)) refl
       (moved refl) (rw e at (swap-control k l)))
 
@@ -101,13 +101,13 @@ module _ (t : Tree) (𝓐 : Accepted t) (i : ℕ) (h : i < t .threads) (s : Stat
   unfolding memory-of ancestor record-at acquire-back acquire-callers
   idle-together n (prepares _ _ (branches.at-root z)) =
       let e = eq-eqb (t .home i) 0 z in
-      let own : own-record t i (t .home i) ≡ i = own-record-at t 𝓐 i h 0 (omega arith) in
+      let own : own-record t i (t .home i) ≡ i = own-record-at t valid i h 0 (omega arith) in
       let c : Corresponds t i (control (at-root (t .home i) line-67 line-9) (acquire-stack t i 0)) (Swap (t .home i)) = swap-control 0 (omega arith) in
       rw own
       (together (goes line-67 (acquire-stack t i 0) _) (Swap (t .home i)) (idle-root t i (memory-of s) n e) refl (moved refl) (rw e at c))
   idle-together n (prepares _ _ (below-root z)) =
       let e = ne-eqb (t .home i) 0 z in
-      let own : own-record t i (t .home i) ≡ i = own-record-at t 𝓐 i h 0 (omega arith) in
+      let own : own-record t i (t .home i) ≡ i = own-record-at t valid i h 0 (omega arith) in
       let c : Corresponds t i (control (at-root (t .home i) line-67 line-9) (acquire-stack t i 0)) (Swap (t .home i)) = swap-control 0 (omega arith) in
       rw own
       (together (goes line-9 (acquire-stack t i 0) _) (Swap (t .home i)) (idle-elsewhere t i (memory-of s) n e) refl (moved refl) (rw e at c))
@@ -119,13 +119,13 @@ module _ (t : Tree) (𝓐 : Accepted t) (i : ℕ) (h : i < t .threads) (s : Stat
   unfolding memory-of
   behind-together k l e true z =
       let p = tail s (ancestor t i k) - 1 in
-      rw (own-record-at t 𝓐 i h k l)
+      rw (own-record-at t valid i h k l)
       (together (goes (line-71 p) (acquire-stack t i k) _) (Link (ancestor t i k) p)
       (swap-root-some t i (ancestor t i k) (record-at t i k) (acquire-back k) (acquire-callers t i k) (memory-of s) e) refl
       (moved refl) (rw z at (link-control k p l)))
   behind-together k l e false z =
       let p = tail s (ancestor t i k) - 1 in
-      rw (own-record-at t 𝓐 i h k l)
+      rw (own-record-at t valid i h k l)
       (together (goes (line-11 p) (acquire-stack t i k) _) (Link (ancestor t i k) p)
       (swap-some t i (ancestor t i k) (record-at t i k) (acquire-back k) (acquire-callers t i k) (memory-of s) e) refl
       (moved refl) (rw z at (link-control k p l)))
@@ -135,15 +135,15 @@ module _ (t : Tree) (𝓐 : Accepted t) (i : ℕ) (h : i < t .threads) (s : Stat
       Together t i s x (entry t i (standing (control (at-root (ancestor t i k) line-67 line-9) (acquire-stack t i k)) s))
   unfolding memory-of
   swap-together k l (swap-root _ z y) =
-      rw (own-record-at t 𝓐 i h k l, eq-eqb (ancestor t i k) 0 z)
+      rw (own-record-at t valid i h k l, eq-eqb (ancestor t i k) 0 z)
       (together (goes critical [] _) Inside
       (swap-root-none t i (ancestor t i k) (record-at t i k) (acquire-back k) (acquire-callers t i k) (memory-of s) (eq-eqb (tail s (ancestor t i k)) 0 y) (acquired t i k)) refl
       (moved refl) c-inside)
   swap-together k l (swap-inner _ z y) =
-      let b = ancestor-not-root t 𝓐 i h k l (omega (arith, z)) in
-      rw (own-record-at t 𝓐 i h k l, ne-eqb (ancestor t i k) 0 z, ancestor-parent-of t 𝓐 i h k b)
+      let b = ancestor-not-root t valid i h k l (omega (arith, z)) in
+      rw (own-record-at t valid i h k l, ne-eqb (ancestor t i k) 0 z, ancestor-parent-of t valid i h k b)
       (together (record { thread = acquire-real t (ancestor t i (suc k)) (256 + ancestor t i k) behind-17 (acquire-stack t i k); memory = _ }) (acquire-place t (ancestor t i (suc k)))
-      (rw (ancestor-parent-of t 𝓐 i h k b) at (swap-none t i (ancestor t i k) (record-at t i k) (acquire-back k) (acquire-callers t i k) (memory-of s) (eq-eqb (tail s (ancestor t i k)) 0 y))) refl
+      (rw (ancestor-parent-of t valid i h k b) at (swap-none t i (ancestor t i k) (record-at t i k) (acquire-back k) (acquire-callers t i k) (memory-of s) (eq-eqb (tail s (ancestor t i k)) 0 y))) refl
       (moved refl) (climb-control k b))
   swap-together k l (swap-behind _ y) = behind-together k l (ne-eqb (tail s (ancestor t i k)) 0 y) _ refl
 
@@ -153,12 +153,12 @@ module _ (t : Tree) (𝓐 : Accepted t) (i : ℕ) (h : i < t .threads) (s : Stat
       Together t i s x (entry t i (standing (control (cond b (line-71 p) (line-11 p)) (acquire-stack t i k)) s))
   unfolding memory-of
   link-by k p l true z (link-writes _ _) =
-      rw (own-record-at t 𝓐 i h k l)
+      rw (own-record-at t valid i h k l)
       (together (goes line-72 (acquire-stack t i k) _) (Wait (ancestor t i k))
       (link-root t i (ancestor t i k) (record-at t i k) (acquire-back k) (acquire-callers t i k) (memory-of s) p) refl
       (moved refl) (rw z at (wait-control k l)))
   link-by k p l false z (link-writes _ _) =
-      rw (own-record-at t 𝓐 i h k l)
+      rw (own-record-at t valid i h k l)
       (together (goes line-13 (acquire-stack t i k) _) (Wait (ancestor t i k))
       (link-elsewhere t i (ancestor t i k) (record-at t i k) (acquire-back k) (acquire-callers t i k) (memory-of s) p) refl
       (moved refl) (rw z at (wait-control k l)))
@@ -188,28 +188,28 @@ module _ (t : Tree) (𝓐 : Accepted t) (i : ℕ) (h : i < t .threads) (s : Stat
       let e = eq-eqb (ancestor t i k) 0 z in
       rw e
       (together (goes line-72 (acquire-stack t i k) _) (Wait (ancestor t i k))
-      (wait-root-stays t i (ancestor t i k) (record-at t i k) (acquire-back k) (acquire-callers t i k) (memory-of s) (rw (own-record-at t 𝓐 i h k l) at (eq-eqb _ locked v))) refl
+      (wait-root-stays t i (ancestor t i k) (record-at t i k) (acquire-back k) (acquire-callers t i k) (memory-of s) (rw (own-record-at t valid i h k l) at (eq-eqb _ locked v))) refl
       (stayed refl q) (rw e at (wait-control k l)))
   wait-together k l q w (wait-root-granted _ z v) =
       rw (eq-eqb (ancestor t i k) 0 z)
       (together (goes critical [] _) Inside
-      (wait-root-enters t i (ancestor t i k) (record-at t i k) (acquire-back k) (acquire-callers t i k) (memory-of s) (rw (own-record-at t 𝓐 i h k l) at (ne-eqb _ locked v)) (acquired t i k)) refl
+      (wait-root-enters t i (ancestor t i k) (record-at t i k) (acquire-back k) (acquire-callers t i k) (memory-of s) (rw (own-record-at t valid i h k l) at (ne-eqb _ locked v)) (acquired t i k)) refl
       (moved refl) c-inside)
   wait-together k l q w (wait-ungranted _ z v) =
       let e = ne-eqb (ancestor t i k) 0 z in
       rw e
       (together (goes line-13 (acquire-stack t i k) _) (Wait (ancestor t i k))
-      (wait-stays t i (ancestor t i k) (record-at t i k) (acquire-back k) (acquire-callers t i k) (memory-of s) (rw (own-record-at t 𝓐 i h k l) at (eq-eqb _ wait-word v))) refl
+      (wait-stays t i (ancestor t i k) (record-at t i k) (acquire-back k) (acquire-callers t i k) (memory-of s) (rw (own-record-at t valid i h k l) at (eq-eqb _ wait-word v))) refl
       (stayed refl q) (rw e at (wait-control k l)))
   wait-together k l q w (wait-acquires _ z y) =
-      let b = ancestor-not-root t 𝓐 i h k l (omega (arith, z)) in
+      let b = ancestor-not-root t valid i h k l (omega (arith, z)) in
       let v = status s (record-at t i k) in
-      let y′ : v ≡ acquire-parent = rw (own-record-at t 𝓐 i h k l) at y in
-      rw (own-record-at t 𝓐 i h k l, ne-eqb (ancestor t i k) 0 z, ancestor-parent-of t 𝓐 i h k b)
+      let y′ : v ≡ acquire-parent = rw (own-record-at t valid i h k l) at y in
+      rw (own-record-at t valid i h k l, ne-eqb (ancestor t i k) 0 z, ancestor-parent-of t valid i h k b)
       (together (record { thread = acquire-real t (ancestor t i (suc k)) (256 + ancestor t i k) behind-17 (acquire-stack t i k); memory = _ }) (acquire-place t (ancestor t i (suc k)))
-      (rw (ancestor-parent-of t 𝓐 i h k b) at (wait-climbs t i (ancestor t i k) (record-at t i k) (acquire-back k) (acquire-callers t i k) (memory-of s) (ne-eqb v wait-word (λ f. omega arith)) (le-ltb v acquire-parent (omega arith)))) refl
+      (rw (ancestor-parent-of t valid i h k b) at (wait-climbs t i (ancestor t i k) (record-at t i k) (acquire-back k) (acquire-callers t i k) (memory-of s) (ne-eqb v wait-word (λ f. omega arith)) (le-ltb v acquire-parent (omega arith)))) refl
       (moved refl) (climb-control k b))
   wait-together k l q w (wait-passed _ z n o _) =
-      rw (ne-eqb (ancestor t i k) 0 z) (granted-together k l passed-entry w (rw (own-record-at t 𝓐 i h k l) at n) (rw (own-record-at t 𝓐 i h k l) at o))
+      rw (ne-eqb (ancestor t i k) 0 z) (granted-together k l passed-entry w (rw (own-record-at t valid i h k l) at n) (rw (own-record-at t valid i h k l) at o))
   wait-together k l q w (wait-crossed _ z n o _) =
-      rw (ne-eqb (ancestor t i k) 0 z) (granted-together k l crossed-entry w (rw (own-record-at t 𝓐 i h k l) at n) (rw (own-record-at t 𝓐 i h k l) at o))
+      rw (ne-eqb (ancestor t i k) 0 z) (granted-together k l crossed-entry w (rw (own-record-at t valid i h k l) at n) (rw (own-record-at t valid i h k l) at o))

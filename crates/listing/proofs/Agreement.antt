@@ -38,30 +38,30 @@ use Rattle.listing.proofs.Tickets.{draw-together, idle-draw-together, w
 use Rattle.listing.proofs.Standing.{Acquires, acquires, Releases, releases, Helps, helps, stands, stood}
 
 -- ONE ENTRY, by the place where the thread stands
-module _ (t : Tree) (𝓐 : Accepted t) (i : ℕ) (h : i < t .threads) (s : State) (room : i < length (s .places)) (wide : length (s .statuses) ≡ 320) (small : (r : ℕ) → status s r ≤ wait-word)
+module _ (t : Tree) (valid : Accepted t) (i : ℕ) (h : i < t .threads) (s : State) (room : i < length (s .places)) (wide : length (s .statuses) ≡ 320) (small : (r : ℕ) → status s r ≤ wait-word)
     (by-equality : (l : ℕ) → place s i ≡ Check l → row t i (Check l) s ≡ equality-check-row t i l s) where
   idle-by : (c : Bool) → is-ticket t (t .home i) ≡ c → Together t i s (cond c (draw-row t i s) (prep-row t i (t .home i) s)) (entry t i (standing (control outside []) s))
-  idle-by true n = idle-draw-together t 𝓐 i h s room wide n
-  idle-by false n = idle-together t 𝓐 i h s room n (prep-branch t i s (t .home i))
+  idle-by true n = idle-draw-together t valid i h s room wide n
+  idle-by false n = idle-together t valid i h s room n (prep-branch t i s (t .home i))
 
   row-together : {c : Control} {p : Place} → place s i ≡ p → Corresponds t i c p → Together t i s (row t i p s) (entry t i (standing c s))
   unfolding row
   row-together q c-idle = idle-by _ refl
-  row-together q (c-prep k l) = prep-together t 𝓐 i h s room (suc k) l (prep-branch t i s (ancestor t i (suc k)))
-  row-together q (c-swap k l) = swap-together t 𝓐 i h s room k l (swap-branch t i s (ancestor t i k))
-  row-together q (c-link k p l) = link-together t 𝓐 i h s room k p l (link-branch t i s (ancestor t i k) p)
-  row-together q (c-wait k l) = wait-together t 𝓐 i h s room k l q (small (record-at t i k)) (wait-branch t i s (ancestor t i k))
-  row-together q c-inside = leave-together t 𝓐 i h s room (leave-branch t i s)
-  row-together q (c-check k fs b x) = rw (by-equality (ancestor t i k) q) (check-together t 𝓐 i h s room k b fs x)
-  row-together q (c-pass k c r fs b x) = pass-together t 𝓐 i h s room k b c r fs x (grant-branch t i s (ancestor t i k) r (c + 1))
-  row-together q (c-help k b fs l x y) = help-together t 𝓐 i h s room k l b fs x y (help-branch t i s (ancestor t i k))
-  row-together q (c-cas k b fs l x y) = cas-together t 𝓐 i h s room k l b fs x y (cas-branch t i s (ancestor t i k))
-  row-together q (c-linger k b fs l x y) = linger-together t 𝓐 i h s room k l b fs x y q (linger-branch t i s (ancestor t i k))
-  row-together q (c-55 k r w b fs l x y) = line-55-together t 𝓐 i h s room k l b fs x y r w (grant-branch t i s (ancestor t i k) r w)
-  row-together q (c-59 k r w b fs l x y) = line-59-together t 𝓐 i h s room k l b fs x y r w (grant-branch t i s (ancestor t i k) r w)
-  row-together q (c-draw k l e) = draw-together t 𝓐 i h s room (suc k) l e wide
-  row-together q (c-watch k l e) = watch-together t 𝓐 i h s room k l e q (watch-branch t i s)
-  row-together q (c-raise k fs l e x) = raise-together t 𝓐 i h s room k l e fs x (raise-branch t i s)
+  row-together q (c-prep k l) = prep-together t valid i h s room (suc k) l (prep-branch t i s (ancestor t i (suc k)))
+  row-together q (c-swap k l) = swap-together t valid i h s room k l (swap-branch t i s (ancestor t i k))
+  row-together q (c-link k p l) = link-together t valid i h s room k p l (link-branch t i s (ancestor t i k) p)
+  row-together q (c-wait k l) = wait-together t valid i h s room k l q (small (record-at t i k)) (wait-branch t i s (ancestor t i k))
+  row-together q c-inside = leave-together t valid i h s room (leave-branch t i s)
+  row-together q (c-check k fs b x) = rw (by-equality (ancestor t i k) q) (check-together t valid i h s room k b fs x)
+  row-together q (c-pass k c r fs b x) = pass-together t valid i h s room k b c r fs x (grant-branch t i s (ancestor t i k) r (c + 1))
+  row-together q (c-help k b fs l x y) = help-together t valid i h s room k l b fs x y (help-branch t i s (ancestor t i k))
+  row-together q (c-cas k b fs l x y) = cas-together t valid i h s room k l b fs x y (cas-branch t i s (ancestor t i k))
+  row-together q (c-linger k b fs l x y) = linger-together t valid i h s room k l b fs x y q (linger-branch t i s (ancestor t i k))
+  row-together q (c-55 k r w b fs l x y) = line-55-together t valid i h s room k l b fs x y r w (grant-branch t i s (ancestor t i k) r w)
+  row-together q (c-59 k r w b fs l x y) = line-59-together t valid i h s room k l b fs x y r w (grant-branch t i s (ancestor t i k) r w)
+  row-together q (c-draw k l e) = draw-together t valid i h s room (suc k) l e wide
+  row-together q (c-watch k l e) = watch-together t valid i h s room k l e q (watch-branch t i s)
+  row-together q (c-raise k fs l e x) = raise-together t valid i h s room k l e fs x (raise-branch t i s)
 
   -- so from every control that stands at the place
   along-calls : {L : ℕ} {fs : List Frame} (x : Acquires t i L fs) (A : ℕ → List Frame → Type 0) → A (ancestor t i (x .index)) (acquire-stack t i (x .index)) → A L fs
@@ -79,58 +79,58 @@ module _ (t : Tree) (𝓐 : Accepted t) (i : ℕ) (h : i < t .threads) (s : Stat
 
   prep-row-together : (k : ℕ) → k ≤ height t i → Row (control (cond (eqb (ancestor t i k) 0) line-66 line-7) (acquire-stack t i k)) (Prep (ancestor t i k))
   unfolding row
-  prep-row-together k l q = prep-together t 𝓐 i h s room k l (prep-branch t i s (ancestor t i k))
+  prep-row-together k l q = prep-together t valid i h s room k l (prep-branch t i s (ancestor t i k))
 
   draw-row-together : (k : ℕ) → k ≤ height t i → ancestor t i k ≡ 0 → Row (control (ticket-lock line-90) (acquire-stack t i k)) Draw
   unfolding row
-  draw-row-together k l e q = draw-together t 𝓐 i h s room k l e wide
+  draw-row-together k l e q = draw-together t valid i h s room k l e wide
 
   stands-together : {c : Control} {p : Place} → Stands-at t i c p → Row c p
   stands-together at-idle = λ q. row-together q c-idle
   stands-together (at-prep L fs a) =
-      let x = acquires t 𝓐 i h a in
+      let x = acquires t valid i h a in
       along-calls x (λ L fs. Row (control (cond (eqb L 0) line-66 line-7) fs) (Prep L)) (prep-row-together (x .index) (x .within))
   stands-together (at-swap L fs a) =
-      let x = acquires t 𝓐 i h a in
+      let x = acquires t valid i h a in
       along-calls x (λ L fs. Row (control (cond (eqb L 0) line-67 line-9) fs) (Swap L)) (λ q. row-together q (c-swap (x .index) (x .within)))
   stands-together (at-link L p fs a) =
-      let x = acquires t 𝓐 i h a in
+      let x = acquires t valid i h a in
       along-calls x (λ L fs. Row (control (cond (eqb L 0) (line-71 p) (line-11 p)) fs) (Link L p)) (λ q. row-together q (c-link (x .index) p (x .within)))
   stands-together (at-wait L fs a) =
-      let x = acquires t 𝓐 i h a in
+      let x = acquires t valid i h a in
       along-calls x (λ L fs. Row (control (cond (eqb L 0) line-72 line-13) fs) (Wait L)) (λ q. row-together q (c-wait (x .index) (x .within)))
   stands-together at-inside = λ q. row-together q c-inside
   stands-together (at-check L fs n a) =
-      let x = releases t 𝓐 i h a in
-      let b = ancestor-not-root t 𝓐 i h (x .index) (x .within) (omega (arith, n, x .there)) in
+      let x = releases t valid i h a in
+      let b = ancestor-not-root t valid i h (x .index) (x .within) (omega (arith, n, x .there)) in
       along-release x (λ L. Row (control line-25 fs) (Check L)) (λ q. row-together q (c-check (x .index) fs b (x .stack)))
   stands-together (at-37 L c r fs n a) =
-      let x = releases t 𝓐 i h a in
-      let b = ancestor-not-root t 𝓐 i h (x .index) (x .within) (omega (arith, n, x .there)) in
+      let x = releases t valid i h a in
+      let b = ancestor-not-root t valid i h (x .index) (x .within) (omega (arith, n, x .there)) in
       along-release x (λ L. Row (control (line-37 c r) fs) (Grant L r (c + 1))) (λ q. row-together q (c-pass (x .index) c r fs b (x .stack)))
   stands-together (at-help L fs a) =
-      let x = helps t 𝓐 i h a in
+      let x = helps t valid i h a in
       along-help x (λ L fs. Row (control (line-53 (release-word L)) fs) (Help L)) (λ q. row-together q (c-help (x .index) (x .back) (x .callers) (x .within) (x .stack) (x .helps)))
   stands-together (at-cas L fs a) =
-      let x = helps t 𝓐 i h a in
+      let x = helps t valid i h a in
       along-help x (λ L fs. Row (control (line-57 (release-word L)) fs) (Cas L)) (λ q. row-together q (c-cas (x .index) (x .back) (x .callers) (x .within) (x .stack) (x .helps)))
   stands-together (at-linger L fs a) =
-      let x = helps t 𝓐 i h a in
+      let x = helps t valid i h a in
       along-help x (λ L fs. Row (control (line-58 (release-word L)) fs) (Linger L)) (λ q. row-together q (c-linger (x .index) (x .back) (x .callers) (x .within) (x .stack) (x .helps)))
   stands-together (at-55 L r w fs a) =
-      let x = helps t 𝓐 i h a in
+      let x = helps t valid i h a in
       along-help x (λ L fs. Row (control (line-55 r w) fs) (Grant L r w)) (λ q. row-together q (c-55 (x .index) r w (x .back) (x .callers) (x .within) (x .stack) (x .helps)))
   stands-together (at-59 L r w fs a) =
-      let x = helps t 𝓐 i h a in
+      let x = helps t valid i h a in
       along-help x (λ L fs. Row (control (line-59 r w) fs) (Grant L r w)) (λ q. row-together q (c-59 (x .index) r w (x .back) (x .callers) (x .within) (x .stack) (x .helps)))
   stands-together (at-draw fs a) =
-      let x = acquires t 𝓐 i h a in
+      let x = acquires t valid i h a in
       along-calls x (λ L fs. Row (control (ticket-lock line-90) fs) Draw) (draw-row-together (x .index) (x .within) (x .there))
   stands-together (at-watch fs a) =
-      let x = acquires t 𝓐 i h a in
+      let x = acquires t valid i h a in
       along-calls x (λ L fs. Row (control (ticket-lock line-91-again) fs) Watch) (λ q. row-together q (c-watch (x .index) (x .within) (x .there)))
   stands-together (at-raise fs a) =
-      let x = releases t 𝓐 i h a in
+      let x = releases t valid i h a in
       λ q. row-together q (c-raise (x .index) fs (x .within) (x .there) (x .stack))
 
 -- a control that corresponds to a place stands there by the table of points
@@ -177,18 +177,18 @@ check-by-equality t i s n l e = same-by-equality t i l s (n l e) (branch t i s (
 pub entry-law : Entry-law
 unfolding Entry-law step
 entry-law t ok s formed i h =
-    let 𝓐 = accepted t ok in
-    let room : i < length (s .places) = omega (arith, formed .typed .places-room, 𝓐 .few-threads) in
+    let valid = accepted t ok in
+    let room : i < length (s .places) = omega (arith, formed .typed .places-room, valid .few-threads) in
     let small : (r : ℕ) → status s r ≤ wait-word = λ r. omega (arith, formed .typed .statuses-fit r) in
-    let there = stood t 𝓐 i h (place s i) (well-formed-facts t s formed .places i .used h) in
+    let there = stood t valid i h (place s i) (well-formed-facts t s formed .places i .used h) in
     record {
       some-control = there .by;
       some-stands = there .standing;
       does = λ n c x.
-          let z = stands-together t 𝓐 i h s room (formed .typed .statuses-room) small (check-by-equality t i s n) x refl in
+          let z = stands-together t valid i h s room (formed .typed .statuses-room) small (check-by-equality t i s n) x refl in
           record {
             memory = z .memory;
-            stands = rw (z .there) (stands t 𝓐 i h (z .corresponds));
+            stands = rw (z .there) (stands t valid i h (z .corresponds));
             placed = corresponding (z .corresponds) ∙ sym (z .there);
             others = z .elsewhere;
           };

@@ -28,7 +28,7 @@ use Rattle.listing.proofs.Entries.{begins}
 use Rattle.listing.proofs.Returning.{released-at, leaves, check-reached, check-alone, check-passes, help-none, help-some, cas-fails, linger-stays, linger-sees, ended}
 use Rattle.listing.proofs.Acquiring.{Together, standing, moved, stayed, together}
 
-module _ (t : Tree) (𝓐 : Accepted t) (i : ℕ) (h : i < t .threads) (s : State) (room : i < length (s .places)) where
+module _ (t : Tree) (valid : Accepted t) (i : ℕ) (h : i < t .threads) (s : State) (room : i < length (s .places)) where
   -- a call of ReleaseReal at an index, where it stands
   released :
       (k : ℕ) (b : Return) (fs : List Frame) → k ≤ height t i → Release-stack t i k (frame (ancestor t i k) (record-at t i k) b ∷ fs) → (a c : Bool) → is-ticket t (ancestor t i k) ≡ a → eqb (ancestor t i k) 0 ≡ c →
@@ -41,14 +41,14 @@ module _ (t : Tree) (𝓐 : Accepted t) (i : ℕ) (h : i < t .threads) (s : Stat
   released k b fs l x false true n e =
       let c : Corresponds t i (control (line-53 (cond (eqb (ancestor t i k) 0) 0 _)) _) (Help (ancestor t i k)) = c-help k behind-82 (frame (ancestor t i k) (record-at t i k) b ∷ fs) l x of-82 in
       rw e at c
-  released k b fs l x false false n e = c-check k (frame (ancestor t i k) (record-at t i k) b ∷ fs) (ancestor-not-root t 𝓐 i h k l (omega (arith, eqb-false (ancestor t i k) 0 e))) x
+  released k b fs l x false false n e = c-check k (frame (ancestor t i k) (record-at t i k) b ∷ fs) (ancestor-not-root t valid i h k l (omega (arith, eqb-false (ancestor t i k) 0 e))) x
 
   -- LEAVING
   pub leave-together : {x : Row-result} → Branch t i s Inside x → Together t i s x (entry t i (standing (control critical []) s))
   unfolding memory-of ancestor record-at
   leave-together inside-leaves =
       let p = release-place t (t .home i) in
-      together t 𝓐 i h s room (record { thread = released-at t (t .home i) i from-release []; memory = memory-of s }) p (leaves t i (memory-of s)) refl
+      together t valid i h s room (record { thread = released-at t (t .home i) i from-release []; memory = memory-of s }) p (leaves t i (memory-of s)) refl
       (moved refl) (released 0 from-release [] (omega arith) at-home _ _ refl refl)
 
   -- CHECK, by equality as the listing has it
@@ -66,9 +66,9 @@ module _ (t : Tree) (𝓐 : Accepted t) (i : ℕ) (h : i < t .threads) (s : Stat
     check-by back fs x true d e f =
         let p = release-place t (ancestor t i (suc k)) in
         let same = check-reached t i L R back fs (memory-of s) e in
-        rw (own-record-at t 𝓐 i h k (omega arith), e, ancestor-parent-of t 𝓐 i h k b)
-        (together t 𝓐 i h s room (record { thread = released-at t (ancestor t i (suc k)) (256 + L) behind-29 (frame L R back ∷ fs); memory = memory-of s }) p
-        (rw (ancestor-parent-of t 𝓐 i h k b) at same) refl (moved refl) (next-call behind-29 (by-29 k (frame L R back ∷ fs) x)))
+        rw (own-record-at t valid i h k (omega arith), e, ancestor-parent-of t valid i h k b)
+        (together t valid i h s room (record { thread = released-at t (ancestor t i (suc k)) (256 + L) behind-29 (frame L R back ∷ fs); memory = memory-of s }) p
+        (rw (ancestor-parent-of t valid i h k b) at same) refl (moved refl) (next-call behind-29 (by-29 k (frame L R back ∷ fs) x)))
       where
         next-call : (a : Return) → Release-stack t i (suc k) (frame (ancestor t i (suc k)) (record-at t i (suc k)) a ∷ frame L R back ∷ fs) →
             Corresponds t i (released-at t (ancestor t i (suc k)) (256 + L) a (frame L R back ∷ fs)) (release-place t (ancestor t i (suc k)))
@@ -76,9 +76,9 @@ module _ (t : Tree) (𝓐 : Accepted t) (i : ℕ) (h : i < t .threads) (s : Stat
     check-by back fs x false true e f =
         let p = release-place t (ancestor t i (suc k)) in
         let same = check-alone t i L R back fs (memory-of s) e f in
-        rw (own-record-at t 𝓐 i h k (omega arith), e, f, ancestor-parent-of t 𝓐 i h k b)
-        (together t 𝓐 i h s room (record { thread = released-at t (ancestor t i (suc k)) (256 + L) behind-41 (frame L R back ∷ fs); memory = memory-of s }) p
-        (rw (ancestor-parent-of t 𝓐 i h k b) at same) refl (moved refl) (next-call behind-41 (by-41 k (frame L R back ∷ fs) x)))
+        rw (own-record-at t valid i h k (omega arith), e, f, ancestor-parent-of t valid i h k b)
+        (together t valid i h s room (record { thread = released-at t (ancestor t i (suc k)) (256 + L) behind-41 (frame L R back ∷ fs); memory = memory-of s }) p
+        (rw (ancestor-parent-of t valid i h k b) at same) refl (moved refl) (next-call behind-41 (by-41 k (frame L R back ∷ fs) x)))
       where
         next-call : (a : Return) → Release-stack t i (suc k) (frame (ancestor t i (suc k)) (record-at t i (suc k)) a ∷ frame L R back ∷ fs) →
             Corresponds t i (released-at t (ancestor t i (suc k)) (256 + L) a (frame L R back ∷ fs)) (release-place t (ancestor t i (suc k)))
@@ -87,8 +87,8 @@ module _ (t : Tree) (𝓐 : Accepted t) (i : ℕ) (h : i < t .threads) (s : Stat
         let v = status s R in
         let n = next s R in
         let p = Grant L (n - 1) (v + 1) in
-        rw (own-record-at t 𝓐 i h k (omega arith), e, f)
-        (together t 𝓐 i h s room (goes (line-37 v (n - 1)) (frame L R back ∷ fs) (memory-of s)) p (check-passes t i L R back fs (memory-of s) e f) refl
+        rw (own-record-at t valid i h k (omega arith), e, f)
+        (together t valid i h s room (goes (line-37 v (n - 1)) (frame L R back ∷ fs) (memory-of s)) p (check-passes t i L R back fs (memory-of s) e f) refl
         (moved refl) (c-pass k v (n - 1) (frame L R back ∷ fs) b x))
 
     pub check-together : (fs : List Frame) → Release-stack t i k fs → Together t i s (equality-check-row t i L s) (entry t i (standing (control line-25 fs) s))
@@ -103,9 +103,9 @@ module _ (t : Tree) (𝓐 : Accepted t) (i : ℕ) (h : i < t .threads) (s : Stat
         Together t i s x (entry t i (standing (control (line-37 c r) fs) s))
     unfolding memory-of next-line line
     pass-together c r fs x (grant-writes _ _ _) =
-        let z = ended t i 𝓐 h k fs (store-status r (c + 1) (memory-of s)) (omega arith) x in
-        rw (done-place-at t 𝓐 i h k (omega arith))
-        (together t 𝓐 i h s room (record { thread = z .thread; memory = store-status r (c + 1) (memory-of s) }) (done-at t i k)
+        let z = ended t i valid h k fs (store-status r (c + 1) (memory-of s)) (omega arith) x in
+        rw (done-place-at t valid i h k (omega arith))
+        (together t valid i h s room (record { thread = z .thread; memory = store-status r (c + 1) (memory-of s) }) (done-at t i k)
         (begins t i (goes (line-37 c r) fs (memory-of s)) (record { thread = returns fs; memory = store-status r (c + 1) (memory-of s) }) refl ∙ z .same) refl
         (moved refl) (z .corresponds))
 
@@ -121,17 +121,17 @@ module _ (t : Tree) (𝓐 : Accepted t) (i : ℕ) (h : i < t .threads) (s : Stat
     W = release-word (ancestor t i k)
 
     own : own-record t i M ≡ Q
-    own = own-record-at t 𝓐 i h k l
+    own = own-record-at t valid i h k l
 
     pub help-together : {x : Row-result} → Branch t i s (Help M) x → Together t i s x (entry t i (standing (control (line-53 W) (helper-stack t i k back fs)) s))
     unfolding memory-of
     help-together (help-alone _ n) =
-        together t 𝓐 i h s room (goes (line-57 W) (helper-stack t i k back fs) (memory-of s)) (Cas M)
+        together t valid i h s room (goes (line-57 W) (helper-stack t i k back fs) (memory-of s)) (Cas M)
         (help-none t i M Q back fs (memory-of s) W (rw own at (eq-eqb _ none n))) refl (moved refl) (c-cas k back fs l x helps)
     help-together (help-linked _ v n at) =
         let p = Grant M (next s Q - 1) W in
         rw (word-is at, own)
-        (together t 𝓐 i h s room (goes (line-55 (next s Q - 1) W) (helper-stack t i k back fs) (memory-of s)) p
+        (together t valid i h s room (goes (line-55 (next s Q - 1) W) (helper-stack t i k back fs) (memory-of s)) p
         (help-some t i M Q back fs (memory-of s) W (rw own at (ne-eqb _ none n))) refl (moved refl) (c-55 k (next s Q - 1) W back fs l x helps))
 
     pub cas-together : {x : Row-result} → Branch t i s (Cas M) x → Together t i s x (entry t i (standing (control (line-57 W) (helper-stack t i k back fs)) s))
@@ -139,33 +139,33 @@ module _ (t : Tree) (𝓐 : Accepted t) (i : ℕ) (h : i < t .threads) (s : Stat
     cas-together (cas-last _ y) =
         let e : eqb (tail s M) (Q + 1) ≡ true = rw own at (eq-eqb (tail s M) (own-record t i M + 1) y) in
         let m = store-lock M none (memory-of s) in
-        let z = ended t i 𝓐 h k fs m l x in
-        rw (done-place-at t 𝓐 i h k l)
-        (together t 𝓐 i h s room (record { thread = z .thread; memory = m }) (done-at t i k)
+        let z = ended t i valid h k fs m l x in
+        rw (done-place-at t valid i h k l)
+        (together t valid i h s room (record { thread = z .thread; memory = m }) (done-at t i k)
         (begins t i (goes (line-57 W) (helper-stack t i k back fs) (memory-of s)) (record { thread = returns fs; memory = m }) (rw (e, helper-returns M Q fs helps)) ∙ z .same) refl
         (moved refl) (z .corresponds))
     cas-together (cas-not-last _ y) =
-        together t 𝓐 i h s room (goes (line-58 W) (helper-stack t i k back fs) (memory-of s)) (Linger M)
+        together t valid i h s room (goes (line-58 W) (helper-stack t i k back fs) (memory-of s)) (Linger M)
         (cas-fails t i M Q back fs (memory-of s) W (rw own at (ne-eqb (tail s M) (own-record t i M + 1) y))) refl (moved refl) (c-linger k back fs l x helps)
 
     pub linger-together : place s i ≡ Linger M → {x : Row-result} → Branch t i s (Linger M) x → Together t i s x (entry t i (standing (control (line-58 W) (helper-stack t i k back fs)) s))
     unfolding memory-of
     linger-together q (linger-alone _ n) =
-        together t 𝓐 i h s room (goes (line-58 W) (helper-stack t i k back fs) (memory-of s)) (Linger M)
+        together t valid i h s room (goes (line-58 W) (helper-stack t i k back fs) (memory-of s)) (Linger M)
         (linger-stays t i M Q back fs (memory-of s) W (rw own at (eq-eqb _ none n))) refl (stayed refl q) (c-linger k back fs l x helps)
     linger-together q (linger-linked _ v n at) =
         let p = Grant M (next s Q - 1) W in
         rw (word-is at, own)
-        (together t 𝓐 i h s room (goes (line-59 (next s Q - 1) W) (helper-stack t i k back fs) (memory-of s)) p
+        (together t valid i h s room (goes (line-59 (next s Q - 1) W) (helper-stack t i k back fs) (memory-of s)) p
         (linger-sees t i M Q back fs (memory-of s) W (rw own at (ne-eqb _ none n))) refl (moved refl) (c-59 k (next s Q - 1) W back fs l x helps))
 
     pub line-55-together : (r w : ℕ) {x : Row-result} → Branch t i s (Grant M r w) x → Together t i s x (entry t i (standing (control (line-55 r w) (helper-stack t i k back fs)) s))
     unfolding memory-of next-line line
     line-55-together r w (grant-writes _ _ _) =
         let m = store-status r w (memory-of s) in
-        let z = ended t i 𝓐 h k fs m l x in
-        rw (done-place-at t 𝓐 i h k l)
-        (together t 𝓐 i h s room (record { thread = z .thread; memory = m }) (done-at t i k)
+        let z = ended t i valid h k fs m l x in
+        rw (done-place-at t valid i h k l)
+        (together t valid i h s room (record { thread = z .thread; memory = m }) (done-at t i k)
         (begins t i (goes (line-55 r w) (helper-stack t i k back fs) (memory-of s)) (record { thread = returns fs; memory = m }) (rw (helper-returns M Q fs helps)) ∙ z .same) refl
         (moved refl) (z .corresponds))
 
@@ -173,8 +173,8 @@ module _ (t : Tree) (𝓐 : Accepted t) (i : ℕ) (h : i < t .threads) (s : Stat
     unfolding memory-of next-line line
     line-59-together r w (grant-writes _ _ _) =
         let m = store-status r w (memory-of s) in
-        let z = ended t i 𝓐 h k fs m l x in
-        rw (done-place-at t 𝓐 i h k l)
-        (together t 𝓐 i h s room (record { thread = z .thread; memory = m }) (done-at t i k)
+        let z = ended t i valid h k fs m l x in
+        rw (done-place-at t valid i h k l)
+        (together t valid i h s room (record { thread = z .thread; memory = m }) (done-at t i k)
         (begins t i (goes (line-59 r w) (helper-stack t i k back fs) (memory-of s)) (record { thread = returns fs; memory = m }) (rw (helper-returns M Q fs helps)) ∙ z .same) refl
         (moved refl) (z .corresponds))

@@ -128,9 +128,9 @@ module _ (t : Tree) (i : ℕ) where
     pub same : settle 8 t i x ≡ record { thread = thread; memory = m }
     pub corresponds : Corresponds t i thread (done-at t i k)
 
-  module _ (𝓐 : Accepted t) (h : i < t .threads) where
+  module _ (valid : Accepted t) (h : i < t .threads) where
     lower-word : (k : ℕ) → k < height t i → release-word (ancestor t i k) ≡ acquire-parent
-    lower-word k b = let z = ne-eqb (ancestor t i k) 0 (omega (arith, ancestor-inner t 𝓐 i h k b)) in rw z
+    lower-word k b = let z = ne-eqb (ancestor t i k) 0 (omega (arith, ancestor-inner t valid i h k b)) in rw z
 
     pub ended : (k : ℕ) (fs : List Frame) (m : Memory) → k ≤ height t i → Release-stack t i k fs → Ended k (record { thread = returns fs; memory = m }) m
     unfolding returns goes-back next-line line release-helper place-of-control place-at is-place

@@ -45,10 +45,10 @@ pub record Helps (t : Tree) (i L : ℕ) (fs : List Frame) : Type 0 where
   pub stack : Release-stack t i index callers
   pub calls : helper-stack t i index back callers ≡ fs
 
-module _ (t : Tree) (𝓐 : Accepted t) (i : ℕ) (h : i < t .threads) where
+module _ (t : Tree) (valid : Accepted t) (i : ℕ) (h : i < t .threads) where
   higher-calls : (k : ℕ) → k < height t i → acquire-stack t i (suc k) ≡ frame (t .parent (ancestor t i k)) (256 + ancestor t i k) behind-17 ∷ acquire-stack t i k
   unfolding record-at acquire-back acquire-callers
-  higher-calls k b = rw (ancestor-parent-of t 𝓐 i h k b)
+  higher-calls k b = rw (ancestor-parent-of t valid i h k b)
 
   -- FROM CALLS TO THE INDEX
   pub acquires : {L : ℕ} {fs : List Frame} → Acquiring t i L fs → Acquires t i L fs
@@ -56,11 +56,11 @@ module _ (t : Tree) (𝓐 : Accepted t) (i : ℕ) (h : i < t .threads) where
   acquires acquire-home = record { index = 0; within = omega arith; there = refl; calls = refl }
   acquires (by-17 L fs n a) =
       let x = acquires a in
-      let b = ancestor-not-root t 𝓐 i h (x .index) (x .within) (omega (arith, n, x .there)) in
+      let b = ancestor-not-root t valid i h (x .index) (x .within) (omega (arith, n, x .there)) in
       record {
         index = suc (x .index);
         within = b;
-        there = sym (ancestor-parent-of t 𝓐 i h (x .index) b) ∙ ap (t .parent) (x .there);
+        there = sym (ancestor-parent-of t valid i h (x .index) b) ∙ ap (t .parent) (x .there);
         calls = higher-calls (x .index) b ∙ rw (x .calls, x .there);
       }
 
@@ -68,7 +68,7 @@ module _ (t : Tree) (𝓐 : Accepted t) (i : ℕ) (h : i < t .threads) where
       Release-stack t i (suc k) (frame (ancestor t i (suc k)) (record-at t i (suc k)) a ∷ fs) → Releases t i (t .parent L) (frame (t .parent L) (256 + L) a ∷ fs)
   unfolding record-at
   higher a k L fs b e x =
-      let up : ancestor t i (suc k) ≡ t .parent L = sym (ancestor-parent-of t 𝓐 i h k b) ∙ ap (t .parent) e in
+      let up : ancestor t i (suc k) ≡ t .parent L = sym (ancestor-parent-of t valid i h k b) ∙ ap (t .parent) e in
       record { index = suc k; within = b; there = up; stack = rw (up, e) at x }
 
   pub releases : {L : ℕ} {fs : List Frame} → Releasing t i L fs → Releases t i L fs
@@ -76,11 +76,11 @@ module _ (t : Tree) (𝓐 : Accepted t) (i : ℕ) (h : i < t .threads) where
   releases release-home = record { index = 0; within = omega arith; there = refl; stack = at-home }
   releases (by-29 L fs n a) =
       let x = releases a in
-      let b = ancestor-not-root t 𝓐 i h (x .index) (x .within) (omega (arith, n, x .there)) in
+      let b = ancestor-not-root t valid i h (x .index) (x .within) (omega (arith, n, x .there)) in
       higher behind-29 (x .index) L fs b (x .there) (stacks.by-29 (x .index) fs (x .stack))
   releases (by-41 L fs n a) =
       let x = releases a in
-      let b = ancestor-not-root t 𝓐 i h (x .index) (x .within) (omega (arith, n, x .there)) in
+      let b = ancestor-not-root t valid i h (x .index) (x .within) (omega (arith, n, x .there)) in
       higher behind-41 (x .index) L fs b (x .there) (stacks.by-41 (x .index) fs (x .stack))
 
   helper : (b : Return) (L : ℕ) (fs : List Frame) → Helper-back b → Releases t i L fs → Helps t i L (frame L (top-node fs) b ∷ fs)
@@ -103,19 +103,19 @@ module _ (t : Tree) (𝓐 : Accepted t) (i : ℕ) (h : i < t .threads) where
 
   -- FROM THE INDEX TO CALLS
   inner : (k : ℕ) → k < height t i → ancestor t i k ≢ 0
-  inner k b e = absurd (omega (arith, ancestor-inner t 𝓐 i h k b, e))
+  inner k b e = absurd (omega (arith, ancestor-inner t valid i h k b, e))
 
   pub acquiring : (k : ℕ) → k ≤ height t i → Acquiring t i (ancestor t i k) (acquire-stack t i k)
   unfolding ancestor record-at acquire-back acquire-callers
   acquiring zero l = acquire-home
   acquiring (suc k) l =
-      rw (ancestor-parent-of t 𝓐 i h k l) at (by-17 (ancestor t i k) (acquire-stack t i k) (inner k l) (acquiring k (omega arith)))
+      rw (ancestor-parent-of t valid i h k l) at (by-17 (ancestor t i k) (acquire-stack t i k) (inner k l) (acquiring k (omega arith)))
 
   pub releasing : {k : ℕ} {fs : List Frame} → k ≤ height t i → Release-stack t i k fs → Releasing t i (ancestor t i k) fs
   unfolding record-at
   releasing l at-home = rw (ancestor-home t i) release-home
-  releasing l (stacks.by-29 k fs x) = rw (ancestor-parent-of t 𝓐 i h k l) at (by-29 (ancestor t i k) fs (inner k l) (releasing (omega arith) x))
-  releasing l (stacks.by-41 k fs x) = rw (ancestor-parent-of t 𝓐 i h k l) at (by-41 (ancestor t i k) fs (inner k l) (releasing (omega arith) x))
+  releasing l (stacks.by-29 k fs x) = rw (ancestor-parent-of t valid i h k l) at (by-29 (ancestor t i k) fs (inner k l) (releasing (omega arith) x))
+  releasing l (stacks.by-41 k fs x) = rw (ancestor-parent-of t valid i h k l) at (by-41 (ancestor t i k) fs (inner k l) (releasing (omega arith) x))
 
   pub helping : {b : Return} (k : ℕ) (fs : List Frame) → k ≤ height t i → Release-stack t i k fs → Helper-back b → Helping t i (ancestor t i k) (helper-stack t i k b fs)
   helping k fs l x of-31 = rw (top-node-at x) at (by-31 (ancestor t i k) fs (releasing l x))
@@ -156,11 +156,11 @@ module _ (t : Tree) (𝓐 : Accepted t) (i : ℕ) (h : i < t .threads) where
   release-calls (suc k) = record { made = _; so = stacks.by-41 k (release-calls k .made) (release-calls k .so) }
 
   acquire-at : (L : ℕ) → queue-on-path t i L ≡ true → Calls (Acquiring t i L)
-  acquire-at L e = let o = path-index t 𝓐 i h L (queue-facts t i L e .0) in record { made = acquire-stack t i (o .index); so = acquired-there (o .there) (acquiring (o .index) (o .within)) }
+  acquire-at L e = let o = path-index t valid i h L (queue-facts t i L e .0) in record { made = acquire-stack t i (o .index); so = acquired-there (o .there) (acquiring (o .index) (o .within)) }
 
   release-at : (L : ℕ) → on-path t i L ≡ true → Calls (Releasing t i L)
   release-at L e =
-      let o = path-index t 𝓐 i h L e in
+      let o = path-index t valid i h L e in
       let x = release-calls (o .index) in
       record { made = x .made; so = released-there (o .there) (releasing (o .within) (x .so)) }
 
@@ -169,10 +169,10 @@ module _ (t : Tree) (𝓐 : Accepted t) (i : ℕ) (h : i < t .threads) where
 
   -- and so has the root
   acquire-root : Acquiring t i 0 (acquire-stack t i (height t i))
-  acquire-root = acquired-there (ancestor-root t 𝓐 i h) (acquiring (height t i) (omega arith))
+  acquire-root = acquired-there (ancestor-root t valid i h) (acquiring (height t i) (omega arith))
 
   release-root : Releasing t i 0 (release-calls (height t i) .made)
-  release-root = released-there (ancestor-root t 𝓐 i h) (releasing (omega arith) (release-calls (height t i) .so))
+  release-root = released-there (ancestor-root t valid i h) (releasing (omega arith) (release-calls (height t i) .so))
 
   -- so each place of a well-formed state has a control that stands there
   pub record Stood (p : Place) : Type 0 where

@@ -80,15 +80,15 @@ module _ (t : Tree) (i : ℕ) where
       ∙ tests-first (t .home i) i from-acquire [] (taken i m) 5 c e a
 
 -- THE ROWS
-module _ (t : Tree) (𝓐 : Accepted t) (i : ℕ) (h : i < t .threads) (s : State) (room : i < length (s .places)) where
+module _ (t : Tree) (valid : Accepted t) (i : ℕ) (h : i < t .threads) (s : State) (room : i < length (s .places)) where
   module _ (k : ℕ) (l : k ≤ height t i) (root : ancestor t i k ≡ 0) where
     root-record-at : own-record t i 0 ≡ record-at t i k
-    root-record-at = rw root at (own-record-at t 𝓐 i h k l)
+    root-record-at = rw root at (own-record-at t valid i h k l)
 
     -- what the first test reads is the ticket
     status-taken : length (s .statuses) ≡ 320 → status-at (taken (record-at t i k) (memory-of s)) (record-at t i k) ≡ s .ticket
     unfolding memory-of
-    status-taken wide = getD-set-same (s .statuses) (record-at t i k) (s .ticket) 0 (omega (arith, wide, record-small t 𝓐 i h k l))
+    status-taken wide = getD-set-same (s .statuses) (record-at t i k) (s .ticket) 0 (omega (arith, wide, record-small t valid i h k l))
 
     -- DRAW, by an entry that takes a ticket and tests once
     drawn-by :
@@ -96,10 +96,10 @@ module _ (t : Tree) (𝓐 : Accepted t) (i : ℕ) (h : i < t .threads) (s : Stat
         Branch t i s Draw y → Together t i s y x
     unfolding memory-of
     drawn-by x true e d (draw-shown _) =
-        rw root-record-at (together t 𝓐 i h s room (goes critical [] (taken (record-at t i k) (memory-of s))) Inside d refl (moved refl) c-inside)
+        rw root-record-at (together t valid i h s room (goes critical [] (taken (record-at t i k) (memory-of s))) Inside d refl (moved refl) c-inside)
     drawn-by x false e d (draw-unshown _) =
         rw root-record-at
-        (together t 𝓐 i h s room (goes (ticket-lock line-91-again) (acquire-stack t i k) (taken (record-at t i k) (memory-of s))) Watch d refl (moved refl) (c-watch k l root))
+        (together t valid i h s room (goes (ticket-lock line-91-again) (acquire-stack t i k) (taken (record-at t i k) (memory-of s))) Watch d refl (moved refl) (c-watch k l root))
     drawn-by x true e d (draw-unshown n) = absurd (n (eqb-true (s .ticket) (s .grant) e))
     drawn-by x false e d (draw-shown z) = absurd (eqb-false (s .ticket) (s .grant) e z)
 
@@ -119,25 +119,25 @@ module _ (t : Tree) (𝓐 : Accepted t) (i : ℕ) (h : i < t .threads) (s : Stat
         place s i ≡ Watch → {x : Row-result} → Branch t i s Watch x → Together t i s x (entry t i (standing (control (ticket-lock line-91-again) (acquire-stack t i k)) s))
     unfolding memory-of
     watch-together q (watch-shown y) =
-        together t 𝓐 i h s room (goes critical [] (memory-of s)) Inside
+        together t valid i h s room (goes critical [] (memory-of s)) Inside
         (tests-again t i (ancestor t i k) (record-at t i k) (acquire-back k) (acquire-callers t i k) (memory-of s) true (rw root-record-at at (eq-eqb _ (s .grant) y)) (acquired t i k)) refl
         (moved refl) c-inside
     watch-together q (watch-unshown y) =
-        together t 𝓐 i h s room (goes (ticket-lock line-91-again) (acquire-stack t i k) (memory-of s)) Watch
+        together t valid i h s room (goes (ticket-lock line-91-again) (acquire-stack t i k) (memory-of s)) Watch
         (tests-again t i (ancestor t i k) (record-at t i k) (acquire-back k) (acquire-callers t i k) (memory-of s) false (rw root-record-at at (ne-eqb _ (s .grant) y)) (acquired t i k)) refl
         (stayed refl q) (c-watch k l root)
 
     -- RAISE
     done-root : done-place t i 0 ≡ done-at t i k
-    done-root = rw root at (done-place-at t 𝓐 i h k l)
+    done-root = rw root at (done-place-at t valid i h k l)
 
     pub raise-together : (fs : List Frame) → Release-stack t i k fs → {x : Row-result} → Branch t i s Raise x → Together t i s x (entry t i (standing (control (ticket-lock line-92) fs) s))
     unfolding memory-of next-line line ticket-line
     raise-together fs x raise-counts =
         let m = store-grant (wrap (s .grant + 1)) (memory-of s) in
-        let z = ended t i 𝓐 h k fs m l x in
+        let z = ended t i valid h k fs m l x in
         rw done-root
-        (together t 𝓐 i h s room (record { thread = z .thread; memory = m }) (done-at t i k)
+        (together t valid i h s room (record { thread = z .thread; memory = m }) (done-at t i k)
         (begins t i (goes (ticket-lock line-92) fs (memory-of s)) (record { thread = returns fs; memory = m }) refl ∙ z .same) refl
         (moved refl) (z .corresponds))
 

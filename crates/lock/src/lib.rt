@@ -81,22 +81,22 @@ pub fn step_lock(tree: TreeWords, state: LockState, thread: u16) -> StepReply
     }
     let mut trace = [0u16];
     let mut kinds = [0u32; 6];
-    let mut told = [0u16];
+    let mut codes = [0u16];
     let after = steps::run::run_steps(
         tree,
         words,
         &schedule,
         &mut trace,
         &mut kinds,
-        &mut told,
+        &mut codes,
         &mut entries,
         &mut tenures,
         &mut longest,
     );
-    let code = told[0];
+    let code = codes[0];
     let kind = (code % 8) as u32;
     let at = thread as usize;
-    let domain = steps::run::domain_told(tree.homes[at], code);
+    let domain = steps::run::domain_of_code(tree.homes[at], code);
     let counted = Counters {
         entries,
         tenures,
@@ -138,14 +138,14 @@ pub fn run_lock(tree: TreeWords, state: LockState, schedule: &[u16], trace: &mut
         return steps::refused(r.number, r.place, state);
     }
     let mut kinds = [0u32; 6];
-    let mut told = [0u16; 0];
+    let mut codes = [0u16; 0];
     let after = steps::run::run_steps(
         tree,
         words,
         schedule,
         trace,
         &mut kinds,
-        &mut told,
+        &mut codes,
         &mut entries,
         &mut tenures,
         &mut longest,

@@ -21,10 +21,20 @@ cases-sized = refl
 
 -- each line is computed
 pub cases-hold : all-hold cases ≡ true
-unfolding any-below filter-below all-below read-word tree-of is-ticket is-child is-leaf depth-from depth level meets on-path child-from child own-record is-record is-member owner-domain under place-of is-watch is-idle is-inside fresh-words fresh-state is-kind is-entry prep-row swap-row link-row wait-row leave-row check-row help-row cas-row linger-row grant-row draw-row watch-row is-watched shown-members raise-row row step steps state-after how-many entering counts-of run-of run good-tail queue-on-path good-place good-counters refusal accepted lowest-bad first-refusal bad-domains bad-threads bad-parent too-deep no-threshold bad-home empty-domain tree-tests bad-length bad-entry bad-room tree-refusal fresh-answer first-kind first-domain step-reply run-reply run-buffer padded tree count-up ok refused passes counters two-homes first-entries root-alone two-in-root one-home three-levels four-levels cases same-numbers place-numbers same-state same-counters same-lock fresh-counters gives same-counts kept holds walked formed-by-walks walked-step walked-refusal holds-by-walks all-hold-by-walks
+unfolding any-below filter-below all-below read-word tree-of is-ticket is-child is-leaf depth-from depth level meets on-path child-from child own-record
+    is-record is-member owner-domain under place-of is-watch is-idle is-inside fresh-words fresh-state is-kind is-entry prep-row swap-row link-row wait-row
+    leave-row check-row help-row cas-row linger-row grant-row draw-row watch-row is-watched shown-members raise-row row step steps state-after how-many
+    entering counts-of run-of run good-tail queue-on-path good-place good-counters refusal accepted lowest-bad first-refusal bad-domains bad-threads bad-parent
+    too-deep no-threshold bad-home empty-domain tree-tests bad-length bad-entry bad-room tree-refusal fresh-answer first-kind first-domain step-reply run-reply
+    run-buffer padded tree count-up ok refused passes counters two-homes first-entries root-alone two-in-root one-home three-levels four-levels cases
+    same-numbers place-numbers same-state same-counters same-lock fresh-counters gives same-counts kept holds walked formed-by-walks walked-step walked-refusal
+    holds-by-walks all-hold-by-walks
 cases-hold = same-cases cases cases-sized ∙ refl
 
 -- the threads under domain 1 enter as often as its allowance says, while domain 2 stands ungranted
 pub reached : allowance-reached ≡ true
-unfolding any-below filter-below largest-below read-word tree-of is-ticket is-child is-leaf meets on-path child-from child own-record under domain-allowance allowance place-of is-watch fresh-words fresh-state is-entry prep-row swap-row link-row wait-row leave-row check-row help-row cas-row linger-row grant-row draw-row watch-row is-watched shown-members raise-row row step steps state-after begun-in ended-in begun ended entries-under occurrences padded tree same-numbers three-homes until-standing while-standing allowance-reached
+unfolding any-below filter-below largest-below read-word tree-of is-ticket is-child is-leaf meets on-path child-from child own-record under domain-allowance
+    allowance place-of is-watch fresh-words fresh-state is-entry prep-row swap-row link-row wait-row leave-row check-row help-row cas-row linger-row grant-row
+    draw-row watch-row is-watched shown-members raise-row row step steps state-after begun-in ended-in begun ended entries-under occurrences padded tree
+    same-numbers three-homes until-standing while-standing allowance-reached
 reached = refl

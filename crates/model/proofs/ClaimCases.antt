@@ -14,7 +14,7 @@ use Rattle.model.specs.States.{fresh-words, fresh-state}
 use Rattle.model.specs.Steps.{is-kind, is-entry, prep-row, swap-row, link-row, wait-row, leave-row, check-row, help-row, cas-row, linger-row, grant-row, draw-row, watch-row, is-watched, shown-members, raise-row, row, step}
 use Rattle.model.specs.Runs.{steps, state-after, how-many, entering, counts-of, run-of, run, begun-in, ended-in, begun, ended, entries-under, occurrences}
 use Rattle.model.specs.WellFormed.{good-tail, good-next, good-status, queue-on-path, good-place, good-watch, good-thread, good-counters, well-formed}
-use Rattle.model.specs.Tenures.{finds-none, taken-from, given, starts, checks-at, word-to-grant, told-length, domain-entries, domain-tenures, longest-told}
+use Rattle.model.specs.Tenures.{finds-none, taken-from, given, starts, checks-at, word-to-grant, tenure-length, domain-entries, domain-tenures, longest-tenure}
 use Rattle.model.specs.Counters.{fresh-counters, fresh-lock, each-with-index, counters-after, good-count, good-counts, count-above, any-above}
 use Rattle.model.specs.Refusals.{Refusal, refusal, accepted, lowest-bad, first-refusal, bad-domains, bad-threads, bad-parent, too-deep, no-threshold, bad-home, empty-domain, tree-tests, bad-state, bad-length, bad-entry, bad-room, bad-counter, step-tests, run-tests, tree-refusal, step-refusal, run-refusal}
 use Rattle.model.specs.Answers.{fresh-answer, counters-behind, step-reply, step-answer, run-reply, run-buffer, run-answer, trace-answer}
@@ -26,7 +26,11 @@ use Rattle.model.proofs.Laws.Calls.{step-reply-number, run-reply-number
 use Rattle.model.proofs.Laws.Unread.{unread-law}
 
 pub allowances-reached : Allowances-reached
-unfolding any-below filter-below largest-below read-word tree-of is-ticket is-child is-leaf meets on-path child-from child own-record is-member under domain-allowance allowance place-of is-watch fresh-words fresh-state is-entry prep-row swap-row link-row wait-row leave-row check-row help-row cas-row linger-row grant-row draw-row watch-row is-watched shown-members raise-row row step steps state-after run-of run begun-in ended-in begun ended entries-under occurrences padded tree same-numbers reaches one-leaf thread-allowance-reached two-leaves-below until-leaf-stands while-leaf-stands inner-allowance-reached Allowances-reached
+unfolding any-below filter-below largest-below read-word tree-of is-ticket is-child is-leaf meets on-path child-from child own-record is-member under
+    domain-allowance allowance place-of is-watch fresh-words fresh-state is-entry prep-row swap-row link-row wait-row leave-row check-row help-row cas-row
+    linger-row grant-row draw-row watch-row is-watched shown-members raise-row row step steps state-after run-of run begun-in ended-in begun ended
+    entries-under occurrences padded tree same-numbers reaches one-leaf thread-allowance-reached two-leaves-below until-leaf-stands while-leaf-stands
+    inner-allowance-reached Allowances-reached
 allowances-reached = (refl, refl)
 
 -- what holds of 0, 1 and 2 holds below 3
@@ -82,7 +86,15 @@ abbrev mixed-refusals : List Refusal
 mixed-refusals = accepted ∷ refusal 4 0 ∷ accepted ∷ refusal 12 1 ∷ accepted ∷ accepted ∷ []
 
 refused : refusals-in (answers mixed-calls fresh-lock) ≡ mixed-refusals
-unfolding occurrences ended-in entries-under finds-none taken-from given starts checks-at word-to-grant told-length domain-entries domain-tenures longest-told fresh-counters each-with-index counters-after good-count good-counts count-above any-above bad-counter counters-behind any-below filter-below all-below read-word tree-of is-ticket is-child is-leaf depth-from depth level meets on-path child-from child own-record is-record is-member owner-domain under place-of is-watch is-idle fresh-words fresh-state is-kind is-entry prep-row swap-row link-row wait-row leave-row check-row help-row cas-row linger-row grant-row draw-row watch-row is-watched shown-members raise-row row step steps state-after how-many entering counts-of run-of run good-tail good-next good-status queue-on-path good-place good-watch good-thread good-counters well-formed refusal accepted lowest-bad first-refusal bad-domains bad-threads bad-parent too-deep no-threshold bad-home empty-domain tree-tests bad-state bad-length bad-entry bad-room step-tests run-tests tree-refusal step-refusal run-refusal fresh-answer step-reply step-answer run-reply run-buffer run-answer trace-answer padded tree count-up two-homes state-in answer-to answer answers too-many-domains two-homes-again mixed-calls refusal-in refusals-in
+unfolding occurrences ended-in entries-under finds-none taken-from given starts checks-at word-to-grant tenure-length domain-entries domain-tenures
+    longest-tenure fresh-counters each-with-index counters-after good-count good-counts count-above any-above bad-counter counters-behind any-below
+    filter-below all-below read-word tree-of is-ticket is-child is-leaf depth-from depth level meets on-path child-from child own-record is-record is-member
+    owner-domain under place-of is-watch is-idle fresh-words fresh-state is-kind is-entry prep-row swap-row link-row wait-row leave-row check-row help-row
+    cas-row linger-row grant-row draw-row watch-row is-watched shown-members raise-row row step steps state-after how-many entering counts-of run-of run
+    good-tail good-next good-status queue-on-path good-place good-watch good-thread good-counters well-formed refusal accepted lowest-bad first-refusal
+    bad-domains bad-threads bad-parent too-deep no-threshold bad-home empty-domain tree-tests bad-state bad-length bad-entry bad-room step-tests run-tests
+    tree-refusal step-refusal run-refusal fresh-answer step-reply step-answer run-reply run-buffer run-answer trace-answer padded tree count-up two-homes
+    state-in answer-to answer answers too-many-domains two-homes-again mixed-calls refusal-in refusals-in
 refused = refl
 
 named : Names-by (tree-of two-homes) mixed-calls mixed-refusals

@@ -15,7 +15,7 @@ use Rattle.model.specs.Scans.{filter-below}
 use Rattle.model.specs.Trees.{Tree}
 use Rattle.model.specs.Steps.{Kind, Step, is-entry}
 use Rattle.model.specs.Runs.{how-many, entries-under, occurrences}
-use Rattle.model.specs.Tenures.{domain-entries, domain-tenures, longest-told, starts, told-length}
+use Rattle.model.specs.Tenures.{domain-entries, domain-tenures, longest-tenure, starts, tenure-length}
 use Rattle.model.specs.Counters.{each-with-index, counters-after}
 use Rattle.model.proofs.Laws.Runs.{entries-under-join}
 
@@ -78,13 +78,13 @@ unfolding domain-tenures
 domain-tenures-join t d [] ys = omega arith
 domain-tenures-join t d (x ∷ xs) ys = omega (arith, domain-tenures-join t d xs ys)
 
-pub longest-told-join : (t : Tree) (d : ℕ) (xs ys : List Step) → longest-told t d (xs ++ ys) ≡ max (longest-told t d xs) (longest-told t d ys)
-unfolding longest-told
-longest-told-join t d [] ys = omega arith
-longest-told-join t d (x ∷ xs) ys = omega (arith, longest-told-join t d xs ys)
+pub longest-tenure-join : (t : Tree) (d : ℕ) (xs ys : List Step) → longest-tenure t d (xs ++ ys) ≡ max (longest-tenure t d xs) (longest-tenure t d ys)
+unfolding longest-tenure
+longest-tenure-join t d [] ys = omega arith
+longest-tenure-join t d (x ∷ xs) ys = omega (arith, longest-tenure-join t d xs ys)
 
 pub counters-none : (t : Tree) (c : Counters) → counters-after t c [] ≡ c
-unfolding counters-after domain-tenures longest-told
+unfolding counters-after domain-tenures longest-tenure
 counters-none t c =
     rw (
       indexed-kept (λ d v. v + domain-entries t d []) 0 (c .entries) (λ d v. omega (arith, domain-entries-none t d)),
@@ -98,10 +98,10 @@ counters-join t c xs ys =
     rw (
       indexed-twice (λ d v. v + domain-entries t d xs) (λ d v. v + domain-entries t d ys) 0 (c .entries),
       indexed-twice (λ d v. v + domain-tenures t d xs) (λ d v. v + domain-tenures t d ys) 0 (c .tenures),
-      indexed-twice (λ d v. max v (longest-told t d xs)) (λ d v. max v (longest-told t d ys)) 0 (c .longest),
+      indexed-twice (λ d v. max v (longest-tenure t d xs)) (λ d v. max v (longest-tenure t d ys)) 0 (c .longest),
       indexed-same (λ d v. v + domain-entries t d (xs ++ ys)) (λ d v. v + domain-entries t d xs + domain-entries t d ys) 0 (c .entries) (λ d v. omega (arith, domain-entries-join t d xs ys)),
       indexed-same (λ d v. v + domain-tenures t d (xs ++ ys)) (λ d v. v + domain-tenures t d xs + domain-tenures t d ys) 0 (c .tenures) (λ d v. omega (arith, domain-tenures-join t d xs ys)),
-      indexed-same (λ d v. max v (longest-told t d (xs ++ ys))) (λ d v. max (max v (longest-told t d xs)) (longest-told t d ys)) 0 (c .longest) (λ d v. omega (arith, longest-told-join t d xs ys)),
+      indexed-same (λ d v. max v (longest-tenure t d (xs ++ ys))) (λ d v. max (max v (longest-tenure t d xs)) (longest-tenure t d ys)) 0 (c .longest) (λ d v. omega (arith, longest-tenure-join t d xs ys)),
     )
 
 -- no more steps are of a kind than there are steps

@@ -15,7 +15,7 @@ use Rattle.model.specs.Places.{place-of, is-idle, is-inside, is-watch}
 use Rattle.model.specs.States.{fresh-words, fresh-state}
 use Rattle.model.specs.Steps.{is-kind, is-entry, prep-row, swap-row, link-row, wait-row, leave-row, check-row, help-row, cas-row, linger-row, grant-row, draw-row, watch-row, is-watched, shown-members, raise-row, row, step}
 use Rattle.model.specs.Runs.{steps, state-after, how-many, entering, counts-of, run-of, run, ended-in, entries-under, occurrences}
-use Rattle.model.specs.Tenures.{finds-none, taken-from, given, starts, checks-at, word-to-grant, told-length, domain-entries, domain-tenures, longest-told}
+use Rattle.model.specs.Tenures.{finds-none, taken-from, given, starts, checks-at, word-to-grant, tenure-length, domain-entries, domain-tenures, longest-tenure}
 use Rattle.model.specs.WellFormed.{good-tail, queue-on-path, good-place, good-counters}
 use Rattle.model.specs.Counters.{lock-state, fresh-counters, each-with-index, counters-after, good-count, good-counts, count-above, any-above}
 use Rattle.model.specs.Refusals.{Refusal, refusal, accepted, Test, test, lowest-bad, first-refusal, bad-domains, bad-threads, bad-parent, too-deep, no-threshold, bad-home, empty-domain, tree-tests, bad-state, bad-length, bad-entry, bad-room, bad-counter, entry-tests, schedule-tests, room-tests, counter-tests, step-tests, run-tests, tree-refusal, step-refusal, run-refusal}
@@ -95,9 +95,19 @@ same-cases (c ∷ cs) e =
     rw (same-case c (a .0), same-cases cs (a .1))
 
 cases-sized : all-sized cases ≡ true
-unfolding any-below filter-below read-word tree-of is-ticket is-child is-leaf meets on-path child-from child own-record under place-of is-watch fresh-words is-entry prep-row swap-row link-row wait-row leave-row check-row help-row cas-row linger-row grant-row draw-row watch-row is-watched shown-members raise-row row step steps state-after run-of run counters cases first-entries two-below padded tree case-sized all-sized
+unfolding any-below filter-below read-word tree-of is-ticket is-child is-leaf meets on-path child-from child own-record under place-of is-watch fresh-words
+    is-entry prep-row swap-row link-row wait-row leave-row check-row help-row cas-row linger-row grant-row draw-row watch-row is-watched shown-members
+    raise-row row step steps state-after run-of run counters cases first-entries two-below padded tree case-sized all-sized
 cases-sized = refl
 
 pub counter-cases-hold : Counter-cases-hold
-unfolding Counter-cases-hold any-below filter-below all-below read-word tree-of is-ticket is-child is-leaf depth-from depth level meets on-path child-from child own-record is-record is-member owner-domain under place-of is-watch is-idle is-inside fresh-words fresh-state is-kind is-entry prep-row swap-row link-row wait-row leave-row check-row help-row cas-row linger-row grant-row draw-row watch-row is-watched shown-members raise-row row step steps state-after how-many entering counts-of run-of run ended-in entries-under occurrences finds-none taken-from given starts checks-at word-to-grant told-length domain-entries domain-tenures longest-told good-tail queue-on-path good-place good-counters fresh-counters each-with-index counters-after good-count good-counts count-above any-above refusal accepted lowest-bad first-refusal bad-domains bad-threads bad-parent too-deep no-threshold bad-home empty-domain tree-tests bad-length bad-entry bad-room bad-counter counters-behind first-kind first-domain step-reply run-reply run-buffer padded tree at-ticket-root two-homes first-entries same-numbers place-numbers same-state same-counters same-lock counters two-below one-pass two-leaves cases refused-so step-so walked formed-by-walks walked-refusal counted-refusal holds-by-walks all-hold-by-walks
+unfolding Counter-cases-hold any-below filter-below all-below read-word tree-of is-ticket is-child is-leaf depth-from depth level meets on-path child-from
+    child own-record is-record is-member owner-domain under place-of is-watch is-idle is-inside fresh-words fresh-state is-kind is-entry prep-row swap-row
+    link-row wait-row leave-row check-row help-row cas-row linger-row grant-row draw-row watch-row is-watched shown-members raise-row row step steps
+    state-after how-many entering counts-of run-of run ended-in entries-under occurrences finds-none taken-from given starts checks-at word-to-grant
+    tenure-length domain-entries domain-tenures longest-tenure good-tail queue-on-path good-place good-counters fresh-counters each-with-index counters-after
+    good-count good-counts count-above any-above refusal accepted lowest-bad first-refusal bad-domains bad-threads bad-parent too-deep no-threshold bad-home
+    empty-domain tree-tests bad-length bad-entry bad-room bad-counter counters-behind first-kind first-domain step-reply run-reply run-buffer padded tree
+    at-ticket-root two-homes first-entries same-numbers place-numbers same-state same-counters same-lock counters two-below one-pass two-leaves cases
+    refused-so step-so walked formed-by-walks walked-refusal counted-refusal holds-by-walks all-hold-by-walks
 counter-cases-hold = same-cases cases cases-sized ∙ refl

@@ -25,26 +25,26 @@ use Rattle.model.proofs.Trees.Allowances.{thread-allowance, allowance-d
 use Rattle.model.proofs.Laws.Empty.{under-domain}
 
 -- UNDER, by index on the thread's path
-module _ (t : Tree) (𝓐 : Accepted t) (i : ℕ) (h : i < t .threads) where
+module _ (t : Tree) (valid : Accepted t) (i : ℕ) (h : i < t .threads) where
   within-at : (f j k : ℕ) → j ≤ k → k ≤ height t i → k ≤ j + f → Within t (ancestor t i k) (ancestor t i j)
   within-at zero j k a b c = let z : j ≡ k = omega arith in rw z itself
   within-at (suc f) j k a b c =
       elim (ℕ-discrete j k) [
         | yes e ↦ rw e itself
         | no n ↦
-            let p = ancestor-inner t 𝓐 i h j (omega arith) in
-            below (ancestor t i j) (λ z. absurd (omega arith)) (rw (ancestor-parent-of t 𝓐 i h j (omega arith)) (within-at f (suc j) k (omega arith) b (omega arith)))
+            let p = ancestor-inner t valid i h j (omega arith) in
+            below (ancestor t i j) (λ z. absurd (omega arith)) (rw (ancestor-parent-of t valid i h j (omega arith)) (within-at f (suc j) k (omega arith) b (omega arith)))
       ]
 
   path-from : (k d e : ℕ) → k ≤ height t i → ancestor t i k ≡ e → Within t d e → on-path t i d ≡ true
-  path-from k d e l q itself = rw q at (on-path-at t 𝓐 i h k l)
+  path-from k d e l q itself = rw q at (on-path-at t valid i h k l)
   path-from k d e l q (below d′ n w) =
-      let m = ancestor-not-root t 𝓐 i h k l (omega (arith, n, q)) in
-      path-from (suc k) d (t .parent e) m (sym (ancestor-parent-of t 𝓐 i h k m) ∙ ap (t .parent) q) w
+      let m = ancestor-not-root t valid i h k l (omega (arith, n, q)) in
+      path-from (suc k) d (t .parent e) m (sym (ancestor-parent-of t valid i h k m) ∙ ap (t .parent) q) w
 
   path-within : (d : ℕ) → on-path t i d ≡ true → Within t d (t .home i)
   path-within d e =
-      let o = path-index t 𝓐 i h d e in
+      let o = path-index t valid i h d e in
       rw (o .there, ancestor-home t i) at (within-at (o .index) 0 (o .index) (omega arith) (o .within) (omega arith))
 
   within-path : (d : ℕ) → Within t d (t .home i) → on-path t i d ≡ true
@@ -102,10 +102,10 @@ best (suc n) p f e = by (p n) (any-below n p) refl refl (best n p f)
     by false true q r lower = before (lower r) (rw q (omega arith))
     by false false q r lower = absurd (false≢true (rw (r, q) at e))
 
-module _ (t : Tree) (𝓐 : Accepted t) where
+module _ (t : Tree) (valid : Accepted t) where
   leaf-allows : (d : ℕ) → is-leaf t d ≡ true → allowance t (256 + d) ≡ t .threshold d
   unfolding member-allowance
-  leaf-allows d e = allowance-domain t 𝓐 d ∙ rw e (omega arith)
+  leaf-allows d e = allowance-domain t valid d ∙ rw e (omega arith)
 
   inner-allows : (d : ℕ) → is-leaf t d ≡ false → (x : Largest-child t d) × (allowance t (256 + d) ≡ t .threshold d * allowance t (256 + x .child))
   unfolding member-allowance is-leaf
@@ -114,14 +114,14 @@ module _ (t : Tree) (𝓐 : Accepted t) where
       let ge : (c : ℕ) → c < t .domains → is-child t d c ≡ true → allowance t (256 + c) ≤ largest-below (t .domains) (λ c. cond (is-child t d c) (allowance t (256 + c)) 0) =
       λ c s k. rw k at (largest-ge (t .domains) (λ c. cond (is-child t d c) (allowance t (256 + c)) 0) c s) in (
         record { child = b .index; real = b .small; hangs = b .passes; largest = λ c s k. rw (b .value) (ge c s k) },
-        allowance-domain t 𝓐 d ∙ rw (e, b .value) refl,
+        allowance-domain t valid d ∙ rw (e, b .value) refl,
       )
 
 pub allowance-law : Allowance-law
 unfolding Allowance-law
 allowance-law t ok =
-    let 𝓐 = accepted t ok in
-    record { of-thread = λ i h. thread-allowance t i (omega (arith, 𝓐 .few-threads)); of-leaf = leaf-allows t 𝓐; of-inner = inner-allows t 𝓐 }
+    let valid = accepted t ok in
+    record { of-thread = λ i h. thread-allowance t i (omega (arith, valid .few-threads)); of-leaf = leaf-allows t valid; of-inner = inner-allows t valid }
 
 -- PREFIXES AND STRETCHES
 take-drop : (n : ℕ) (l : List ℕ) → take n l ++ drop n l ≡ l

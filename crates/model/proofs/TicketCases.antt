@@ -22,7 +22,14 @@ ticket-cases-sized = refl
 
 -- each line is computed
 pub ticket-cases-hold : all-hold ticket-cases ≡ true
-unfolding any-below filter-below all-below read-word tree-of is-ticket is-child is-leaf depth-from depth level meets on-path child-from child own-record is-record is-member owner-domain under place-of is-watch is-idle is-inside fresh-words fresh-state is-kind is-entry prep-row swap-row link-row wait-row leave-row check-row help-row cas-row linger-row grant-row draw-row watch-row is-watched shown-members raise-row row step steps state-after how-many entering counts-of run-of run good-tail queue-on-path good-place good-counters refusal accepted lowest-bad first-refusal bad-domains bad-threads bad-parent too-deep no-threshold bad-home empty-domain tree-tests bad-length bad-entry bad-room tree-refusal fresh-answer first-kind first-domain step-reply run-reply run-buffer padded tree at-ticket-root count-up ok refused counters two-homes root-alone two-in-root one-home ticket-alone two-in-ticket three-in-ticket ticket-above with-numbers ticket-cases same-numbers place-numbers same-state same-counters same-lock fresh-counters gives same-counts kept holds walked formed-by-walks walked-step walked-refusal holds-by-walks all-hold-by-walks
+unfolding any-below filter-below all-below read-word tree-of is-ticket is-child is-leaf depth-from depth level meets on-path child-from child own-record
+    is-record is-member owner-domain under place-of is-watch is-idle is-inside fresh-words fresh-state is-kind is-entry prep-row swap-row link-row wait-row
+    leave-row check-row help-row cas-row linger-row grant-row draw-row watch-row is-watched shown-members raise-row row step steps state-after how-many
+    entering counts-of run-of run good-tail queue-on-path good-place good-counters refusal accepted lowest-bad first-refusal bad-domains bad-threads bad-parent
+    too-deep no-threshold bad-home empty-domain tree-tests bad-length bad-entry bad-room tree-refusal fresh-answer first-kind first-domain step-reply run-reply
+    run-buffer padded tree at-ticket-root count-up ok refused counters two-homes root-alone two-in-root one-home ticket-alone two-in-ticket three-in-ticket
+    ticket-above with-numbers ticket-cases same-numbers place-numbers same-state same-counters same-lock fresh-counters gives same-counts kept holds walked
+    formed-by-walks walked-step walked-refusal holds-by-walks all-hold-by-walks
 ticket-cases-hold = same-cases ticket-cases ticket-cases-sized ∙ refl
 
 -- a raise that shows several
@@ -31,5 +38,7 @@ unfolding any-below filter-below read-word tree-of meets on-path child-from chil
 several-shown = refl
 
 pub raises-in-order : Raises-in-order
-unfolding any-below filter-below read-word tree-of is-ticket is-child is-leaf meets on-path child-from child own-record place-of is-watch fresh-words prep-row swap-row link-row wait-row leave-row check-row help-row cas-row linger-row grant-row draw-row watch-row is-watched shown-members raise-row row step steps begun-in ended-in begun ended padded tree at-ticket-root counters three-in-ticket Raises-in-order
+unfolding any-below filter-below read-word tree-of is-ticket is-child is-leaf meets on-path child-from child own-record place-of is-watch fresh-words prep-row
+    swap-row link-row wait-row leave-row check-row help-row cas-row linger-row grant-row draw-row watch-row is-watched shown-members raise-row row step steps
+    begun-in ended-in begun ended padded tree at-ticket-root counters three-in-ticket Raises-in-order
 raises-in-order = (refl, refl, refl, refl)

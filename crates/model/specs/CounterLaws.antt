@@ -12,7 +12,7 @@ use Rattle.model.specs.Trees.{Tree, tree-of}
 use Rattle.model.specs.States.{fresh-state}
 use Rattle.model.specs.Steps.{Step}
 use Rattle.model.specs.Runs.{run}
-use Rattle.model.specs.Tenures.{domain-entries, domain-tenures, longest-told}
+use Rattle.model.specs.Tenures.{domain-entries, domain-tenures, longest-tenure}
 use Rattle.model.specs.Counters.{lock-state, fresh-counters, counters-after, most-counted, good-counts}
 use Rattle.model.specs.Refusals.{tree-refusal, bad-counter, step-refusal, run-refusal}
 use Rattle.model.specs.Answers.{counters-behind, step-answer, run-answer, trace-answer}
@@ -22,7 +22,7 @@ use Rattle.model.specs.Laws.{All-threads, Sixteen-bit, Formed}
 pub record Counts-steps (t : Tree) (c : Counters) (xs : List Step) : Type 0 where
   pub entries : (d : ℕ) → d < length (c .entries) → getD (counters-after t c xs .entries) d 0 ≡ getD (c .entries) d 0 + domain-entries t d xs
   pub tenures : (d : ℕ) → d < length (c .tenures) → getD (counters-after t c xs .tenures) d 0 ≡ getD (c .tenures) d 0 + domain-tenures t d xs
-  pub longest : (d : ℕ) → d < length (c .longest) → getD (counters-after t c xs .longest) d 0 ≡ max (getD (c .longest) d 0) (longest-told t d xs)
+  pub longest : (d : ℕ) → d < length (c .longest) → getD (counters-after t c xs .longest) d 0 ≡ max (getD (c .longest) d 0) (longest-tenure t d xs)
   pub entries-room : length (counters-after t c xs .entries) ≡ length (c .entries)
   pub tenures-room : length (counters-after t c xs .tenures) ≡ length (c .tenures)
   pub longest-room : length (counters-after t c xs .longest) ≡ length (c .longest)

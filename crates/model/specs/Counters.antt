@@ -12,7 +12,7 @@ use Rattle.model.specs.Trees.{Tree}
 use Rattle.model.specs.States.{fresh-words}
 use Rattle.model.specs.Steps.{Step}
 use Rattle.model.specs.Runs.{state-after}
-use Rattle.model.specs.Tenures.{domain-entries, domain-tenures, longest-told}
+use Rattle.model.specs.Tenures.{domain-entries, domain-tenures, longest-tenure}
 
 -- a lock state: the words of the lock, and the counters
 abbrev pub lock-state : State → Counters → LockState
@@ -37,7 +37,7 @@ counters-after t c xs =
     record {
       entries = each-with-index (λ d v. v + domain-entries t d xs) 0 (c .entries);
       tenures = each-with-index (λ d v. v + domain-tenures t d xs) 0 (c .tenures);
-      longest = each-with-index (λ d v. max v (longest-told t d xs)) 0 (c .longest);
+      longest = each-with-index (λ d v. max v (longest-tenure t d xs)) 0 (c .longest);
     }
 
 -- the lock state behind some steps

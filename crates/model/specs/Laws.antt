@@ -129,12 +129,12 @@ unfoldable pub Domain-law : Type 0
 Domain-law = (t : Tree) (i : ℕ) (s : State) → tree-refusal t .number ≡ 0 → i < t .threads → Formed t s → Tells-domain t i s
 
 -- an accepted step says the kind and the domain of the step table's step; a run's counts are those of the kinds that single calls say, each on the state that the one before returned
-unfoldable pub told-kinds : TreeWords → (schedule : List ℕ) → LockState → List ℕ
-told-kinds w [] s = []
-told-kinds w (i ∷ is) s = let r = step-answer w s i in r .kind ∷ told-kinds w is (r .state)
+unfoldable pub answered-kinds : TreeWords → (schedule : List ℕ) → LockState → List ℕ
+answered-kinds w [] s = []
+answered-kinds w (i ∷ is) s = let r = step-answer w s i in r .kind ∷ answered-kinds w is (r .state)
 
-unfoldable pub told-counts : (kinds : List ℕ) → Counts
-told-counts ks =
+unfoldable pub counts-of-kinds : (kinds : List ℕ) → Counts
+counts-of-kinds ks =
     record {
       steps = length ks;
       entries = occurrences 2 ks + occurrences 3 ks + occurrences 4 ks;
@@ -144,9 +144,9 @@ told-counts ks =
       crossed = occurrences 4 ks;
     }
 
-unfoldable pub Told-law : Type 0
-Told-law =
-    (w : TreeWords) (s : LockState) (is b : List ℕ) → Formed (tree-of w) (s .words) → run-answer w s is b .number ≡ 0 → run-answer w s is b .counts ≡ told-counts (told-kinds w is s)
+unfoldable pub Answered-kinds-law : Type 0
+Answered-kinds-law =
+    (w : TreeWords) (s : LockState) (is b : List ℕ) → Formed (tree-of w) (s .words) → run-answer w s is b .number ≡ 0 → run-answer w s is b .counts ≡ counts-of-kinds (answered-kinds w is s)
 
 -- What document 01 counted as passed, before document 02 told crossed entries apart: an entry from Wait at any domain but the root
 unfoldable pub waits-below : Place → Bool

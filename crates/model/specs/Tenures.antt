@@ -79,8 +79,8 @@ word-to-grant Raise = 0
 word-to-grant Invalid = 0
 
 -- the length that a step tells of a domain's running tenure: 1 where it starts one, the word that it will grant where a Check at the domain finds a successor to pass to, else 0
-unfoldable pub told-length : Tree → (domain : ℕ) → Step → ℕ
-told-length t d x =
+unfoldable pub tenure-length : Tree → (domain : ℕ) → Step → ℕ
+tenure-length t d x =
     max (cond (eqb (starts t d x) 0) 0 1) (cond (checks-at d (x .place)) (word-to-grant (place (x .state) (x .thread))) 0)
 
 -- OVER A LIST OF STEPS. The entries of a domain's threads; of the root none are counted
@@ -93,6 +93,6 @@ domain-tenures t d [] = 0
 domain-tenures t d (x ∷ xs) = starts t d x + domain-tenures t d xs
 
 -- the largest of the lengths that are told
-unfoldable pub longest-told : Tree → (domain : ℕ) → List Step → ℕ
-longest-told t d [] = 0
-longest-told t d (x ∷ xs) = max (told-length t d x) (longest-told t d xs)
+unfoldable pub longest-tenure : Tree → (domain : ℕ) → List Step → ℕ
+longest-tenure t d [] = 0
+longest-tenure t d (x ∷ xs) = max (tenure-length t d x) (longest-tenure t d xs)

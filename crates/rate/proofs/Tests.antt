@@ -131,11 +131,11 @@ rate-accepted h1 h2 p g =
 refused-of : (b : Bool) (r : Refusal) (x : Float) (n q : ℕ) → eqb (r .number) 0 ≡ b → answer-of r x ≡ Refused n q → r ≡ refusal n q
 unfolding answer-of refusal
 refused-of true r x n q e a = absurd (subst Is-rate (rw e at a) tt)
-refused-of false r x n q e a = ap told (rw e at a)
+refused-of false r x n q e a = ap refusal-in (rw e at a)
   where
-    told : RateAnswer → Refusal
-    told (Rate y) = accepted
-    told (Refused m k) = record { number = m; place = k }
+    refusal-in : RateAnswer → Refusal
+    refusal-in (Rate y) = accepted
+    refusal-in (Refused m k) = record { number = m; place = k }
 
 answer-refused : (r : Refusal) (x : Float) (n q : ℕ) → 0 < n → r ≡ refusal n q → answer-of r x ≡ Refused n q
 unfolding answer-of refusal

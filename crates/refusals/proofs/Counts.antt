@@ -62,7 +62,7 @@ count-same m hs es ns ls d small = by (not (eqb d 0) && ltb d m) refl
     by false z = rw (zero-low l (cond (leb 1 d && ltb d m) (getD hs d 0) 0 % 65536))
 
 -- what is told of a domain's counters, by the words that were read
-pub count-told :
+pub count-refusal-words :
     (m : ℕ) (hs es ns ls : List ℕ) (d h : ℕ) (r : Bool) → h ≡ getD hs d 0 → getD hs d 0 < 65536 →
     r ≡ count-in m d h (getD es d 0) (getD ns d 0) (getD ls d 0) → r ≡ good-count (tree-in m 0 [] hs []) (counters-in es ns ls) d
-count-told m hs es ns ls d h r e small f = f ∙ ap (λ v. count-in m d v (getD es d 0) (getD ns d 0) (getD ls d 0)) e ∙ sym (count-same m hs es ns ls d small)
+count-refusal-words m hs es ns ls d h r e small f = f ∙ ap (λ v. count-in m d v (getD es d 0) (getD ns d 0) (getD ls d 0)) e ∙ sym (count-same m hs es ns ls d small)

@@ -72,19 +72,19 @@ place-same k t u os vs i h q f = rw (meets-same 6 t u h (q .domain) f, child-sam
 -- the home of a thread stands in the table
 pub owner-is : (n m : ℕ) (ps hs os : List ℕ) → Owners (tree-in n m ps [] hs) os → m ≤ 256 → (i : ℕ) → i < m → getD os i 0 ≡ getD hs i 0
 unfolding is-record owner-domain tree-of
-owner-is n m ps hs os 𝓞 few i l =
-    𝓞 .owner i (omega arith) ∙ rw (lt-ltb i 256 (omega arith), lt-ltb i m l, read-in 0 m hs i (omega arith) l)
+owner-is n m ps hs os owned few i l =
+    owned .owner i (omega arith) ∙ rw (lt-ltb i 256 (omega arith), lt-ltb i m l, read-in 0 m hs i (omega arith) l)
 
-module _ (w : TreeWords) (𝓐 : Accepted (tree-of w)) (os : List ℕ) (𝓞 : Owners (tree-in (w .domains) (w .threads) (w .parents) [] (w .homes)) os) where
+module _ (w : TreeWords) (valid : Accepted (tree-of w)) (os : List ℕ) (owned : Owners (tree-in (w .domains) (w .threads) (w .parents) [] (w .homes)) os) where
   -- members do not depend on thresholds
   owners : Owners (tree-of w) os
   unfolding is-record owner-domain tree-of
-  owners = record { owner = λ r l. 𝓞 .owner r l }
+  owners = record { owner = λ r l. owned .owner r l }
 
   pub owner-home : (i : ℕ) → i < w .threads → getD os i 0 ≡ tree-of w .home i
   unfolding is-record owner-domain tree-of
   owner-home i l =
-      let few = 𝓐 .few-threads in
+      let few = valid .few-threads in
       owners .owner i (omega arith) ∙ rw (lt-ltb i 256 (omega arith), lt-ltb i (w .threads) l)
 
   no-owner : (i : ℕ) → i < 256 → w .threads ≤ i → getD os i 0 ≡ 255
@@ -93,7 +93,7 @@ module _ (w : TreeWords) (𝓐 : Accepted (tree-of w)) (os : List ℕ) (𝓞 : O
 
   pub owner-real : (i : ℕ) → i < w .threads → getD os i 0 < w .domains
   unfolding tree-of
-  owner-real i l = rw (owner-home i l) (𝓐 .home-real i l)
+  owner-real i l = rw (owner-home i l) (valid .home-real i l)
 
   module _ (s : State) where
     abbrev place-at : ℕ → Bool
@@ -109,7 +109,7 @@ module _ (w : TreeWords) (𝓐 : Accepted (tree-of w)) (os : List ℕ) (𝓞 : O
           | yes l ↦
               rw (lt-ltb i (w .threads) l, owner-home i l)
               (place-same (w .«ticket_root») (parents-in (w .domains) (w .parents)) (tree-of w) os (s .statuses) i (tree-of w .home i) q (λ e. refl)
-              ∙ place-is (tree-of w) 𝓐 os (s .statuses) owners (w .«ticket_root») refl i l (q .row) (q .domain) (q .peer) (q .word))
+              ∙ place-is (tree-of w) valid os (s .statuses) owners (w .«ticket_root») refl i l (q .row) (q .domain) (q .peer) (q .word))
           | no l ↦ rw (le-ltb i (w .threads) (omega arith)) (idle-numbers q)
         ]
 
@@ -129,7 +129,7 @@ module _ (w : TreeWords) (𝓐 : Accepted (tree-of w)) (os : List ℕ) (𝓞 : O
         elim (decLt i (w .threads)) [
           | yes l ↦
               let h = owner-real i l in
-              rw (lt-ltb i (w .threads) l, ne-eqb (getD os i 0) 255 (omega (arith, h, 𝓐 .few-domains)))
+              rw (lt-ltb i (w .threads) l, ne-eqb (getD os i 0) 255 (omega (arith, h, valid .few-domains)))
           | no l ↦
               rw (le-ltb i (w .threads) (omega arith), no-owner i small (omega arith))
               (swapped (idle-in (getD (s .places) i (place-words 0 0 0 0))) (eqb (next s i) 0 && eqb (status s i) 0))
@@ -156,7 +156,7 @@ module _ (w : TreeWords) (𝓐 : Accepted (tree-of w)) (os : List ℕ) (𝓞 : O
     tails-are : all-below 64 (good-tail (tree-of w) s) ≡ all-below 64 (λ d. next-in os d (tail s d)) && root-tail
     tails-are =
         all-same 64 (good-tail (tree-of w) s) (λ d. next-in os d (tail s d) && (not (is-ticket (tree-of w) d) || eqb (tail s d) 0))
-        (λ d l. tail-is (tree-of w) 𝓐 os owners s d l)
+        (λ d l. tail-is (tree-of w) valid os owners s d l)
         ∙ all-both 64 (λ d. next-in os d (tail s d)) (λ d. not (is-ticket (tree-of w) d) || eqb (tail s d) 0)
         ∙ ap (λ b. all-below 64 (λ d. next-in os d (tail s d)) && b) (root-alone 63 (λ d. not (is-ticket (tree-of w) d) || eqb (tail s d) 0) other ∙ root-tail-is)
       where
@@ -178,7 +178,7 @@ module _ (w : TreeWords) (𝓐 : Accepted (tree-of w)) (os : List ℕ) (𝓞 : O
 
     records-are : all-below 320 record-at ≡ all-below 320 (good-next (tree-of w) s) && all-below 320 (good-status (tree-of w) s)
     records-are =
-        all-same 320 record-at (λ r. good-next (tree-of w) s r && good-status (tree-of w) s r) (λ r l. record-is (tree-of w) 𝓐 os owners s r l)
+        all-same 320 record-at (λ r. good-next (tree-of w) s r && good-status (tree-of w) s r) (λ r l. record-is (tree-of w) valid os owners s r l)
         ∙ all-both 320 (good-next (tree-of w) s) (good-status (tree-of w) s)
 
     -- the root, domain by domain and thread by thread

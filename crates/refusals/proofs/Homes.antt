@@ -15,7 +15,7 @@ use Rattle.model.specs.Trees.{tree-of, is-child, is-leaf}
 use Rattle.model.specs.Refusals.{bad-home}
 use Rattle.model.proofs.Tests.{or-right, any-found, all-each}
 use Rattle.model.proofs.Trees.Reading.{read-in}
-use Rattle.refusals.specs.Arrays.{tree-in, parents-in, no-home-in, No-domains, No-homes, is-home-in, Marked-homes, Homes-are-leaves, differ}
+use Rattle.refusals.specs.Arrays.{tree-in, parents-in, no-home-in, No-domains, Unfit-homes, is-home-in, Marked-homes, Homes-are-leaves, differ}
 use Rattle.refusals.proofs.Reading.{parent-in, not-not}
 
 -- the bytes below the number of domains
@@ -79,7 +79,7 @@ module _ (n : ℕ) (ps : List ℕ) where
             ];
       }
 
-  pub marked-all : (bs : List Bool) (d : ℕ) → Marked bs d → d ≡ n → No-homes n ps bs
+  pub marked-all : (bs : List Bool) (d : ℕ) → Marked bs d → d ≡ n → Unfit-homes n ps bs
   unfolding is-leaf is-child tree-of
   marked-all bs d C e =
       record {
@@ -119,15 +119,15 @@ abbrev pub alike : (marked bad : List Bool) → ℕ → Bool
 alike ms bs x = differ (getD ms x false) (getD bs x false)
 
 pub tables-differ :
-    (n m : ℕ) (ps hs : List ℕ) (ms bs : List Bool) (r : Bool) → n ≤ 64 → Marked-homes m hs ms → No-homes n ps bs → r ≡ all-below 256 (alike ms bs) →
+    (n m : ℕ) (ps hs : List ℕ) (ms bs : List Bool) (r : Bool) → n ≤ 64 → Marked-homes m hs ms → Unfit-homes n ps bs → r ≡ all-below 256 (alike ms bs) →
     Homes-are-leaves n m ps hs r
-tables-differ n m ps hs ms bs r few 𝓜 𝓗 e =
+tables-differ n m ps hs ms bs r few marks homes e =
     record {
       leaf = λ z i l.
           let x = getD hs i 0 in
-          let small = 𝓜 .byte i l in
-          sym (𝓗 .no-home x small) ∙ first-so _ _ (each z x small) (𝓜 .home x small ∙ any-found m (λ j. eqb (getD hs j 0) x) i l (eq-eqb x x refl));
-      home = λ z d l f. sym (𝓜 .home d (omega arith)) ∙ other-so _ _ (each z d (omega arith)) (𝓗 .no-home d (omega arith) ∙ f);
+          let small = marks .byte i l in
+          sym (homes .no-home x small) ∙ first-so _ _ (each z x small) (marks .home x small ∙ any-found m (λ j. eqb (getD hs j 0) x) i l (eq-eqb x x refl));
+      home = λ z d l f. sym (marks .home d (omega arith)) ∙ other-so _ _ (each z d (omega arith)) (homes .no-home d (omega arith) ∙ f);
     }
   where
     each : r ≡ true → (x : ℕ) → x < 256 → alike ms bs x ≡ true
@@ -144,7 +144,7 @@ tables-differ n m ps hs ms bs r few 𝓜 𝓗 e =
 
 -- a home by that table
 pub home-test :
-    (n m : ℕ) (ps hs : List ℕ) (bs : List Bool) (i h : ℕ) → No-homes n ps bs → i < m → h ≡ getD hs i 0 → h < 256 →
+    (n m : ℕ) (ps hs : List ℕ) (bs : List Bool) (i h : ℕ) → Unfit-homes n ps bs → i < m → h ≡ getD hs i 0 → h < 256 →
     getD bs h false ≡ bad-home (tree-in n m ps [] hs) i
 unfolding bad-home is-leaf is-child tree-of
 home-test n m ps hs bs i h N l e f = rw (read-in 0 m hs i (omega arith) l, ← e) (N .no-home h f)

@@ -7,7 +7,7 @@ pub mod Owning
 pub mod Members
 pub mod RowShapes
 pub mod PlaceTests
-pub mod Resting
+pub mod RestNumbers
 pub mod Formed
 pub mod ScheduleTests
 pub mod Joining

@@ -31,7 +31,7 @@ member-owned t d r = by (ltb r 256)
     by true = refl
     by false = joined (ltb (r - 256) (t .domains)) (not (eqb (r - 256) 0)) (eqb (t .parent (r - 256)) d)
 
-module _ (t : Tree) (𝓐 : Accepted t) where
+module _ (t : Tree) (valid : Accepted t) where
   -- owners are domains of the tree
   pub owner-small : (r : ℕ) → is-record t r ≡ true → owner-domain t r < 64
   unfolding is-record owner-domain
@@ -39,26 +39,26 @@ module _ (t : Tree) (𝓐 : Accepted t) where
       elim (decLt r 256) [
         | yes p ↦
             let z = lt-ltb r 256 p in
-            let h = 𝓐 .home-real r (ltb-true r (t .threads) (rw z at e)) in
-            rw z (omega (arith, 𝓐 .few-domains))
+            let h = valid .home-real r (ltb-true r (t .threads) (rw z at e)) in
+            rw z (omega (arith, valid .few-domains))
         | no p ↦
             let z = le-ltb r 256 (omega arith) in
             let both = and-both (ltb (r - 256) (t .domains)) (not (eqb (r - 256) 0)) (rw z at e) in
             let l = ltb-true (r - 256) (t .domains) (both .0) in
             let n = eqb-false (r - 256) 0 (not-true (eqb (r - 256) 0) (both .1)) in
-            let h = 𝓐 .parent-lower (r - 256) (omega (arith, n)) l in
-            rw z (omega (arith, 𝓐 .few-domains, h, l))
+            let h = valid .parent-lower (r - 256) (omega (arith, n)) l in
+            rw z (omega (arith, valid .few-domains, h, l))
       ]
 
   beyond : (r : ℕ) → 320 ≤ r → is-record t r ≡ false
   unfolding is-record
-  beyond r h = rw (le-ltb r 256 (omega arith), le-ltb (r - 256) (t .domains) (omega (arith, 𝓐 .few-domains)))
+  beyond r h = rw (le-ltb r 256 (omega arith), le-ltb (r - 256) (t .domains) (omega (arith, valid .few-domains)))
 
-  module _ (os : List ℕ) (𝓞 : Owners t os) where
+  module _ (os : List ℕ) (owned : Owners t os) where
     pub member-is : (d r : ℕ) → d < 64 → member-in os d r ≡ is-member t d r
     member-is d r w =
         elim (decLt r 320) [
-          | yes p ↦ rw (lt-ltb r 320 p, 𝓞 .owner r p, member-owned t d r) (by (is-record t r))
+          | yes p ↦ rw (lt-ltb r 320 p, owned .owner r p, member-owned t d r) (by (is-record t r))
           | no p ↦ rw (le-ltb r 320 (omega arith), member-owned t d r, beyond r (omega arith))
         ]
       where
@@ -84,7 +84,7 @@ module _ (t : Tree) (𝓐 : Accepted t) where
 
     pub record-is : (s : State) (r : ℕ) → r < 320 → record-in os r (next s r) (status s r) ≡ good-next t s r && good-status t s r
     unfolding good-next good-status
-    record-is s r w = rw (𝓞 .owner r w) (by (is-record t r) refl)
+    record-is s r w = rw (owned .owner r w) (by (is-record t r) refl)
       where
         none : (a b : Bool) → a && b ≡ (a || false) && (b || false)
         none true true = refl

@@ -150,7 +150,7 @@ module _ (n m : ℕ) (ps hs : List ℕ) where
             ]
 
 -- THE TABLE AND THE TEST
-module _ (w : TreeWords) (𝓐 : Accepted (tree-of w)) where
+module _ (w : TreeWords) (valid : Accepted (tree-of w)) where
   -- paths read neither counts nor thresholds
   ancestor-same : (i k : ℕ) → ancestor (tree-in (w .domains) (w .threads) (w .parents) [] (w .homes)) i k ≡ ancestor (tree-of w) i k
   unfolding ancestor above tree-of
@@ -159,46 +159,46 @@ module _ (w : TreeWords) (𝓐 : Accepted (tree-of w)) where
 
   on-path-up : (i k : ℕ) → i < w .threads → on-path (tree-of w) i (ancestor (tree-of w) i k) ≡ true
   unfolding tree-of
-  on-path-up i zero l = rw ancestor-home (on-path-home (tree-of w) 𝓐 i l)
+  on-path-up i zero l = rw ancestor-home (on-path-home (tree-of w) valid i l)
   on-path-up i (suc k) l =
       let here = on-path-up i k l in
       elim (ℕ-discrete (ancestor (tree-of w) i k) 0) [
         | yes z ↦ rw (ancestor-suc (tree-of w) i k ∙ above-root (tree-of w) _ z ∙ sym z) here
-        | no z ↦ rw (ancestor-suc (tree-of w) i k ∙ above-parent (tree-of w) _ (omega arith)) (on-path-parent (tree-of w) 𝓐 i l _ (omega arith) here)
+        | no z ↦ rw (ancestor-suc (tree-of w) i k ∙ above-parent (tree-of w) _ (omega arith)) (on-path-parent (tree-of w) valid i l _ (omega arith) here)
       ]
 
   pub occupied-is :
       (bs : List Bool) → Occupied (tree-in (w .domains) (w .threads) (w .parents) [] (w .homes)) bs → (d : ℕ) → d < w .domains →
       not (getD bs d false) ≡ empty-domain (tree-of w) d
   unfolding tree-of
-  occupied-is bs 𝓞 d l = by (getD bs d false) refl
+  occupied-is bs owned d l = by (getD bs d false) refl
     where
       by : (b : Bool) → getD bs d false ≡ b → not b ≡ empty-domain (tree-of w) d
       by true e =
-          let o = 𝓞 .only d l e in
+          let o = owned .only d l e in
           let there = sym (ancestor-same (o .thread) (o .index)) ∙ o .there in
           let up = ap (λ x. on-path (tree-of w) (o .thread) x) (sym there) ∙ on-path-up (o .thread) (o .index) (o .real) in
           sym (one-there (tree-of w) d (record { thread = o .thread; real = o .real; below = under-domain (tree-of w) d (o .thread) ∙ up }))
       by false e =
           sym (none-there (tree-of w) d (λ h.
-          let o = path-index (tree-of w) 𝓐 (h .thread) (h .real) d (sym (under-domain (tree-of w) d (h .thread)) ∙ h .below) in
-          true≢false (sym (𝓞 .marked (h .thread) (o .index) (h .real)) ∙ ap (λ x. getD bs x false) (ancestor-same (h .thread) (o .index) ∙ o .there) ∙ e)))
+          let o = path-index (tree-of w) valid (h .thread) (h .real) d (sym (under-domain (tree-of w) d (h .thread)) ∙ h .below) in
+          true≢false (sym (owned .marked (h .thread) (o .index) (h .real)) ∙ ap (λ x. getD bs x false) (ancestor-same (h .thread) (o .index) ∙ o .there) ∙ e)))
 
   -- the lowest that is not marked is the lowest that is empty
   pub occupied-lowest :
       (bs : List Bool) → Occupied (tree-in (w .domains) (w .threads) (w .parents) [] (w .homes)) bs → (p : ℕ) →
       Lowest (w .domains) (λ d. not (getD bs d false)) p → Lowest (w .domains) (empty-domain (tree-of w)) p
-  occupied-lowest bs 𝓞 p L =
+  occupied-lowest bs owned p L =
       let n = L .within in
       record {
         within = L .within;
-        passed = λ j l. sym (occupied-is bs 𝓞 j (omega arith)) ∙ L .passed j l;
-        fails = λ l. sym (occupied-is bs 𝓞 p l) ∙ L .fails l;
+        passed = λ j l. sym (occupied-is bs owned j (omega arith)) ∙ L .passed j l;
+        fails = λ l. sym (occupied-is bs owned p l) ∙ L .fails l;
       }
 
   pub homes-real : Real-homes (w .domains) (w .threads) (w .homes)
   unfolding tree-of
-  homes-real = record { real = λ i l. rw (read-in 0 (w .threads) (w .homes) i (omega arith) l) at (𝓐 .home-real i l) }
+  homes-real = record { real = λ i l. rw (read-in 0 (w .threads) (w .homes) i (omega arith) l) at (valid .home-real i l) }
 
   -- where every leaf is a home, every domain has a thread under it
   module _ (leaves : (d : ℕ) → d < w .domains → is-leaf (tree-of w) d ≡ true → is-home-in (w .threads) (w .homes) d ≡ true) where
@@ -211,13 +211,13 @@ module _ (w : TreeWords) (𝓐 : Accepted (tree-of w)) where
         by true e higher =
             let r = any-one (w .threads) (λ i. eqb (getD (w .homes) i 0) d) (leaves d l e) in
             let home : tree-of w .home (r .index) ≡ d = read-in 0 (w .threads) (w .homes) (r .index) (omega arith) (r .below) ∙ eqb-true _ _ (r .holds) in
-            record { thread = r .index; real = r .below; below = under-domain (tree-of w) d (r .index) ∙ ap (λ x. on-path (tree-of w) (r .index) x) (sym home) ∙ on-path-home (tree-of w) 𝓐 (r .index) (r .below) }
+            record { thread = r .index; real = r .below; below = under-domain (tree-of w) d (r .index) ∙ ap (λ x. on-path (tree-of w) (r .index) x) (sym home) ∙ on-path-home (tree-of w) valid (r .index) (r .below) }
         by false e higher =
             let c = any-one (w .domains) (is-child (tree-of w) d) (not-false _ e) in
             let f = child-facts (tree-of w) d (c .index) (c .holds) in
-            let lower = 𝓐 .parent-lower (c .index) (f .no-root) (c .below) in
+            let lower = valid .parent-lower (c .index) (f .no-root) (c .below) in
             let there = higher (c .index) (omega (arith, f .hangs)) (c .below) in
-            let up = on-path-parent (tree-of w) 𝓐 (there .thread) (there .real) (c .index) (f .no-root) (sym (under-domain (tree-of w) (c .index) (there .thread)) ∙ there .below) in
+            let up = on-path-parent (tree-of w) valid (there .thread) (there .real) (c .index) (f .no-root) (sym (under-domain (tree-of w) (c .index) (there .thread)) ∙ there .below) in
             record { thread = there .thread; real = there .real; below = under-domain (tree-of w) d (there .thread) ∙ ap (λ x. on-path (tree-of w) (there .thread) x) (sym (f .hangs)) ∙ up }
 
     pub none-empty : Lowest (w .domains) (empty-domain (tree-of w)) (w .domains)
@@ -231,6 +231,6 @@ unfolding tree-of is-leaf is-child
 leaves-pass w passed r H z =
     let homes = none-bad (w .threads) (bad-home (tree-in (w .domains) (w .threads) (w .parents) [] (w .homes)))
     (λ i l. leaf-test (w .domains) (w .threads) (w .parents) (w .homes) i l (H .leaf z i l)) in
-    let 𝓐 = facts w passed (w .threads) homes (omega arith) in
+    let valid = facts w passed (w .threads) homes (omega arith) in
     let leaves : (d : ℕ) → d < w .domains → is-leaf (tree-of w) d ≡ true → is-home-in (w .threads) (w .homes) d ≡ true = λ d l e. H .home z d l (rw (lt-leb (w .domains) d l, e)) in
-    tree-passes w passed (w .threads) homes (omega arith) (w .domains) (none-empty w 𝓐 leaves) (omega arith)
+    tree-passes w passed (w .threads) homes (omega arith) (w .domains) (none-empty w valid leaves) (omega arith)

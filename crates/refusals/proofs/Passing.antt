@@ -65,9 +65,9 @@ module _ (w : TreeWords) (z : tree-refusal (tree-of w) .number ≡ 0) where
           (last (all-below 64 (good-tail (tree-of w) s)) (all-below 320 (good-next (tree-of w) s)) (all-below 320 (good-status (tree-of w) s)) (all-below 256 (good-thread (tree-of w) s)))
       by false e = rw (all-fails 64 (good-tail (tree-of w) s) 0 (omega arith) (tail-fails s e (rw e at f)))
 
-  module _ (os : List ℕ) (𝓞 : Owners (tree-in (w .domains) (w .threads) (w .parents) [] (w .homes)) os) where
+  module _ (os : List ℕ) (owned : Owners (tree-in (w .domains) (w .threads) (w .parents) [] (w .homes)) os) where
     pub home-real : (i : ℕ) → i < w .threads → getD os i 0 < w .domains
-    home-real i l = owner-real w real os 𝓞 i l
+    home-real i l = owner-real w real os owned i l
 
     -- where the root is a ticket lock and not the only domain, no thread is at home there
     home-inner : (i : ℕ) → i < w .threads → w .domains ≢ 1 → getD os i 0 ≢ 0
@@ -75,14 +75,14 @@ module _ (w : TreeWords) (z : tree-refusal (tree-of w) .number ≡ 0) where
     home-inner i l n z =
         let some = real .some-domain in
         let low = real .parent-lower 1 (omega arith) (omega (arith, n)) in
-        let home = sym (owner-home w real os 𝓞 i l) ∙ z in
+        let home = sym (owner-home w real os owned i l) ∙ z in
         leaf-childless (tree-of w) (tree-of w .home i) 1 (real .home-leaf i l) (omega arith) (omega (arith, n)) (omega (arith, home))
 
     pub rest-number : (i : ℕ) → i < w .threads → (n : ℕ) → n ≡ resting-row (w .«ticket_root») (w .domains) + 256 * getD (w .homes) i 0 → Rest-number (w .«ticket_root») (getD os i 0) n
     rest-number i l n e = by (ticket-in (w .«ticket_root»)) (eqb (w .domains) 1) refl refl
       where
         same : getD os i 0 ≡ getD (w .homes) i 0
-        same = owner-is _ _ _ _ _ 𝓞 (shape-of .few-threads) i l
+        same = owner-is _ _ _ _ _ owned (shape-of .few-threads) i l
 
         wait : barred-in (w .«ticket_root») 4 (getD os i 0) ≡ false → n ≡ 4 + 256 * getD (w .homes) i 0 → Rest-number (w .«ticket_root») (getD os i 0) n
         wait b z = let y : n ≡ 4 + 256 * getD os i 0 = omega (arith, same) in rw y (of-wait b)
@@ -114,7 +114,7 @@ module _ (w : TreeWords) (z : tree-refusal (tree-of w) .number ≡ 0) where
       root-at = root-in (w .«ticket_root») (getD (s .tails) 0 0) (s .ticket) (s .grant)
 
       pub domain-fails : root-at ≡ true → all-below 64 domain-at ≡ false → false ≡ well-formed (tree-of w) s
-      domain-fails r f = sym (formed-is w real os 𝓞 s ∙ rw (r, f))
+      domain-fails r f = sym (formed-is w real os owned s ∙ rw (r, f))
 
       used-is : (i : ℕ) → i < w .threads → thread-at i ≡ used-at i
       unfolding thread-in
@@ -125,7 +125,7 @@ module _ (w : TreeWords) (z : tree-refusal (tree-of w) .number ≡ 0) where
       unused-is i l = rw (le-ltb i (w .threads) l)
 
       thread-fails : root-at ≡ true → all-below 64 domain-at ≡ true → (i : ℕ) → i < 256 → thread-at i ≡ false → false ≡ well-formed (tree-of w) s
-      thread-fails r f i l g = sym (formed-is w real os 𝓞 s ∙ rw (r, f) (all-fails 256 thread-at i l g))
+      thread-fails r f i l g = sym (formed-is w real os owned s ∙ rw (r, f) (all-fails 256 thread-at i l g))
 
       pub used-fails : root-at ≡ true → all-below 64 domain-at ≡ true → (i : ℕ) → i < w .threads → used-at i ≡ false → false ≡ well-formed (tree-of w) s
       used-fails r f i l g = let few = shape-of .few-threads in thread-fails r f i (omega arith) (used-is i l ∙ g)
@@ -140,4 +140,4 @@ module _ (w : TreeWords) (z : tree-refusal (tree-of w) .number ≡ 0) where
           let each : (i : ℕ) → i < 256 → thread-at i ≡ true =
           λ i l. elim (decLt i (w .threads)) [ yes m ↦ used-is i m ∙ g i m | no m ↦ unused-is i (omega arith) ∙ h i (omega arith) l ]
           in
-          sym (formed-is w real os 𝓞 s ∙ rw (r, f, all-true 256 thread-at each))
+          sym (formed-is w real os owned s ∙ rw (r, f, all-true 256 thread-at each))

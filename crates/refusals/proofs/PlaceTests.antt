@@ -67,7 +67,7 @@ in-order true false c = refl
 in-order false true c = refl
 in-order false false c = refl
 
-module _ (t : Tree) (𝓐 : Accepted t) (os vs : List ℕ) (𝓞 : Owners t os) (k : ℕ) (root : t .ticket-root ≡ not (eqb k 0)) (i : ℕ) (h : i < t .threads) where
+module _ (t : Tree) (valid : Accepted t) (os vs : List ℕ) (owned : Owners t os) (k : ℕ) (root : t .ticket-root ≡ not (eqb k 0)) (i : ℕ) (h : i < t .threads) where
   -- what is asked of a place, and of the status that it watches
   abbrev asked : Place → Bool
   asked p = good-place t i p && (not (is-watch p) || leb (getD vs (own-record t i 0) 0) 65535)
@@ -80,9 +80,9 @@ module _ (t : Tree) (𝓐 : Accepted t) (os vs : List ℕ) (𝓞 : Owners t os) 
       by : (b c : Bool) → on-path t i l ≡ b → (b && not c) && member-in os l p ≡ (b && not c) && is-member t l p
       by true true e = refl
       by true false e =
-          let o = path-index t 𝓐 i h l e in
-          let r = ancestor-real t 𝓐 i h (o .index) in
-          member-is t 𝓐 os 𝓞 l p (omega (arith, o .there, r, 𝓐 .few-domains))
+          let o = path-index t valid i h l e in
+          let r = ancestor-real t valid i h (o .index) in
+          member-is t valid os owned l p (omega (arith, o .there, r, valid .few-domains))
       by false c e = refl
 
   -- the root is barred to queue places where it is a ticket lock

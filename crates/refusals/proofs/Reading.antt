@@ -12,7 +12,7 @@ use Rattle.model.specs.Refusals.{tree-refusal}
 use Rattle.model.specs.Laws.{Root-law}
 use Rattle.model.proofs.Laws.Root.{root-law}
 use Rattle.model.proofs.Trees.Reading.{read-in}
-use Rattle.refusals.specs.Arrays.{tree-in, told}
+use Rattle.refusals.specs.Arrays.{tree-in, refusal-words}
 
 module _ (n m : ℕ) (ps ts hs : List ℕ) where
   pub parent-in : (d : ℕ) → 0 < d → d < n → tree-in n m ps ts hs .parent d ≡ getD ps d 0
@@ -32,6 +32,6 @@ not-not true = refl
 not-not false = refl
 
 -- the kind of root is not read
-pub told-same : (w : TreeWords) → told (tree-refusal (tree-in (w .domains) (w .threads) (w .parents) (w .thresholds) (w .homes))) ≡ told (tree-refusal (tree-of w))
+pub refusal-words-same : (w : TreeWords) → refusal-words (tree-refusal (tree-in (w .domains) (w .threads) (w .parents) (w .thresholds) (w .homes))) ≡ refusal-words (tree-refusal (tree-of w))
 unfolding tree-of Root-law
-told-same w = ap told (root-law (tree-of w) false)
+refusal-words-same w = ap refusal-words (root-law (tree-of w) false)

@@ -15,7 +15,7 @@ use Rattle.model.proofs.Refusing.{tests-pass, numbered}
 use Rattle.model.proofs.Trees.Accepted.{Accepted, but-zero, accepted-before}
 use Rattle.model.proofs.Laws.Refusals.{accepted-number}
 use Rattle.refusals.specs.declared.Refusal.{Refusal}
-use Rattle.refusals.specs.Arrays.{tree-in, parents-in, Lower, told, shape-tests}
+use Rattle.refusals.specs.Arrays.{tree-in, parents-in, Lower, refusal-words, shape-tests}
 use Rattle.refusals.specs.Lowest.{Lowest}
 use Rattle.refusals.proofs.Reading.{parent-in}
 use Rattle.refusals.proofs.Scanning.{single-hit, single-missed, test-hit, test-missed}
@@ -139,12 +139,12 @@ module _ (w : TreeWords) where
   domains-alone = rw (levels-alone 0 (w .thresholds) [])
 
   -- 4 and 5, then 6 to 8
-  module _ (k : Refusal) (f : k ≡ told (first-refusal (count-tests (tree-in (w .domains) (w .threads) [] [] [])))) where
-    counted : k ≡ told (first-refusal (count-tests t))
-    counted = f ∙ ap told counts-alone
+  module _ (k : Refusal) (f : k ≡ refusal-words (first-refusal (count-tests (tree-in (w .domains) (w .threads) [] [] [])))) where
+    counted : k ≡ refusal-words (first-refusal (count-tests t))
+    counted = f ∙ ap refusal-words counts-alone
 
-    pub counts-refused : (k .number ≡ 0 → ⊥) → k ≡ told (first-refusal (shape-tests t))
-    counts-refused n = counted ∙ ap told (sym (first-decides (count-tests t) (domain-tests t) (λ z. n (ap (λ q. q .number) counted ∙ z))))
+    pub counts-refused : (k .number ≡ 0 → ⊥) → k ≡ refusal-words (first-refusal (shape-tests t))
+    counts-refused n = counted ∙ ap refusal-words (sym (first-decides (count-tests t) (domain-tests t) (λ z. n (ap (λ q. q .number) counted ∙ z))))
 
     module _ (z : k .number ≡ 0) where
       pub few-domains : (0 < w .domains) × (w .domains ≤ 64)
@@ -156,12 +156,12 @@ module _ (w : TreeWords) where
           (omega arith, ltb-false 64 (w .domains) (d₄ .1))
 
       pub domains-decide :
-          (q : Refusal) → q ≡ told (first-refusal (domain-tests (tree-in (w .domains) 0 (w .parents) (w .thresholds) []))) →
-          q ≡ told (first-refusal (shape-tests t))
+          (q : Refusal) → q ≡ refusal-words (first-refusal (domain-tests (tree-in (w .domains) 0 (w .parents) (w .thresholds) []))) →
+          q ≡ refusal-words (first-refusal (shape-tests t))
       unfolding has-number
       domains-decide q g =
           g
-          ∙ ap told
+          ∙ ap refusal-words
           (domains-alone
           ∙ sym (other-decides (count-tests t) (domain-tests t) (numbered (count-tests t) refl) (sym (ap (λ q. q .number) counted) ∙ z)))
 
@@ -171,14 +171,14 @@ module _ (w : TreeWords) where
   shape-alone = rw (levels-alone (w .threads) (w .thresholds) [])
 
   -- 4 to 8, then 9 and 16
-  module _ (r : Refusal) (e : r ≡ told (first-refusal (shape-tests (tree-in (w .domains) (w .threads) (w .parents) (w .thresholds) [])))) where
-    whole : r ≡ told (first-refusal (shape-tests t))
-    whole = e ∙ ap told shape-alone
+  module _ (r : Refusal) (e : r ≡ refusal-words (first-refusal (shape-tests (tree-in (w .domains) (w .threads) (w .parents) (w .thresholds) [])))) where
+    whole : r ≡ refusal-words (first-refusal (shape-tests t))
+    whole = e ∙ ap refusal-words shape-alone
 
-    pub shape-refused : (r .number ≡ 0 → ⊥) → r ≡ told (tree-refusal t)
+    pub shape-refused : (r .number ≡ 0 → ⊥) → r ≡ refusal-words (tree-refusal t)
     unfolding tree-refusal tree-tests
     shape-refused n =
-        whole ∙ ap told (sym (first-decides (shape-tests t) (home-tests t ++ empty-tests t) (λ z. n (ap (λ q. q .number) whole ∙ z))))
+        whole ∙ ap refusal-words (sym (first-decides (shape-tests t) (home-tests t ++ empty-tests t) (λ z. n (ap (λ q. q .number) whole ∙ z))))
 
     pub shape-passed : r .number ≡ 0 → first-refusal (shape-tests t) .number ≡ 0
     shape-passed z = sym (ap (λ q. q .number) whole) ∙ z

@@ -34,7 +34,7 @@ abbrev pub shape-tests : Tree → List Test
 shape-tests t = count-tests t ++ domain-tests t
 
 -- an answer that is true only where no domain fails its tests
-pub record Sound (domains : ℕ) (parents thresholds : List ℕ) (answer : Bool) : Type 0 where
+pub record Domains-pass (domains : ℕ) (parents thresholds : List ℕ) (answer : Bool) : Type 0 where
   pub sound : answer ≡ true → first-refusal (domain-tests (tree-in domains 0 parents thresholds [])) ≡ accepted
 
 -- of each byte, whether it is no domain of the tree
@@ -46,7 +46,7 @@ pub record No-domains (domains : ℕ) (table : List Bool) : Type 0 where
 abbrev pub no-home-in : (domains : ℕ) → (parents : List ℕ) → ℕ → Bool
 no-home-in n ps x = leb n x || not (is-leaf (parents-in n ps) x)
 
-pub record No-homes (domains : ℕ) (parents : List ℕ) (table : List Bool) : Type 0 where
+pub record Unfit-homes (domains : ℕ) (parents : List ℕ) (table : List Bool) : Type 0 where
   pub no-home : (x : ℕ) → x < 256 → getD table x false ≡ no-home-in domains parents x
 
 -- a byte is some thread's home
@@ -85,8 +85,8 @@ pub record Occupied (t : Tree) (table : List Bool) : Type 0 where
   pub only : (d : ℕ) → d < t .domains → getD table d false ≡ true → Passed-by t d
 
 -- the model's refusal as this crate's struct
-abbrev pub told : model.Refusal → Refusal
-told r = record { number = r .number; place = r .place }
+abbrev pub refusal-words : model.Refusal → Refusal
+refusal-words r = record { number = r .number; place = r .place }
 
 -- where a test reads the number of threads alone
 abbrev pub threads-in : (threads : ℕ) → Tree

@@ -93,7 +93,7 @@ abbrev pub resting-row : (kind domains : ℕ) → ℕ
 resting-row k n = cond (ticket-in k && eqb n 1) 0 4
 
 -- of each thread, a row, its home and no record, as one number
-pub record Resting (row threads : ℕ) (homes numbers : List ℕ) : Type 0 where
+pub record Rest-numbers (row threads : ℕ) (homes numbers : List ℕ) : Type 0 where
   pub room : length numbers ≡ 256
   pub rests : (i : ℕ) → i < threads → getD numbers i 0 ≡ row + 256 * getD homes i 0
 

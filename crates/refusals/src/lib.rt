@@ -7,7 +7,7 @@ ghost use Rattle.model.specs.Trees.{tree-of};
 ghost use Rattle.model.specs.Counters.{lock-state};
 ghost use Rattle.model.specs.WellFormed.{well-formed};
 ghost use Rattle.model.specs.Refusals.{refusal, first-refusal, count-tests, domain-tests, tree-refusal, run-tests-before-19, bad-entry};
-ghost use Rattle.refusals.specs.Arrays.{tree-in, threads-in, told, shape-tests, schedule-room-tests};
+ghost use Rattle.refusals.specs.Arrays.{tree-in, threads-in, refusal-words, shape-tests, schedule-room-tests};
 ghost use Rattle.refusals.specs.Counts.{counters-in};
 ghost use Rattle.refusals.specs.Lowest.{Lowest};
 
@@ -26,14 +26,14 @@ pub struct Refusal {
 }
 
 fn refusal_at(number: u32, place: u32) -> Refusal
-    ensures { λ r. ⌜ r ≡ told (refusal number place) ⌝ }
+    ensures { λ r. ⌜ r ≡ refusal-words (refusal number place) ⌝ }
 {
     Refusal { number, place }
 }
 
 // The counts meet 4 and 5.
 fn counts_refusal(domains: u32, threads: u32) -> Refusal
-    ensures { λ r. ⌜ r ≡ told (first-refusal (count-tests (tree-in domains threads [] [] []))) ⌝ }
+    ensures { λ r. ⌜ r ≡ refusal-words (first-refusal (count-tests (tree-in domains threads [] [] []))) ⌝ }
 {
     if domains == 0 {
         return refusal_at(4, 0);
@@ -53,9 +53,9 @@ fn counts_refusal(domains: u32, threads: u32) -> Refusal
 // The domains meet 6 to 8. One walk is enough where none fails.
 fn domains_refusal<'a>(parents: &'a [u8; 64], thresholds: &'a [u16; 64], domains: u32) -> Refusal
     requires { ⌜ (0 < domains) × (domains ≤ 64) ⌝ }
-    ensures { λ r. ⌜ r ≡ told (first-refusal (domain-tests (tree-in domains 0 (now (parents .entry)) (now (thresholds .entry)) []))) ⌝ }
+    ensures { λ r. ⌜ r ≡ refusal-words (first-refusal (domain-tests (tree-in domains 0 (now (parents .entry)) (now (thresholds .entry)) []))) ⌝ }
 {
-    if trees::sound_domains(parents, thresholds, domains) {
+    if trees::domains_pass(parents, thresholds, domains) {
         return refusal_at(0, 0);
     }
     let d = trees::lowest_bad_parent(parents, domains);
@@ -80,7 +80,7 @@ fn shape_refusal<'a>(
     domains: u32,
     threads: u32,
 ) -> Refusal
-    ensures { λ r. ⌜ r ≡ told (first-refusal (shape-tests (tree-in domains threads (now (parents .entry)) (now (thresholds .entry)) []))) ⌝ }
+    ensures { λ r. ⌜ r ≡ refusal-words (first-refusal (shape-tests (tree-in domains threads (now (parents .entry)) (now (thresholds .entry)) []))) ⌝ }
 {
     let r = counts_refusal(domains, threads);
     if r.number != 0 {
@@ -98,10 +98,10 @@ fn homes_refusal<'a>(
     threads: u32,
 ) -> Refusal
     requires { ⌜ first-refusal (shape-tests (tree-in domains threads (now parents) (now thresholds) (now homes))) .number ≡ 0 ⌝ }
-    ensures { λ r. ⌜ r ≡ told (tree-refusal (tree-in domains threads (now (parents .entry)) (now (thresholds .entry)) (now (homes .entry)))) ⌝ }
+    ensures { λ r. ⌜ r ≡ refusal-words (tree-refusal (tree-in domains threads (now (parents .entry)) (now (thresholds .entry)) (now (homes .entry)))) ⌝ }
 {
     let mut bad = [false; 256];
-    trees::no_homes(&mut bad, parents, domains);
+    trees::mark_unfit_homes(&mut bad, parents, domains);
     let i = trees::lowest_bad_home(parents, &bad, homes, domains, threads);
     if i < threads {
         return refusal_at(9, i);
@@ -122,7 +122,7 @@ pub fn tree_refusal_of<'a>(
     domains: u32,
     threads: u32,
 ) -> Refusal
-    ensures { λ r. ⌜ r ≡ told (tree-refusal (tree-in domains threads (now (parents .entry)) (now (thresholds .entry)) (now (homes .entry)))) ⌝ }
+    ensures { λ r. ⌜ r ≡ refusal-words (tree-refusal (tree-in domains threads (now (parents .entry)) (now (thresholds .entry)) (now (homes .entry)))) ⌝ }
 {
     let r = shape_refusal(parents, thresholds, domains, threads);
     if r.number != 0 {
@@ -206,7 +206,7 @@ fn lowest_bad_entry(schedule: &[u16], threads: u32) -> u32
 
 // A run's schedule, and the room for its trace, meet 11 to 13.
 pub fn schedule_refusal_of(threads: u32, schedule: &[u16], room: usize) -> Refusal
-    ensures { λ r. ⌜ r ≡ told (first-refusal (schedule-room-tests (threads-in threads) (now (schedule .entry)) room)) ⌝ }
+    ensures { λ r. ⌜ r ≡ refusal-words (first-refusal (schedule-room-tests (threads-in threads) (now (schedule .entry)) room)) ⌝ }
 {
     if 65536 < schedule.len() {
         return Refusal {
@@ -243,7 +243,7 @@ pub fn run_refusal_of<'c>(
     schedule: &[u16],
     room: usize,
 ) -> Refusal
-    ensures { λ r. ⌜ r ≡ told (first-refusal (run-tests-before-19 (tree-of tree) (lock-state state (counters-in (now (entries .entry)) (now (tenures .entry)) (now (longest .entry)))) (now (schedule .entry)) room)) ⌝ }
+    ensures { λ r. ⌜ r ≡ refusal-words (first-refusal (run-tests-before-19 (tree-of tree) (lock-state state (counters-in (now (entries .entry)) (now (tenures .entry)) (now (longest .entry)))) (now (schedule .entry)) room)) ⌝ }
 {
     let r = tree_refusal_of(
         &tree.parents,

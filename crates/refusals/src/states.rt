@@ -6,7 +6,7 @@ ghost use lib.ListN.{getD};
 ghost use Rattle.model.specs.Scans.{all-below};
 ghost use Rattle.model.specs.Trees.{meets, child-from};
 ghost use Rattle.refusals.specs.Arrays.{tree-in, parents-in, Lower};
-ghost use Rattle.refusals.specs.Tables.{Owners, Thread-owners, member-in, next-in, record-in, domain-words-in, peer-in, barred-in, domain-in, root-record-in, ticket-place-in, place-in, root-in, idle-in, Joined, resting-row, Resting, Rests, Rest-number, used-in, unused-in};
+ghost use Rattle.refusals.specs.Tables.{Owners, Thread-owners, member-in, next-in, record-in, domain-words-in, peer-in, barred-in, domain-in, root-record-in, ticket-place-in, place-in, root-in, idle-in, Joined, resting-row, Rest-numbers, Rests, Rest-number, used-in, unused-in};
 use crate::shapes;
 use model::PlaceWords;
 
@@ -340,7 +340,7 @@ pub(crate) fn resting_row_of(ticket_root: u32, domains: u32) -> u8
 // Of each thread, the row in which it rests, its home and no record, as one number.
 pub(crate) fn resting_numbers(resting: &mut [u32; 256], homes: &[u8; 256], threads: u32, row: u8)
     requires { ⌜ threads ≤ 256 ⌝ }
-    ensures { λ r. ⌜ Resting row threads (now (homes .entry)) (now (resting .exit)) ⌝ }
+    ensures { λ r. ⌜ Rest-numbers row threads (now (homes .entry)) (now (resting .exit)) ⌝ }
 {
     *resting = [0u32; 256];
     let mut i: u32 = 0;

@@ -5,7 +5,7 @@ ghost use mathlib.Core.List.{[]};
 ghost use lib.ListN.{getD};
 ghost use Prim.Native.Nat.{_<_, _≤_};
 ghost use Rattle.model.specs.Refusals.{bad-parent, too-deep, no-threshold, bad-home};
-ghost use Rattle.refusals.specs.Arrays.{tree-in, parents-in, Lower, Sound, No-domains, No-homes, Marked-homes, Real-homes, Home-domains, Occupied, Homes-are-leaves, differ};
+ghost use Rattle.refusals.specs.Arrays.{tree-in, parents-in, Lower, Domains-pass, No-domains, Unfit-homes, Marked-homes, Real-homes, Home-domains, Occupied, Homes-are-leaves, differ};
 ghost use Rattle.refusals.specs.Lowest.{Lowest};
 
 fn wide(x: u8) -> u32
@@ -97,13 +97,13 @@ pub(crate) fn lowest_no_threshold(thresholds: &[u16; 64], domains: u32) -> u32
 }
 
 // True only where no domain fails 6, 7 or 8, in one walk; otherwise the scans say which does.
-pub(crate) fn sound_domains<'a>(
+pub(crate) fn domains_pass<'a>(
     parents: &'a [u8; 64],
     thresholds: &'a [u16; 64],
     domains: u32,
 ) -> bool
     requires { ⌜ (0 < domains) × (domains ≤ 64) ⌝ }
-    ensures { λ r. ⌜ Sound domains (now (parents .entry)) (now (thresholds .entry)) r ⌝ }
+    ensures { λ r. ⌜ Domains-pass domains (now (parents .entry)) (now (thresholds .entry)) r ⌝ }
 {
     let mut levels = [1u8; 64];
     let mut d: u32 = 1;
@@ -150,9 +150,9 @@ fn no_domains(outside: &mut [bool; 256], domains: u32)
 }
 
 // Of each byte, whether it is no home: no domain of the tree, or one with child domains.
-pub(crate) fn no_homes(bad: &mut [bool; 256], parents: &[u8; 64], domains: u32)
+pub(crate) fn mark_unfit_homes(bad: &mut [bool; 256], parents: &[u8; 64], domains: u32)
     requires { ⌜ (0 < domains) × (domains ≤ 64) ⌝ }
-    ensures { λ r. ⌜ No-homes domains (now (parents .entry)) (now (bad .exit)) ⌝ }
+    ensures { λ r. ⌜ Unfit-homes domains (now (parents .entry)) (now (bad .exit)) ⌝ }
 {
     no_domains(bad, domains);
     let mut d: u32 = 1;
@@ -172,7 +172,7 @@ pub(crate) fn lowest_bad_home<'a>(
     threads: u32,
 ) -> u32
     requires { ⌜ (domains ≤ 64) × (threads ≤ 256) ⌝ }
-    requires { ⌜ No-homes domains (now parents) (now bad) ⌝ }
+    requires { ⌜ Unfit-homes domains (now parents) (now bad) ⌝ }
     ensures { λ r. ⌜ Lowest threads (bad-home (tree-in domains threads (now (parents .entry)) [] (now (homes .entry)))) r ⌝ }
 {
     let mut i: u32 = 0;
@@ -233,7 +233,7 @@ pub(crate) fn homes_are_leaves<'a>(
     let mut marked = [false; 256];
     let mut bad = [false; 256];
     marked_homes(&mut marked, homes, threads);
-    no_homes(&mut bad, parents, domains);
+    mark_unfit_homes(&mut bad, parents, domains);
     let mut same = true;
     let mut x: usize = 0;
     while x < 256 {

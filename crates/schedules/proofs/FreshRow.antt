@@ -18,7 +18,7 @@ use Rattle.model.proofs.Laws.Refusals.{accepted-number}
 use Rattle.model.proofs.Laws.Calls.{Good-run, run-facts, early-accepted}
 use Rattle.refusals.specs.declared.Refusal.{Refusal}
 use Rattle.refusals.specs.Counts.{counters-in}
-use Rattle.refusals.specs.Arrays.{threads-in, told, schedule-room-tests}
+use Rattle.refusals.specs.Arrays.{threads-in, refusal-words, schedule-room-tests}
 use Rattle.schedules.specs.Rows.{alone, row-of, row-numbers}
 use Rattle.schedules.proofs.Alone.{schedule-decides}
 use Rattle.steps.specs.Running.{kinds-of, counts-by, trace-front}
@@ -39,14 +39,14 @@ eight-stored l at a b c d e f g h =
     let z7 : at + 7 ≡ suc (suc (suc (suc (suc (suc (suc at)))))) = omega arith in
     rw (z1, z2, z3, z4, z5, z6, z7)
 
-module _ (w : TreeWords) (ok : tree-refusal (tree-of w) .number ≡ 0) (is : List ℕ) (r : Refusal) (e : r ≡ told (first-refusal (schedule-room-tests (threads-in (w .threads)) is (length is)))) where
+module _ (w : TreeWords) (ok : tree-refusal (tree-of w) .number ≡ 0) (is : List ℕ) (r : Refusal) (e : r ≡ refusal-words (first-refusal (schedule-room-tests (threads-in (w .threads)) is (length is)))) where
   -- the trace buffer of the schedule's length, which a run alone has
   abbrev own : List ℕ
   own = replicate (length is) 0
 
-  met : r ≡ told (run-refusal (tree-of w) fresh-lock is (length own))
+  met : r ≡ refusal-words (run-refusal (tree-of w) fresh-lock is (length own))
   unfolding bad-entry tree-of
-  met = e ∙ ap told (sym (rw (length-replicate {A = ℕ} (length is) 0) (schedule-decides w ok is (length is))))
+  met = e ∙ ap refusal-words (sym (rw (length-replicate {A = ℕ} (length is) 0) (schedule-decides w ok is (length is))))
 
   pub row-refuses :
       (counts : Counts) → (r .number ≡ 0 → ⊥) → counts ≡ counts-by (replicate 6 0) → row-numbers (r .number) (r .place) counts ≡ row-of (alone w is)

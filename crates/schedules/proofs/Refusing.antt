@@ -14,10 +14,10 @@ use Rattle.model.specs.Laws.{Refusal-law, Refuses-exactly}
 use Rattle.model.proofs.Refusing.{numbered}
 use Rattle.model.proofs.Laws.Refusals.{refusal-law, tree-numbered}
 use Rattle.refusals.specs.declared.Refusal.{Refusal}
-use Rattle.refusals.specs.Arrays.{told}
+use Rattle.refusals.specs.Arrays.{refusal-words}
 use Rattle.refusals.proofs.Joining.{first-decides, other-decides}
 use Rattle.refusals.proofs.Scanning.{single-hit, single-missed}
-use Rattle.refusals.proofs.RunTests.{told-not, told-zero}
+use Rattle.refusals.proofs.RunTests.{refusal-words-not, refusal-words-zero}
 use Rattle.schedules.specs.Rows.{total}
 use Rattle.schedules.specs.Refusals.{bad-total, bad-row-room, total-tests, row-room-tests, many-tests, many-refusal}
 use Rattle.schedules.specs.Laws.{Many-refusal-law}
@@ -65,17 +65,17 @@ many-refusal-law t ns n room =
     }
 
 -- what the code tells, by what it has tested
-module _ (t : Tree) (ns : List ℕ) (n room : ℕ) (r : Refusal) (e : r ≡ told (tree-refusal t)) where
-  pub told-tree : (r .number ≡ 0 → ⊥) → r ≡ told (many-refusal t ns n room)
-  told-tree h = e ∙ ap told (sym (tree-refused t ns n room (told-not r _ e h)))
+module _ (t : Tree) (ns : List ℕ) (n room : ℕ) (r : Refusal) (e : r ≡ refusal-words (tree-refusal t)) where
+  pub tree-answered : (r .number ≡ 0 → ⊥) → r ≡ refusal-words (many-refusal t ns n room)
+  tree-answered h = e ∙ ap refusal-words (sym (tree-refused t ns n room (refusal-words-not r _ e h)))
 
   module _ (z : r .number ≡ 0) where
-    pub told-total : false ≡ eqb (total ns) n → told (refusal 22 0) ≡ told (many-refusal t ns n room)
-    told-total h = ap told (sym (total-refused t ns n room (told-zero r _ e z) (eqb-false (total ns) n (sym h))))
+    pub total-answered : false ≡ eqb (total ns) n → refusal-words (refusal 22 0) ≡ refusal-words (many-refusal t ns n room)
+    total-answered h = ap refusal-words (sym (total-refused t ns n room (refusal-words-zero r _ e z) (eqb-false (total ns) n (sym h))))
 
     module _ (h : true ≡ eqb (total ns) n) where
-      pub told-room : room / 8 < length ns → told (refusal 23 0) ≡ told (many-refusal t ns n room)
-      told-room l = ap told (sym (room-refused t ns n room (told-zero r _ e z) (eqb-true (total ns) n (sym h)) (omega arith)))
+      pub room-answered : room / 8 < length ns → refusal-words (refusal 23 0) ≡ refusal-words (many-refusal t ns n room)
+      room-answered l = ap refusal-words (sym (room-refused t ns n room (refusal-words-zero r _ e z) (eqb-true (total ns) n (sym h)) (omega arith)))
 
-      pub told-accepted : length ns ≤ room / 8 → told accepted ≡ told (many-refusal t ns n room)
-      told-accepted l = ap told (sym (accepts t ns n room (told-zero r _ e z) (eqb-true (total ns) n (sym h)) (omega arith)))
+      pub acceptance-answered : length ns ≤ room / 8 → refusal-words accepted ≡ refusal-words (many-refusal t ns n room)
+      acceptance-answered l = ap refusal-words (sym (accepts t ns n room (refusal-words-zero r _ e z) (eqb-true (total ns) n (sym h)) (omega arith)))

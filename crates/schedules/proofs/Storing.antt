@@ -11,8 +11,8 @@ use Rattle.model.specs.declared.RunReply.{RunReply}
 use Rattle.model.specs.Trees.{tree-of}
 use Rattle.schedules.specs.Rows.{total, cut, alone, row-of, rows-of, behind-one-another, all-rows}
 use Rattle.refusals.specs.declared.Refusal.{Refusal}
-use Rattle.refusals.specs.Arrays.{told}
-use Rattle.refusals.proofs.RunTests.{told-not, told-zero}
+use Rattle.refusals.specs.Arrays.{refusal-words}
+use Rattle.refusals.proofs.RunTests.{refusal-words-not, refusal-words-zero}
 use Rattle.schedules.specs.Refusals.{many-refusal}
 use Rattle.schedules.specs.Answers.{many-answer, rows-answer}
 use Rattle.schedules.proofs.Adding.{total-next}
@@ -76,15 +76,15 @@ rows-written w ns es b e =
     rw (sets-eq (all-rows w (cut ns es)) b 0 (omega arith), z) (sym (rows-accepted w ns es b e))
 
 -- THE CALL, by what the code was told of its refusal
-module _ (w : TreeWords) (ns es b : List ℕ) (r : Refusal) (e : r ≡ told (many-refusal (tree-of w) ns (length es) (length b))) where
-  pub call-refuses : (r .number ≡ 0 → ⊥) → (r ≡ told (many-answer w ns es b)) × (b ≡ rows-answer w ns es b)
+module _ (w : TreeWords) (ns es b : List ℕ) (r : Refusal) (e : r ≡ refusal-words (many-refusal (tree-of w) ns (length es) (length b))) where
+  pub call-refuses : (r .number ≡ 0 → ⊥) → (r ≡ refusal-words (many-answer w ns es b)) × (b ≡ rows-answer w ns es b)
   unfolding many-answer
-  call-refuses n = (e, sym (rows-refused w ns es b (told-not r _ e n)))
+  call-refuses n = (e, sym (rows-refused w ns es b (refusal-words-not r _ e n)))
 
   module _ (z : r .number ≡ 0) where
     pub call-good : Good-call (tree-of w) ns (length es) (length b)
-    call-good = call-facts (tree-of w) ns (length es) (length b) (told-zero r _ e z)
+    call-good = call-facts (tree-of w) ns (length es) (length b) (refusal-words-zero r _ e z)
 
-    pub call-answered : (b′ : List ℕ) → b′ ≡ sets b 0 (all-rows w (cut ns es)) → (r ≡ told (many-answer w ns es b)) × (b′ ≡ rows-answer w ns es b)
+    pub call-answered : (b′ : List ℕ) → b′ ≡ sets b 0 (all-rows w (cut ns es)) → (r ≡ refusal-words (many-answer w ns es b)) × (b′ ≡ rows-answer w ns es b)
     unfolding many-answer
-    call-answered b′ f = (e, f ∙ rows-written w ns es b (told-zero r _ e z))
+    call-answered b′ f = (e, f ∙ rows-written w ns es b (refusal-words-zero r _ e z))

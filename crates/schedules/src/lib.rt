@@ -4,7 +4,7 @@ ghost use Prim.Native.Nat.{ℕ};
 ghost use lib.Dec.{eqb};
 ghost use lib.ListN.{length};
 ghost use Rattle.model.specs.Trees.{tree-of};
-ghost use Rattle.refusals.specs.Arrays.{told};
+ghost use Rattle.refusals.specs.Arrays.{refusal-words};
 ghost use Rattle.schedules.specs.Rows.{total};
 ghost use Rattle.schedules.specs.Refusals.{many-refusal};
 ghost use Rattle.schedules.specs.Answers.{many-answer, rows-answer};
@@ -33,7 +33,7 @@ fn adds_up(lengths: &[u32], entries: usize) -> bool
 
 // The whole call meets 4 to 9 and 16, then 22, then 23.
 pub fn many_refusal_of(tree: TreeWords, lengths: &[u32], entries: usize, room: usize) -> Refusal
-    ensures { λ r. ⌜ r ≡ told (many-refusal (tree-of tree) (now (lengths .entry)) entries room) ⌝ }
+    ensures { λ r. ⌜ r ≡ refusal-words (many-refusal (tree-of tree) (now (lengths .entry)) entries room) ⌝ }
 {
     let r = refusals::tree_refusal_of(
         &tree.parents,
@@ -65,7 +65,7 @@ pub fn many_refusal_of(tree: TreeWords, lengths: &[u32], entries: usize, room: u
 
 // Many schedules, the entries of all of them behind one another: of each, run from its own fresh lock, one row of eight numbers at the front of the rows. Refused as a whole, the rows as they came.
 pub fn run_many(tree: TreeWords, lengths: &[u32], entries: &[u16], rows: &mut [u32]) -> Refusal
-    ensures { λ r. ⌜ r ≡ told (many-answer tree (now (lengths .entry)) (now (entries .entry)) (now (rows .entry))) ⌝ }
+    ensures { λ r. ⌜ r ≡ refusal-words (many-answer tree (now (lengths .entry)) (now (entries .entry)) (now (rows .entry))) ⌝ }
     ensures { λ r. ⌜ now (rows .exit) ≡ rows-answer tree (now (lengths .entry)) (now (entries .entry)) (now (rows .entry)) ⌝ }
 {
     let r = many_refusal_of(tree, lengths, entries.len(), rows.len());

@@ -44,7 +44,7 @@ fn run_row(tree: TreeWords, schedule: &[u16], trace: &mut [u16], rows: &mut [u32
         put_row(rows, at, r.number, r.place, steps::run::counts_of(&kinds));
         return;
     }
-    let mut told = [0u16; 0];
+    let mut codes = [0u16; 0];
     let mut entries = [0u64; 64];
     let mut tenures = [0u64; 64];
     let mut longest = [0u64; 64];
@@ -71,7 +71,7 @@ fn run_row(tree: TreeWords, schedule: &[u16], trace: &mut [u16], rows: &mut [u32
         schedule,
         trace,
         &mut kinds,
-        &mut told,
+        &mut codes,
         &mut entries,
         &mut tenures,
         &mut longest,

@@ -32,11 +32,11 @@ use Rattle.starvation_freedom.proofs.Bounds.{above-rounds, first-rounds
 use Rattle.starvation_freedom.proofs.Waiting.{Woken, woken-round, Stood, stands-on, is-ready, is-woken, is-inside, waits, links, watches, stands-step}
 use Rattle.starvation_freedom.proofs.First.{Enters, Climbing, prepares, swaps, stands, goes-on, Acquired, first-leaves}
 
-module _ (t : Tree) (𝓐 : Accepted t) (bits : Sixteen-bit t) where
-  𝓛 : Laws t
-  𝓛 = laws t 𝓐
+module _ (t : Tree) (valid : Accepted t) (bits : Sixteen-bit t) where
+  tree-laws : Laws t
+  tree-laws = laws t valid
 
-  module _ (f : ℕ) (nearer-root : (g : ℕ) → g < f → Acquired t 𝓐 bits g) where
+  module _ (f : ℕ) (nearer-root : (g : ℕ) → g < f → Acquired t valid bits g) where
     -- WHO STANDS in a domain so far from the root
     module _ (a m : ℕ) (ha : a < t .threads) (far : m + f ≡ height t a) where
       abbrev d : ℕ
@@ -48,8 +48,8 @@ module _ (t : Tree) (𝓐 : Accepted t) (bits : Sixteen-bit t) where
       -- its standing has ended
       data Freed (c : Situation t) : Type 0 where
         by-lock : queues c .stage a ≡ ready → Freed c
-        by-domain : Woken t 𝓐 bits a ha m c → Freed c
-        by-entry : Enters t 𝓐 bits a c → Freed c
+        by-domain : Woken t valid bits a ha m c → Freed c
+        by-entry : Enters t valid bits a c → Freed c
 
       standing : (c : Situation t) → queues c .stage a ≡ queued m → 1 ≤ count mine (rest (queues c .queue d))
       unfolding low acts
@@ -63,12 +63,12 @@ module _ (t : Tree) (𝓐 : Accepted t) (bits : Sixteen-bit t) where
           (queues c .stage a ≡ queued m)
           × (((first (queues c .queue d) ≡ suc r) × (position mine (queues c .queue d) ≤ suc n)) ⊎ (position mine (queues c .queue d) ≤ n))
 
-      behind-lasts : (r n : ℕ) (c : Situation t) (x : ℕ) (h : x < t .threads) → Behind r n c → Behind r n (next t 𝓐 bits c x h) ⊎ Freed (next t 𝓐 bits c x h)
+      behind-lasts : (r n : ℕ) (c : Situation t) (x : ℕ) (h : x < t .threads) → Behind r n c → Behind r n (next t valid bits c x h) ⊎ Freed (next t valid bits c x h)
       behind-lasts r n c x h (e, q) =
-          let c′ = next t 𝓐 bits c x h in
-          let ch = queue-change t d (next-change t 𝓐 bits c x h) in
+          let c′ = next t valid bits c x h in
+          let ch = queue-change t d (next-change t valid bits c x h) in
           let near = nearer d mine (ch .0) (queues c .queue d) (queues c′ .queue d) (ch .1) (standing c e) (c .queued .represents .invariant .once d mine) in
-          elim (stands-step t 𝓐 bits a ha m (omega arith) c e x h) [
+          elim (stands-step t valid bits a ha m (omega arith) c e x h) [
             | stands-on e′ ↦ inl (
               e′,
               elim q [
@@ -82,103 +82,103 @@ module _ (t : Tree) (𝓐 : Accepted t) (bits : Sixteen-bit t) where
           ]
 
       -- each member before it is first for so many rounds
-      stands-rounds : (n : ℕ) (c : Situation t) → queues c .stage a ≡ queued m → position mine (queues c .queue d) ≤ n → Within t 𝓐 bits (n * first-rounds t d) Freed c
+      stands-rounds : (n : ℕ) (c : Situation t) → queues c .stage a ≡ queued m → position mine (queues c .queue d) ≤ n → Within t valid bits (n * first-rounds t d) Freed c
       stands-rounds zero c e p =
           absurd (let b = behind-first mine (queues c .queue d) (standing c e) (c .queued .represents .invariant .once d mine) in let o = b .2 in omega arith)
       stands-rounds (suc n) c e p =
           let inv = c .queued .represents .invariant in
           let b = behind-first mine (queues c .queue d) (standing c e) (inv .once d mine) in
           let r = b .0 in
-          let o = holder t 𝓛 (queues c) inv d r (b .1) in
-          let A : Actor t 𝓐 bits d r (o .thread) (o .index) = record { real = o .real; within = o .within; there = o .there; mine = o .mine } in
-          let tall = same-height t 𝓛 (o .thread) (o .index) a m (o .real) ha (o .within) (omega arith) (o .there) in
-          let w = first-leaves t 𝓐 bits f nearer-root d r (o .thread) (o .index) A (omega arith) c (o .first-at) in
+          let o = holder t tree-laws (queues c) inv d r (b .1) in
+          let A : Actor t valid bits d r (o .thread) (o .index) = record { real = o .real; within = o .within; there = o .there; mine = o .mine } in
+          let tall = same-height t tree-laws (o .thread) (o .index) a m (o .real) ha (o .within) (omega arith) (o .there) in
+          let w = first-leaves t valid bits f nearer-root d r (o .thread) (o .index) A (omega arith) c (o .first-at) in
           let z : first-rounds t d + n * first-rounds t d ≡ suc n * first-rounds t d = omega arith in
-          rw (← z) (then t 𝓐 bits (first-rounds t d) (n * first-rounds t d)
-          (meanwhile t 𝓐 bits (Behind r n) Freed (behind-lasts r n) (first-rounds t d) w (e, inl (b .1, p)))
+          rw (← z) (then t valid bits (first-rounds t d) (n * first-rounds t d)
+          (meanwhile t valid bits (Behind r n) Freed (behind-lasts r n) (first-rounds t d) w (e, inl (b .1, p)))
           (λ c′ q. elim q [
             | inl (gone, (e′, near)) ↦ elim near [ inl (u, v) ↦ absurd (gone u) | inr v ↦ stands-rounds n c′ e′ v ]
-            | inr y ↦ at-once t 𝓐 bits (n * first-rounds t d) y
+            | inr y ↦ at-once t valid bits (n * first-rounds t d) y
           ]))
 
       -- FROM THE END of its standing on
-      ready-inside : (c : Situation t) → queues c .stage a ≡ ready → Within t 𝓐 bits 1 (Enters t 𝓐 bits a) c
+      ready-inside : (c : Situation t) → queues c .stage a ≡ ready → Within t valid bits 1 (Enters t valid bits a) c
       ready-inside c e =
-          one-round t 𝓐 bits a ha (λ x. queues x .stage a ≡ ready) (Enters t 𝓐 bits a)
-          (λ x y h n u. inl (ready-lasts t 𝓐 bits a ha x u y h n)) (λ x h u. ready-enters t 𝓐 bits a ha x u h) e
+          one-round t valid bits a ha (λ x. queues x .stage a ≡ ready) (Enters t valid bits a)
+          (λ x y h n u. inl (ready-lasts t valid bits a ha x u y h n)) (λ x h u. ready-enters t valid bits a ha x u h) e
 
-      next-inside : (c : Situation t) → m < height t a → Climbing t 𝓐 bits a (suc m) ha c → Within t 𝓐 bits (above-rounds t d) (Enters t 𝓐 bits a) c
+      next-inside : (c : Situation t) → m < height t a → Climbing t valid bits a (suc m) ha c → Within t valid bits (above-rounds t d) (Enters t valid bits a) c
       next-inside c b x =
-          rw (above-next t 𝓐 a ha m b) (nearer-root (height t a - suc m) (omega arith) a (suc m) ha (omega arith) c x)
+          rw (above-next t valid a ha m b) (nearer-root (height t a - suc m) (omega arith) a (suc m) ha (omega arith) c x)
 
       some-above : 1 ≤ above-rounds t d
-      some-above = above-some t 𝓐 d (ancestor-real t 𝓐 a ha m)
+      some-above = above-some t valid d (ancestor-real t valid a ha m)
 
-      freed-inside : (c : Situation t) → Freed c → Within t 𝓐 bits (above-rounds t d) (Enters t 𝓐 bits a) c
-      freed-inside c (by-lock y) = longer t 𝓐 bits 1 (above-rounds t d) some-above (ready-inside c y)
+      freed-inside : (c : Situation t) → Freed c → Within t valid bits (above-rounds t d) (Enters t valid bits a) c
+      freed-inside c (by-lock y) = longer t valid bits 1 (above-rounds t d) some-above (ready-inside c y)
       freed-inside c (by-domain y) = next-inside c (y .below) (goes-on m refl y)
-      freed-inside c (by-entry y) = at-once t 𝓐 bits (above-rounds t d) y
+      freed-inside c (by-entry y) = at-once t valid bits (above-rounds t d) y
 
       -- the rounds behind Swap
       abbrev rest-rounds : ℕ
       rest-rounds = (members t d - 1) * first-rounds t d + above-rounds t d
 
-      stands-inside : (c : Situation t) → queues c .stage a ≡ queued m → Within t 𝓐 bits rest-rounds (Enters t 𝓐 bits a) c
+      stands-inside : (c : Situation t) → queues c .stage a ≡ queued m → Within t valid bits rest-rounds (Enters t valid bits a) c
       stands-inside c e =
           let inv = c .queued .represents .invariant in
           let s = standing c e in
           let p = position-within mine (queues c .queue d) (omega (arith, count-rest mine (queues c .queue d))) in
-          then t 𝓐 bits ((members t d - 1) * first-rounds t d) (above-rounds t d)
-          (stands-rounds (members t d - 1) c e (omega (arith, queue-short t 𝓐 (queues c) inv d))) freed-inside
+          then t valid bits ((members t d - 1) * first-rounds t d) (above-rounds t d)
+          (stands-rounds (members t d - 1) c e (omega (arith, queue-short t valid (queues c) inv d))) freed-inside
 
-      stood-inside : (c : Situation t) → Stood t 𝓐 bits a ha m c → Within t 𝓐 bits rest-rounds (Enters t 𝓐 bits a) c
+      stood-inside : (c : Situation t) → Stood t valid bits a ha m c → Within t valid bits rest-rounds (Enters t valid bits a) c
       stood-inside c (stands-on e) = stands-inside c e
-      stood-inside c (is-ready e) = longer t 𝓐 bits (above-rounds t d) rest-rounds (omega arith) (freed-inside c (by-lock e))
-      stood-inside c (is-woken w) = longer t 𝓐 bits (above-rounds t d) rest-rounds (omega arith) (freed-inside c (by-domain w))
-      stood-inside c (is-inside e) = at-once t 𝓐 bits rest-rounds e
+      stood-inside c (is-ready e) = longer t valid bits (above-rounds t d) rest-rounds (omega arith) (freed-inside c (by-lock e))
+      stood-inside c (is-woken w) = longer t valid bits (above-rounds t d) rest-rounds (omega arith) (freed-inside c (by-domain w))
+      stood-inside c (is-inside e) = at-once t valid bits rest-rounds e
 
       -- SWAP, PREP AND DRAW
-      swapped-inside : (c : Situation t) → From-swap t a m (place (c .words) a) → Within t 𝓐 bits rest-rounds (Enters t 𝓐 bits a) c
-      swapped-inside c (entered e) = at-once t 𝓐 bits rest-rounds e
-      swapped-inside c (alone b x) = longer t 𝓐 bits (above-rounds t d) rest-rounds (omega arith) (next-inside c b (prepares x))
-      swapped-inside c (behind q e) = stood-inside c (links t 𝓐 bits a ha m (omega arith) c q e)
+      swapped-inside : (c : Situation t) → From-swap t a m (place (c .words) a) → Within t valid bits rest-rounds (Enters t valid bits a) c
+      swapped-inside c (entered e) = at-once t valid bits rest-rounds e
+      swapped-inside c (alone b x) = longer t valid bits (above-rounds t d) rest-rounds (omega arith) (next-inside c b (prepares x))
+      swapped-inside c (behind q e) = stood-inside c (links t valid bits a ha m (omega arith) c q e)
 
-      pub swap-inside : (c : Situation t) → place (c .words) a ≡ Swap d → Within t 𝓐 bits (1 + rest-rounds) (Enters t 𝓐 bits a) c
+      pub swap-inside : (c : Situation t) → place (c .words) a ≡ Swap d → Within t valid bits (1 + rest-rounds) (Enters t valid bits a) c
       swap-inside c e =
-          then t 𝓐 bits 1 rest-rounds (place-round t 𝓐 bits a ha (Swap d) (λ x. From-swap t a m (place (x .words) a)) (λ x h y. swap-turn t 𝓐 bits x a h m (omega arith) y) e) swapped-inside
+          then t valid bits 1 rest-rounds (place-round t valid bits a ha (Swap d) (λ x. From-swap t a m (place (x .words) a)) (λ x h y. swap-turn t valid bits x a h m (omega arith) y) e) swapped-inside
 
-      pub watch-inside : (c : Situation t) → m ≡ height t a → place (c .words) a ≡ Watch → Within t 𝓐 bits rest-rounds (Enters t 𝓐 bits a) c
-      watch-inside c z e = stood-inside c (watches t 𝓐 bits a ha m (omega arith) c z e)
+      pub watch-inside : (c : Situation t) → m ≡ height t a → place (c .words) a ≡ Watch → Within t valid bits rest-rounds (Enters t valid bits a) c
+      watch-inside c z e = stood-inside c (watches t valid bits a ha m (omega arith) c z e)
 
-      prepares-inside : (c : Situation t) → Acquires t a m (place (c .words) a) → Within t 𝓐 bits (2 + rest-rounds) (Enters t 𝓐 bits a) c
+      prepares-inside : (c : Situation t) → Acquires t a m (place (c .words) a) → Within t valid bits (2 + rest-rounds) (Enters t valid bits a) c
       prepares-inside c (by-prep e) =
           let z : 1 + (1 + rest-rounds) ≡ 2 + rest-rounds = omega arith in
-          rw (← z) (then t 𝓐 bits 1 (1 + rest-rounds) (place-round t 𝓐 bits a ha (Prep d) (λ x. place (x .words) a ≡ Swap d) (λ x h y. prep-turn t 𝓐 bits x a h d y) e) swap-inside)
+          rw (← z) (then t valid bits 1 (1 + rest-rounds) (place-round t valid bits a ha (Prep d) (λ x. place (x .words) a ≡ Swap d) (λ x h y. prep-turn t valid bits x a h d y) e) swap-inside)
       prepares-inside c (by-draw e z r) =
-          longer t 𝓐 bits (1 + rest-rounds) (2 + rest-rounds) (omega arith)
-          (then t 𝓐 bits 1 rest-rounds (place-round t 𝓐 bits a ha Draw (λ x. Enters t 𝓐 bits a x ⊎ (place (x .words) a ≡ Watch)) (λ x h y. draw-turn t 𝓐 bits x a h y) e)
-          (λ x q. elim q [ inl y ↦ at-once t 𝓐 bits rest-rounds y | inr y ↦ watch-inside x z y ]))
+          longer t valid bits (1 + rest-rounds) (2 + rest-rounds) (omega arith)
+          (then t valid bits 1 rest-rounds (place-round t valid bits a ha Draw (λ x. Enters t valid bits a x ⊎ (place (x .words) a ≡ Watch)) (λ x h y. draw-turn t valid bits x a h y) e)
+          (λ x q. elim q [ inl y ↦ at-once t valid bits rest-rounds y | inr y ↦ watch-inside x z y ]))
 
       pub acquire-is : acquire-rounds t d ≡ 3 + rest-rounds
-      acquire-is = let z = acquire-at t 𝓐 d (ancestor-real t 𝓐 a ha m) in omega arith
+      acquire-is = let z = acquire-at t valid d (ancestor-real t valid a ha m) in omega arith
 
-    climbing-inside : Acquired t 𝓐 bits f
+    climbing-inside : Acquired t valid bits f
     climbing-inside a m ha far c (prepares x) =
-        longer t 𝓐 bits (2 + rest-rounds a m ha far) (acquire-rounds t (ancestor t a m)) (let z = acquire-is a m ha far in omega arith) (prepares-inside a m ha far c x)
+        longer t valid bits (2 + rest-rounds a m ha far) (acquire-rounds t (ancestor t a m)) (let z = acquire-is a m ha far in omega arith) (prepares-inside a m ha far c x)
     climbing-inside a m ha far c (swaps x) =
-        longer t 𝓐 bits (1 + rest-rounds a m ha far) (acquire-rounds t (ancestor t a m)) (let z = acquire-is a m ha far in omega arith) (swap-inside a m ha far c x)
+        longer t valid bits (1 + rest-rounds a m ha far) (acquire-rounds t (ancestor t a m)) (let z = acquire-is a m ha far in omega arith) (swap-inside a m ha far c x)
     climbing-inside a m ha far c (stands x) =
-        longer t 𝓐 bits (rest-rounds a m ha far) (acquire-rounds t (ancestor t a m)) (let z = acquire-is a m ha far in omega arith) (stands-inside a m ha far c x)
+        longer t valid bits (rest-rounds a m ha far) (acquire-rounds t (ancestor t a m)) (let z = acquire-is a m ha far in omega arith) (stands-inside a m ha far c x)
     climbing-inside a m ha far c (goes-on k y w) =
-        longer t 𝓐 bits (1 + (2 + rest-rounds a m ha far)) (acquire-rounds t (ancestor t a m)) (let z = acquire-is a m ha far in omega arith)
-        (then t 𝓐 bits 1 (2 + rest-rounds a m ha far) (woken-round t 𝓐 bits a ha k w)
+        longer t valid bits (1 + (2 + rest-rounds a m ha far)) (acquire-rounds t (ancestor t a m)) (let z = acquire-is a m ha far in omega arith)
+        (then t valid bits 1 (2 + rest-rounds a m ha far) (woken-round t valid bits a ha k w)
         (λ x q. prepares-inside a m ha far x (let q′ : Acquires t a m (place (x .words) a) = rw (← y) at q in q′)))
 
   -- from the root down
-  pub acquired : (f g : ℕ) → g < f → Acquired t 𝓐 bits g
+  pub acquired : (f g : ℕ) → g < f → Acquired t valid bits g
   acquired zero g b = absurd (omega arith)
   acquired (suc f) g b =
-      less-or g f (Acquired t 𝓐 bits g)
+      less-or g f (Acquired t valid bits g)
       (λ h. acquired f g h)
       (λ h. let z : g ≡ f = omega arith in rw z (climbing-inside f (acquired f)))
 
@@ -187,11 +187,11 @@ module _ (t : Tree) (𝓐 : Accepted t) (bits : Sixteen-bit t) where
     abbrev home-rounds : ℕ
     home-rounds = acquire-rounds t (ancestor t a 0)
 
-    from-climbing : (c : Situation t) (m : ℕ) → m ≤ height t a → Climbing t 𝓐 bits a m ha c → Within t 𝓐 bits home-rounds (Enters t 𝓐 bits a) c
+    from-climbing : (c : Situation t) (m : ℕ) → m ≤ height t a → Climbing t valid bits a m ha c → Within t valid bits home-rounds (Enters t valid bits a) c
     from-climbing c m l x =
         let z : 0 + m ≡ m = omega arith in
-        let less : acquire-rounds t (ancestor t a m) ≤ home-rounds = rw z at (fewer t 𝓐 a ha m 0 (omega arith)) in
-        longer t 𝓐 bits (acquire-rounds t (ancestor t a m)) home-rounds less (acquired (suc (height t a - m)) (height t a - m) (omega arith) a m ha (omega arith) c x)
+        let less : acquire-rounds t (ancestor t a m) ≤ home-rounds = rw z at (fewer t valid a ha m 0 (omega arith)) in
+        longer t valid bits (acquire-rounds t (ancestor t a m)) home-rounds less (acquired (suc (height t a - m)) (height t a - m) (omega arith) a m ha (omega arith) c x)
 
     -- as far as the home is from the root
     abbrev tall : ℕ
@@ -203,37 +203,37 @@ module _ (t : Tree) (𝓐 : Accepted t) (bits : Sixteen-bit t) where
     abbrev home-rest : ℕ
     home-rest = rest-rounds tall (acquired tall) a 0 ha (omega arith)
 
-    from-ready : (c : Situation t) → queues c .stage a ≡ ready → Within t 𝓐 bits home-rounds (Enters t 𝓐 bits a) c
-    from-ready c e = longer t 𝓐 bits 1 home-rounds (let z = enough in omega arith) (ready-inside tall (acquired tall) a 0 ha (omega arith) c e)
+    from-ready : (c : Situation t) → queues c .stage a ≡ ready → Within t valid bits home-rounds (Enters t valid bits a) c
+    from-ready c e = longer t valid bits 1 home-rounds (let z = enough in omega arith) (ready-inside tall (acquired tall) a 0 ha (omega arith) c e)
 
-    idle-from : (c : Situation t) → From-idle t a (place (c .words) a) → Within t 𝓐 bits (1 + home-rest) (Enters t 𝓐 bits a) c
+    idle-from : (c : Situation t) → From-idle t a (place (c .words) a) → Within t valid bits (1 + home-rest) (Enters t valid bits a) c
     idle-from c (to-swap e) = swap-inside tall (acquired tall) a 0 ha (omega arith) c e
-    idle-from c (drawn-inside e) = at-once t 𝓐 bits (1 + home-rest) e
-    idle-from c (drawn-watch e z) = longer t 𝓐 bits home-rest (1 + home-rest) (omega arith) (watch-inside tall (acquired tall) a 0 ha (omega arith) c z e)
+    idle-from c (drawn-inside e) = at-once t valid bits (1 + home-rest) e
+    idle-from c (drawn-watch e z) = longer t valid bits home-rest (1 + home-rest) (omega arith) (watch-inside tall (acquired tall) a 0 ha (omega arith) c z e)
 
-    from-idle : (c : Situation t) → place (c .words) a ≡ Idle → Within t 𝓐 bits home-rounds (Enters t 𝓐 bits a) c
+    from-idle : (c : Situation t) → place (c .words) a ≡ Idle → Within t valid bits home-rounds (Enters t valid bits a) c
     from-idle c e =
-        longer t 𝓐 bits (1 + (1 + home-rest)) home-rounds (let z = enough in omega arith)
-        (then t 𝓐 bits 1 (1 + home-rest) (place-round t 𝓐 bits a ha Idle (λ x. From-idle t a (place (x .words) a)) (λ x h y. idle-turn t 𝓐 bits x a h y) e) idle-from)
+        longer t valid bits (1 + (1 + home-rest)) home-rounds (let z = enough in omega arith)
+        (then t valid bits 1 (1 + home-rest) (place-round t valid bits a ha Idle (λ x. From-idle t a (place (x .words) a)) (λ x h y. idle-turn t valid bits x a h y) e) idle-from)
 
-    from-wait : (c : Situation t) (k : ℕ) → k ≤ height t a → Stood t 𝓐 bits a ha k c → Within t 𝓐 bits home-rounds (Enters t 𝓐 bits a) c
+    from-wait : (c : Situation t) (k : ℕ) → k ≤ height t a → Stood t valid bits a ha k c → Within t valid bits home-rounds (Enters t valid bits a) c
     from-wait c k l (stands-on y) = from-climbing c k l (stands y)
     from-wait c k l (is-ready y) = from-ready c y
     from-wait c k l (is-woken w) = from-climbing c (suc k) (w .below) (goes-on k refl w)
-    from-wait c k l (is-inside y) = at-once t 𝓐 bits home-rounds y
+    from-wait c k l (is-inside y) = at-once t valid bits home-rounds y
 
-    inside-by : (c : Situation t) (p : Place) → place (c .words) a ≡ p → is-acquiring p ≡ true → Within t 𝓐 bits home-rounds (Enters t 𝓐 bits a) c
+    inside-by : (c : Situation t) (p : Place) → place (c .words) a ≡ p → is-acquiring p ≡ true → Within t valid bits home-rounds (Enters t valid bits a) c
     unfolding is-acquiring Says
     inside-by c Idle e r = from-idle c e
-    inside-by c (Prep l) e r = let y = says t 𝓐 c a ha (Prep l) e in from-climbing c (y .0) (y .1 .1) (prepares (by-prep (e ∙ ap Prep (y .1 .0))))
-    inside-by c (Swap l) e r = let y = says t 𝓐 c a ha (Swap l) e in from-climbing c (y .0) (y .1 .1) (swaps (e ∙ ap Swap (y .1 .0)))
-    inside-by c (Link l q) e r = let y = says t 𝓐 c a ha (Link l q) e in from-climbing c (y .0) (y .1 .1) (stands (y .2))
+    inside-by c (Prep l) e r = let y = says t valid c a ha (Prep l) e in from-climbing c (y .0) (y .1 .1) (prepares (by-prep (e ∙ ap Prep (y .1 .0))))
+    inside-by c (Swap l) e r = let y = says t valid c a ha (Swap l) e in from-climbing c (y .0) (y .1 .1) (swaps (e ∙ ap Swap (y .1 .0)))
+    inside-by c (Link l q) e r = let y = says t valid c a ha (Link l q) e in from-climbing c (y .0) (y .1 .1) (stands (y .2))
     inside-by c (Wait l) e r =
-        let y = says t 𝓐 c a ha (Wait l) e in
+        let y = says t valid c a ha (Wait l) e in
         let p : place (c .words) a ≡ Wait (ancestor t a (y .0)) = e ∙ ap Wait (y .1 .0) in
-        from-wait c (y .0) (y .1 .1) (waits t 𝓐 bits a ha (y .0) (y .1 .1) c p)
-    inside-by c Draw e r = from-climbing c tall (omega arith) (prepares (by-draw e refl (says t 𝓐 c a ha Draw e .1)))
-    inside-by c Watch e r = elim (says t 𝓐 c a ha Watch e .0) [ inl x ↦ from-climbing c tall (omega arith) (stands x) | inr x ↦ from-ready c x ]
+        from-wait c (y .0) (y .1 .1) (waits t valid bits a ha (y .0) (y .1 .1) c p)
+    inside-by c Draw e r = from-climbing c tall (omega arith) (prepares (by-draw e refl (says t valid c a ha Draw e .1)))
+    inside-by c Watch e r = elim (says t valid c a ha Watch e .0) [ inl x ↦ from-climbing c tall (omega arith) (stands x) | inr x ↦ from-ready c x ]
     inside-by c Inside e r = absurd (false≢true r)
     inside-by c (Check l) e r = absurd (false≢true r)
     inside-by c (Help l) e r = absurd (false≢true r)
@@ -244,6 +244,6 @@ module _ (t : Tree) (𝓐 : Accepted t) (bits : Sixteen-bit t) where
     inside-by c Invalid e r = absurd (false≢true r)
 
     -- B rounds are enough
-    pub inside-within : (c : Situation t) → is-acquiring (place (c .words) a) ≡ true → Within t 𝓐 bits (acquire-bound t a) (Enters t 𝓐 bits a) c
+    pub inside-within : (c : Situation t) → is-acquiring (place (c .words) a) ≡ true → Within t valid bits (acquire-bound t a) (Enters t valid bits a) c
     unfolding acquire-bound
     inside-within c r = rw (← ancestor-home t a) (inside-by c _ refl r)

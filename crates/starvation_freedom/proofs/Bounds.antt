@@ -27,26 +27,26 @@ pub one-less : (k n : ℕ) → 1 ≤ n → k * n ≡ k + k * (n - 1)
 one-less k zero h = absurd (omega arith)
 one-less k (suc n) h = let z : suc n - 1 ≡ n = omega arith in rw z (omega arith)
 
-module _ (t : Tree) (𝓐 : Accepted t) where
+module _ (t : Tree) (valid : Accepted t) where
   pub acquire-at : (d : ℕ) → d < t .domains → acquire-rounds t d ≡ 3 + (members t d - 1) * first-rounds t d + above-rounds t d
   unfolding acquire-rounds acquire-from first-rounds above-rounds level
   acquire-at d h =
       same-or d 0 _
       (λ z. rw (eq-eqb d 0 z) refl)
-      (λ z. rw (ne-eqb d 0 z) (ap (λ n. 3 + (members t d - 1) * tenure-rounds t d (acquire-from n t (t .parent d)) + acquire-from n t (t .parent d)) (depth-child t 𝓐 d (omega arith) h)))
+      (λ z. rw (ne-eqb d 0 z) (ap (λ n. 3 + (members t d - 1) * tenure-rounds t d (acquire-from n t (t .parent d)) + acquire-from n t (t .parent d)) (depth-child t valid d (omega arith) h)))
 
   pub above-some : (d : ℕ) → d < t .domains → 1 ≤ above-rounds t d
   unfolding above-rounds
   above-some d h =
       same-or d 0 _
       (λ z. rw (eq-eqb d 0 z) (omega arith))
-      (λ z. rw (ne-eqb d 0 z) (omega (arith, acquire-at (t .parent d) (omega (arith, 𝓐 .parent-lower d (omega arith) h)))))
+      (λ z. rw (ne-eqb d 0 z) (omega (arith, acquire-at (t .parent d) (omega (arith, valid .parent-lower d (omega arith) h)))))
 
   -- the largest allowance is at least a member's
   pub member-within : (d r : ℕ) → is-member t d r ≡ true → allowance t r ≤ largest-allowance t d
   unfolding largest-allowance
   member-within d r e =
-      let x = largest-ge 320 (λ m. cond (is-member t d m) (allowance t m) 0) r (member-small t 𝓐 d r e) in
+      let x = largest-ge 320 (λ m. cond (is-member t d m) (allowance t m) 0) r (member-small t valid d r e) in
       let z : cond (is-member t d r) (allowance t r) 0 ≡ allowance t r = rw e refl in
       omega arith
 
@@ -54,12 +54,12 @@ module _ (t : Tree) (𝓐 : Accepted t) where
     -- the Checks of a thread are among the rounds for one entry
     pub checks-few : 3 + height t a ≤ entry-rounds t
     unfolding entry-rounds levels level height
-    checks-few = let x = largest-ge (t .domains) (λ d. suc (depth t d)) (t .home a) (𝓐 .home-real a ha) in omega arith
+    checks-few = let x = largest-ge (t .domains) (λ d. suc (depth t d)) (t .home a) (valid .home-real a ha) in omega arith
 
     pub above-next : (k : ℕ) → k < height t a → above-rounds t (ancestor t a k) ≡ acquire-rounds t (ancestor t a (suc k))
     unfolding above-rounds
     above-next k b =
-        rw (ne-eqb (ancestor t a k) 0 (omega (arith, ancestor-inner t 𝓐 a ha k b))) (ap (acquire-rounds t) (ancestor-parent-of t 𝓐 a ha k b))
+        rw (ne-eqb (ancestor t a k) 0 (omega (arith, ancestor-inner t valid a ha k b))) (ap (acquire-rounds t) (ancestor-parent-of t valid a ha k b))
 
     -- fewer rounds nearer to the root
     pub fewer : (n k : ℕ) → k + n ≤ height t a → acquire-rounds t (ancestor t a (k + n)) ≤ acquire-rounds t (ancestor t a k)
@@ -68,7 +68,7 @@ module _ (t : Tree) (𝓐 : Accepted t) where
         let rec = fewer n (suc k) (omega arith) in
         let z : suc k + n ≡ k + suc n = omega arith in
         let rec′ : acquire-rounds t (ancestor t a (k + suc n)) ≤ acquire-rounds t (ancestor t a (suc k)) = rw z at rec in
-        omega (arith, acquire-at (ancestor t a k) (ancestor-real t 𝓐 a ha k), above-next k (omega arith))
+        omega (arith, acquire-at (ancestor t a k) (ancestor-real t valid a ha k), above-next k (omega arith))
 
     -- so those above a domain are enough for every domain above it
     pub above-enough : (k m : ℕ) → k < m → m ≤ height t a → acquire-rounds t (ancestor t a m) ≤ above-rounds t (ancestor t a k)

@@ -32,7 +32,10 @@ unfolding any-below largest-below filter-below read-word tree-of is-child is-lea
 everyone-holds = refl
 
 rounds-hold : all-rounds round-cases ≡ true
-unfolding any-below all-below filter-below read-word tree-of is-ticket meets on-path child-from child own-record place-of is-watch fresh-words fresh-state is-entry prep-row swap-row link-row wait-row leave-row check-row help-row cas-row linger-row grant-row draw-row watch-row is-watched shown-members raise-row row step steps state-after entering run-of run occurrences padded tree at-ticket-root two-in-root one-leaf all-threads are-rounds joined round-holds all-rounds round-cases
+unfolding any-below all-below filter-below read-word tree-of is-ticket meets on-path child-from child own-record place-of is-watch fresh-words fresh-state
+    is-entry prep-row swap-row link-row wait-row leave-row check-row help-row cas-row linger-row grant-row draw-row watch-row is-watched shown-members
+    raise-row row step steps state-after entering run-of run occurrences padded tree at-ticket-root two-in-root one-leaf all-threads are-rounds joined
+    round-holds all-rounds round-cases
 rounds-hold = refl
 
 -- LISTS THAT PASS ARE ROUNDS
@@ -60,7 +63,9 @@ abbrev turned : State
 turned = run stalled-tree without-releaser stalled .state
 
 same-again : same-state (run stalled-tree without-releaser turned .state) turned ≡ true
-unfolding any-below filter-below read-word tree-of is-ticket meets on-path child-from child own-record place-of is-watch fresh-words fresh-state prep-row swap-row link-row wait-row leave-row check-row help-row cas-row linger-row grant-row draw-row watch-row is-watched shown-members raise-row row step steps state-after run-of run padded tree stalled-tree until-stalled without-releaser same-numbers place-numbers same-state
+unfolding any-below filter-below read-word tree-of is-ticket meets on-path child-from child own-record place-of is-watch fresh-words fresh-state prep-row
+    swap-row link-row wait-row leave-row check-row help-row cas-row linger-row grant-row draw-row watch-row is-watched shown-members raise-row row step steps
+    state-after run-of run padded tree stalled-tree until-stalled without-releaser same-numbers place-numbers same-state
 same-again = refl
 
 comes-back : run stalled-tree without-releaser turned .state ≡ turned
@@ -71,7 +76,9 @@ entries-are :
     (run stalled-tree until-stalled (fresh-state stalled-tree 0) .trace ≡ 0 ∷ [])
     × (run stalled-tree without-releaser stalled .trace ≡ 2 ∷ [])
     × (run stalled-tree without-releaser turned .trace ≡ 2 ∷ [])
-unfolding any-below filter-below read-word tree-of is-ticket meets on-path child-from child own-record place-of is-watch fresh-words fresh-state is-entry prep-row swap-row link-row wait-row leave-row check-row help-row cas-row linger-row grant-row draw-row watch-row is-watched shown-members raise-row row step steps state-after entering run-of run padded tree stalled-tree until-stalled without-releaser
+unfolding any-below filter-below read-word tree-of is-ticket meets on-path child-from child own-record place-of is-watch fresh-words fresh-state is-entry
+    prep-row swap-row link-row wait-row leave-row check-row help-row cas-row linger-row grant-row draw-row watch-row is-watched shown-members raise-row row
+    step steps state-after entering run-of run padded tree stalled-tree until-stalled without-releaser
 entries-are = (refl, refl, refl)
 
 trace-join : (t : Tree) (is js : List ℕ) (s : State) → run t (is ++ js) s .trace ≡ run t is s .trace ++ run t js (run t is s .state) .trace

@@ -92,8 +92,8 @@ windows-cover t N (suc n) S every b =
     )
 
 module _ (t : Tree) (ok : tree-refusal t .number ≡ 0) (bits : Sixteen-bit t) (i : ℕ) (hi : i < t .threads) where
-  𝓐 : Accepted t
-  𝓐 = accepted t ok
+  valid : Accepted t
+  valid = accepted t ok
 
   -- ARRIVING somewhere along a schedule, after some entry
   record Found (q : Place) (S : List ℕ) (s : State) : Type 0 where
@@ -105,12 +105,12 @@ module _ (t : Tree) (ok : tree-refusal t .number ≡ 0) (bits : Sixteen-bit t) (
   unfolding state-at run run-of steps state-after step
   found-later q x S s f = let b = f .within in record { entry = suc (f .entry); within = omega arith; arrived = f .arrived }
 
-  found : (q : Place) {S : List ℕ} {c : Situation t} → Reaches t 𝓐 bits (λ d. place (d .words) i ≡ q) S c → Found q S (c .words)
+  found : (q : Place) {S : List ℕ} {c : Situation t} → Reaches t valid bits (λ d. place (d .words) i ≡ q) S c → Found q S (c .words)
   unfolding state-at run run-of steps state-after
   found q (now p) = record { entry = 0; within = omega arith; arrived = p }
-  found q {c = c} (later {S = S} x h r) = found-later q x S (c .words) (subst (Found q S) (next-words t 𝓐 bits c x h) (found q r))
+  found q {c = c} (later {S = S} x h r) = found-later q x S (c .words) (subst (Found q S) (next-words t valid bits c x h) (found q r))
 
-  arrives : (q : Place) {S : List ℕ} {c : Situation t} → place (c .words) i ≢ q → Reaches t 𝓐 bits (λ d. place (d .words) i ≡ q) S c → Arrives t (c .words) S i q (length S)
+  arrives : (q : Place) {S : List ℕ} {c : Situation t} → place (c .words) i ≢ q → Reaches t valid bits (λ d. place (d .words) i ≡ q) S c → Arrives t (c .words) S i q (length S)
   unfolding state-at run run-of steps state-after
   arrives q {S} {c} n r =
       let f = found q r in
@@ -124,10 +124,10 @@ module _ (t : Tree) (ok : tree-refusal t .number ≡ 0) (bits : Sixteen-bit t) (
   abbrev Has-entry : List ℕ → Situation t → Type 0
   Has-entry S c = 1 ≤ occurrences i (run t S (c .words) .trace)
 
-  longer-has : (S : List ℕ) (c : Situation t) (x : ℕ) (h : x < t .threads) → Has-entry S (next t 𝓐 bits c x h) → Has-entry (x ∷ S) c
+  longer-has : (S : List ℕ) (c : Situation t) (x : ℕ) (h : x < t .threads) → Has-entry S (next t valid bits c x h) → Has-entry (x ∷ S) c
   unfolding run run-of steps entering step
   longer-has S c x h e =
-      let e′ : 1 ≤ occurrences i (entering (steps t S (step t x (c .words) .state))) = rw (next-words t 𝓐 bits c x h) at e in
+      let e′ : 1 ≤ occurrences i (entering (steps t S (step t x (c .words) .state))) = rw (next-words t valid bits c x h) at e in
       let y = step t x (c .words) in
       let o = occurrences-join i (cond (is-entry (y .kind)) (y .thread ∷ []) []) (entering (steps t S (y .state))) in
       omega arith
@@ -138,29 +138,29 @@ module _ (t : Tree) (ok : tree-refusal t .number ≡ 0) (bits : Sixteen-bit t) (
   entry-here S c e = rw e (rw (eq-eqb i i refl) (omega arith))
 
   -- an own step that does not enter does not arrive Inside
-  not-yet : (c : Situation t) (h : i < t .threads) → place (c .words) i ≢ Inside → is-entry (step t i (c .words) .kind) ≡ false → place (next t 𝓐 bits c i h .words) i ≢ Inside
+  not-yet : (c : Situation t) (h : i < t .threads) → place (c .words) i ≢ Inside → is-entry (step t i (c .words) .kind) ≡ false → place (next t valid bits c i h .words) i ≢ Inside
   unfolding Kind-law step
   not-yet c h n e p =
-      let told = kind-law t i (c .words) ok hi (facts-well-formed t (c .words) (c .queued .facts)) in
-      false≢true (sym e ∙ told .enters-exactly .1 (ap (λ s. place s i) (sym (next-words t 𝓐 bits c i h)) ∙ p, n))
+      let kinds = kind-law t i (c .words) ok hi (facts-well-formed t (c .words) (c .queued .facts)) in
+      false≢true (sym e ∙ kinds .enters-exactly .1 (ap (λ s. place s i) (sym (next-words t valid bits c i h)) ∙ p, n))
 
-  own-has : (S : List ℕ) (c : Situation t) (h : i < t .threads) → place (c .words) i ≢ Inside → (place (next t 𝓐 bits c i h .words) i ≢ Inside → Has-entry S (next t 𝓐 bits c i h)) →
+  own-has : (S : List ℕ) (c : Situation t) (h : i < t .threads) → place (c .words) i ≢ Inside → (place (next t valid bits c i h .words) i ≢ Inside → Has-entry S (next t valid bits c i h)) →
       (b : Bool) → is-entry (step t i (c .words) .kind) ≡ b → Has-entry (i ∷ S) c
   own-has S c h n rec true e = entry-here S c e
   own-has S c h n rec false e = longer-has S c i h (rec (not-yet c h n e))
 
-  inside-has : {S : List ℕ} {c : Situation t} → Reaches t 𝓐 bits (λ d. place (d .words) i ≡ Inside) S c → place (c .words) i ≢ Inside → Has-entry S c
+  inside-has : {S : List ℕ} {c : Situation t} → Reaches t valid bits (λ d. place (d .words) i ≡ Inside) S c → place (c .words) i ≢ Inside → Has-entry S c
   inside-has (now p) n = absurd (n p)
   inside-has {c = c} (later {S = S} x h r) n = by (λ m. inside-has r m)
     where
-      by : (place (next t 𝓐 bits c x h .words) i ≢ Inside → Has-entry S (next t 𝓐 bits c x h)) → Has-entry (x ∷ S) c
+      by : (place (next t valid bits c x h .words) i ≢ Inside → Has-entry S (next t valid bits c x h)) → Has-entry (x ∷ S) c
       by rec =
           same-or x i _
           (λ z.
-          let own : (h : x < t .threads) → (place (next t 𝓐 bits c x h .words) i ≢ Inside → Has-entry S (next t 𝓐 bits c x h)) → Has-entry (x ∷ S) c =
+          let own : (h : x < t .threads) → (place (next t valid bits c x h .words) i ≢ Inside → Has-entry S (next t valid bits c x h)) → Has-entry (x ∷ S) c =
           rw z (λ h′ rec′. own-has S c h′ n rec′ _ refl) in
           own h rec)
-          (λ z. longer-has S c x h (rec (λ p. n (sym (place-other t 𝓐 bits c x h i (λ y. z (sym y))) ∙ p))))
+          (λ z. longer-has S c x h (rec (λ p. n (sym (place-other t valid bits c x h i (λ y. z (sym y))) ∙ p))))
 
   -- THE BOUNDS of a situation
   acquiring-not-inside : (c : Situation t) → is-acquiring (place (c .words) i) ≡ true → place (c .words) i ≢ Inside
@@ -192,7 +192,7 @@ module _ (t : Tree) (ok : tree-refusal t .number ≡ 0) (bits : Sixteen-bit t) (
   either c (Linger l) e = inr refl
   either c (Grant l r w) e = inr refl
   either c Raise e = inr refl
-  either c Invalid e = absurd (says t 𝓐 c i hi Invalid e)
+  either c Invalid e = absurd (says t valid c i hi Invalid e)
 
   abbrev B : ℕ
   B = acquire-bound t i
@@ -201,15 +201,15 @@ module _ (t : Tree) (ok : tree-refusal t .number ≡ 0) (bits : Sixteen-bit t) (
   R = release-bound t i
 
   acquiring-has : (c : Situation t) → is-acquiring (place (c .words) i) ≡ true → (S : List ℕ) → All-threads t S → Covers t B S → Has-entry S c
-  acquiring-has c a S all cov = inside-has (inside-within t 𝓐 bits i hi c a S all cov) (acquiring-not-inside c a)
+  acquiring-has c a S all cov = inside-has (inside-within t valid bits i hi c a S all cov) (acquiring-not-inside c a)
 
   has-entry : (c : Situation t) (S : List ℕ) → All-threads t S → Covers t (B + R) S → Has-entry S c
   has-entry c S all cov =
       elim (either c _ refl) [
-        | inl a ↦ inside-has (longer t 𝓐 bits B (B + R) (omega arith) (inside-within t 𝓐 bits i hi c a) S all cov) (acquiring-not-inside c a)
+        | inl a ↦ inside-has (longer t valid bits B (B + R) (omega arith) (inside-within t valid bits i hi c a) S all cov) (acquiring-not-inside c a)
         | inr a ↦
             let z : B + R ≡ R + B = omega arith in
-            sequence t 𝓐 bits (λ d. place (d .words) i ≡ Idle) Has-entry longer-has B (λ d e. acquiring-has d (idle-acquiring d e)) R c (idle-within t 𝓐 bits i hi c a) S all (rw z at cov)
+            sequence t valid bits (λ d. place (d .words) i ≡ Idle) Has-entry longer-has B (λ d e. acquiring-has d (idle-acquiring d e)) R c (idle-within t valid bits i hi c a) S all (rw z at cov)
       ]
 
   -- enough for all threads is enough for one
@@ -222,8 +222,8 @@ module _ (t : Tree) (ok : tree-refusal t .number ≡ 0) (bits : Sixteen-bit t) (
   bounded : (c : Situation t) → Bounded t (c .words) i
   bounded c =
       record {
-        acquiring = λ S a rs. arrives Inside (acquiring-not-inside c a) (inside-within t 𝓐 bits i hi c a S (rounds-threads t rs) (rounds-cover t rs));
-        releasing = λ S a rs. arrives Idle (releasing-not-idle c a) (idle-within t 𝓐 bits i hi c a S (rounds-threads t rs) (rounds-cover t rs));
+        acquiring = λ S a rs. arrives Inside (acquiring-not-inside c a) (inside-within t valid bits i hi c a S (rounds-threads t rs) (rounds-cover t rs));
+        releasing = λ S a rs. arrives Idle (releasing-not-idle c a) (idle-within t valid bits i hi c a S (rounds-threads t rs) (rounds-cover t rs));
         entering = λ S rs. has-entry c S (rounds-threads t rs) (rounds-cover t rs);
       }
 
@@ -247,15 +247,15 @@ module _ (t : Tree) (ok : tree-refusal t .number ≡ 0) (bits : Sixteen-bit t) (
     bounded-in-windows : Bounded-in-windows t (c .words) i N S
     bounded-in-windows =
         record {
-          acquiring = λ a b. widen Inside (N * B) b (arrives Inside (acquiring-not-inside c a) (inside-within t 𝓐 bits i hi c a (take (N * B) S) (taken-threads (N * B)) (taken-cover B b)));
-          releasing = λ a b. widen Idle (N * R) b (arrives Idle (releasing-not-idle c a) (idle-within t 𝓐 bits i hi c a (take (N * R) S) (taken-threads (N * R)) (taken-cover R b)));
+          acquiring = λ a b. widen Inside (N * B) b (arrives Inside (acquiring-not-inside c a) (inside-within t valid bits i hi c a (take (N * B) S) (taken-threads (N * B)) (taken-cover B b)));
+          releasing = λ a b. widen Idle (N * R) b (arrives Idle (releasing-not-idle c a) (idle-within t valid bits i hi c a (take (N * R) S) (taken-threads (N * R)) (taken-cover R b)));
           entering = λ b. has-entry c (take (N * (B + R)) S) (taken-threads (N * (B + R))) (taken-cover (B + R) b);
         }
 
 -- FROM FRESH
 reached : (t : Tree) → Accepted t → Sixteen-bit t → (start : ℕ) (before : List ℕ) → All-threads t before → Queued t (run t before (fresh-state t start) .state)
 unfolding run run-of
-reached t 𝓐 bits start before all = from-fresh t 𝓐 bits start before all .there
+reached t valid bits start before all = from-fresh t valid bits start before all .there
 
 pub starvation-law : Starvation-law
 unfolding Starvation-law

@@ -29,7 +29,7 @@ pub record Same-first (T : Tree) (st st′ : State) (a j b k : ℕ) : Type 0 whe
   pub there : ancestor T b k ≡ ancestor T a j
   pub mine : record-at T b k ≡ record-at T a j
 
-module _ (T : Tree) (𝓛 : Laws T) where
+module _ (T : Tree) (tree-laws : Laws T) where
   -- a thread about to start is first nowhere
   not-starting : (st : State) (i a j : ℕ) → st .stage i ≡ out → j < low (height T a) (st .stage a) → a ≢ i
   unfolding low
@@ -40,19 +40,19 @@ module _ (T : Tree) (𝓛 : Laws T) where
       left T (st′ .tally) (st′ .stage b) b k + hits T c b ≤ left T (st .tally) (st .stage a) a j
   unfolding hits
   left-falls (unmoved {st = st}) inv a j b k f =
-      let u = unique T 𝓛 st inv b a k j (omega (arith, f .after, low-acts (height T b) (st .stage b))) (omega (arith, f .before, low-acts (height T a) (st .stage a))) (f .mine) in
+      let u = unique T tree-laws st inv b a k j (omega (arith, f .after, low-acts (height T b) (st .stage b))) (omega (arith, f .before, low-acts (height T a) (st .stage a))) (f .mine) in
       rw (u .0, u .1) (omega arith)
   left-falls (moved {st = st} mv) inv a j b k f =
       let head : first (st .queue (ancestor T b k)) ≡ suc (record-at T b k) = rw (f .there, f .mine) (inv .threads a .heads j (f .before)) in
-      let x = falls T 𝓛 st inv mv b k (f .after) head in
-      let u = unique T 𝓛 st inv (x .thread) a (x .index) j (omega (arith, x .was-first, low-acts (height T (x .thread)) (st .stage (x .thread)))) (omega (arith, f .before, low-acts (height T a) (st .stage a))) (x .same ∙ f .mine) in
+      let x = falls T tree-laws st inv mv b k (f .after) head in
+      let u = unique T tree-laws st inv (x .thread) a (x .index) j (omega (arith, x .was-first, low-acts (height T (x .thread)) (st .stage (x .thread)))) (omega (arith, f .before, low-acts (height T a) (st .stage a))) (x .same ∙ f .mine) in
       let y = x .falls in
       rw (u .0, u .1) at y
   left-falls (begun {st = st} {st′ = st′} i h e c) inv a j b k f =
       let n = not-starting st i a j e (f .before) in
       let z = put-other (st .stage) i (climb 0) a n in
       let g : Same-first T (started-by st i) st′ a j b k = record { before = rw z (f .before); after = f .after; there = f .there; mine = f .mine } in
-      rw z at (left-falls c (keeps T 𝓛 st inv (start i h e)) a j b k g)
+      rw z at (left-falls c (keeps T tree-laws st inv (start i h e)) a j b k g)
 
   -- THE ENTRY: a thread whose pending entry is made
   module _ (a : ℕ) where
@@ -110,7 +110,7 @@ module _ (T : Tree) (𝓛 : Laws T) where
     unfolding reach low acts
     as-ready x e r l b =
         let th : Thread T (st .queue) a x = rw e at (inv .threads a) in
-        restaged T 𝓛 st inv a ready
+        restaged T tree-laws st inv a ready
         (record { real = λ _. th .real (omega arith); range = omega arith; heads = λ n h. th .heads n (omega arith); stands = λ h. absurd (omega arith) })
         (rw e (omega arith))
 
@@ -120,7 +120,7 @@ module _ (T : Tree) (𝓛 : Laws T) where
     left-made x e p r l b j h =
         let inv′ = as-ready x e r l b in
         let y = put-same (st .stage) a ready a refl in
-        let bound = left-bound T 𝓛 (record { queue = st .queue; stage = put (st .stage) a ready; tally = st .tally }) inv′ a j (rw y (omega arith)) in
+        let bound = left-bound T tree-laws (record { queue = st .queue; stage = put (st .stage) a ready; tally = st .tally }) inv′ a j (rw y (omega arith)) in
         let bound′ : left T (st .tally) ready a j ≤ allowance T (record-at T a j) = rw y at bound in
         rw e (omega (arith, left-pending (st .tally) x ready a j))
 

@@ -34,12 +34,12 @@ total-passing (suc n) q f p o =
 -- a queue is no longer than its domain has members
 pub queue-short : (t : Tree) → Accepted t → (st : State) → Inv t st → (d : ℕ) → length (st .queue d) ≤ members t d
 unfolding members
-queue-short t 𝓐 st inv d =
+queue-short t valid st inv d =
     let is-one : (a : ℕ) → 1 ≤ count a (st .queue d) → is-member t d a ≡ true = λ a h.
     let x = inv .acted d a h in
-    let r = acts-real t (laws t 𝓐) st inv (x .thread) (x .index) (x .acting) in
-    rw (x .place, x .mine) at (member-at t 𝓐 (x .thread) (r .0) (x .index) (r .2)) in
-    omega (arith, total-length 320 (st .queue d) (λ a h. member-small t 𝓐 d a (is-one a h)), total-passing 320 (st .queue d) (is-member t d) is-one (inv .once d))
+    let r = acts-real t (laws t valid) st inv (x .thread) (x .index) (x .acting) in
+    rw (x .place, x .mine) at (member-at t valid (x .thread) (r .0) (x .index) (r .2)) in
+    omega (arith, total-length 320 (st .queue d) (λ a h. member-small t valid d a (is-one a h)), total-passing 320 (st .queue d) (is-member t d) is-one (inv .once d))
 
 -- POSITIONS
 pub position-within : (m : ℕ) (q : List ℕ) → 1 ≤ count m q → position m q < length q

@@ -30,7 +30,7 @@ unfolding tag down
 down-tag zero e = omega arith
 down-tag (suc j) e = omega arith
 
-module _ (T : Tree) (𝓛 : Laws T) (st : State) (inv : Inv T st) where
+module _ (T : Tree) (tree-laws : Laws T) (st : State) (inv : Inv T st) where
   -- WHO HAS LET GO of its domain at an index is in no queue with its record there
   pub gone : (a j : ℕ) → a < T .threads → st .stage a ≡ down j → (d : ℕ) → count (record-at T a j) (st .queue d) ≡ 0
   gone a j ha e d =
@@ -38,8 +38,8 @@ module _ (T : Tree) (𝓛 : Laws T) (st : State) (inv : Inv T st) where
       (λ h.
       let x = inv .acted d (record-at T a j) h in
       let heads : Below T (st .queue) a j = λ n b. inv .threads a .heads n (rw (e, low-down (height T a) j) b) in
-      let u = same-user T (st .queue) (x .thread) a (acts-small T 𝓛 st inv (x .thread) (x .index) (x .acting)) (omega (arith, 𝓛 .few)) (x .index) j
-      (below T 𝓛 st inv (x .thread) (x .index) (x .acting)) heads (x .mine) in
+      let u = same-user T (st .queue) (x .thread) a (acts-small T tree-laws st inv (x .thread) (x .index) (x .acting)) (omega (arith, tree-laws .few)) (x .index) j
+      (below T tree-laws st inv (x .thread) (x .index) (x .acting)) heads (x .mine) in
       let z : acts (height T (x .thread)) (st .stage (x .thread)) ≡ acts (height T a) (st .stage a) = ap (λ n. acts (height T n) (st .stage n)) (u .0) in
       let w : acts (height T a) (st .stage a) ≡ j = ap (acts (height T a)) e ∙ acts-down (height T a) j in
       let y = x .acting in
@@ -61,7 +61,7 @@ module _ (T : Tree) (𝓛 : Laws T) (st : State) (inv : Inv T st) where
   holder d r f =
       let c = inv .acted d r (first-in r (st .queue d) f) in
       let n = c .thread in
-      let real = acts-real T 𝓛 st inv n (c .index) (c .acting) in
+      let real = acts-real T tree-laws st inv n (c .index) (c .acting) in
       less-or (c .index) (low (height T n) (st .stage n)) _
       (λ h. record { thread = n; index = c .index; real = real .0; within = real .2; first-at = h; there = c .place; mine = c .mine })
       (λ h.
@@ -85,7 +85,7 @@ pub record Handed (T : Tree) (st′ : State) (a k : ℕ) : Type 0 where
   pub is-ready : st′ .stage thread ≡ ready
   pub meets : ancestor T thread index ≡ ancestor T a k
 
-module _ (T : Tree) (𝓛 : Laws T) (a k : ℕ) (low-there : k < height T a) where
+module _ (T : Tree) (tree-laws : Laws T) (a k : ℕ) (low-there : k < height T a) where
   -- another thread's stage
   unmoved-there : (f : ℕ → Stage) (i : ℕ) (x : Stage) {C : Type 0} → f a ≡ holding → put f i x a ≡ down k → f i ≢ holding → C
   unfolding tag
@@ -117,7 +117,7 @@ module _ (T : Tree) (𝓛 : Laws T) (a k : ℕ) (low-there : k < height T a) whe
       (λ y. same-or a i _
       (λ v.
       let same : down j ≡ down k = sym (put-other f s ready a y ∙ put-same (st .stage) i (down j) a v) ∙ z in
-      record { thread = s; index = l; within = acts-real T 𝓛 st inv s l (rw w (omega arith)) .2; is-ready = put-same f s ready s refl; meets = m ∙ ap (λ n. ancestor T n j) (sym v) ∙ ap (ancestor T a) (down-same j same) })
+      record { thread = s; index = l; within = acts-real T tree-laws st inv s l (rw w (omega arith)) .2; is-ready = put-same f s ready s refl; meets = m ∙ ap (λ n. ancestor T n j) (sym v) ∙ ap (ancestor T a) (down-same j same) })
       (λ v. absurd (down-tag k (ap tag (sym z ∙ put-other f s ready a y ∙ put-other (st .stage) i (down j) a v ∙ x)))))
   handed-move {st} inv (release i j s l xs e w m shape) x z =
       let f = put (st .stage) i (down j) in
@@ -138,7 +138,7 @@ module _ (T : Tree) (𝓛 : Laws T) (a k : ℕ) (low-there : k < height T a) whe
   handed inv unmoved x z = absurd (down-tag k (ap tag (sym z ∙ x)))
   handed inv (moved mv) x z = handed-move inv mv x z
   handed inv (begun {st = st} i h e c) x z =
-      handed (keeps T 𝓛 st inv (start i h e)) c (put-other (st .stage) i (climb 0) a (λ y. apart out (λ o. omega arith) (sym e ∙ ap (st .stage) (sym y) ∙ x)) ∙ x) z
+      handed (keeps T tree-laws st inv (start i h e)) c (put-other (st .stage) i (climb 0) a (λ y. apart out (λ o. omega arith) (sym e ∙ ap (st .stage) (sym y) ∙ x)) ∙ x) z
 
 -- WHO IS FIRST does not stand behind the first after one step
 pub first-not-behind : (d m : ℕ) (e : Event) (q q′ : List ℕ) → Change d e q q′ → first q ≡ suc m → count m q ≤ 1 → count m q′ ≤ 1 → count m (rest q′) ≡ 0

@@ -62,7 +62,7 @@ ready-place t w g i e (at-draw k l r c) = absurd (let o = ap tag e in omega arit
 ready-place t w g i e (at-watch k l r c) = absurd (let o = ap tag e in omega arith)
 ready-place t w g i e (at-raise r c) = absurd (let o = ap tag e in omega arith)
 
-module _ (t : Tree) (𝓐 : Accepted t) (bits : Sixteen-bit t) (a : ℕ) (ha : a < t .threads) where
+module _ (t : Tree) (valid : Accepted t) (bits : Sixteen-bit t) (a : ℕ) (ha : a < t .threads) where
   module _ (c : Situation t) (e : queues c .stage a ≡ ready) where
     abbrev inv : Inv t (queues c)
     inv = c .queued .represents .invariant
@@ -78,36 +78,36 @@ module _ (t : Tree) (𝓐 : Accepted t) (bits : Sixteen-bit t) (a : ℕ) (ha : a
     -- a count is a 16-bit number
     count-small : (k : ℕ) → k < height t a → queues c .tally (record-at t a k) ≤ 65535
     count-small k b =
-        let f = inv .counts (ancestor t a k) (record-at t a k) (λ z. omega (arith, ancestor-inner t 𝓐 a ha k b)) (heads k (omega arith)) .1 in
+        let f = inv .counts (ancestor t a k) (record-at t a k) (λ z. omega (arith, ancestor-inner t valid a ha k b)) (heads k (omega arith)) .1 in
         omega (arith, bits (ancestor t a k))
 
     -- its step enters
-    enters-from : Ready-place t (words-in (c .words)) (queues c) a (place (c .words) a) → (h : a < t .threads) → place (next t 𝓐 bits c a h .words) a ≡ Inside
+    enters-from : Ready-place t (words-in (c .words)) (queues c) a (place (c .words) a) → (h : a < t .threads) → place (next t valid bits c a h .words) a ≡ Inside
     unfolding words-in
-    enters-from (in-wait k l p v n) h = ready-turn t 𝓐 bits c a h k l p v (λ b. omega (arith, n b, count-small k b))
+    enters-from (in-wait k l p v n) h = ready-turn t valid bits c a h k l p v (λ b. omega (arith, n b, count-small k b))
     enters-from (in-watch p root) h =
         let R = record-at t a (height t a) in
-        let head : first (queues c .queue 0) ≡ suc R = rw (ancestor-root t 𝓐 a ha) at (heads (height t a) (omega arith)) in
+        let head : first (queues c .queue 0) ≡ suc R = rw (ancestor-root t valid a ha) at (heads (height t a) (omega arith)) in
         let same = tickets-first (λ r. status (c .words) r) (c .words .grant) (c .words .ticket) R (queues c .queue 0) (c .queued .represents .numbered root .held) head in
-        shown-turn t 𝓐 bits c a h p same
+        shown-turn t valid bits c a h p same
 
-    pub ready-enters : (h : a < t .threads) → place (next t 𝓐 bits c a h .words) a ≡ Inside
+    pub ready-enters : (h : a < t .threads) → place (next t valid bits c a h .words) a ≡ Inside
     ready-enters h = enters-from there h
 
     -- another's step leaves it ready
     module _ (x : ℕ) (hx : x < t .threads) (n : x ≢ a) where
       abbrev d : Situation t
-      d = next t 𝓐 bits c x hx
+      d = next t valid bits c x hx
 
       same-place : place (d .words) a ≡ place (c .words) a
-      same-place = place-other t 𝓐 bits c x hx a (λ z. n (sym z))
+      same-place = place-other t valid bits c x hx a (λ z. n (sym z))
 
       same-status : (k : ℕ) → k ≤ height t a → status (d .words) (record-at t a k) ≡ status (c .words) (record-at t a k)
       unfolding low
       same-status k l =
           let b : k < low (height t a) (queues c .stage a) = rw e (omega arith) in
-          ap (λ s. status s (record-at t a k)) (next-words t 𝓐 bits c x hx)
-          ∙ status-same t 𝓐 bits (c .words) (c .queued) x hx a k ha (λ z. n (sym z)) (omega arith) (not-first t 𝓐 bits (c .words) (c .queued) x hx a k b)
+          ap (λ s. status s (record-at t a k)) (next-words t valid bits c x hx)
+          ∙ status-same t valid bits (c .words) (c .queued) x hx a k ha (λ z. n (sym z)) (omega arith) (not-first t valid bits (c .words) (c .queued) x hx a k b)
 
       waits-on : (k : ℕ) → k ≤ height t a → (k ≡ height t a → status (c .words) (record-at t a k) ≡ 0) → (k < height t a → status (c .words) (record-at t a k) ≤ 65535) →
           Waiting t (words-in (d .words)) (queues d) a k (queues d .stage a) → queues d .stage a ≡ ready
@@ -118,12 +118,12 @@ module _ (t : Tree) (𝓐 : Accepted t) (bits : Sixteen-bit t) (a : ℕ) (ha : a
           let s = same-status k l in
           same-or k (height t a) _
           (λ z.
-          let zero : ancestor t a k ≡ 0 = ap (ancestor t a) z ∙ ancestor-root t 𝓐 a ha in
+          let zero : ancestor t a k ≡ 0 = ap (ancestor t a) z ∙ ancestor-root t valid a ha in
           let v′ : status (d .words) (record-at t a k) ≡ locked = rw (eq-eqb (ancestor t a k) 0 zero) at v in
           absurd (let o = top z in omega arith))
           (λ z.
           let b : k < height t a = omega arith in
-          let v′ : status (d .words) (record-at t a k) ≡ wait-word = rw (ne-eqb (ancestor t a k) 0 (omega (arith, ancestor-inner t 𝓐 a ha k b))) at v in
+          let v′ : status (d .words) (record-at t a k) ≡ wait-word = rw (ne-eqb (ancestor t a k) 0 (omega (arith, ancestor-inner t valid a ha k b))) at v in
           absurd (let o = low-there b in omega arith))
 
       watches-on : (queues d .stage a ≡ queued (height t a)) ⊎ (queues d .stage a ≡ ready) → queues d .stage a ≡ ready
@@ -134,7 +134,7 @@ module _ (t : Tree) (𝓐 : Accepted t) (bits : Sixteen-bit t) (a : ℕ) (ha : a
           let m = record-at t a k in
           let D = ancestor t a k in
           let inv′ = d .queued .represents .invariant in
-          let ch = queue-change t D (next-change t 𝓐 bits c x hx) in
+          let ch = queue-change t D (next-change t valid bits c x hx) in
           let o = first-not-behind D m (ch .0) (queues c .queue D) (queues d .queue D) (ch .1) (heads k (omega arith)) (inv .once D m) (inv′ .once D m) in
           let s = inv′ .threads a .stands (rw y (omega arith)) in
           let s′ : _ = rw y at s in
@@ -142,8 +142,8 @@ module _ (t : Tree) (𝓐 : Accepted t) (bits : Sixteen-bit t) (a : ℕ) (ha : a
 
       lasts-from : Ready-place t (words-in (c .words)) (queues c) a (place (c .words) a) → queues d .stage a ≡ ready
       unfolding words-in Says
-      lasts-from (in-wait k l p v m) = waits-on k l v (λ b. omega (arith, m b, count-small k b)) (wait-stage t 𝓐 d a ha k l (same-place ∙ p))
-      lasts-from (in-watch p root) = watches-on (says t 𝓐 d a ha Watch (same-place ∙ p) .0)
+      lasts-from (in-wait k l p v m) = waits-on k l v (λ b. omega (arith, m b, count-small k b)) (wait-stage t valid d a ha k l (same-place ∙ p))
+      lasts-from (in-watch p root) = watches-on (says t valid d a ha Watch (same-place ∙ p) .0)
 
       pub ready-lasts : queues d .stage a ≡ ready
       ready-lasts = lasts-from there

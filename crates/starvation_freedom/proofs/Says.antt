@@ -74,14 +74,14 @@ fits-says t w g i (at-watch k l r c) = (inl (ap queued l), r)
 fits-says t w g i (at-shown r c) = (inr refl, r)
 fits-says t w g i (at-raise r c) = refl
 
-module _ (t : Tree) (𝓐 : Accepted t) (c : Situation t) (i : ℕ) (h : i < t .threads) where
+module _ (t : Tree) (valid : Accepted t) (c : Situation t) (i : ℕ) (h : i < t .threads) where
   -- of a thread in a situation, by its place
   pub says : (p : Place) → place (c .words) i ≡ p → Says t (words-in (c .words)) (queues c) i p (queues c .stage i)
   unfolding words-in
   says p e = rw e at (fits-says t (words-in (c .words)) (queues c) i (c .queued .represents .fits i h))
 
   same-index : (k m : ℕ) → k ≤ height t i → At t i (ancestor t i k) m → m ≡ k
-  same-index k m l (e, b) = sym (ancestor-injective t 𝓐 i h k m l b e)
+  same-index k m l (e, b) = sym (ancestor-injective t valid i h k m l b e)
 
   -- the stage at a place, where the place tells it
   pub link-stage : (k q : ℕ) → k ≤ height t i → place (c .words) i ≡ Link (ancestor t i k) q → queues c .stage i ≡ queued k
@@ -115,7 +115,7 @@ module _ (t : Tree) (𝓐 : Accepted t) (c : Situation t) (i : ℕ) (h : i < t .
       let z = same-index k (y .0) (omega arith) (y .1) in
       elim (y .2) [
         | pass o x f ↦ x
-        | release x f ↦ absurd (let n = ne-eqb (ancestor t i k) 0 (omega (arith, ancestor-inner t 𝓐 i h k b)) in let f′ : v ≡ acquire-parent = rw (z, n) at f in omega arith)
+        | release x f ↦ absurd (let n = ne-eqb (ancestor t i k) 0 (omega (arith, ancestor-inner t valid i h k b)) in let f′ : v ≡ acquire-parent = rw (z, n) at f in omega arith)
       ]
 
   -- where a domain is let go of

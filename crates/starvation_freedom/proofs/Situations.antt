@@ -51,7 +51,7 @@ pub record Row-change (t : Tree) (g : State) (x : Row-result) : Type 0 where
 from-row : {t : Tree} {g : State} {i d : ℕ} {p : Place} {x : Row-result} → Row-moves t g i d p x → Row-change t g x
 from-row {t} m = record { state = m .state; represents = m .represents; change = changed t (m .moved) }
 
-module _ (t : Tree) (𝓐 : Accepted t) (bits : Sixteen-bit t) (s : WordState) (room : Room s) (g : State) (rep : Represents t (words-in s) g)
+module _ (t : Tree) (valid : Accepted t) (bits : Sixteen-bit t) (s : WordState) (room : Room s) (g : State) (rep : Represents t (words-in s) g)
     (good : (j : ℕ) → j < t .threads → good-place t j (place s j) ≡ true) (i : ℕ) (h : i < t .threads) where
   abbrev o : Others t (words-in s) g i
   o = others-of rep i
@@ -61,11 +61,11 @@ module _ (t : Tree) (𝓐 : Accepted t) (bits : Sixteen-bit t) (s : WordState) (
   unfolding ancestor
   idle-by e true z =
       let f = ticket-facts t (t .home i) z in
-      let top : 0 ≡ height t i = ancestor-zero t 𝓐 i h 0 (omega arith) (ancestor-home t i ∙ f .1) in
-      let x = from-row (draw-moves t 𝓐 s room (started-by g i) i h (started t 𝓐 s room g i h o e) (f .0) 0 top (put-same (g .stage) i (climb 0) i refl) (λ m b q. absurd (omega arith))) in
+      let top : 0 ≡ height t i = ancestor-zero t valid i h 0 (omega arith) (ancestor-home t i ∙ f .1) in
+      let x = from-row (draw-moves t valid s room (started-by g i) i h (started t valid s room g i h o e) (f .0) 0 top (put-same (g .stage) i (climb 0) i refl) (λ m b q. absurd (omega arith))) in
       record { state = x .state; represents = x .represents; change = begun i h e (x .change) }
   idle-by e false z =
-      let x = from-row (prep-moves t 𝓐 s room (started-by g i) i h (started t 𝓐 s room g i h o e) 0 (omega arith) (put-same (g .stage) i (climb 0) i refl) (λ m b q. absurd (omega arith))) in
+      let x = from-row (prep-moves t valid s room (started-by g i) i h (started t valid s room g i h o e) 0 (omega arith) (put-same (g .stage) i (climb 0) i refl) (λ m b q. absurd (omega arith))) in
       record { state = x .state; represents = x .represents; change = begun i h e (x .change) }
 
   -- a queue place is not at a ticket root
@@ -75,24 +75,24 @@ module _ (t : Tree) (𝓐 : Accepted t) (bits : Sixteen-bit t) (s : WordState) (
   row-change : {p : Place} {x : Stage} → place s i ≡ p → good-place t i p ≡ true → g .stage i ≡ x → Fits t (words-in s) g i p x → Row-change t g (row t i p s)
   unfolding row good-place
   row-change y q e at-idle = idle-by e _ refl
-  row-change y q e (at-prep k l c) = from-row (prep-moves t 𝓐 s room g i h o k l e c)
-  row-change y q e (at-swap k l c n v) = from-row (swap-moves t 𝓐 s room g i h o k l (queue-there k q) e c n v)
-  row-change y q e (at-link k p l c d a n v) = from-row (link-moves t 𝓐 s room g i h o k p l d e c a n v)
-  row-change y q e (at-wait k p l c d a n v) = from-row (wait-moves t 𝓐 s room g i h o rep k l v)
-  row-change y q e (at-woken k b c v z) = from-row (woken-moves t 𝓐 s room g i h o k b e c v z)
-  row-change y q e (at-ready k l c v p) = from-row (ready-moves t 𝓐 s room g i h o bits k l e c v)
-  row-change y q e (at-inside c) = from-row (leave-moves t 𝓐 s room g i h o e c)
-  row-change y q e (at-check k b c) = from-row (check-moves t 𝓐 s room g i h o k b e c)
-  row-change y q e (at-pass k r v b c n z f) = from-row (pass-moves t 𝓐 s room g i h o k r v b e c n z f)
-  row-change y q e (at-help k l c) = from-row (help-moves t 𝓐 s room g i h o k l (queue-there k q) e c)
-  row-change y q e (at-cas k l c) = from-row (cas-moves t 𝓐 s room g i h o k l (queue-there k q) e c)
-  row-change y q e (at-linger k l c n) = from-row (linger-moves t 𝓐 s room g i h o k l (queue-there k q) e c rep)
+  row-change y q e (at-prep k l c) = from-row (prep-moves t valid s room g i h o k l e c)
+  row-change y q e (at-swap k l c n v) = from-row (swap-moves t valid s room g i h o k l (queue-there k q) e c n v)
+  row-change y q e (at-link k p l c d a n v) = from-row (link-moves t valid s room g i h o k p l d e c a n v)
+  row-change y q e (at-wait k p l c d a n v) = from-row (wait-moves t valid s room g i h o rep k l v)
+  row-change y q e (at-woken k b c v z) = from-row (woken-moves t valid s room g i h o k b e c v z)
+  row-change y q e (at-ready k l c v p) = from-row (ready-moves t valid s room g i h o bits k l e c v)
+  row-change y q e (at-inside c) = from-row (leave-moves t valid s room g i h o e c)
+  row-change y q e (at-check k b c) = from-row (check-moves t valid s room g i h o k b e c)
+  row-change y q e (at-pass k r v b c n z f) = from-row (pass-moves t valid s room g i h o k r v b e c n z f)
+  row-change y q e (at-help k l c) = from-row (help-moves t valid s room g i h o k l (queue-there k q) e c)
+  row-change y q e (at-cas k l c) = from-row (cas-moves t valid s room g i h o k l (queue-there k q) e c)
+  row-change y q e (at-linger k l c n) = from-row (linger-moves t valid s room g i h o k l (queue-there k q) e c rep)
   row-change y q e (at-grant k r l c n) =
-      from-row (grant-moves t 𝓐 s room g i h o k l (queue-there k (and-both (queue-on-path t i (ancestor t i k)) (is-member t (ancestor t i k) r) q .0)) e c r n)
-  row-change y q e (at-draw k l r c) = from-row (draw-moves t 𝓐 s room g i h o r k l e c)
-  row-change y q e (at-watch k l r c) = from-row (watch-moves t 𝓐 s room g i h o r rep (e ∙ ap queued l))
-  row-change y q e (at-shown r c) = from-row (shown-moves t 𝓐 s room g i h o r e c)
-  row-change y q e (at-raise r c) = from-row (raise-moves t 𝓐 s room g i h o good r y e c)
+      from-row (grant-moves t valid s room g i h o k l (queue-there k (and-both (queue-on-path t i (ancestor t i k)) (is-member t (ancestor t i k) r) q .0)) e c r n)
+  row-change y q e (at-draw k l r c) = from-row (draw-moves t valid s room g i h o r k l e c)
+  row-change y q e (at-watch k l r c) = from-row (watch-moves t valid s room g i h o r rep (e ∙ ap queued l))
+  row-change y q e (at-shown r c) = from-row (shown-moves t valid s room g i h o r e c)
+  row-change y q e (at-raise r c) = from-row (raise-moves t valid s room g i h o good r y e c)
 
   step-change : Row-change t g (row t i (place s i) s)
   unfolding words-in
@@ -107,14 +107,14 @@ pub record Situation (t : Tree) : Type 0 where
 abbrev pub queues : {t : Tree} → Situation t → State
 queues c = c .queued .queues
 
-module _ (t : Tree) (𝓐 : Accepted t) (bits : Sixteen-bit t) where
+module _ (t : Tree) (valid : Accepted t) (bits : Sixteen-bit t) where
   pub change-at : (c : Situation t) (i : ℕ) → i < t .threads → Row-change t (queues c) (row t i (place (c .words) i) (c .words))
   change-at c i h =
-      step-change t 𝓐 bits (c .words) (c .queued .room) (queues c) (c .queued .represents) (λ j b. c .queued .facts .places j .used b) i h
+      step-change t valid bits (c .words) (c .queued .room) (queues c) (c .queued .represents) (λ j b. c .queued .facts .places j .used b) i h
 
   pub after-room : (s : WordState) → Queued t s → (i : ℕ) → i < t .threads → Room (step t i s .state)
   after-room s q i h =
-      let f = step-keeps t bits 𝓐 i h s (q .facts) .typed in
+      let f = step-keeps t bits valid i h s (q .facts) .typed in
       record { tails-room = f .tails-room; nexts-room = f .nexts-room; statuses-room = f .statuses-room; places-room = f .places-room }
 
   -- the situation after a step
@@ -126,7 +126,7 @@ module _ (t : Tree) (𝓐 : Accepted t) (bits : Sixteen-bit t) where
         queued = record {
           queues = change-at c i h .state;
           room = after-room (c .words) (c .queued) i h;
-          facts = step-keeps t bits 𝓐 i h (c .words) (c .queued .facts);
+          facts = step-keeps t bits valid i h (c .words) (c .queued .facts);
           represents = change-at c i h .represents;
         };
       }

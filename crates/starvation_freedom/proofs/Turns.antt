@@ -62,24 +62,24 @@ pub data From-help (l : ℕ) : Place → Type 0 where
   to-cas : {p : Place} → p ≡ Cas l → From-help l p
   to-grant : {p : Place} (r : ℕ) → p ≡ Grant l r (release-word l) → From-help l p
 
-module _ (t : Tree) (𝓐 : Accepted t) (bits : Sixteen-bit t) (c : Situation t) (i : ℕ) (h : i < t .threads) where
+module _ (t : Tree) (valid : Accepted t) (bits : Sixteen-bit t) (c : Situation t) (i : ℕ) (h : i < t .threads) where
   abbrev s : WordState
   s = c .words
 
   -- the place of the thread after its step
   abbrev pub after : Place
-  after = place (situations.next t 𝓐 bits c i h .words) i
+  after = place (situations.next t valid bits c i h .words) i
 
   lands : (Q : Place → Type 0) (p : Place) → Q p → Q (place-of (getD (set (s .places) i (words-of p)) i (place-words 0 0 0 0)))
   lands Q p q =
       let e : place-of (getD (set (s .places) i (words-of p)) i (place-words 0 0 0 0)) ≡ p =
-      place-stored i p s (omega (arith, c .queued .room .places-room, 𝓐 .few-threads)) in
+      place-stored i p s (omega (arith, c .queued .room .places-room, valid .few-threads)) in
       rw e q
 
   -- by the branches of the row of its place
   turn : (Q : Place → Type 0) (p : Place) → place s i ≡ p → ((x : Row-result) → Branch t i s p x → Q (place (x .state) i)) → Q after
   turn Q p e by =
-      let z : after ≡ place (row t i p s .state) i = ap (λ x. place x i) (next-words t 𝓐 bits c i h) ∙ ap (λ x. place (row t i x s .state) i) e in
+      let z : after ≡ place (row t i p s .state) i = ap (λ x. place x i) (next-words t valid bits c i h) ∙ ap (λ x. place (row t i x s .state) i) e in
       rw z (by _ (branch t i s p))
 
   here : (p : Place) → place-of (getD (set (s .places) i (words-of p)) i (place-words 0 0 0 0)) ≡ p
@@ -88,15 +88,15 @@ module _ (t : Tree) (𝓐 : Accepted t) (bits : Sixteen-bit t) (c : Situation t)
   -- the places from which the next domain is acquired, and a domain is released
   acquires-at : (k : ℕ) → k ≤ height t i → Acquires t i k (acquire-place t (ancestor t i k))
   acquires-at k l = by-test (Acquires t i k) (is-ticket t (ancestor t i k)) Draw (Prep (ancestor t i k))
-      (λ e. let f = ticket-facts t (ancestor t i k) e in by-draw refl (ancestor-zero t 𝓐 i h k l (f .1)) (f .0)) (λ _. by-prep refl)
+      (λ e. let f = ticket-facts t (ancestor t i k) e in by-draw refl (ancestor-zero t valid i h k l (f .1)) (f .0)) (λ _. by-prep refl)
 
   releases-at : (k : ℕ) → k ≤ height t i → Releases t i k (release-place t (ancestor t i k))
   releases-at k l =
       by-test (Releases t i k) (is-ticket t (ancestor t i k)) Raise _
-      (λ e. by-raise refl (ancestor-zero t 𝓐 i h k l (ticket-facts t (ancestor t i k) e .1)))
+      (λ e. by-raise refl (ancestor-zero t valid i h k l (ticket-facts t (ancestor t i k) e .1)))
       (λ _. by-test (Releases t i k) (eqb (ancestor t i k) 0) (Help (ancestor t i k)) (Check (ancestor t i k))
-      (λ e. by-help refl (ancestor-zero t 𝓐 i h k l (eqb-true _ _ e)))
-      (λ e. by-check refl (let n = eqb-false (ancestor t i k) 0 e in ancestor-not-root t 𝓐 i h k l (omega arith))))
+      (λ e. by-help refl (ancestor-zero t valid i h k l (eqb-true _ _ e)))
+      (λ e. by-check refl (let n = eqb-false (ancestor t i k) 0 e in ancestor-not-root t valid i h k l (omega arith))))
 
   -- ACQUIRING
   pub prep-turn : (l : ℕ) → place s i ≡ Prep l → after ≡ Swap l
@@ -118,19 +118,19 @@ module _ (t : Tree) (𝓐 : Accepted t) (bits : Sixteen-bit t) (c : Situation t)
     where
       by : {x : Row-result} → Branch t i s Idle x → From-idle t i (place (x .state) i)
       by (idle-draws y (draw-shown _)) = drawn-inside (here Inside)
-      by (idle-draws y (draw-unshown _)) = drawn-watch (here Watch) (ancestor-zero t 𝓐 i h 0 (omega arith) (ancestor-home t i ∙ ticket-facts t (t .home i) y .1))
+      by (idle-draws y (draw-unshown _)) = drawn-watch (here Watch) (ancestor-zero t valid i h 0 (omega arith) (ancestor-home t i ∙ ticket-facts t (t .home i) y .1))
       by (idle-prepares _ (prepares _ v at)) = to-swap (here (Swap (t .home i)))
 
   -- the next domain's place, behind Swap and Wait
   climbs : (k : ℕ) (b : k < height t i) → Acquires t i (suc k) (place-of (getD (set (s .places) i (words-of (acquired-place t (ancestor t i k)))) i (place-words 0 0 0 0)))
-  climbs k b = lands (Acquires t i (suc k)) (acquired-place t (ancestor t i k)) (rw (ancestor-parent-of t 𝓐 i h k b) (acquires-at (suc k) b))
+  climbs k b = lands (Acquires t i (suc k)) (acquired-place t (ancestor t i k)) (rw (ancestor-parent-of t valid i h k b) (acquires-at (suc k) b))
 
   pub swap-turn : (k : ℕ) → k ≤ height t i → place s i ≡ Swap (ancestor t i k) → From-swap t i k after
   swap-turn k l e = turn (From-swap t i k) (Swap (ancestor t i k)) e (λ _. by)
     where
       by : {x : Row-result} → Branch t i s (Swap (ancestor t i k)) x → From-swap t i k (place (x .state) i)
       by (swap-root _ _ _) = entered (here Inside)
-      by (swap-inner _ n _) = let b = ancestor-not-root t 𝓐 i h k l (omega (arith, n)) in alone b (climbs k b)
+      by (swap-inner _ n _) = let b = ancestor-not-root t valid i h k l (omega (arith, n)) in alone b (climbs k b)
       by (swap-behind _ _) = let q = tail s (ancestor t i k) - 1 in behind q (here (Link (ancestor t i k) q))
 
   pub link-turn : (l q : ℕ) → place s i ≡ Link l q → after ≡ Wait l
@@ -144,10 +144,10 @@ module _ (t : Tree) (𝓐 : Accepted t) (bits : Sixteen-bit t) (c : Situation t)
   woken-turn k b e v = turn (Acquires t i (suc k)) (Wait (ancestor t i k)) e (λ _. by)
     where
       word : status s (own-record t i (ancestor t i k)) ≡ acquire-parent
-      word = rw (own-record-at t 𝓐 i h k (omega arith)) v
+      word = rw (own-record-at t valid i h k (omega arith)) v
 
       root : {C : Type 0} → ancestor t i k ≡ 0 → C
-      root z = absurd (omega (arith, ancestor-inner t 𝓐 i h k b))
+      root z = absurd (omega (arith, ancestor-inner t valid i h k b))
 
       by : {x : Row-result} → Branch t i s (Wait (ancestor t i k)) x → Acquires t i (suc k) (place (x .state) i)
       by (wait-acquires _ _ _) = climbs k b
@@ -163,16 +163,16 @@ module _ (t : Tree) (𝓐 : Accepted t) (bits : Sixteen-bit t) (c : Situation t)
   ready-turn k l e top low = turn (λ p. p ≡ Inside) (Wait (ancestor t i k)) e (λ _. by)
     where
       own : own-record t i (ancestor t i k) ≡ record-at t i k
-      own = own-record-at t 𝓐 i h k l
+      own = own-record-at t valid i h k l
 
       count : ancestor t i k ≢ 0 → status s (own-record t i (ancestor t i k)) ≤ 65535
-      count n = rw own (low (ancestor-not-root t 𝓐 i h k l (omega (arith, n))))
+      count n = rw own (low (ancestor-not-root t valid i h k l (omega (arith, n))))
 
       by : {x : Row-result} → Branch t i s (Wait (ancestor t i k)) x → place (x .state) i ≡ Inside
       by (wait-root-granted _ _ _) = here Inside
       by (wait-passed _ _ _ _ _) = here Inside
       by (wait-crossed _ _ _ _ _) = here Inside
-      by (wait-root-locked _ z w) = absurd (let free = top (ancestor-zero t 𝓐 i h k l z) in let w′ = rw own at w in omega arith)
+      by (wait-root-locked _ z w) = absurd (let free = top (ancestor-zero t valid i h k l z) in let w′ = rw own at w in omega arith)
       by (wait-ungranted _ n w) = absurd (omega (arith, count n))
       by (wait-acquires _ n w) = absurd (omega (arith, count n))
 
@@ -180,8 +180,8 @@ module _ (t : Tree) (𝓐 : Accepted t) (bits : Sixteen-bit t) (c : Situation t)
   pub wait-turn : (k : ℕ) → k ≤ height t i → place s i ≡ Wait (ancestor t i k) → status s (record-at t i k) ≡ waiting-word (ancestor t i k) → after ≡ Wait (ancestor t i k)
   unfolding row
   wait-turn k l e v =
-      let z : after ≡ place (row t i (Wait (ancestor t i k)) s .state) i = ap (λ x. place x i) (next-words t 𝓐 bits c i h) ∙ ap (λ x. place (row t i x s .state) i) e in
-      z ∙ rw (ungranted-row t i s (ancestor t i k) (rw (own-record-at t 𝓐 i h k l) v)) e
+      let z : after ≡ place (row t i (Wait (ancestor t i k)) s .state) i = ap (λ x. place x i) (next-words t valid bits c i h) ∙ ap (λ x. place (row t i x s .state) i) e in
+      z ∙ rw (ungranted-row t i s (ancestor t i k) (rw (own-record-at t valid i h k l) v)) e
 
   pub watch-turn : place s i ≡ Watch → (after ≡ Inside) ⊎ (after ≡ Watch)
   watch-turn e = turn (λ p. (p ≡ Inside) ⊎ (p ≡ Watch)) Watch e (λ _. by)
@@ -195,7 +195,7 @@ module _ (t : Tree) (𝓐 : Accepted t) (bits : Sixteen-bit t) (c : Situation t)
     where
       by : {x : Row-result} → Branch t i s Watch x → place (x .state) i ≡ Inside
       by (watch-shown _) = here Inside
-      by (watch-unshown n) = absurd ((rw (root-record t 𝓐 i h) at n) v)
+      by (watch-unshown n) = absurd ((rw (root-record t valid i h) at n) v)
 
   -- RELEASING
   pub inside-turn : place s i ≡ Inside → Releases t i 0 after
@@ -214,7 +214,7 @@ module _ (t : Tree) (𝓐 : Accepted t) (bits : Sixteen-bit t) (c : Situation t)
           let I = own-record t i L in
           passes (next s I - 1) (status s I + 1) (here (Grant L (next s I - 1) (status s I + 1))) (omega (arith, bits L))
       by (check-releases _ _) =
-          goes-up (lands (Releases t i (suc k)) (release-place t (t .parent (ancestor t i k))) (rw (ancestor-parent-of t 𝓐 i h k b) (releases-at (suc k) b)))
+          goes-up (lands (Releases t i (suc k)) (release-place t (t .parent (ancestor t i k))) (rw (ancestor-parent-of t valid i h k b) (releases-at (suc k) b)))
 
   pub help-turn : (l : ℕ) → place s i ≡ Help l → From-help l after
   help-turn l e = turn (From-help l) (Help l) e (λ _. by)
@@ -241,17 +241,17 @@ module _ (t : Tree) (𝓐 : Accepted t) (bits : Sixteen-bit t) (c : Situation t)
   cas-turn k b e = turn (λ p. (p ≡ Linger (ancestor t i k)) ⊎ (p ≡ done-at t i k)) (Cas (ancestor t i k)) e (λ _. by)
     where
       by : {x : Row-result} → Branch t i s (Cas (ancestor t i k)) x → (place (x .state) i ≡ Linger (ancestor t i k)) ⊎ (place (x .state) i ≡ done-at t i k)
-      by (cas-last _ _) = inr (here (done-place t i (ancestor t i k)) ∙ done-place-at t 𝓐 i h k b)
+      by (cas-last _ _) = inr (here (done-place t i (ancestor t i k)) ∙ done-place-at t valid i h k b)
       by (cas-not-last _ _) = inl (here (Linger (ancestor t i k)))
 
   pub grant-turn : (k r v : ℕ) → k ≤ height t i → place s i ≡ Grant (ancestor t i k) r v → after ≡ done-at t i k
   grant-turn k r v b e = turn (λ p. p ≡ done-at t i k) (Grant (ancestor t i k) r v) e (λ _. by)
     where
       by : {x : Row-result} → Branch t i s (Grant (ancestor t i k) r v) x → place (x .state) i ≡ done-at t i k
-      by (grant-writes _ _ _) = here (done-place t i (ancestor t i k)) ∙ done-place-at t 𝓐 i h k b
+      by (grant-writes _ _ _) = here (done-place t i (ancestor t i k)) ∙ done-place-at t valid i h k b
 
   pub raise-turn : place s i ≡ Raise → after ≡ done-at t i (height t i)
   raise-turn e = turn (λ p. p ≡ done-at t i (height t i)) Raise e (λ _. by)
     where
       by : {x : Row-result} → Branch t i s Raise x → place (x .state) i ≡ done-at t i (height t i)
-      by raise-counts = here (done-place t i 0) ∙ ap (done-place t i) (sym (ancestor-root t 𝓐 i h)) ∙ done-place-at t 𝓐 i h (height t i) (omega arith)
+      by raise-counts = here (done-place t i 0) ∙ ap (done-place t i) (sym (ancestor-root t valid i h)) ∙ done-place-at t valid i h (height t i) (omega arith)

@@ -66,22 +66,22 @@ covers-split t (suc a) b S c = by (λ S′ d. covers-split t a b S′ d) (let z 
           last-ones = x .last-ones;
         }
 
-module _ (t : Tree) (𝓐 : Accepted t) (bits : Sixteen-bit t) where
+module _ (t : Tree) (valid : Accepted t) (bits : Sixteen-bit t) where
   -- somewhere along a schedule
   pub data Reaches (P : Situation t → Type 0) : List ℕ → Situation t → Type 0 where
     now : {S : List ℕ} {c : Situation t} → P c → Reaches P S c
-    later : {S : List ℕ} {c : Situation t} (x : ℕ) (h : x < t .threads) → Reaches P S (next t 𝓐 bits c x h) → Reaches P (x ∷ S) c
+    later : {S : List ℕ} {c : Situation t} (x : ℕ) (h : x < t .threads) → Reaches P S (next t valid bits c x h) → Reaches P (x ∷ S) c
 
   abbrev pub Within : (rounds : ℕ) → (Situation t → Type 0) → Situation t → Type 0
   Within n P c = (S : List ℕ) → All-threads t S → Covers t n S → Reaches P S c
 
   -- ONE CLAIM BEHIND ANOTHER, for every kind of claim that lasts to earlier situations
-  module _ (P : Situation t → Type 0) (E : List ℕ → Situation t → Type 0) (longer : (S : List ℕ) (c : Situation t) (x : ℕ) (h : x < t .threads) → E S (next t 𝓐 bits c x h) → E (x ∷ S) c)
+  module _ (P : Situation t → Type 0) (E : List ℕ → Situation t → Type 0) (longer : (S : List ℕ) (c : Situation t) (x : ℕ) (h : x < t .threads) → E S (next t valid bits c x h) → E (x ∷ S) c)
       (b : ℕ) (goes-on : (c : Situation t) → P c → (S : List ℕ) → All-threads t S → Covers t b S → E S c) where
     continue : (xs S : List ℕ) (c : Situation t) → Reaches P xs c → All-threads t (xs ++ S) → Covers t b S → E (xs ++ S) c
     unfolding All-threads
     continue xs S c (now p) all cov = goes-on c p (xs ++ S) all (covers-front t b xs S cov)
-    continue (_ ∷ xs) S c (later x h r) all cov = longer (xs ++ S) c x h (continue xs S (next t 𝓐 bits c x h) r (all .1) cov)
+    continue (_ ∷ xs) S c (later x h r) all cov = longer (xs ++ S) c x h (continue xs S (next t valid bits c x h) r (all .1) cov)
 
     pub sequence : (a : ℕ) (c : Situation t) → Within a P c → (S : List ℕ) → All-threads t S → Covers t (a + b) S → E S c
     sequence a c w S all cov =
@@ -107,8 +107,8 @@ module _ (t : Tree) (𝓐 : Accepted t) (bits : Sixteen-bit t) where
 
   -- ONE ROUND: what lasts until a thread's step, and what that step makes of it
   module _ (a : ℕ) (ha : a < t .threads) (P Q : Situation t → Type 0)
-      (others : (c : Situation t) (x : ℕ) (h : x < t .threads) → x ≢ a → P c → P (next t 𝓐 bits c x h) ⊎ Q (next t 𝓐 bits c x h))
-      (own : (c : Situation t) (h : a < t .threads) → P c → Q (next t 𝓐 bits c a h)) where
+      (others : (c : Situation t) (x : ℕ) (h : x < t .threads) → x ≢ a → P c → P (next t valid bits c x h) ⊎ Q (next t valid bits c x h))
+      (own : (c : Situation t) (h : a < t .threads) → P c → Q (next t valid bits c a h)) where
     walk : (S S′ : List ℕ) (c : Situation t) → 1 ≤ occurrences a S → All-threads t (S ++ S′) → P c → Reaches Q (S ++ S′) c
     unfolding All-threads occurrences
     walk [] S′ c o all p = absurd (omega arith)
@@ -117,7 +117,7 @@ module _ (t : Tree) (𝓐 : Accepted t) (bits : Sixteen-bit t) where
         (λ z. let h : a < t .threads = rw z at (all .0) in rw z (later a h (now (own c h p))))
         (λ z. let o′ : 1 ≤ occurrences a S = rw (occurrences-other a x S z) at o in
         elim (others c x (all .0) z p) [
-          | inl p′ ↦ later x (all .0) (walk S S′ (next t 𝓐 bits c x (all .0)) o′ (all .1) p′)
+          | inl p′ ↦ later x (all .0) (walk S S′ (next t valid bits c x (all .0)) o′ (all .1) p′)
           | inr q ↦ later x (all .0) (now q)
         ])
 
@@ -128,7 +128,7 @@ module _ (t : Tree) (𝓐 : Accepted t) (bits : Sixteen-bit t) where
         rw e (walk r S′ c (every a ha) all′ p)
 
   -- WHAT LASTS MEANWHILE, unless something else comes first
-  module _ (I Z : Situation t → Type 0) (lasts : (c : Situation t) (x : ℕ) (h : x < t .threads) → I c → I (next t 𝓐 bits c x h) ⊎ Z (next t 𝓐 bits c x h)) where
+  module _ (I Z : Situation t → Type 0) (lasts : (c : Situation t) (x : ℕ) (h : x < t .threads) → I c → I (next t valid bits c x h) ⊎ Z (next t valid bits c x h)) where
     reaches-lasting : {Q : Situation t → Type 0} {S : List ℕ} {c : Situation t} → Reaches Q S c → I c → Reaches (λ d. (Q d × I d) ⊎ Z d) S c
     reaches-lasting (now q) i = now (inl (q, i))
     reaches-lasting {c = c} (later x h r) i =

@@ -26,24 +26,24 @@ use Rattle.model.proofs.Refusing.{numbered}
 use Rattle.model.proofs.Laws.Calls.{early-accepted, run-facts}
 use Rattle.model.proofs.Laws.Refusals.{accepted-number, run-numbered-before-19}
 use Rattle.refusals.specs.declared.Refusal.{Refusal}
-use Rattle.refusals.specs.Arrays.{told, tree-state-tests, schedule-room-tests}
+use Rattle.refusals.specs.Arrays.{refusal-words, tree-state-tests, schedule-room-tests}
 use Rattle.refusals.proofs.Scanning.{single-hit, single-missed}
 use Rattle.refusals.proofs.Joining.{first-decides, other-decides, state-numbered}
-use Rattle.refusals.proofs.RunTests.{told-not, told-zero}
+use Rattle.refusals.proofs.RunTests.{refusal-words-not, refusal-words-zero}
 use Rattle.steps.proofs.SoFar.{counts-kinds, thread-at, below}
-use Rattle.steps.proofs.ToldStep.{code-kind, domain-told}
+use Rattle.steps.proofs.StepCodes.{code-kind, domain-of-code}
 use Rattle.steps.specs.Rows.{row-domain}
-use Rattle.steps.specs.Running.{kinds-of, counts-by, trace-front, step-code, told-front}
+use Rattle.steps.specs.Running.{kinds-of, counts-by, trace-front, step-code, codes-front}
 
 -- a run that is not refused passes the tests before 19
 early-run : (t : Tree) (s : LockState) (is : List ℕ) (room : ℕ) → run-refusal t s is room .number ≡ 0 → first-refusal (run-tests-before-19 t s is room) .number ≡ 0
 early-run t s is room e = ap (λ x. x .number) (early-accepted t s is room (run-facts t s is room e)) ∙ accepted-number
 
 -- what is told of a first step
-first-told : (b : List ℕ) (x : Step) (xs : List Step) → 0 < length b → getD (told-front b (x ∷ xs)) 0 0 ≡ step-code x
-unfolding told-front
-first-told [] x xs h = absurd (omega arith)
-first-told (c ∷ b) x xs h = refl
+first-code : (b : List ℕ) (x : Step) (xs : List Step) → 0 < length b → getD (codes-front b (x ∷ xs)) 0 0 ≡ step-code x
+unfolding codes-front
+first-code [] x xs h = absurd (omega arith)
+first-code (c ∷ b) x xs h = refl
 
 -- A STEP is refused as a run of its one entry is, with room for it
 module _ (t : Tree) (i : ℕ) where
@@ -92,14 +92,14 @@ module _ (t : Tree) (i : ℕ) where
         | no z ↦ first-decides xs zs z ∙ early-refusal s ∙ sym (first-decides ys zs (λ y. z (ap (λ r. r .number) (early-refusal s) ∙ y)))
       ]
 
-module _ (w : TreeWords) (s : LockState) (i : ℕ) (r : Refusal) (e : r ≡ told (run-refusal (tree-of w) s (i ∷ []) 1)) where
+module _ (w : TreeWords) (s : LockState) (i : ℕ) (r : Refusal) (e : r ≡ refusal-words (run-refusal (tree-of w) s (i ∷ []) 1)) where
   pub step-refuses : (r .number ≡ 0 → ⊥) → record { number = r .number; place = r .place; kind = 0; domain = 0; state = s } ≡ step-answer w s i
   unfolding step-answer step-reply
-  step-refuses n = rw (e, one-refusal (tree-of w) i s, ne-eqb (run-refusal (tree-of w) s (i ∷ []) 1 .number) 0 (told-not r _ e n))
+  step-refuses n = rw (e, one-refusal (tree-of w) i s, ne-eqb (run-refusal (tree-of w) s (i ∷ []) 1 .number) 0 (refusal-words-not r _ e n))
 
   module _ (z : r .number ≡ 0) where
     one-runs : run-refusal (tree-of w) s (i ∷ []) 1 .number ≡ 0
-    one-runs = told-zero r _ e z
+    one-runs = refusal-words-zero r _ e z
 
     pub one-early : first-refusal (run-tests-before-19 (tree-of w) s (i ∷ []) 1) .number ≡ 0
     one-early = early-run (tree-of w) s (i ∷ []) 1 one-runs
@@ -108,35 +108,35 @@ module _ (w : TreeWords) (s : LockState) (i : ℕ) (r : Refusal) (e : r ≡ told
     one-small = let R = run-facts (tree-of w) s (i ∷ []) 1 one-runs in below (tree-of w) (i ∷ []) (R .tree) (R .threads) 0 (omega arith)
 
     pub step-answered :
-        (n : State) (told₀ told : List ℕ) (domain : ℕ) (c : Counters) → n ≡ run (tree-of w) (i ∷ []) (s .words) .state → length told₀ ≡ 1 →
-        told ≡ told-front told₀ (steps (tree-of w) (i ∷ []) (s .words)) →
-        domain ≡ row-domain (getD (w .homes) i 0) ((getD told 0 0 / 8) % 16) (getD told 0 0 / 128) →
+        (n : State) (codes₀ codes : List ℕ) (domain : ℕ) (c : Counters) → n ≡ run (tree-of w) (i ∷ []) (s .words) .state → length codes₀ ≡ 1 →
+        codes ≡ codes-front codes₀ (steps (tree-of w) (i ∷ []) (s .words)) →
+        domain ≡ row-domain (getD (w .homes) i 0) ((getD codes 0 0 / 8) % 16) (getD codes 0 0 / 128) →
         c ≡ counters-after (tree-of w) (s .counters) (steps (tree-of w) (i ∷ []) (s .words)) →
-        record { number = 0; place = 0; kind = getD told 0 0 % 8; domain = domain; state = lock-state n c } ≡ step-answer w s i
+        record { number = 0; place = 0; kind = getD codes 0 0 % 8; domain = domain; state = lock-state n c } ≡ step-answer w s i
     unfolding step-answer step-reply first-kind first-domain counters-behind run run-of steps state-after step step-refusal
-    step-answered n told₀ told domain c f room e′ at counted =
+    step-answered n codes₀ codes domain c f room e′ at counted =
         let R = run-facts (tree-of w) s (i ∷ []) 1 one-runs in
         let x = step (tree-of w) i (s .words) in
-        let code : getD told 0 0 ≡ step-code x = ap (λ v. getD v 0 0) e′ ∙ first-told told₀ x [] (omega (arith, room)) in
-        let kind : getD told 0 0 % 8 ≡ kind-number (x .kind) = ap (λ v. v % 8) code ∙ code-kind x in
+        let code : getD codes 0 0 ≡ step-code x = ap (λ v. getD v 0 0) e′ ∙ first-code codes₀ x [] (omega (arith, room)) in
+        let kind : getD codes 0 0 % 8 ≡ kind-number (x .kind) = ap (λ v. v % 8) code ∙ code-kind x in
         let where-at : domain ≡ x .domain =
         at ∙ ap (λ v. row-domain (getD (w .homes) i 0) ((v / 8) % 16) (v / 128)) code
-        ∙ domain-told w (s .words) i (R .form) (thread-at (tree-of w) (i ∷ []) (R .threads) 0 (omega arith)) (below (tree-of w) (i ∷ []) (R .tree) (R .threads) 0 (omega arith)) in
+        ∙ domain-of-code w (s .words) i (R .form) (thread-at (tree-of w) (i ∷ []) (R .threads) 0 (omega arith)) (below (tree-of w) (i ∷ []) (R .tree) (R .threads) 0 (omega arith)) in
         let y = ap (λ x. x .number) (one-refusal (tree-of w) i s) ∙ one-runs in
         rw (f, kind, where-at, counted, eq-eqb (step-refusal (tree-of w) s i .number) 0 y)
 
 -- A RUN
-module _ (w : TreeWords) (s : LockState) (is b : List ℕ) (r : Refusal) (e : r ≡ told (run-refusal (tree-of w) s is (length b))) where
+module _ (w : TreeWords) (s : LockState) (is b : List ℕ) (r : Refusal) (e : r ≡ refusal-words (run-refusal (tree-of w) s is (length b))) where
   pub run-refuses :
       (y : RunReply) → (r .number ≡ 0 → ⊥) → y ≡ run-refused (refusal (r .number) (r .place)) s → (y ≡ run-answer w s is b) × (b ≡ trace-answer w s is b)
   unfolding run-answer run-reply trace-answer run-buffer refusal
   run-refuses y n f =
-      let m = ne-eqb (run-refusal (tree-of w) s is (length b) .number) 0 (told-not r _ e n) in
+      let m = ne-eqb (run-refusal (tree-of w) s is (length b) .number) 0 (refusal-words-not r _ e n) in
       (f ∙ rw (e, m), rw m)
 
   module _ (z : r .number ≡ 0) where
     pub run-passes : run-refusal (tree-of w) s is (length b) .number ≡ 0
-    run-passes = told-zero r _ e z
+    run-passes = refusal-words-zero r _ e z
 
     pub early-passes : first-refusal (run-tests-before-19 (tree-of w) s is (length b)) .number ≡ 0
     early-passes = early-run (tree-of w) s is (length b) run-passes

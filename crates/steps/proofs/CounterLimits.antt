@@ -18,13 +18,13 @@ use Rattle.model.proofs.Laws.Counters.{good-facts, room-law}
 use Rattle.model.proofs.Laws.Refusals.{accepted-number, run-numbered-before-19}
 use Rattle.model.proofs.Trees.Accepted.{sixteen-bit}
 use Rattle.refusals.specs.declared.Refusal.{Refusal}
-use Rattle.refusals.specs.Arrays.{told}
+use Rattle.refusals.specs.Arrays.{refusal-words}
 use Rattle.refusals.specs.Counts.{counters-in}
 use Rattle.refusals.specs.Lowest.{Lowest}
 use Rattle.refusals.proofs.Scanning.{test-hit}
 use Rattle.refusals.proofs.Joining.{first-decides, other-decides}
-use Rattle.refusals.proofs.RunTests.{told-not, told-zero}
-use Rattle.steps.specs.Counting.{Room-told}
+use Rattle.refusals.proofs.RunTests.{refusal-words-not, refusal-words-zero}
+use Rattle.steps.specs.Counting.{Room-answered}
 
 -- the tests before 19 with room for the schedule alone
 pub passes-alone : (t : Tree) (s : LockState) (is : List ℕ) (room : ℕ) → first-refusal (run-tests-before-19 t s is room) .number ≡ 0 → first-refusal (run-tests-before-19 t s is (length is)) .number ≡ 0
@@ -40,12 +40,12 @@ module _ (w : TreeWords) (n : State) (es ns ls is : List ℕ) where
   s = lock-state n (counters-in es ns ls)
 
   -- no counter is then above 2^63
-  none : ((p : ℕ) → p < length is → bad-counter t s is p ≡ false) → record { number = 0; place = 0 } ≡ told (first-refusal (counter-tests t s is))
+  none : ((p : ℕ) → p < length is → bad-counter t s is p ≡ false) → record { number = 0; place = 0 } ≡ refusal-words (first-refusal (counter-tests t s is))
   unfolding accepted refusal first-refusal
-  none h = sym (ap told (test-skipped (test 19 (length is) (bad-counter t s is)) [] h))
+  none h = sym (ap refusal-words (test-skipped (test 19 (length is) (bad-counter t s is)) [] h))
 
   module _ (e : first-refusal (run-tests-before-19 t s is (length is)) .number ≡ 0) where
-    pub has-room : (answer : Bool) → Room-told es ns answer → answer ≡ true → record { number = 0; place = 0 } ≡ told (first-refusal (counter-tests t s is))
+    pub has-room : (answer : Bool) → Room-answered es ns answer → answer ≡ true → record { number = 0; place = 0 } ≡ refusal-words (first-refusal (counter-tests t s is))
     unfolding Room-law
     has-room answer g y =
         let r = early-facts t s is (length is) e in
@@ -58,23 +58,23 @@ module _ (w : TreeWords) (n : State) (es ns ls is : List ℕ) where
         }))
 
   module _ (k : ℕ) (low : Lowest (length is) (bad-counter t s is) k) where
-    pub is-above : k < length is → record { number = 19; place = k } ≡ told (first-refusal (counter-tests t s is))
+    pub is-above : k < length is → record { number = 19; place = k } ≡ refusal-words (first-refusal (counter-tests t s is))
     unfolding refusal
-    is-above h = sym (ap told (test-hit (test 19 (length is) (bad-counter t s is)) [] k low h))
+    is-above h = sym (ap refusal-words (test-hit (test 19 (length is) (bad-counter t s is)) [] k low h))
 
-    pub is-none : length is ≤ k → record { number = 0; place = 0 } ≡ told (first-refusal (counter-tests t s is))
+    pub is-none : length is ≤ k → record { number = 0; place = 0 } ≡ refusal-words (first-refusal (counter-tests t s is))
     is-none h = none (λ p l. low .passed p (omega arith))
 
   -- THE WHOLE: the tests before it refuse, or it decides
-  module _ (room : ℕ) (r : Refusal) (e : r ≡ told (first-refusal (run-tests-before-19 t s is room))) where
-    pub before-decides : (r .number ≡ 0 → ⊥) → r ≡ told (run-refusal t s is room)
+  module _ (room : ℕ) (r : Refusal) (e : r ≡ refusal-words (first-refusal (run-tests-before-19 t s is room))) where
+    pub before-decides : (r .number ≡ 0 → ⊥) → r ≡ refusal-words (run-refusal t s is room)
     unfolding run-refusal run-tests
-    before-decides h = e ∙ ap told (sym (first-decides (run-tests-before-19 t s is room) (counter-tests t s is) (told-not r _ e h)))
+    before-decides h = e ∙ ap refusal-words (sym (first-decides (run-tests-before-19 t s is room) (counter-tests t s is) (refusal-words-not r _ e h)))
 
     module _ (z : r .number ≡ 0) where
       pub before-passes : first-refusal (run-tests-before-19 t s is (length is)) .number ≡ 0
-      before-passes = passes-alone t s is room (told-zero r _ e z)
+      before-passes = passes-alone t s is room (refusal-words-zero r _ e z)
 
-      pub counters-decide : (q : Refusal) → q ≡ told (first-refusal (counter-tests t s is)) → q ≡ told (run-refusal t s is room)
+      pub counters-decide : (q : Refusal) → q ≡ refusal-words (first-refusal (counter-tests t s is)) → q ≡ refusal-words (run-refusal t s is room)
       unfolding run-refusal run-tests
-      counters-decide q f = f ∙ ap told (sym (other-decides (run-tests-before-19 t s is room) (counter-tests t s is) (run-numbered-before-19 t s is room) (told-zero r _ e z)))
+      counters-decide q f = f ∙ ap refusal-words (sym (other-decides (run-tests-before-19 t s is room) (counter-tests t s is) (run-numbered-before-19 t s is room) (refusal-words-zero r _ e z)))

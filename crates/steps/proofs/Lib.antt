@@ -5,7 +5,7 @@ pub mod RowPlaces
 pub mod SoFar
 pub mod Typing
 pub mod Turns
-pub mod ToldStep
+pub mod StepCodes
 pub mod Telling
 pub mod Answering
 pub mod Starting

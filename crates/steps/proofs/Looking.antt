@@ -31,7 +31,7 @@ use Rattle.model.proofs.Trees.Accepted.{Accepted, accepted}
 use Rattle.model.proofs.Trees.Paths.{on-path-root, path-real}
 use Rattle.model.proofs.Trees.Records.{on-path-child}
 use Rattle.model.proofs.Laws.Facts.{well-formed-facts}
-use Rattle.model.proofs.Laws.Form.{valid}
+use Rattle.model.proofs.Laws.Form.{not-invalid}
 use Rattle.model.proofs.Laws.Calls.{Good-run}
 use Rattle.model.proofs.Laws.Counters.{counts-most, entries-left, tenures-left}
 use Rattle.model.proofs.Tests.{any-nowhere, and-false}
@@ -75,12 +75,12 @@ looked-cases {m = m} {l = l} C e r all none =
 
 -- MARKS
 module _ (w : TreeWords) (ok : tree-refusal (tree-of w) .number ≡ 0) where
-  𝓐 : Accepted (tree-of w)
-  𝓐 = accepted (tree-of w) ok
+  valid : Accepted (tree-of w)
+  valid = accepted (tree-of w) ok
 
   pub home-small : (j : ℕ) → j < w .threads → getD (w .homes) j 0 < w .domains
   unfolding tree-of
-  home-small j r = rw (home-read w j r) at (𝓐 .home-real j r)
+  home-small j r = rw (home-read w j r) at (valid .home-real j r)
 
   taken-real : (j : ℕ) → j < w .threads → taken-in (w .domains) (w .parents) (getD (w .homes) j 0) 0 < w .domains
   unfolding tree-of
@@ -90,12 +90,12 @@ module _ (w : TreeWords) (ok : tree-refusal (tree-of w) .number ≡ 0) where
       rw e (by (eqb 0 (t .home j)) refl)
     where
       by : (x : Bool) → eqb 0 (tree-of w .home j) ≡ x → cond x 0 (child (tree-of w) j 0) < tree-of w .domains
-      by true z = 𝓐 .some-domain
-      by false z = path-real (tree-of w) 𝓐 j r (child (tree-of w) j 0) (on-path-child (tree-of w) 𝓐 j r 0 (on-path-root (tree-of w) 𝓐 j r) (eqb-false 0 (tree-of w .home j) z))
+      by true z = valid .some-domain
+      by false z = path-real (tree-of w) valid j r (child (tree-of w) j 0) (on-path-child (tree-of w) valid j r 0 (on-path-root (tree-of w) valid j r) (eqb-false 0 (tree-of w .home j) z))
 
   taken-small : (j : ℕ) → j < w .threads → taken-in (w .domains) (w .parents) (getD (w .homes) j 0) 0 < 64
   unfolding tree-of
-  taken-small j r = omega (arith, taken-real j r, 𝓐 .few-domains)
+  taken-small j r = omega (arith, taken-real j r, valid .few-domains)
 
   module _ (vs : List ℕ) (qs : List PlaceWords) (v : ℕ) where
     pub marked-start : (bs : List Bool) → Clear bs → Marked (w .domains) (w .parents) (w .homes) vs qs v 0 bs
@@ -217,6 +217,6 @@ module _ (w : TreeWords) (ok : tree-refusal (tree-of w) .number ≡ 0) (i : ℕ)
     raise-marked {v} e a n z g =
         let q = getD (s .places) i (place-words 0 0 0 0) in
         let good : good-place (tree-of w) i (place s i) ≡ true = well-formed-facts (tree-of w) s f .places i .used b in
-        looked-cases _ e (raise-row-is q (valid (tree-of w) i (place s i) good) z)
+        looked-cases _ e (raise-row-is q (not-invalid (tree-of w) i (place s i) good) z)
         (λ y. let x : j ≡ w .threads = omega arith in rw x at g)
         (λ y none. let x : j ≡ 0 = omega arith in marked-all w ok (s .statuses) (s .places) v shown none (rw x at g))

@@ -153,7 +153,7 @@ pub stay-placed :
 unfolding Kind-law step
 stay-placed t is s k m left accepted all h f D same z =
     let i = getD is k 0 in
-    let stays : row t i (place s i) s .state ≡ s = kind-law t i s accepted (thread-at t is all k h) f .stays-exactly .0 (zero-stay _ (sym (D .kind-told) ∙ z)) in
+    let stays : row t i (place s i) s .state ≡ s = kind-law t i s accepted (thread-at t is all k h) f .stays-exactly .0 (zero-stay _ (sym (D .kind-is) ∙ z)) in
     sym (ap (λ qs. set qs i (m .place)) (sym same) ∙ ap (λ (x : State). x .places) (D .state-left ∙ stays))
 
 module _ (t : Tree) (is b₀ : List ℕ) (s₀ : State) where
@@ -201,8 +201,8 @@ module _ (t : Tree) (is b₀ : List ℕ) (s₀ : State) where
   kind-room b s kinds entries k m left g D h short =
       let x = row t (getD is k 0) (place s (getD is k 0)) s .kind in
       let few : how-many (is-kind x) (first-steps k) ≤ k = omega (arith, how-many-most (is-kind x) (first-steps k), steps-length t (take k is) s₀, length-take-le k is (g .within)) in
-      let at : getD kinds (m .kind) 0 ≡ how-many (is-kind x) (first-steps k) = ap (λ v. getD v (m .kind) 0) (g .kinds-are) ∙ ap (λ v. getD (kinds-of (first-steps k)) v 0) (D .kind-told) ∙ kind-at x (first-steps k) in
-      (omega (arith, D .kind-told, kind-small x), omega (arith, at, few))
+      let at : getD kinds (m .kind) 0 ≡ how-many (is-kind x) (first-steps k) = ap (λ v. getD v (m .kind) 0) (g .kinds-are) ∙ ap (λ v. getD (kinds-of (first-steps k)) v 0) (D .kind-is) ∙ kind-at x (first-steps k) in
+      (omega (arith, D .kind-is, kind-small x), omega (arith, at, few))
 
   -- one turn of the loop
   pub turn :
@@ -215,7 +215,7 @@ module _ (t : Tree) (is b₀ : List ℕ) (s₀ : State) where
   turn b s kinds entries k m left b′ s′ entries′ accepted sixteen all room h g D es ee eb =
       let i = getD is k 0 in
       let x = step t i s in
-      let kind : m .kind ≡ kind-number (x .kind) = D .kind-told in
+      let kind : m .kind ≡ kind-number (x .kind) = D .kind-is in
       let after : s′ ≡ x .state = es ∙ D .state-left in
       let c = at-most (is-entry (x .kind)) in
       let n : entries′ ≡ entries + cond (is-entry (x .kind)) 1 0 = ee ∙ ap (λ v. entries + cond v 1 0) (ap is-entry-number kind ∙ entry-number (x .kind)) in

@@ -22,7 +22,7 @@ use Rattle.model.specs.States.{none, tail, status, place, wrap}
 use Rattle.model.specs.Steps.{kind-number, Row-result, acquired-place, is-watched, shown-members, row, step}
 use Rattle.model.specs.WellFormed.{queue-on-path, good-place}
 use Rattle.model.specs.Refusals.{tree-refusal}
-use Rattle.model.specs.Tenures.{checks-at, domain-tenures, longest-told}
+use Rattle.model.specs.Tenures.{checks-at, domain-tenures, longest-tenure}
 use Rattle.model.specs.Counters.{each-with-index, counters-after}
 use Rattle.model.specs.Laws.{Formed}
 use Rattle.model.proofs.Tests.{and-both, by-test, any-same}
@@ -33,7 +33,7 @@ use Rattle.model.proofs.Trees.Paths.{on-path-root}
 use Rattle.model.proofs.Trees.Records.{member-record, child-inner}
 use Rattle.model.proofs.Trees.Tickets.{queue-facts}
 use Rattle.model.proofs.Laws.Facts.{well-formed-facts}
-use Rattle.model.proofs.Laws.Form.{valid}
+use Rattle.model.proofs.Laws.Form.{not-invalid}
 use Rattle.model.proofs.Laws.Given.{given-from, given-at, gives}
 use Rattle.model.proofs.Trees.Reading.{home-read}
 use Rattle.refusals.specs.Arrays.{parents-in}
@@ -71,20 +71,20 @@ draw-kind t i s (draw-shown e) = sym (ap not (eq-eqb (s .ticket) (s .grant) e))
 draw-kind t i s (draw-unshown e) = sym (ap not (ne-eqb (s .ticket) (s .grant) e))
 
 -- a record that a thread works with, or none, by a test
-module _ (t : Tree) (𝓐 : Accepted t) (m : ℕ) (ps : List ℕ) (same : (e : ℕ) → parents-in m ps .parent e ≡ t .parent e) where
+module _ (t : Tree) (valid : Accepted t) (m : ℕ) (ps : List ℕ) (same : (e : ℕ) → parents-in m ps .parent e ≡ t .parent e) where
   own-started : (b : Bool) (i l h : ℕ) → i < t .threads → on-path t i l ≡ true → h ≡ t .home i → Start-of (cond b (own-record t i l ∷ []) []) (cond (not b) 0 (taken-in m ps h l))
   unfolding own-record
   own-started false i l h r o e = nobody refl refl
   own-started true i l h r o e = rw (taken-child t m ps same i l h e) (by (eqb l (t .home i)) refl)
     where
       by : (x : Bool) → eqb l (t .home i) ≡ x → Start-of (cond x i (256 + child t i l) ∷ []) (cond x 0 (child t i l))
-      by true z = of-thread i (omega (arith, 𝓐 .few-threads)) refl refl
-      by false z = of-domain (child-inner t 𝓐 i r l o (eqb-false l (t .home i) z)) refl
+      by true z = of-thread i (omega (arith, valid .few-threads)) refl refl
+      by false z = of-domain (child-inner t valid i r l o (eqb-false l (t .home i) z)) refl
 
   -- a record that is granted
   granted-started : (l r : ℕ) → is-member t l r ≡ true → Start-of (r ∷ []) (record-domain-in r)
   unfolding is-record
-  granted-started l r e = by (ltb r 256) refl (member-record t 𝓐 l r e)
+  granted-started l r e = by (ltb r 256) refl (member-record t valid l r e)
     where
       by : (x : Bool) → ltb r 256 ≡ x → cond x (ltb r (t .threads)) (ltb (r - 256) (t .domains) && not (eqb (r - 256) 0)) ≡ true → Start-of (r ∷ []) (cond x 0 (r - 256))
       by true z y = of-thread r (ltb-true r 256 z) refl refl
@@ -99,7 +99,7 @@ module _ (t : Tree) (𝓐 : Accepted t) (m : ℕ) (ps : List ℕ) (same : (e : �
   record-same j h d r e n = rw (taken-child t m ps same j 0 h e) (by (eqb 0 (t .home j)))
     where
       by : (x : Bool) → eqb (cond x 0 (child t j 0)) d ≡ eqb (cond x j (256 + child t j 0)) (256 + d)
-      by true = ne-eqb 0 d (λ z. n (sym z)) ∙ sym (ne-eqb j (256 + d) (λ z. absurd (omega (arith, 𝓐 .few-threads))))
+      by true = ne-eqb 0 d (λ z. n (sym z)) ∙ sym (ne-eqb j (256 + d) (λ z. absurd (omega (arith, valid .few-threads))))
       by false = elim (ℕ-discrete (child t j 0) d) [ yes z ↦ rw (eq-eqb (child t j 0) d z, eq-eqb (256 + child t j 0) (256 + d) (omega arith)) | no z ↦ rw (ne-eqb (child t j 0) d z, ne-eqb (256 + child t j 0) (256 + d) (λ y. z (omega arith))) ]
 
 -- a test that does not hang on the number stands before the scan
@@ -123,8 +123,8 @@ module _ (w : TreeWords) (ok : tree-refusal (tree-of w) .number ≡ 0) (i : ℕ)
   abbrev t : Tree
   t = tree-of w
 
-  𝓐 : Accepted t
-  𝓐 = accepted t ok
+  valid : Accepted t
+  valid = accepted t ok
 
   abbrev q : PlaceWords
   q = getD (s .places) i (place-words 0 0 0 0)
@@ -133,10 +133,10 @@ module _ (w : TreeWords) (ok : tree-refusal (tree-of w) .number ≡ 0) (i : ℕ)
   good = well-formed-facts t s f .places i .used b
 
   words : q ≡ words-of (place s i)
-  words = sym (words-of-place q (valid t i (place s i) good))
+  words = sym (words-of-place q (not-invalid t i (place s i) good))
 
   room : i < length (s .places)
-  room = omega (arith, 𝓐 .few-threads, f .typed .places-room)
+  room = omega (arith, valid .few-threads, f .typed .places-room)
 
   -- the place after the step
   after : getD (step t i s .state .places) i (place-words 0 0 0 0) ≡ said .place
@@ -145,7 +145,7 @@ module _ (w : TreeWords) (ok : tree-refusal (tree-of w) .number ≡ 0) (i : ℕ)
 
   module _ (h : ℕ) (home : h ≡ t .home i) (shown : List Bool) (ts ts′ ls ls′ : List ℕ) (C : Counted-step (w .domains) (w .parents) h q (said .place) (said .kind) shown ts ts′ ls ls′) where
     abbrev Both : Type 0
-    Both = (ts′ ≡ each-with-index (λ d v. v + domain-tenures t d (step t i s ∷ [])) 0 ts) × (ls′ ≡ each-with-index (λ d v. max v (longest-told t d (step t i s ∷ []))) 0 ls)
+    Both = (ts′ ≡ each-with-index (λ d v. v + domain-tenures t d (step t i s ∷ [])) 0 ts) × (ls′ ≡ each-with-index (λ d v. max v (longest-tenure t d (step t i s ∷ []))) 0 ls)
 
     abbrev started : ℕ
     started = started-in (w .domains) (w .parents) h q (said .place .row) (said .kind)
@@ -179,17 +179,17 @@ module _ (w : TreeWords) (ok : tree-refusal (tree-of w) .number ≡ 0) (i : ℕ)
         ap (λ (x : PlaceWords). eqb (x .row) 3) (sym after) ∙ ap (λ (p : Place). eqb (getD (row t i p s .state .places) i (place-words 0 0 0 0) .row) 3) z ∙ swap-after t i l s room (branch t i s (Swap l)) in
         let c : started ≡ cond (not (eqb (tail s l) none)) 0 (taken-in (w .domains) (w .parents) h l) = rw (y, a) in
         finish (λ x. absurd (omega (arith, ap (λ (v : PlaceWords). v .row) y))) (λ x. absurd (omega (arith, ap (λ (v : PlaceWords). v .row) y)))
-        (rw (c, z, gives t i (Swap l) s) (own-started t 𝓐 (w .domains) (w .parents) same-parents (eqb (tail s l) none) i l h b (queue-facts t i l g .0) home))
+        (rw (c, z, gives t i (Swap l) s) (own-started t valid (w .domains) (w .parents) same-parents (eqb (tail s l) none) i l h b (queue-facts t i l g .0) home))
         (λ d. rw z)
 
     from-draw : place s i ≡ Draw → Both
     unfolding started-in checks-at given-at
     from-draw z =
         let y = row-is Draw z in
-        let a : eqb (said .kind) 1 ≡ not (eqb (s .ticket) (s .grant)) = ap (λ v. eqb v 1) (D .kind-told) ∙ ap (λ (p : Place). eqb (kind-number (row t i p s .kind)) 1) z ∙ draw-kind t i s (branch t i s Draw) in
+        let a : eqb (said .kind) 1 ≡ not (eqb (s .ticket) (s .grant)) = ap (λ v. eqb v 1) (D .kind-is) ∙ ap (λ (p : Place). eqb (kind-number (row t i p s .kind)) 1) z ∙ draw-kind t i s (branch t i s Draw) in
         let c : started ≡ cond (not (eqb (s .ticket) (s .grant))) 0 (taken-in (w .domains) (w .parents) h 0) = rw (y, a) in
         finish (λ x. absurd (omega (arith, ap (λ (v : PlaceWords). v .row) y))) (λ x. absurd (omega (arith, ap (λ (v : PlaceWords). v .row) y)))
-        (rw (c, z, gives t i Draw s) (own-started t 𝓐 (w .domains) (w .parents) same-parents (eqb (s .ticket) (s .grant)) i 0 h b (on-path-root t 𝓐 i b) home))
+        (rw (c, z, gives t i Draw s) (own-started t valid (w .domains) (w .parents) same-parents (eqb (s .ticket) (s .grant)) i 0 h b (on-path-root t valid i b) home))
         (λ d. rw z)
 
     from-grant : (l r v : ℕ) → place s i ≡ Grant l r v → good-place t i (Grant l r v) ≡ true → Both
@@ -198,7 +198,7 @@ module _ (w : TreeWords) (ok : tree-refusal (tree-of w) .number ≡ 0) (i : ℕ)
         let y = row-is (Grant l r v) z in
         let c : started ≡ record-domain-in r = rw y in
         finish (λ x. absurd (omega (arith, ap (λ (v : PlaceWords). v .row) y))) (λ x. absurd (omega (arith, ap (λ (v : PlaceWords). v .row) y)))
-        (rw (c, z, gives t i (Grant l r v) s) (granted-started t 𝓐 (w .domains) (w .parents) same-parents l r (and-both (queue-on-path t i l) (is-member t l r) g .1)))
+        (rw (c, z, gives t i (Grant l r v) s) (granted-started t valid (w .domains) (w .parents) same-parents l r (and-both (queue-on-path t i l) (is-member t l r) g .1)))
         (λ d. rw z)
 
     from-check : (l : ℕ) → place s i ≡ Check l → good-place t i (Check l) ≡ true → Both
@@ -247,7 +247,7 @@ module _ (w : TreeWords) (ok : tree-refusal (tree-of w) .number ≡ 0) (i : ℕ)
         k .marked d l
         ∙ any-apart (w .threads) (λ j. is-watch-in (getD (s .places) j (place-words 0 0 0 0))) (λ j. eqb (taken-in (w .domains) (w .parents) (getD (w .homes) j 0) 0) d) (eqb (status s (256 + d)) v)
         ∙ ap (λ x. eqb (status s (256 + d)) v && x)
-        (any-same (w .threads) _ _ (λ j r. rw (watch-numbers (getD (s .places) j (place-words 0 0 0 0)), record-same t 𝓐 (w .domains) (w .parents) same-parents j (getD (w .homes) j 0) d r (sym (home-read w j r)) n)))
+        (any-same (w .threads) _ _ (λ j r. rw (watch-numbers (getD (s .places) j (place-words 0 0 0 0)), record-same t valid (w .domains) (w .parents) same-parents j (getD (w .homes) j 0) d r (sym (home-read w j r)) n)))
 
     pub tenures-counted : (place s i ≡ Raise → Marked (w .domains) (w .parents) (w .homes) (s .statuses) (s .places) (wrap (s .grant + 1)) (w .threads) shown) → Both
     tenures-counted k = by-place (place s i) refl good (λ z. marks (k z))
@@ -260,4 +260,4 @@ module _ (w : TreeWords) (ok : tree-refusal (tree-of w) .number ≡ 0) (i : ℕ)
     step-counted es es′ g k =
         let both = tenures-counted k in
         let g′ : Entered (t .parent) (said .kind) (t .home i) es es′ = rw home at g in
-        rw (both .0, both .1, entries-counted t 𝓐 i b s (said .kind) es es′ (D .kind-told) g′)
+        rw (both .0, both .1, entries-counted t valid i b s (said .kind) es es′ (D .kind-is) g′)

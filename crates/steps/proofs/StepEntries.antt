@@ -27,7 +27,7 @@ abbrev number : Bool → ℕ
 number b = cond b 1 0
 
 -- from a domain up: one more of each domain that the way up meets, but for the root
-module _ (t : Tree) (𝓐 : Accepted t) where
+module _ (t : Tree) (valid : Accepted t) where
   abbrev met : (levels from domain : ℕ) → Bool
   met f c d = not (eqb d 0) && meets f t c d
 
@@ -39,7 +39,7 @@ module _ (t : Tree) (𝓐 : Accepted t) where
     where
       by : (b : Bool) → eqb c 0 ≡ b → (t .parent c < c → meets f t (t .parent c) d ≡ false) → not b && meets f t (t .parent c) d ≡ false
       by true e g = refl
-      by false e g = let n = eqb-false c 0 e in g (𝓐 .parent-lower c (omega (arith, n)) r)
+      by false e g = let n = eqb-false c 0 e in g (valid .parent-lower c (omega (arith, n)) r)
 
   root-meets : (f d : ℕ) → met f 0 d ≡ false
   unfolding meets
@@ -49,7 +49,7 @@ module _ (t : Tree) (𝓐 : Accepted t) where
   one-level : (g c : ℕ) → c ≢ 0 → c < t .domains → (d v : ℕ) → cond (eqb d c) (v + 1) v + number (met g (t .parent c) d) ≡ v + number (met (suc g) c d)
   unfolding meets
   one-level g c n r d v =
-      let p = 𝓐 .parent-lower c (omega (arith, n)) r in
+      let p = valid .parent-lower c (omega (arith, n)) r in
       elim (ℕ-discrete d c) [
         | yes z ↦ rw (z, ne-eqb c 0 n, eq-eqb c c refl, meets-lower g (t .parent c) c (omega arith) p) (omega arith)
         | no z ↦ rw (ne-eqb d c z, ne-eqb c d (λ y. z (sym y)), ne-eqb c 0 n)
@@ -62,10 +62,10 @@ module _ (t : Tree) (𝓐 : Accepted t) where
   climbed-counts f c vs ws (one-up c′ vs′ ws′ n k) r h = by f h (λ g a b. climbed-counts g (t .parent c) (set vs c (getD vs c 0 + 1)) ws k a b)
     where
       p : t .parent c < c
-      p = 𝓐 .parent-lower c (omega (arith, n)) r
+      p = valid .parent-lower c (omega (arith, n)) r
 
       deeper : depth t c ≡ suc (depth t (t .parent c))
-      deeper = depth-child t 𝓐 c (omega (arith, n)) r
+      deeper = depth-child t valid c (omega (arith, n)) r
 
       by :
           (f : ℕ) → depth t c ≤ f →
@@ -98,11 +98,11 @@ module _ (t : Tree) (𝓐 : Accepted t) where
         es′ ≡ each-with-index (λ d v. v + domain-entries t d (step t i s ∷ [])) 0 es
     entries-counted kind es es′ e g = by (is-entry (step t i s .kind)) refl
       where
-        told : (x : Bool) → is-entry (step t i s .kind) ≡ x → is-entry-number kind ≡ x
-        told x z = ap is-entry-number e ∙ entry-number (step t i s .kind) ∙ z
+        numbered : (x : Bool) → is-entry (step t i s .kind) ≡ x → is-entry-number kind ≡ x
+        numbered x z = ap is-entry-number e ∙ entry-number (step t i s .kind) ∙ z
 
         by : (x : Bool) → is-entry (step t i s .kind) ≡ x → es′ ≡ each-with-index (λ d v. v + domain-entries t d (step t i s ∷ [])) 0 es
         by true z =
-            climbed-counts 6 (t .home i) es es′ (g .entry (told true z)) (𝓐 .home-real i b) (omega (arith, depth-few t 𝓐 (t .home i) (𝓐 .home-real i b)))
+            climbed-counts 6 (t .home i) es es′ (g .entry (numbered true z)) (valid .home-real i b) (omega (arith, depth-few t valid (t .home i) (valid .home-real i b)))
             ∙ indexed-same _ _ 0 es (λ d v. ap (λ n. v + n) (sym (entered-counts true d z)))
-        by false z = g .other (told false z) ∙ sym (indexed-kept _ 0 es (λ d v. omega (arith, entered-counts false d z)))
+        by false z = g .other (numbered false z) ∙ sym (indexed-kept _ 0 es (λ d v. omega (arith, entered-counts false d z)))

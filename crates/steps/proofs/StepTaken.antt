@@ -32,7 +32,7 @@ use Rattle.steps.specs.Counting.{taken-in, record-domain-in, started-in,
 use Rattle.steps.specs.Rows.{Done, Stands, Above, Member-of, row-domain, start-row, tree-at, state-in}
 use Rattle.steps.specs.Running.{Ready, Taken}
 use Rattle.steps.proofs.Counts.{other-counted}
-use Rattle.steps.proofs.ToldStep.{place-by-row}
+use Rattle.steps.proofs.StepCodes.{place-by-row}
 
 -- the row of a place at a domain
 abbrev pub row-at : Tree → (thread domain : ℕ) → Place → State → Row-result
@@ -147,18 +147,18 @@ module _ {k n m : ℕ} {ps ts hs : List ℕ} {i : ℕ} {q : PlaceWords} (turn : 
         home-real = rw home-is at (accepts .home-real i (turn .ready .thread));
       }
 
-  pub valid : place-of q ≢ Invalid
-  valid e = invalid-bad t i (ap (good-place t i) (sym e) ∙ turn .ready .place)
+  pub not-invalid : place-of q ≢ Invalid
+  not-invalid e = invalid-bad t i (ap (good-place t i) (sym e) ∙ turn .ready .place)
 
   module _ {p : Place} (a : p ≡ place-of q) where
     good : (x : Place) → p ≡ x → good-place t i x ≡ true
     good x e = ap (good-place t i) (sym e ∙ a) ∙ turn .ready .place
 
     pub never : p ≡ Invalid → ⊥
-    never e = valid (sym a ∙ e)
+    never e = not-invalid (sym a ∙ e)
 
     pub words : (x : Place) → p ≡ x → q ≡ words-of x
-    words x e = sym (words-of-place q valid) ∙ ap words-of (sym a ∙ e)
+    words x e = sym (words-of-place q not-invalid) ∙ ap words-of (sym a ∙ e)
 
     pub row-of : (x : Place) → p ≡ x → q .row ≡ words-of x .row
     row-of x e = ap (λ (y : PlaceWords). y .row) (words x e)

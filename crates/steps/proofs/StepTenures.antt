@@ -21,7 +21,7 @@ use Rattle.model.specs.States.{none, tail, status, place, wrap, with-place}
 use Rattle.model.specs.Steps.{kind-number, Row-result, is-watched, shown-members, swap-row, draw-row, row, Step, step}
 use Rattle.model.specs.Runs.{occurrences}
 use Rattle.model.specs.WellFormed.{good-place}
-use Rattle.model.specs.Tenures.{given, starts, checks-at, word-to-grant, told-length, domain-tenures, longest-told}
+use Rattle.model.specs.Tenures.{given, starts, checks-at, word-to-grant, tenure-length, domain-tenures, longest-tenure}
 use Rattle.model.specs.Counters.{each-with-index}
 use Rattle.model.proofs.Tests.{and-both, by-test, any-same}
 use Rattle.model.proofs.Places.{by-row, no-place}
@@ -61,8 +61,8 @@ module _ (t : Tree) (i : ℕ) (s : State) (c : ℕ) (g : Start-of (given-from t 
   unfolding starts given step
   starts-are d = start-counts (given-from t i (place s i) s) c g d
 
-  lengths-are : (d : ℕ) → told-length t d (step t i s) ≡ number (is-at c d)
-  unfolding told-length step
+  lengths-are : (d : ℕ) → tenure-length t d (step t i s) ≡ number (is-at c d)
+  unfolding tenure-length step
   lengths-are d = rw (starts-are d, unchecked d) (by (is-at c d))
     where
       by : (b : Bool) → max (cond (eqb (number b) 0) 0 1) 0 ≡ number b
@@ -73,8 +73,8 @@ module _ (t : Tree) (i : ℕ) (s : State) (c : ℕ) (g : Start-of (given-from t 
   unfolding domain-tenures
   start-added ts = added-indexed ts c ∙ indexed-same _ _ 0 ts (λ d v. omega (arith, starts-are d))
 
-  pub start-raised : (ls : List ℕ) → raised-at ls c 1 ≡ each-with-index (λ d v. max v (longest-told t d (step t i s ∷ []))) 0 ls
-  unfolding longest-told
+  pub start-raised : (ls : List ℕ) → raised-at ls c 1 ≡ each-with-index (λ d v. max v (longest-tenure t d (step t i s ∷ []))) 0 ls
+  unfolding longest-tenure
   start-raised ls = raised-indexed ls c 1 ∙ indexed-same _ _ 0 ls (λ d v. omega (arith, lengths-are d))
 
 -- A CHECK: the word that the place after it will grant
@@ -111,9 +111,9 @@ module _ (t : Tree) (i l : ℕ) (s : State) (here : place s i ≡ Check l) (n : 
   unfolding starts given step
   check-starts d = start-counts (given-from t i (place s i) s) 0 (nobody none-given refl) d
 
-  check-told : (d : ℕ) → told-length t d (step t i s) ≡ cond (is-at (cond (eqb (q .row) 10) l 0) d) (q .word) 0
-  unfolding told-length step checks-at
-  check-told d = rw (check-starts d, after, word-of-row q, here) (by (eqb (q .row) 10))
+  check-length : (d : ℕ) → tenure-length t d (step t i s) ≡ cond (is-at (cond (eqb (q .row) 10) l 0) d) (q .word) 0
+  unfolding tenure-length step checks-at
+  check-length d = rw (check-starts d, after, word-of-row q, here) (by (eqb (q .row) 10))
     where
       by : (b : Bool) → max 0 (cond (eqb l d) (cond b (q .word) 0) 0) ≡ cond (is-at (cond b l 0) d) (q .word) 0
       by true = rw (ne-eqb l 0 n) (elim (ℕ-discrete d l) [ yes z ↦ rw (eq-eqb d l z, eq-eqb l d (sym z)) (omega arith) | no z ↦ rw (ne-eqb d l z, ne-eqb l d (λ y. z (sym y))) ])
@@ -123,9 +123,9 @@ module _ (t : Tree) (i l : ℕ) (s : State) (here : place s i ≡ Check l) (n : 
   unfolding domain-tenures
   check-added ts = sym (indexed-kept _ 0 ts (λ d v. omega (arith, check-starts d)))
 
-  pub check-raised : (ls : List ℕ) → raised-at ls (cond (eqb (q .row) 10) l 0) (q .word) ≡ each-with-index (λ d v. max v (longest-told t d (step t i s ∷ []))) 0 ls
-  unfolding longest-told
-  check-raised ls = raised-indexed ls (cond (eqb (q .row) 10) l 0) (q .word) ∙ indexed-same _ _ 0 ls (λ d v. omega (arith, check-told d))
+  pub check-raised : (ls : List ℕ) → raised-at ls (cond (eqb (q .row) 10) l 0) (q .word) ≡ each-with-index (λ d v. max v (longest-tenure t d (step t i s ∷ []))) 0 ls
+  unfolding longest-tenure
+  check-raised ls = raised-indexed ls (cond (eqb (q .row) 10) l 0) (q .word) ∙ indexed-same _ _ 0 ls (λ d v. omega (arith, check-length d))
 
 -- A RAISE: the domains that it shows
 module _ (t : Tree) (i : ℕ) (s : State) (here : place s i ≡ Raise) (shown : List Bool)
@@ -146,9 +146,9 @@ module _ (t : Tree) (i : ℕ) (s : State) (here : place s i ≡ Raise) (shown : 
             ])
       ])
 
-  raise-told : (d : ℕ) → told-length t d (step t i s) ≡ number (is-shown shown 64 d)
-  unfolding told-length step checks-at
-  raise-told d = rw (raise-starts d, here) (by (is-shown shown 64 d))
+  raise-length : (d : ℕ) → tenure-length t d (step t i s) ≡ number (is-shown shown 64 d)
+  unfolding tenure-length step checks-at
+  raise-length d = rw (raise-starts d, here) (by (is-shown shown 64 d))
     where
       by : (b : Bool) → max (cond (eqb (number b) 0) 0 1) 0 ≡ number b
       by true = refl
@@ -158,6 +158,6 @@ module _ (t : Tree) (i : ℕ) (s : State) (here : place s i ≡ Raise) (shown : 
   unfolding domain-tenures
   raise-added ts ts′ ls ls′ g = g .added ∙ indexed-same _ _ 0 ts (λ d v. omega (arith, raise-starts d))
 
-  pub raise-raised : (ts ts′ ls ls′ : List ℕ) → Counted-shown shown 64 ts ts′ ls ls′ → ls′ ≡ each-with-index (λ d v. max v (longest-told t d (step t i s ∷ []))) 0 ls
-  unfolding longest-told
-  raise-raised ts ts′ ls ls′ g = g .raised ∙ indexed-same _ _ 0 ls (λ d v. omega (arith, raise-told d))
+  pub raise-raised : (ts ts′ ls ls′ : List ℕ) → Counted-shown shown 64 ts ts′ ls ls′ → ls′ ≡ each-with-index (λ d v. max v (longest-tenure t d (step t i s ∷ []))) 0 ls
+  unfolding longest-tenure
+  raise-raised ts ts′ ls ls′ g = g .raised ∙ indexed-same _ _ 0 ls (λ d v. omega (arith, raise-length d))

@@ -119,6 +119,6 @@ pub record Shown-for (looked domains : ℕ) (shown : List Bool) : Type 0 where
   pub beyond : (d : ℕ) → domains ≤ d → d < 64 → getD shown d false ≡ false
 
 -- an answer that is true only where 65,536 more leave every counter at most 2^63
-pub record Room-told (entries tenures : List ℕ) (answer : Bool) : Type 0 where
+pub record Room-answered (entries tenures : List ℕ) (answer : Bool) : Type 0 where
   pub entries-fit : answer ≡ true → (d : ℕ) → d < 64 → getD entries d 0 + 65536 ≤ most-counted
   pub tenures-fit : answer ≡ true → (d : ℕ) → d < 64 → getD tenures d 0 + 65536 ≤ most-counted

@@ -39,7 +39,7 @@ place-at s i = getD (s .places) i (place-words 0 0 0 0)
 
 -- a row is done: what it says is its kind, and the words that it leaves are its state, with the thread's place as it says
 pub record Done (x : Row-result) (i : ℕ) (m : Moved) (left : State) : Type 0 where
-  pub kind-told : m .kind ≡ kind-number (x .kind)
+  pub kind-is : m .kind ≡ kind-number (x .kind)
   pub state-left : with-place-words i (m .place) left ≡ x .state
 
 -- in every tree and state in which the row reads what it was given, the words before it are turned into those after it as the row does

@@ -70,14 +70,14 @@ unfoldable pub step-code : Step → ℕ
 step-code x = code-of (kind-number (x .kind)) (words-of (x .place) .row) (words-of (x .place) .domain)
 
 -- a buffer with a number at an index; where it has no such index, as it came
-abbrev pub told-at : List ℕ → (at code : ℕ) → List ℕ
-told-at b n v = cond (ltb n (length b)) (set b n v) b
+abbrev pub code-stored : List ℕ → (at code : ℕ) → List ℕ
+code-stored b n v = cond (ltb n (length b)) (set b n v) b
 
 -- the buffer with the numbers of the first steps at its front, as many as it has room for
-unfoldable pub told-front : List ℕ → List Step → List ℕ
-told-front [] xs = []
-told-front (b ∷ bs) [] = b ∷ bs
-told-front (b ∷ bs) (x ∷ xs) = step-code x ∷ told-front bs xs
+unfoldable pub codes-front : List ℕ → List Step → List ℕ
+codes-front [] xs = []
+codes-front (b ∷ bs) [] = b ∷ bs
+codes-front (b ∷ bs) (x ∷ xs) = step-code x ∷ codes-front bs xs
 
 -- a fresh state by the number at which its counters start
 abbrev pub fresh-from : (first : ℕ) → State

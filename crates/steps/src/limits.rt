@@ -6,10 +6,10 @@ ghost use lib.ListN.{length};
 ghost use Rattle.model.specs.Trees.{tree-of};
 ghost use Rattle.model.specs.Counters.{lock-state, any-above};
 ghost use Rattle.model.specs.Refusals.{first-refusal, run-tests-before-19, bad-counter, counter-tests, run-refusal};
-ghost use Rattle.refusals.specs.Arrays.{told};
+ghost use Rattle.refusals.specs.Arrays.{refusal-words};
 ghost use Rattle.refusals.specs.Counts.{counters-in};
 ghost use Rattle.refusals.specs.Lowest.{Lowest};
-ghost use Rattle.steps.specs.Counting.{Room-told};
+ghost use Rattle.steps.specs.Counting.{Room-answered};
 use crate::run;
 use model::State;
 use model::TreeWords;
@@ -22,7 +22,7 @@ const MOST_WITH_ROOM: u64 = 9223372036854710272;
 
 // True only where every schedule has room: no counter is then looked at while it is run.
 fn has_room<'c>(entries: &'c [u64; 64], tenures: &'c [u64; 64]) -> bool
-    ensures { λ r. ⌜ Room-told (now (entries .entry)) (now (tenures .entry)) r ⌝ }
+    ensures { λ r. ⌜ Room-answered (now (entries .entry)) (now (tenures .entry)) r ⌝ }
 {
     let mut d: usize = 0;
     while d < 64 {
@@ -79,14 +79,14 @@ fn lowest_above<'c>(
         let one = [schedule[at]];
         let mut trace = [0u16];
         let mut kinds = [0u32; 6];
-        let mut told = [0u16; 0];
+        let mut codes = [0u16; 0];
         n = run::run_steps(
             tree,
             n,
             &one,
             &mut trace,
             &mut kinds,
-            &mut told,
+            &mut codes,
             &mut es,
             &mut ns,
             &mut ls,
@@ -109,7 +109,7 @@ pub fn counter_refusal_of<'c>(
     schedule: &[u16],
 ) -> Refusal
     requires { ⌜ first-refusal (run-tests-before-19 (tree-of tree) (lock-state state (counters-in (now entries) (now tenures) (now longest))) (now schedule) (length (now schedule))) .number ≡ 0 ⌝ }
-    ensures { λ r. ⌜ r ≡ told (first-refusal (counter-tests (tree-of tree) (lock-state state (counters-in (now (entries .entry)) (now (tenures .entry)) (now (longest .entry)))) (now (schedule .entry)))) ⌝ }
+    ensures { λ r. ⌜ r ≡ refusal-words (first-refusal (counter-tests (tree-of tree) (lock-state state (counters-in (now (entries .entry)) (now (tenures .entry)) (now (longest .entry)))) (now (schedule .entry)))) ⌝ }
 {
     if has_room(entries, tenures) {
         return Refusal {
@@ -140,7 +140,7 @@ pub fn refusal_of<'c>(
     schedule: &[u16],
     room: usize,
 ) -> Refusal
-    ensures { λ r. ⌜ r ≡ told (run-refusal (tree-of tree) (lock-state state (counters-in (now (entries .entry)) (now (tenures .entry)) (now (longest .entry)))) (now (schedule .entry)) room) ⌝ }
+    ensures { λ r. ⌜ r ≡ refusal-words (run-refusal (tree-of tree) (lock-state state (counters-in (now (entries .entry)) (now (tenures .entry)) (now (longest .entry)))) (now (schedule .entry)) room) ⌝ }
 {
     let r = refusals::run_refusal_of(tree, state, entries, tenures, longest, schedule, room);
     if r.number != 0 {

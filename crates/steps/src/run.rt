@@ -10,7 +10,7 @@ ghost use Rattle.refusals.specs.Counts.{counters-in};
 ghost use Rattle.model.specs.Runs.{steps, run};
 ghost use Rattle.model.specs.Laws.{Typed};
 ghost use Rattle.steps.specs.Rows.{row-domain, state-in};
-ghost use Rattle.steps.specs.Running.{kinds-of, counted, counts-by, is-entry-number, traced-at, trace-front, code-of, told-at, told-front};
+ghost use Rattle.steps.specs.Running.{kinds-of, counted, counts-by, is-entry-number, traced-at, trace-front, code-of, code-stored, codes-front};
 use crate::counting;
 use crate::places;
 use crate::taking;
@@ -79,17 +79,17 @@ fn trace_at(trace: &mut [u16], at: u32, kind: u8, i: u16) -> u32
 }
 
 // What a step was, in one number; where no room is lent for it, it is not told.
-fn tell(told: &mut [u16], at: usize, kind: u8, row: u8, domain: u8)
-    ensures { λ r. ⌜ now (told .exit) ≡ told-at (now (told .entry)) at (code-of kind row domain) ⌝ }
+fn put_code(codes: &mut [u16], at: usize, kind: u8, row: u8, domain: u8)
+    ensures { λ r. ⌜ now (codes .exit) ≡ code-stored (now (codes .entry)) at (code-of kind row domain) ⌝ }
 {
-    if told.len() <= at {
+    if codes.len() <= at {
         return;
     }
-    told[at] = kind as u16 + 8 * (row as u16) + 128 * (domain as u16);
+    codes[at] = kind as u16 + 8 * (row as u16) + 128 * (domain as u16);
 }
 
 // The domain that a step was at, by its thread's home and what was told of the step.
-pub fn domain_told(home: u8, code: u16) -> u32
+pub fn domain_of_code(home: u8, code: u16) -> u32
     ensures { λ r. ⌜ r ≡ row-domain home ((code / 8) % 16) (code / 128) ⌝ }
 {
     let row = (code / 8) % 16;
@@ -119,7 +119,7 @@ pub fn run_lent(
     schedule: &[u16],
     trace: &mut [u16],
     kinds: &mut [u32; 6],
-    told: &mut [u16],
+    codes: &mut [u16],
     entries: &mut [u64; 64],
     tenures: &mut [u64; 64],
     longest: &mut [u64; 64],
@@ -129,7 +129,7 @@ pub fn run_lent(
     ensures { λ r. ⌜ state-in (now (tails .exit)) (now (nexts .exit)) (now (statuses .exit)) (now (ticket .exit)) (now (granted .exit)) (r .places) ≡ run (tree-of tree) (now (schedule .entry)) (state-in (now (tails .entry)) (now (nexts .entry)) (now (statuses .entry)) (now (ticket .entry)) (now (granted .entry)) places) .state ⌝ }
     ensures { λ r. ⌜ now (trace .exit) ≡ trace-front (now (trace .entry)) (run (tree-of tree) (now (schedule .entry)) (state-in (now (tails .entry)) (now (nexts .entry)) (now (statuses .entry)) (now (ticket .entry)) (now (granted .entry)) places)) ⌝ }
     ensures { λ r. ⌜ now (kinds .exit) ≡ kinds-of (steps (tree-of tree) (now (schedule .entry)) (state-in (now (tails .entry)) (now (nexts .entry)) (now (statuses .entry)) (now (ticket .entry)) (now (granted .entry)) places)) ⌝ }
-    ensures { λ r. ⌜ now (told .exit) ≡ told-front (now (told .entry)) (steps (tree-of tree) (now (schedule .entry)) (state-in (now (tails .entry)) (now (nexts .entry)) (now (statuses .entry)) (now (ticket .entry)) (now (granted .entry)) places)) ⌝ }
+    ensures { λ r. ⌜ now (codes .exit) ≡ codes-front (now (codes .entry)) (steps (tree-of tree) (now (schedule .entry)) (state-in (now (tails .entry)) (now (nexts .entry)) (now (statuses .entry)) (now (ticket .entry)) (now (granted .entry)) places)) ⌝ }
     ensures { λ r. ⌜ counters-in (now (entries .exit)) (now (tenures .exit)) (now (longest .exit)) ≡ counters-after (tree-of tree) (counters-in (now (entries .entry)) (now (tenures .entry)) (now (longest .entry))) (steps (tree-of tree) (now (schedule .entry)) (state-in (now (tails .entry)) (now (nexts .entry)) (now (statuses .entry)) (now (ticket .entry)) (now (granted .entry)) places)) ⌝ }
 {
     let mut standing = places;
@@ -190,7 +190,7 @@ pub fn run_lent(
             standing[at] = place;
         }
         entered = trace_at(trace, entered, kind, i);
-        tell(told, position, kind, row, domain);
+        put_code(codes, position, kind, row, domain);
         k += 1;
     }
     *kinds = tally;
@@ -206,7 +206,7 @@ pub fn run_steps(
     schedule: &[u16],
     trace: &mut [u16],
     kinds: &mut [u32; 6],
-    told: &mut [u16],
+    codes: &mut [u16],
     entries: &mut [u64; 64],
     tenures: &mut [u64; 64],
     longest: &mut [u64; 64],
@@ -215,7 +215,7 @@ pub fn run_steps(
     ensures { λ r. ⌜ r ≡ run (tree-of tree) (now (schedule .entry)) state .state ⌝ }
     ensures { λ r. ⌜ now (trace .exit) ≡ trace-front (now (trace .entry)) (run (tree-of tree) (now (schedule .entry)) state) ⌝ }
     ensures { λ r. ⌜ now (kinds .exit) ≡ kinds-of (steps (tree-of tree) (now (schedule .entry)) state) ⌝ }
-    ensures { λ r. ⌜ now (told .exit) ≡ told-front (now (told .entry)) (steps (tree-of tree) (now (schedule .entry)) state) ⌝ }
+    ensures { λ r. ⌜ now (codes .exit) ≡ codes-front (now (codes .entry)) (steps (tree-of tree) (now (schedule .entry)) state) ⌝ }
     ensures { λ r. ⌜ counters-in (now (entries .exit)) (now (tenures .exit)) (now (longest .exit)) ≡ counters-after (tree-of tree) (counters-in (now (entries .entry)) (now (tenures .entry)) (now (longest .entry))) (steps (tree-of tree) (now (schedule .entry)) state) ⌝ }
 {
     let mut tails = state.tails;
@@ -235,7 +235,7 @@ pub fn run_steps(
         schedule,
         trace,
         kinds,
-        told,
+        codes,
         entries,
         tenures,
         longest,

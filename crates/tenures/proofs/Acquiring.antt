@@ -28,15 +28,15 @@ use Rattle.claims.proofs.Words.Drawing.{begins-at, nobody-there, somebody-there
 use Rattle.claims.proofs.Words.Outcome.{standing-shown, entry-shown, row-shown, placed, status-placed, next-placed, tail-placed, prep-placed, swap-placed, draw-placed, member-small}
 use Rattle.tenures.proofs.StepMoves.{made-first, still, quiet, shows, shows-begins, Row-moves, with-moves}
 
-module _ (t : Tree) (𝓐 : Accepted t) (s : WordState) (room : Room s) (g : State) (i : ℕ) (h : i < t .threads) (o : Others t (words-in s) g i) where
+module _ (t : Tree) (valid : Accepted t) (s : WordState) (room : Room s) (g : State) (i : ℕ) (h : i < t .threads) (o : Others t (words-in s) g i) where
   abbrev w : Words
   w = words-in s
 
   few : i < 256
-  few = omega (arith, 𝓐 .few-threads)
+  few = omega (arith, valid .few-threads)
 
   domain-small : (k : ℕ) → ancestor t i k < 64
-  domain-small k = omega (arith, ancestor-real t 𝓐 i h k, 𝓐 .few-domains)
+  domain-small k = omega (arith, ancestor-real t valid i h k, valid .few-domains)
 
   -- PREP
   pub prep-moves : (k : ℕ) → k ≤ height t i → g .stage i ≡ climb k → Counted t w g i k → Row-moves t g i (ancestor t i k) (Prep (ancestor t i k)) (prep-row t i (ancestor t i k) s)
@@ -45,9 +45,9 @@ module _ (t : Tree) (𝓐 : Accepted t) (s : WordState) (room : Room s) (g : Sta
     where
       by : {x : Row-result} → Branch t i s (Prep (ancestor t i k)) x → Row-moves t g i (ancestor t i k) (Prep (ancestor t i k)) x
       by (prepares _ v at) =
-          let b = record-small t 𝓐 i h k l in
-          rw (word-is at, own-record-at t 𝓐 i h k l)
-          (with-moves _ g (prep-placed s room i few (Swap (ancestor t i k)) (record-at t i k) (waiting-word (ancestor t i k)) none b) (prepare t 𝓐 w g i h o k l e c) still)
+          let b = record-small t valid i h k l in
+          rw (word-is at, own-record-at t valid i h k l)
+          (with-moves _ g (prep-placed s room i few (Swap (ancestor t i k)) (record-at t i k) (waiting-word (ancestor t i k)) none b) (prepare t valid w g i h o k l e c) still)
 
   -- SWAP
   pub swap-moves :
@@ -58,26 +58,26 @@ module _ (t : Tree) (𝓐 : Accepted t) (s : WordState) (room : Room s) (g : Sta
     where
       by : {x : Row-result} → Branch t i s (Swap (ancestor t i k)) x → Row-moves t g i (ancestor t i k) (Swap (ancestor t i k)) x
       by (swap-root _ root tl) =
-          let b = record-small t 𝓐 i h k l in
+          let b = record-small t valid i h k l in
           let d = domain-small k in
-          rw (own-record-at t 𝓐 i h k l)
+          rw (own-record-at t valid i h k l)
           (with-moves _ _ (swap-placed s room i few Inside (ancestor t i k) (record-at t i k + 1) (record-at t i k) 0 d b)
-          (take-root t 𝓐 w g i h o k l nt e root (ancestor-zero t 𝓐 i h k l root) tl nx c)
-          (rw (own-record-at t 𝓐 i h k l) (shows (join-root i k e root (empty-there t 𝓐 w g i h o k l nt tl)))))
+          (take-root t valid w g i h o k l nt e root (ancestor-zero t valid i h k l root) tl nx c)
+          (rw (own-record-at t valid i h k l) (shows (join-root i k e root (empty-there t valid w g i h o k l nt tl)))))
       by (swap-inner _ n tl) =
-          let b = record-small t 𝓐 i h k l in
+          let b = record-small t valid i h k l in
           let d = domain-small k in
-          let lower = ancestor-not-root t 𝓐 i h k l (omega (arith, n)) in
-          rw (own-record-at t 𝓐 i h k l, ancestor-parent-of t 𝓐 i h k lower)
+          let lower = ancestor-not-root t valid i h k l (omega (arith, n)) in
+          rw (own-record-at t valid i h k l, ancestor-parent-of t valid i h k lower)
           (with-moves _ _ (swap-placed s room i few (acquire-place t (ancestor t i (suc k))) (ancestor t i k) (record-at t i k + 1) (record-at t i k) 1 d b)
-          (take t 𝓐 w g i h o k l nt e n lower tl nx c)
-          (rw (own-record-at t 𝓐 i h k l) (quiet (join-empty i k e n (empty-there t 𝓐 w g i h o k l nt tl)))))
+          (take t valid w g i h o k l nt e n lower tl nx c)
+          (rw (own-record-at t valid i h k l) (quiet (join-empty i k e n (empty-there t valid w g i h o k l nt tl)))))
       by (swap-behind _ tl) =
           let d = domain-small k in
-          let f = stand-first t 𝓐 w g i h o k l nt tl in
-          rw (own-record-at t 𝓐 i h k l)
+          let f = stand-first t valid w g i h o k l nt tl in
+          rw (own-record-at t valid i h k l)
           (with-moves _ _ (tail-placed s room i few (Link (ancestor t i k) (tail s (ancestor t i k) - 1)) (ancestor t i k) (record-at t i k + 1) d)
-          (stand t 𝓐 w g i h o k l nt e tl nx sw c) (shows (join-behind i k (f .0) e (f .1))))
+          (stand t valid w g i h o k l nt e tl nx sw c) (shows (join-behind i k (f .0) e (f .1))))
 
   -- LINK
   pub link-moves :
@@ -88,10 +88,10 @@ module _ (t : Tree) (𝓐 : Accepted t) (s : WordState) (room : Room s) (g : Sta
     where
       by : {x : Row-result} → Branch t i s (Link (ancestor t i k) p) x → Row-moves t g i (ancestor t i k) (Link (ancestor t i k) p) x
       by (link-writes _ _) =
-          let b = member-small t 𝓐 g (o .invariant) (ancestor t i k) p (after-in (g .queue (ancestor t i k)) p (record-at t i k) a) in
-          rw (own-record-at t 𝓐 i h k l)
+          let b = member-small t valid g (o .invariant) (ancestor t i k) p (after-in (g .queue (ancestor t i k)) p (record-at t i k) a) in
+          rw (own-record-at t valid i h k l)
           (with-moves _ g (next-placed s room i few (Wait (ancestor t i k)) p (record-at t i k + 1) b)
-          (link t 𝓐 w g i h o k l nt p e a nx sw c) still)
+          (link t valid w g i h o k l nt p e a nx sw c) still)
 
   -- WAIT, not granted
   pub wait-moves :
@@ -99,7 +99,7 @@ module _ (t : Tree) (𝓐 : Accepted t) (s : WordState) (room : Room s) (g : Sta
       Row-moves t g i (ancestor t i k) (Wait (ancestor t i k)) (wait-row t i (ancestor t i k) s)
   unfolding row-shown standing-shown entry-shown is-entry words-in given taken-from ended-in
   wait-moves rep k l sw =
-      rw (ungranted-row t i s (ancestor t i k) (rw (own-record-at t 𝓐 i h k l) sw)) (with-moves _ g (record { same = refl; room = room }) rep still)
+      rw (ungranted-row t i s (ancestor t i k) (rw (own-record-at t valid i h k l) sw)) (with-moves _ g (record { same = refl; room = room }) rep still)
 
   -- WAIT, granted and to acquire the parent
   pub woken-moves :
@@ -108,22 +108,22 @@ module _ (t : Tree) (𝓐 : Accepted t) (s : WordState) (room : Room s) (g : Sta
   unfolding row-shown standing-shown entry-shown is-entry words-in given taken-from ended-in
   woken-moves k b e c sw ta =
       let l : k ≤ height t i = omega arith in
-      let own = own-record-at t 𝓐 i h k l in
-      let inner = ancestor-inner t 𝓐 i h k b in
-      rw (acquiring-row t i s (ancestor t i k) (λ z. omega arith) (rw own sw), own, ancestor-parent-of t 𝓐 i h k b)
-      (with-moves _ g (status-placed s room i few (acquire-place t (ancestor t i (suc k))) (record-at t i k) 1 (record-small t 𝓐 i h k l)) (climb-on t 𝓐 w g i h o k l e b ta c) still)
+      let own = own-record-at t valid i h k l in
+      let inner = ancestor-inner t valid i h k b in
+      rw (acquiring-row t i s (ancestor t i k) (λ z. omega arith) (rw own sw), own, ancestor-parent-of t valid i h k b)
+      (with-moves _ g (status-placed s room i few (acquire-place t (ancestor t i (suc k))) (record-at t i k) 1 (record-small t valid i h k l)) (climb-on t valid w g i h o k l e b ta c) still)
 
   -- WAIT, granted the lock
   pub ready-moves :
       Sixteen-bit t → (k : ℕ) → k ≤ height t i → g .stage i ≡ ready → Counted t w g i (height t i) →
       (k ≡ height t i → w .statuses (record-at t i k) ≡ 0) → Row-moves t g i (ancestor t i k) (Wait (ancestor t i k)) (wait-row t i (ancestor t i k) s)
   unfolding row-shown standing-shown entry-shown is-entry given taken-from ended-in made-first
-  ready-moves bits k l e c sw = by (ready-row t 𝓐 s room g i h o bits k l e c sw)
+  ready-moves bits k l e c sw = by (ready-row t valid s room g i h o bits k l e c sw)
     where
       by : {x : Row-result} → Granted t i s (ancestor t i k) x → Row-moves t g i (ancestor t i k) (Wait (ancestor t i k)) x
-      by (granted-root z) = with-moves _ (entered-state t 𝓐 s room g i h o) (placed s room i few Inside) (entered t 𝓐 s room g i h o e c) (shows (enter i e))
+      by (granted-root z) = with-moves _ (entered-state t valid s room g i h o) (placed s room i few Inside) (entered t valid s room g i h o e c) (shows (enter i e))
       by (granted-inner n kind entry) =
-          with-moves _ (entered-state t 𝓐 s room g i h o) (placed s room i few Inside) (entered t 𝓐 s room g i h o e c) (rw entry (shows (enter i e)))
+          with-moves _ (entered-state t valid s room g i h o) (placed s room i few Inside) (entered t valid s room g i h o e c) (rw entry (shows (enter i e)))
 
   -- A TICKET ROOT
   module _ (ticket : t .ticket-root ≡ true) where
@@ -133,19 +133,19 @@ module _ (t : Tree) (𝓐 : Accepted t) (s : WordState) (room : Room s) (g : Sta
     draw-moves k top e c = by (draw-branch t i s)
       where
         there : ancestor t i k ≡ 0
-        there = ap (ancestor t i) top ∙ ancestor-root t 𝓐 i h
+        there = ap (ancestor t i) top ∙ ancestor-root t valid i h
 
         by : {x : Row-result} → Branch t i s Draw x → Row-moves t g i 0 Draw x
         by (draw-shown same) =
-            rw (root-record t 𝓐 i h, ← top)
-            (with-moves _ _ (draw-placed s room i few Inside (record-at t i k) (s .ticket) (wrap (s .ticket + 1)) (record-small t 𝓐 i h k (omega arith)))
-            (draw-enters t 𝓐 s room g i h o ticket k top e c same)
-            (rw (root-record t 𝓐 i h, ← top) (shows (join-root i k e there (nobody-there t 𝓐 s room g i h o ticket k top same)))))
+            rw (root-record t valid i h, ← top)
+            (with-moves _ _ (draw-placed s room i few Inside (record-at t i k) (s .ticket) (wrap (s .ticket + 1)) (record-small t valid i h k (omega arith)))
+            (draw-enters t valid s room g i h o ticket k top e c same)
+            (rw (root-record t valid i h, ← top) (shows (join-root i k e there (nobody-there t valid s room g i h o ticket k top same)))))
         by (draw-unshown n) =
-            let f = somebody-there t 𝓐 s room g i h o ticket k top n in
-            rw (root-record t 𝓐 i h, ← top)
-            (with-moves _ _ (draw-placed s room i few Watch (record-at t i k) (s .ticket) (wrap (s .ticket + 1)) (record-small t 𝓐 i h k (omega arith)))
-            (draw-watches t 𝓐 s room g i h o ticket k top e c n)
+            let f = somebody-there t valid s room g i h o ticket k top n in
+            rw (root-record t valid i h, ← top)
+            (with-moves _ _ (draw-placed s room i few Watch (record-at t i k) (s .ticket) (wrap (s .ticket + 1)) (record-small t valid i h k (omega arith)))
+            (draw-watches t valid s room g i h o ticket k top e c n)
             (shows-begins t (begins-at t g _ (ancestor t i k) 0 (record-at t i k) there (join-behind i k (f .0) e (f .1)))))
 
     -- WATCH: not shown yet
@@ -154,7 +154,7 @@ module _ (t : Tree) (𝓐 : Accepted t) (s : WordState) (room : Room s) (g : Sta
     watch-moves rep e = by (watch-branch t i s)
       where
         by : {x : Row-result} → Branch t i s Watch x → Row-moves t g i 0 Watch x
-        by (watch-shown same) = absurd (not-shown t 𝓐 s room g i h o ticket e (rw (root-record t 𝓐 i h) at same))
+        by (watch-shown same) = absurd (not-shown t valid s room g i h o ticket e (rw (root-record t valid i h) at same))
         by (watch-unshown _) = with-moves _ g (record { same = refl; room = room }) rep still
 
     -- shown: the first at the root
@@ -163,5 +163,5 @@ module _ (t : Tree) (𝓐 : Accepted t) (s : WordState) (room : Room s) (g : Sta
     shown-moves e c = by (watch-branch t i s)
       where
         by : {x : Row-result} → Branch t i s Watch x → Row-moves t g i 0 Watch x
-        by (watch-shown _) = with-moves _ (entered-state t 𝓐 s room g i h o) (placed s room i few Inside) (entered t 𝓐 s room g i h o e c) (shows (enter i e))
-        by (watch-unshown n) = absurd ((rw (root-record t 𝓐 i h) at n) (is-shown t 𝓐 s room g i h o ticket e))
+        by (watch-shown _) = with-moves _ (entered-state t valid s room g i h o) (placed s room i few Inside) (entered t valid s room g i h o e c) (shows (enter i e))
+        by (watch-unshown n) = absurd ((rw (root-record t valid i h) at n) (is-shown t valid s room g i h o ticket e))

@@ -21,20 +21,20 @@ use Rattle.tenures.proofs.Firsts.{P, R, some-started}
 use Rattle.tenures.proofs.LeafTenures.{entered-by, Leaf, runner-first}
 use Rattle.tenures.proofs.LeafMoves.{leaf-move}
 
-module _ (T : Tree) (𝓐 : Accepted T) (d : ℕ) where
+module _ (T : Tree) (valid : Accepted T) (d : ℕ) where
   -- where the tenure runs, one has started
   pub started-along :
-      {st st′ : State} {es : List Event} {gs : List ℕ} → Moved T st es gs st′ → Inv T st → (n : ℕ) → (first (st .queue (P T 𝓐 d)) ≡ suc (R T 𝓐 d) → 1 ≤ n) →
-      first (st′ .queue (P T 𝓐 d)) ≡ suc (R T 𝓐 d) → 1 ≤ n + count (R T 𝓐 d) gs
+      {st st′ : State} {es : List Event} {gs : List ℕ} → Moved T st es gs st′ → Inv T st → (n : ℕ) → (first (st .queue (P T valid d)) ≡ suc (R T valid d) → 1 ≤ n) →
+      first (st′ .queue (P T valid d)) ≡ suc (R T valid d) → 1 ≤ n + count (R T valid d) gs
   started-along still inv n b f = omega (arith, b f)
-  started-along (quiet {st = st} mv) inv n b f = some-started T 𝓐 d st inv mv n b f
-  started-along (shows {st = st} mv) inv n b f = some-started T 𝓐 d st inv mv n b f
-  started-along (starts {st = st} i h x c) inv n b f = started-along c (keeps T (laws T 𝓐) st inv (start i h x)) n b f
+  started-along (quiet {st = st} mv) inv n b f = some-started T valid d st inv mv n b f
+  started-along (shows {st = st} mv) inv n b f = some-started T valid d st inv mv n b f
+  started-along (starts {st = st} i h x c) inv n b f = started-along c (keeps T (laws T valid) st inv (start i h x)) n b f
 
-module _ (T : Tree) (𝓐 : Accepted T) (d : ℕ) (pos : 0 < d) (leaf : is-leaf T d ≡ true) where
+module _ (T : Tree) (valid : Accepted T) (d : ℕ) (pos : 0 < d) (leaf : is-leaf T d ≡ true) where
   unfoldable pub entered-in : List Event → ℕ
   entered-in [] = 0
-  entered-in (e ∷ es) = entered-by T 𝓐 d pos leaf e + entered-in es
+  entered-in (e ∷ es) = entered-by T valid d pos leaf e + entered-in es
 
   -- a pass at the leaf that the events show gives no count above the longest
   abbrev pub Passes : State → List Event → (longest : ℕ) → Type 0
@@ -49,27 +49,27 @@ module _ (T : Tree) (𝓐 : Accepted T) (d : ℕ) (pos : 0 < d) (leaf : is-leaf 
       (λ z. sym (put-other (st .stage) i (climb 0) k z) ∙ e)
 
   pub leaf-along :
-      {st st′ : State} {es : List Event} {gs : List ℕ} → Moved T st es gs st′ → Inv T st → (n e l : ℕ) → Leaf T 𝓐 d pos leaf st n e l →
-      (1 ≤ count (R T 𝓐 d) gs → 1 ≤ l) → Passes st es l → Leaf T 𝓐 d pos leaf st′ (n + count (R T 𝓐 d) gs) (e + entered-in es) l
+      {st st′ : State} {es : List Event} {gs : List ℕ} → Moved T st es gs st′ → Inv T st → (n e l : ℕ) → Leaf T valid d pos leaf st n e l →
+      (1 ≤ count (R T valid d) gs → 1 ≤ l) → Passes st es l → Leaf T valid d pos leaf st′ (n + count (R T valid d) gs) (e + entered-in es) l
   unfolding entered-in entered-by made-first count
-  leaf-along (still {st = st}) inv n e l old told p = rw (add-zero n, add-zero e) old
-  leaf-along (quiet {st = st} mv) inv n e l old told p =
-      leaf-move T 𝓐 d pos leaf st inv n e l old mv told (λ m q. absurd (let z : _≡_ {A = ℕ} 0 1 = cc in omega arith))
-  leaf-along (shows {st = st} {e = ev} mv) inv n e l old told p =
-      rw (add-zero (entered-by T 𝓐 d pos leaf ev)) (leaf-move T 𝓐 d pos leaf st inv n e l old mv told (λ m q. p m (ap (λ x. x ∷ []) q)))
-  leaf-along (starts {st = st} i h x c) inv n e l old told p =
-      let inv′ = keeps T (laws T 𝓐) st inv (start i h x) in
-      let old′ = leaf-move T 𝓐 d pos leaf st inv n e l old (start i h x) (λ y. absurd (omega arith)) (λ m q. absurd (let z : _≡_ {A = ℕ} 0 1 = cc in omega arith)) in
-      leaf-along c inv′ n e l (rw (add-zero n, add-zero e) at old′) told (λ m q k y z. p m q k (start-not st i k y) z)
+  leaf-along (still {st = st}) inv n e l old lengths p = rw (add-zero n, add-zero e) old
+  leaf-along (quiet {st = st} mv) inv n e l old lengths p =
+      leaf-move T valid d pos leaf st inv n e l old mv lengths (λ m q. absurd (let z : _≡_ {A = ℕ} 0 1 = cc in omega arith))
+  leaf-along (shows {st = st} {e = ev} mv) inv n e l old lengths p =
+      rw (add-zero (entered-by T valid d pos leaf ev)) (leaf-move T valid d pos leaf st inv n e l old mv lengths (λ m q. p m (ap (λ x. x ∷ []) q)))
+  leaf-along (starts {st = st} i h x c) inv n e l old lengths p =
+      let inv′ = keeps T (laws T valid) st inv (start i h x) in
+      let old′ = leaf-move T valid d pos leaf st inv n e l old (start i h x) (λ y. absurd (omega arith)) (λ m q. absurd (let z : _≡_ {A = ℕ} 0 1 = cc in omega arith)) in
+      leaf-along c inv′ n e l (rw (add-zero n, add-zero e) at old′) lengths (λ m q k y z. p m q k (start-not st i k y) z)
 
   -- the longest may grow
-  pub leaf-wider : (st : State) → Inv T st → (n e l l′ : ℕ) → l ≤ l′ → (first (st .queue (P T 𝓐 d)) ≡ suc (R T 𝓐 d) → 1 ≤ n) → Leaf T 𝓐 d pos leaf st n e l → Leaf T 𝓐 d pos leaf st n e l′
+  pub leaf-wider : (st : State) → Inv T st → (n e l l′ : ℕ) → l ≤ l′ → (first (st .queue (P T valid d)) ≡ suc (R T valid d) → 1 ≤ n) → Leaf T valid d pos leaf st n e l → Leaf T valid d pos leaf st n e l′
   leaf-wider st inv n e l l′ b some old =
       record {
         idle = λ f. let a = old .idle f in let c = mul-le-mul-left {m = l} {n = l′} n b in (omega (arith, a .0), a .1);
         runs = λ i h z q.
             let r = old .runs i h z q in
-            let one = some (runner-first T 𝓐 d pos leaf st inv i h z q) in
+            let one = some (runner-first T valid d pos leaf st inv i h z q) in
             record { entries = wider (e + pending (st .stage i)) (st .tally i) n one (r .entries); tenures = r .tenures; long = omega (arith, r .long) };
         new = old .new;
       }

@@ -58,10 +58,10 @@ either-none false = refl
 abbrev one-if : Bool → ℕ
 one-if b = cond b 1 0
 
-module _ (t : Tree) (𝓐 : Accepted t) (i : ℕ) (h : i < t .threads) (d : ℕ) (inner : is-leaf t d ≡ false) where
+module _ (t : Tree) (valid : Accepted t) (i : ℕ) (h : i < t .threads) (d : ℕ) (inner : is-leaf t d ≡ false) where
   -- the home is a leaf, so it is not the domain
   not-home : d ≢ t .home i
-  not-home e = true≢false (sym (𝓐 .home-leaf i h) ∙ ap (is-leaf t) (sym e) ∙ inner)
+  not-home e = true≢false (sym (valid .home-leaf i h) ∙ ap (is-leaf t) (sym e) ∙ inner)
 
   -- no child of a domain off the path is on it
   off : on-path t i d ≡ false → (c : ℕ) → c < t .domains → cond (is-child t d c) (one-if (on-path t i c)) 0 ≡ 0
@@ -72,7 +72,7 @@ module _ (t : Tree) (𝓐 : Accepted t) (i : ℕ) (h : i < t .threads) (d : ℕ)
       by true false p q = refl
       by true true p q =
           let f = child-facts t d c p in
-          absurd (true≢false (sym (on-path-parent t 𝓐 i h c (f .no-root) q) ∙ ap (on-path t i) (f .hangs) ∙ e))
+          absurd (true≢false (sym (on-path-parent t valid i h c (f .no-root) q) ∙ ap (on-path t i) (f .hangs) ∙ e))
 
   -- of a domain on the path exactly one child is on it
   on : (k : ℕ) → k ≤ height t i → ancestor t i k ≡ d → children-sum t d (λ c. one-if (on-path t i c)) ≡ 1
@@ -80,19 +80,19 @@ module _ (t : Tree) (𝓐 : Accepted t) (i : ℕ) (h : i < t .threads) (d : ℕ)
   on zero l e = absurd (not-home (sym e ∙ ancestor-home t i))
   on (suc k) l e =
       let a = ancestor t i k in
-      let here : is-child t d a ≡ true = child-yes t d a (ancestor-inner t 𝓐 i h k l) (ancestor-parent-of t 𝓐 i h k l ∙ e) in
-      sum-one (t .domains) _ a (ancestor-real t 𝓐 i h k) (λ c b n. others c b n (is-child t d c) (on-path t i c) refl refl)
-      ∙ rw (here, on-path-at t 𝓐 i h k (omega arith))
+      let here : is-child t d a ≡ true = child-yes t d a (ancestor-inner t valid i h k l) (ancestor-parent-of t valid i h k l ∙ e) in
+      sum-one (t .domains) _ a (ancestor-real t valid i h k) (λ c b n. others c b n (is-child t d c) (on-path t i c) refl refl)
+      ∙ rw (here, on-path-at t valid i h k (omega arith))
     where
       others : (c : ℕ) → c < t .domains → c ≢ ancestor t i k → (x y : Bool) → is-child t d c ≡ x → on-path t i c ≡ y → cond x (one-if y) 0 ≡ 0
       others c b n false y p q = refl
       others c b n true false p q = refl
       others c b n true true p q =
           let f = child-facts t d c p in
-          let o = path-index t 𝓐 i h c q in
-          let m = ancestor-not-root t 𝓐 i h (o .index) (o .within) (omega (arith, o .there, f .no-root)) in
-          let up : ancestor t i (suc (o .index)) ≡ ancestor t i (suc k) = sym (ancestor-parent-of t 𝓐 i h (o .index) m) ∙ ap (t .parent) (o .there) ∙ f .hangs ∙ sym e in
-          let same = ancestor-injective t 𝓐 i h (suc (o .index)) (suc k) m l up in
+          let o = path-index t valid i h c q in
+          let m = ancestor-not-root t valid i h (o .index) (o .within) (omega (arith, o .there, f .no-root)) in
+          let up : ancestor t i (suc (o .index)) ≡ ancestor t i (suc k) = sym (ancestor-parent-of t valid i h (o .index) m) ∙ ap (t .parent) (o .there) ∙ f .hangs ∙ sym e in
+          let same = ancestor-injective t valid i h (suc (o .index)) (suc k) m l up in
           let z : o .index ≡ k = omega arith in
           absurd (n (sym (o .there) ∙ ap (ancestor t i) z))
 
@@ -101,7 +101,7 @@ module _ (t : Tree) (𝓐 : Accepted t) (i : ℕ) (h : i < t .threads) (d : ℕ)
   one-child = by (on-path t i d) refl
     where
       by : (b : Bool) → on-path t i d ≡ b → one-if b ≡ children-sum t d (λ c. one-if (on-path t i c))
-      by true e = let o = path-index t 𝓐 i h d e in sym (on (o .index) (o .within) (o .there))
+      by true e = let o = path-index t valid i h d e in sym (on (o .index) (o .within) (o .there))
       by false e = sym (sum-none (t .domains) _ (off e))
 
 -- A LIST OF STEPS. Every step is a thread's of the tree
@@ -146,12 +146,12 @@ children-none : (t : Tree) (d : ℕ) → children-sum t d (λ c. 0) ≡ 0
 unfolding children-sum
 children-none t d = sum-none (t .domains) _ (λ c h. either-none (is-child t d c))
 
-module _ (t : Tree) (𝓐 : Accepted t) (d : ℕ) (inner : is-leaf t d ≡ false) where
+module _ (t : Tree) (valid : Accepted t) (d : ℕ) (inner : is-leaf t d ≡ false) where
   along : (xs : List Step) → Real-steps t xs → path-entries t d xs ≡ children-sum t d (λ c. path-entries t c xs)
   unfolding path-entries Real-steps
   along [] r = sym (children-none t d)
   along (x ∷ xs) r =
-      let one = one-step t d x (is-entry (x .kind)) (sym (one-child t 𝓐 (x .thread) (r .0) d inner)) in
+      let one = one-step t d x (is-entry (x .kind)) (sym (one-child t valid (x .thread) (r .0) d inner)) in
       let rest = along xs (r .1) in
       sym (children-add t d (counted t x) (λ c. path-entries t c xs) ∙ rw (one, ← rest) refl)
 
@@ -165,17 +165,17 @@ child-entries t d xs = sum-same (t .domains) _ _ (λ c. by c (is-child t d c) re
     by c true e = let f = child-facts t d c e in rw (ne-eqb c 0 (omega (arith, f .no-root)), entries-by-paths t c xs)
 
 -- at the root every entry is counted
-root-entries : (t : Tree) (𝓐 : Accepted t) (xs : List Step) → Real-steps t xs → how-many is-entry xs ≡ path-entries t 0 xs
+root-entries : (t : Tree) (valid : Accepted t) (xs : List Step) → Real-steps t xs → how-many is-entry xs ≡ path-entries t 0 xs
 unfolding how-many path-entries Real-steps
-root-entries t 𝓐 [] r = refl
-root-entries t 𝓐 (x ∷ xs) r = rw (on-path-root t 𝓐 (x .thread) (r .0), root-entries t 𝓐 xs (r .1))
+root-entries t valid [] r = refl
+root-entries t valid (x ∷ xs) r = rw (on-path-root t valid (x .thread) (r .0), root-entries t valid xs (r .1))
 
 pub children-law : Children-law
 unfolding Children-law run run-of counts-of domain-entries
 children-law t ok is s all =
-    let 𝓐 = accepted t ok in
+    let valid = accepted t ok in
     let real = real-steps t is s all in
     record {
-      inner = λ d n leaf. rw (ne-eqb d 0 n, entries-by-paths t d (steps t is s)) (along t 𝓐 d leaf (steps t is s) real ∙ sym (child-entries t d (steps t is s)));
-      root = λ leaf. root-entries t 𝓐 (steps t is s) real ∙ along t 𝓐 0 leaf (steps t is s) real ∙ sym (child-entries t 0 (steps t is s));
+      inner = λ d n leaf. rw (ne-eqb d 0 n, entries-by-paths t d (steps t is s)) (along t valid d leaf (steps t is s) real ∙ sym (child-entries t d (steps t is s)));
+      root = λ leaf. root-entries t valid (steps t is s) real ∙ along t valid 0 leaf (steps t is s) real ∙ sym (child-entries t 0 (steps t is s));
     }

@@ -13,7 +13,7 @@ use Rattle.model.specs.Trees.{Tree, tree-of, is-child}
 use Rattle.model.specs.States.{fresh-state}
 use Rattle.model.specs.Steps.{Step}
 use Rattle.model.specs.Runs.{steps, run}
-use Rattle.model.specs.Tenures.{domain-entries, domain-tenures, longest-told}
+use Rattle.model.specs.Tenures.{domain-entries, domain-tenures, longest-tenure}
 use Rattle.model.specs.Counters.{lock-state, fresh-counters, counters-after}
 use Rattle.model.specs.CounterLaws.{Counter-law}
 use Rattle.model.specs.Laws.{All-threads}
@@ -25,21 +25,21 @@ use Rattle.model.proofs.Laws.Form.{replicate-all}
 use Rattle.model.proofs.Laws.Counters.{counter-law}
 use Rattle.claims.proofs.Claims.Calls.{reached, starts-here, joined-threads}
 use Rattle.claims.proofs.Claims.Accepts.{last-reached}
-use Rattle.tenures.specs.Laws.{sum-below, children-sum, Children-law, Has-tenures, Tenure-law, Holds-told, Counts-tenures, Counted-law}
+use Rattle.tenures.specs.Laws.{sum-below, children-sum, Children-law, Has-tenures, Tenure-law, Counters-hold, Counts-tenures, Counted-law}
 use Rattle.tenures.proofs.Children.{children-law}
 use Rattle.tenures.proofs.Law.{tenure-law}
 
 -- behind steps from fresh counters
-told-from-fresh : (t : Tree) (xs : List Step) → Holds-told t xs (counters-after t fresh-counters xs)
+counters-from-fresh : (t : Tree) (xs : List Step) → Counters-hold t xs (counters-after t fresh-counters xs)
 unfolding Counter-law fresh-counters
-told-from-fresh t xs =
+counters-from-fresh t xs =
     let g = counter-law t fresh-counters xs in
     let zeros : (d : ℕ) → getD (replicate {A = ℕ} 64 0) d 0 ≡ 0 = λ d. replicate-all (λ (x : ℕ). x ≡ 0) 64 d 0 refl in
     let room : length (replicate {A = ℕ} 64 0) ≡ 64 = length-replicate {A = ℕ} 64 0 in
     record {
       entries = λ d h. g .entries d (omega (arith, room)) ∙ ap (λ v. v + domain-entries t d xs) (zeros d) ∙ zero-add (domain-entries t d xs);
       tenures = λ d h. g .tenures d (omega (arith, room)) ∙ ap (λ v. v + domain-tenures t d xs) (zeros d) ∙ zero-add (domain-tenures t d xs);
-      longest = λ d h. g .longest d (omega (arith, room)) ∙ ap (λ v. max v (longest-told t d xs)) (zeros d) ∙ zero-max (longest-told t d xs);
+      longest = λ d h. g .longest d (omega (arith, room)) ∙ ap (λ v. max v (longest-tenure t d xs)) (zeros d) ∙ zero-max (longest-tenure t d xs);
     }
 
 -- sums of equal numbers
@@ -62,19 +62,19 @@ counted-law w start cs ok n =
     let all = joined-threads t f cs [] f (starts-here t f) n in
     let here : last-state cs f .counters ≡ counters-after t fresh-counters xs = ap (λ (s : LockState). s .counters) (last-reached t f cs [] f (starts-here t f) n) in
     let few : t .domains ≤ 64 = accepted t ok .few-domains in
-    let told : Holds-told t xs (last-state cs f .counters) = rw here (told-from-fresh t xs) in
+    let holds : Counters-hold t xs (last-state cs f .counters) = rw here (counters-from-fresh t xs) in
     let sums = children-law t ok is (f .words) all in
     let sum : (d : ℕ) → children-sum t d (λ k. domain-entries t k xs) ≡ children-sum t d (λ k. getD (last-state cs f .counters .entries) k 0) =
-    λ d. children-same t d _ _ (λ k l. sym (told .entries k (omega arith))) in
+    λ d. children-same t d _ _ (λ k l. sym (holds .entries k (omega arith))) in
     let has : (d : ℕ) → 0 < d → d < t .domains → Has-tenures t xs d = λ d p r. tenure-law t (sixteen-bit w) ok _ is all d p r in
     record {
-      told = told;
+      holds = holds;
       counted = record {
-        inner = λ d o r e. told .entries d (omega arith) ∙ sums .inner d o e ∙ sum d;
+        inner = λ d o r e. holds .entries d (omega arith) ∙ sums .inner d o e ∙ sum d;
         root = λ e. sums .root e ∙ sum 0;
-        none-exactly = λ d p r. rw (told .longest d (omega arith), told .tenures d (omega arith)) (has d p r .none-exactly);
-        within = λ d p r. rw (told .longest d (omega arith)) (has d p r .within);
-        leaf-entries = λ d p r e. rw (told .entries d (omega arith), told .tenures d (omega arith), told .longest d (omega arith)) (has d p r .leaf-entries e);
-        leaf-tenures = λ d p r e. rw (told .tenures d (omega arith), told .entries d (omega arith)) (has d p r .leaf-tenures e);
+        none-exactly = λ d p r. rw (holds .longest d (omega arith), holds .tenures d (omega arith)) (has d p r .none-exactly);
+        within = λ d p r. rw (holds .longest d (omega arith)) (has d p r .within);
+        leaf-entries = λ d p r e. rw (holds .entries d (omega arith), holds .tenures d (omega arith), holds .longest d (omega arith)) (has d p r .leaf-entries e);
+        leaf-tenures = λ d p r e. rw (holds .tenures d (omega arith), holds .entries d (omega arith)) (has d p r .leaf-tenures e);
       };
     }

@@ -24,7 +24,7 @@ put-first Q L q D C f g = same-or D L C (λ z. f z (ap first (put-same Q L q D z
 one-count : (r m : ℕ) → count r (m ∷ []) ≡ is r m
 one-count r m = omega (arith, count-cons r m [], count-nil r)
 
-module _ (T : Tree) (𝓐 : Accepted T) (d : ℕ) where
+module _ (T : Tree) (valid : Accepted T) (d : ℕ) where
   abbrev pub P : ℕ
   P = T .parent d
 
@@ -37,7 +37,7 @@ module _ (T : Tree) (𝓐 : Accepted T) (d : ℕ) where
   owner-there = let z : 256 + d - 256 ≡ d = omega arith in rw (le-ltb (256 + d) 256 (omega arith), z)
 
   pub works-there : (i j : ℕ) → i < T .threads → j ≤ height T i → record-at T i j ≡ R → ancestor T i j ≡ P
-  works-there i j h l e = sym (owner-at T 𝓐 i h j l) ∙ ap (owner-domain T) e ∙ owner-there
+  works-there i j h l e = sym (owner-at T valid i h j l) ∙ ap (owner-domain T) e ∙ owner-there
 
   module _ (st : State) (inv : Inv T st) where
     pub climbing : (i j : ℕ) → st .stage i ≡ climb j → (i < T .threads) × (j ≤ height T i)
@@ -46,7 +46,7 @@ module _ (T : Tree) (𝓐 : Accepted T) (d : ℕ) where
 
     pub standing : (s l : ℕ) → st .stage s ≡ queued l → (s < T .threads) × (l ≤ height T s)
     unfolding acts
-    standing s l e = let f = acts-real T (laws T 𝓐) st inv s l (rw e (omega arith)) in (f .0, f .2)
+    standing s l e = let f = acts-real T (laws T valid) st inv s l (rw e (omega arith)) in (f .0, f .2)
 
     -- a record that joins an empty queue, or that is granted
     joins : (i j : ℕ) → st .stage i ≡ climb j → st .queue (ancestor T i j) ≡ [] → first (st .queue P) ≡ suc R → is R (record-at T i j) ≡ 0

@@ -13,7 +13,7 @@ use Rattle.model.specs.Places.{place-words, place-of}
 use Rattle.model.specs.States.{place, fresh-words, fresh-state}
 use Rattle.model.specs.Steps.{is-entry, Step, step}
 use Rattle.model.specs.Runs.{steps, state-after, entries-under}
-use Rattle.model.specs.Tenures.{starts, told-length, domain-entries, domain-tenures, longest-told}
+use Rattle.model.specs.Tenures.{starts, tenure-length, domain-entries, domain-tenures, longest-tenure}
 use Rattle.model.specs.Laws.{All-threads, Sixteen-bit}
 use Rattle.model.proofs.Trees.Index.{height}
 use Rattle.model.proofs.Trees.Accepted.{Accepted, accepted}
@@ -43,7 +43,7 @@ max-assoc a b c =
     let down = le-max-right a (max b c) in
     le-antisymm (max-le (max-le first (omega arith)) (omega arith)) (max-le (omega arith) (max-le (omega arith) last))
 
-module _ (t : Tree) (𝓐 : Accepted t) (bits : Sixteen-bit t) (d : ℕ) (pos : 0 < d) (real : d < t .domains) where
+module _ (t : Tree) (valid : Accepted t) (bits : Sixteen-bit t) (d : ℕ) (pos : 0 < d) (real : d < t .domains) where
   -- FRESH: every thread is Idle, so out, and no queue has a first
   module _ (v : ℕ) where
     idle-there : (i : ℕ) → place (fresh-state t v) i ≡ Idle
@@ -69,11 +69,11 @@ module _ (t : Tree) (𝓐 : Accepted t) (bits : Sixteen-bit t) (d : ℕ) (pos : 
     none-first c m f =
         let a = inv .acted c m (first-in m (g .queue c) f) in
         let i = a .thread in
-        let h = acts-real t (laws t 𝓐) g inv i (a .index) (a .acting) .0 in
+        let h = acts-real t (laws t valid) g inv i (a .index) (a .acting) .0 in
         let z : acts (height t i) (g .stage i) ≡ 0 = rw (out-there i h) refl in
         omega (arith, a .acting)
 
-    fresh-tracked : Tracked t 𝓐 bits d pos real (fresh-state t v) 0 0 0
+    fresh-tracked : Tracked t valid bits d pos real (fresh-state t v) 0 0 0
     fresh-tracked =
         record {
           queued = fresh-queued t v;
@@ -91,8 +91,8 @@ module _ (t : Tree) (𝓐 : Accepted t) (bits : Sixteen-bit t) (d : ℕ) (pos : 
 
   -- ALONG A SCHEDULE
   regrouped :
-      (s : WordState) (n e l a b c a′ b′ c′ : ℕ) → Tracked t 𝓐 bits d pos real s ((n + a) + a′) ((e + b) + b′) (max (max l c) c′) →
-      Tracked t 𝓐 bits d pos real s (n + (a + a′)) (e + (b + b′)) (max l (max c c′))
+      (s : WordState) (n e l a b c a′ b′ c′ : ℕ) → Tracked t valid bits d pos real s ((n + a) + a′) ((e + b) + b′) (max (max l c) c′) →
+      Tracked t valid bits d pos real s (n + (a + a′)) (e + (b + b′)) (max l (max c c′))
   regrouped s n e l a b c a′ b′ c′ k = rw (add-assoc n a a′, add-assoc e b b′, max-assoc l c c′) at k
 
   abbrev entry-of : Step → ℕ
@@ -100,24 +100,24 @@ module _ (t : Tree) (𝓐 : Accepted t) (bits : Sixteen-bit t) (d : ℕ) (pos : 
 
   -- steps from a state, and one before them
   abbrev After : (s : WordState) (n e l : ℕ) → List Step → Type 0
-  After s n e l xs = Tracked t 𝓐 bits d pos real (state-after s xs) (n + domain-tenures t d xs) (e + entries-under t (256 + d) xs) (max l (longest-told t d xs))
+  After s n e l xs = Tracked t valid bits d pos real (state-after s xs) (n + domain-tenures t d xs) (e + entries-under t (256 + d) xs) (max l (longest-tenure t d xs))
 
   one-before :
-      (s : WordState) (n e l : ℕ) (x : Step) (xs : List Step) → After (x .state) (n + starts t d x) (e + entry-of x) (max l (told-length t d x)) xs → After s n e l (x ∷ xs)
-  unfolding state-after domain-tenures entries-under longest-told
-  one-before s n e l x xs k = regrouped (state-after (x .state) xs) n e l (starts t d x) (entry-of x) (told-length t d x) (domain-tenures t d xs) (entries-under t (256 + d) xs) (longest-told t d xs) k
+      (s : WordState) (n e l : ℕ) (x : Step) (xs : List Step) → After (x .state) (n + starts t d x) (e + entry-of x) (max l (tenure-length t d x)) xs → After s n e l (x ∷ xs)
+  unfolding state-after domain-tenures entries-under longest-tenure
+  one-before s n e l x xs k = regrouped (state-after (x .state) xs) n e l (starts t d x) (entry-of x) (tenure-length t d x) (domain-tenures t d xs) (entries-under t (256 + d) xs) (longest-tenure t d xs) k
 
-  none-more : (s : WordState) (n e l : ℕ) → Tracked t 𝓐 bits d pos real s n e l → After s n e l []
-  unfolding state-after domain-tenures entries-under longest-told
+  none-more : (s : WordState) (n e l : ℕ) → Tracked t valid bits d pos real s n e l → After s n e l []
+  unfolding state-after domain-tenures entries-under longest-tenure
   none-more s n e l k = rw (add-zero n, add-zero e, max-zero l) k
 
-  along : (is : List ℕ) → All-threads t is → (s : WordState) (n e l : ℕ) → Tracked t 𝓐 bits d pos real s n e l → After s n e l (steps t is s)
+  along : (is : List ℕ) → All-threads t is → (s : WordState) (n e l : ℕ) → Tracked t valid bits d pos real s n e l → After s n e l (steps t is s)
   unfolding steps All-threads
   along [] all s n e l k = none-more s n e l k
   along (i ∷ is) all s n e l k =
       one-before s n e l (step t i s) (steps t is (step t i s .state))
-      (along is (all .1) (step t i s .state) (n + starts t d (step t i s)) (e + entry-of (step t i s)) (max l (told-length t d (step t i s)))
-      (step-tracked t 𝓐 bits d pos real s n e l k i (all .0)))
+      (along is (all .1) (step t i s .state) (n + starts t d (step t i s)) (e + entry-of (step t i s)) (max l (tenure-length t d (step t i s)))
+      (step-tracked t valid bits d pos real s n e l k i (all .0)))
 
   -- WHAT IT SAYS of a leaf: while the tenure runs, a thread of the leaf is first above it
   record Runner (g : State) : Type 0 where
@@ -126,14 +126,14 @@ module _ (t : Tree) (𝓐 : Accepted t) (bits : Sixteen-bit t) (d : ℕ) (pos : 
     at-home : t .home thread ≡ d
     above : 1 < low (height t thread) (g .stage thread)
 
-  runner : (q : is-leaf t d ≡ true) (g : State) → Inv t g → first (g .queue (P t 𝓐 d)) ≡ suc (R t 𝓐 d) → Runner g
+  runner : (q : is-leaf t d ≡ true) (g : State) → Inv t g → first (g .queue (P t valid d)) ≡ suc (R t valid d) → Runner g
   runner q g inv f =
-      let D = P t 𝓐 d in
-      let M = R t 𝓐 d in
+      let D = P t valid d in
+      let M = R t valid d in
       let a = inv .acted D M (first-in M (g .queue D) f) in
       let i = a .thread in
-      let h = acts-real t (laws t 𝓐) g inv i (a .index) (a .acting) in
-      let r = leaf-record t 𝓐 d pos q i (a .index) (h .0) (h .2) (a .mine) in
+      let h = acts-real t (laws t valid) g inv i (a .index) (a .acting) in
+      let r = leaf-record t valid d pos q i (a .index) (h .0) (h .2) (a .mine) in
       less-or (a .index) (low (height t i) (g .stage i)) _
       (λ b. record { thread = i; there = h .0; at-home = r .1; above = omega (arith, r .0) })
       (λ b.
@@ -142,12 +142,12 @@ module _ (t : Tree) (𝓐 : Accepted t) (bits : Sixteen-bit t) (d : ℕ) (pos : 
       let behind : 1 ≤ count M (rest (g .queue D)) = rw (top, a .mine, a .place) at stands in
       absurd (omega (arith, first-count M (g .queue D) f, inv .once D M)))
 
-  leaf-both : (q : is-leaf t d ≡ true) (s : WordState) (n e l : ℕ) → Tracked t 𝓐 bits d pos real s n e l → (e ≤ n * l) × (n ≤ e + 1)
+  leaf-both : (q : is-leaf t d ≡ true) (s : WordState) (n e l : ℕ) → Tracked t valid bits d pos real s n e l → (e ≤ n * l) × (n ≤ e + 1)
   leaf-both q s n e l k =
       let g = k .queued .queues in
       let inv = k .queued .represents .invariant in
       let leaf = k .of-leaf q in
-      same-or (first (g .queue (P t 𝓐 d))) (suc (R t 𝓐 d)) _
+      same-or (first (g .queue (P t valid d))) (suc (R t valid d)) _
       (λ f.
       let a = runner q g inv f in
       let r = leaf .runs (a .thread) (a .there) (a .at-home) (a .above) in
@@ -160,13 +160,13 @@ module _ (t : Tree) (𝓐 : Accepted t) (bits : Sixteen-bit t) (d : ℕ) (pos : 
   unfolding domain-entries
   has-tenures v is all =
       let xs = steps t is (fresh-state t v) in
-      let k : Tracked t 𝓐 bits d pos real (state-after (fresh-state t v) xs) (domain-tenures t d xs) (entries-under t (256 + d) xs) (longest-told t d xs) =
-      rw (zero-add (domain-tenures t d xs), zero-add (entries-under t (256 + d) xs), zero-max (longest-told t d xs)) at (along is all (fresh-state t v) 0 0 0 (fresh-tracked v)) in
+      let k : Tracked t valid bits d pos real (state-after (fresh-state t v) xs) (domain-tenures t d xs) (entries-under t (256 + d) xs) (longest-tenure t d xs) =
+      rw (zero-add (domain-tenures t d xs), zero-add (entries-under t (256 + d) xs), zero-max (longest-tenure t d xs)) at (along is all (fresh-state t v) 0 0 0 (fresh-tracked v)) in
       let counted : domain-entries t d xs ≡ entries-under t (256 + d) xs = rw (ne-eqb d 0 (omega arith)) in
       record {
         none-exactly = (
           λ z. less-or 0 (domain-tenures t d xs) _ (λ b. absurd (omega (arith, k .some b))) (λ b. omega arith),
-          λ z. less-or 0 (longest-told t d xs) _ (λ b. absurd (omega (arith, k .none b))) (λ b. omega arith),
+          λ z. less-or 0 (longest-tenure t d xs) _ (λ b. absurd (omega (arith, k .none b))) (λ b. omega arith),
         );
         within = k .within;
         leaf-entries = λ q. rw counted (leaf-both q _ _ _ _ k .0);

@@ -34,12 +34,12 @@ use Rattle.claims.proofs.Words.Raising.{ends-at, done-root, raised, empty-state
 use Rattle.claims.proofs.Words.Outcome.{ends-shown, standing-shown, entry-shown, row-shown, placed, status-placed, tail-placed, grant-placed}
 use Rattle.tenures.proofs.StepMoves.{made-first, still, quiet, shows-ends, Row-moves, with-moves}
 
-module _ (t : Tree) (𝓐 : Accepted t) (s : WordState) (room : Room s) (g : State) (i : ℕ) (h : i < t .threads) (o : Others t (words-in s) g i) where
+module _ (t : Tree) (valid : Accepted t) (s : WordState) (room : Room s) (g : State) (i : ℕ) (h : i < t .threads) (o : Others t (words-in s) g i) where
   abbrev w : Words
   w = words-in s
 
   few : i < 256
-  few = omega (arith, 𝓐 .few-threads)
+  few = omega (arith, valid .few-threads)
 
   -- INSIDE
   pub leave-moves : g .stage i ≡ inside → Counted t w g i (height t i) → Row-moves t g i (t .home i) Inside (leave-row t i s)
@@ -51,10 +51,10 @@ module _ (t : Tree) (𝓐 : Accepted t) (s : WordState) (room : Room s) (g : Sta
 
       by : {x : Row-result} → Branch t i s Inside x → Row-moves t g i (t .home i) Inside x
       by inside-leaves =
-          let g′ = left-state t 𝓐 s room g i h o in
+          let g′ = left-state t valid s room g i h o in
           with-moves _ g′ (placed s room i few p)
-          (replaced t 𝓐 w g i h o g′ p holding (keeps t (laws t 𝓐) g (o .invariant) (leave i e)) refl refl (put-same (g .stage) i holding i refl)
-          (λ j n. put-other (g .stage) i holding j n) (release-fits t 𝓐 s room g i h o (place-to i p w) g′ 0 (omega arith) c _ _ refl refl)) (quiet (leave i e))
+          (replaced t valid w g i h o g′ p holding (keeps t (laws t valid) g (o .invariant) (leave i e)) refl refl (put-same (g .stage) i holding i refl)
+          (λ j n. put-other (g .stage) i holding j n) (release-fits t valid s room g i h o (place-to i p w) g′ 0 (omega arith) c _ _ refl refl)) (quiet (leave i e))
 
   -- CHECK
   pub check-moves :
@@ -64,7 +64,7 @@ module _ (t : Tree) (𝓐 : Accepted t) (s : WordState) (room : Room s) (g : Sta
   check-moves k b e c = by (check-branch t i s (ancestor t i k))
     where
       own : own-record t i (ancestor t i k) ≡ record-at t i k
-      own = own-record-at t 𝓐 i h k (omega arith)
+      own = own-record-at t valid i h k (omega arith)
 
       by : {x : Row-result} → Branch t i s (Check (ancestor t i k)) x → Row-moves t g i (ancestor t i k) (Check (ancestor t i k)) x
       by (check-passes _ less some) =
@@ -76,19 +76,19 @@ module _ (t : Tree) (𝓐 : Accepted t) (s : WordState) (room : Room s) (g : Sta
           let count : v ≡ g .tally (record-at t i k) = c k b b in
           rw own
           (with-moves _ g (placed s room i few p)
-          (stands-still t 𝓐 s room g i h o p holding e (at-pass k (n - 1) (v + 1) b c (omega (arith, some′)) (omega arith) (omega arith))) still)
+          (stands-still t valid s room g i h o p holding e (at-pass k (n - 1) (v + 1) b c (omega (arith, some′)) (omega arith) (omega arith))) still)
       by (check-releases _ _) =
           let p = release-place t (ancestor t i (suc k)) in
-          rw (ancestor-parent-of t 𝓐 i h k b)
-          (with-moves _ g (placed s room i few p) (stands-still t 𝓐 s room g i h o p holding e (release-fits t 𝓐 s room g i h o (place-to i p w) g (suc k) b c _ _ refl refl)) still)
+          rw (ancestor-parent-of t valid i h k b)
+          (with-moves _ g (placed s room i few p) (stands-still t valid s room g i h o p holding e (release-fits t valid s room g i h o (place-to i p w) g (suc k) b c _ _ refl refl)) still)
 
   -- at the places where a domain is let go last
   module _ (k : ℕ) (l : k ≤ height t i) (nt : is-ticket t (ancestor t i k) ≡ false) (e : g .stage i ≡ letting-go (height t i) k) (c : Counted t w g i (suc k)) where
     there : k < low (height t i) (g .stage i)
-    there = first-there t 𝓐 s room g i h o k l nt e c
+    there = first-there t valid s room g i h o k l nt e c
 
     own : own-record t i (ancestor t i k) ≡ record-at t i k
-    own = own-record-at t 𝓐 i h k l
+    own = own-record-at t valid i h k l
 
     -- HELP
     pub help-moves : Row-moves t g i (ancestor t i k) (Help (ancestor t i k)) (help-row t i (ancestor t i k) s)
@@ -97,11 +97,11 @@ module _ (t : Tree) (𝓐 : Accepted t) (s : WordState) (room : Room s) (g : Sta
       where
         by : {x : Row-result} → Branch t i s (Help (ancestor t i k)) x → Row-moves t g i (ancestor t i k) (Help (ancestor t i k)) x
         by (help-alone _ _) =
-            with-moves _ g (placed s room i few (Cas (ancestor t i k))) (stands-still t 𝓐 s room g i h o (Cas (ancestor t i k)) (letting-go (height t i) k) e (at-cas k l c)) still
+            with-moves _ g (placed s room i few (Cas (ancestor t i k))) (stands-still t valid s room g i h o (Cas (ancestor t i k)) (letting-go (height t i) k) e (at-cas k l c)) still
         by (help-linked _ v some at) =
             rw (word-is at, own)
             (with-moves _ g (placed s room i few (Grant (ancestor t i k) (next s (record-at t i k) - 1) (release-word (ancestor t i k))))
-            (to-grant t 𝓐 s room g i h o k l nt e c (rw own at some)) still)
+            (to-grant t valid s room g i h o k l nt e c (rw own at some)) still)
 
     -- CAS
     pub cas-moves : Row-moves t g i (ancestor t i k) (Cas (ancestor t i k)) (cas-row t i (ancestor t i k) s)
@@ -111,14 +111,14 @@ module _ (t : Tree) (𝓐 : Accepted t) (s : WordState) (room : Room s) (g : Sta
         by : {x : Row-result} → Branch t i s (Cas (ancestor t i k)) x → Row-moves t g i (ancestor t i k) (Cas (ancestor t i k)) x
         by (cas-last _ last) =
             let tl = rw own at last in
-            let d : ancestor t i k < 64 = omega (arith, ancestor-real t 𝓐 i h k, 𝓐 .few-domains) in
-            rw (done-place-at t 𝓐 i h k l)
-            (with-moves _ _ (tail-placed s room i few (done-at t i k) (ancestor t i k) 0 d) (vacate t 𝓐 w g i h o k l there nt e tl c)
-            (quiet (let-go i k (last-there t 𝓐 w g i h o k l there nt e) (lone t 𝓐 w g i h o k l there nt tl))))
+            let d : ancestor t i k < 64 = omega (arith, ancestor-real t valid i h k, valid .few-domains) in
+            rw (done-place-at t valid i h k l)
+            (with-moves _ _ (tail-placed s room i few (done-at t i k) (ancestor t i k) 0 d) (vacate t valid w g i h o k l there nt e tl c)
+            (quiet (let-go i k (last-there t valid w g i h o k l there nt e) (lone t valid w g i h o k l there nt tl))))
         by (cas-not-last _ n) =
             let n′ = rw own at n in
             with-moves _ g (placed s room i few (Linger (ancestor t i k)))
-            (stands-still t 𝓐 s room g i h o (Linger (ancestor t i k)) (letting-go (height t i) k) e (at-linger k l c (λ y. n′ (omega arith)))) still
+            (stands-still t valid s room g i h o (Linger (ancestor t i k)) (letting-go (height t i) k) e (at-linger k l c (λ y. n′ (omega arith)))) still
 
     -- LINGER
     pub linger-moves : Represents t w g → Row-moves t g i (ancestor t i k) (Linger (ancestor t i k)) (linger-row t i (ancestor t i k) s)
@@ -130,7 +130,7 @@ module _ (t : Tree) (𝓐 : Accepted t) (s : WordState) (room : Room s) (g : Sta
         by (linger-linked _ v some at) =
             rw (word-is at, own)
             (with-moves _ g (placed s room i few (Grant (ancestor t i k) (next s (record-at t i k) - 1) (release-word (ancestor t i k))))
-            (to-grant t 𝓐 s room g i h o k l nt e c (rw own at some)) still)
+            (to-grant t valid s room g i h o k l nt e c (rw own at some)) still)
 
     -- GRANT of the domain, or of the lock at the root
     grant-word :
@@ -138,17 +138,17 @@ module _ (t : Tree) (𝓐 : Accepted t) (s : WordState) (room : Room s) (g : Sta
         Branch t i s (Grant (ancestor t i k) r v) x → Row-moves t g i (ancestor t i k) (Grant (ancestor t i k) r v) x
     unfolding row-shown standing-shown ends-shown entry-shown is-entry given taken-from ended-in
     grant-word r _ linked (at-root z) (grant-writes _ _ _) =
-        let root : k ≡ height t i = ancestor-zero t 𝓐 i h k l z in
+        let root : k ≡ height t i = ancestor-zero t valid i h k l z in
         let holds = e ∙ letting-go-root (height t i) k root in
-        let x = hand-lock t 𝓐 w g i h o k l there nt r linked holds (λ m b q. c m (omega arith) q) unlocked
+        let x = hand-lock t valid w g i h o k l there nt r linked holds (λ m b q. c m (omega arith) q) unlocked
         (λ n. absurd (n z)) (λ b. absurd (omega arith)) (λ q. refl) in
-        rw (done-place-at t 𝓐 i h k l)
-        (with-moves _ (x .state) (status-placed s room i few (done-at t i k) r unlocked (successor-small t 𝓐 s room g i h o k l nt e c r linked)) (x .represents) (shows-ends t (x .move)))
+        rw (done-place-at t valid i h k l)
+        (with-moves _ (x .state) (status-placed s room i few (done-at t i k) r unlocked (successor-small t valid s room g i h o k l nt e c r linked)) (x .represents) (shows-ends t (x .move)))
     grant-word r _ linked (below-root z) (grant-writes _ _ _) =
-        let b : k < height t i = ancestor-not-root t 𝓐 i h k l (omega (arith, z)) in
-        let x = hand-domain t 𝓐 w g i h o k l there nt r linked (e ∙ letting-go-lower (height t i) k b) b (λ m y q. c m (omega arith) q) in
-        rw (done-place-at t 𝓐 i h k l)
-        (with-moves _ (x .state) (status-placed s room i few (done-at t i k) r acquire-parent (successor-small t 𝓐 s room g i h o k l nt e c r linked)) (x .represents) (shows-ends t (x .move)))
+        let b : k < height t i = ancestor-not-root t valid i h k l (omega (arith, z)) in
+        let x = hand-domain t valid w g i h o k l there nt r linked (e ∙ letting-go-lower (height t i) k b) b (λ m y q. c m (omega arith) q) in
+        rw (done-place-at t valid i h k l)
+        (with-moves _ (x .state) (status-placed s room i few (done-at t i k) r acquire-parent (successor-small t valid s room g i h o k l nt e c r linked)) (x .represents) (shows-ends t (x .move)))
 
     pub grant-moves :
         (r : ℕ) → w .nexts (record-at t i k) ≡ suc r →
@@ -167,11 +167,11 @@ module _ (t : Tree) (𝓐 : Accepted t) (s : WordState) (room : Room s) (g : Sta
       by (grant-writes _ _ _) =
           let l : k ≤ height t i = omega arith in
           let first : k < low (height t i) (g .stage i) = rw e (omega arith) in
-          let nt = ticket-lower t (ancestor t i k) (λ z. omega (arith, ancestor-inner t 𝓐 i h k b)) in
-          let x = hand-lock t 𝓐 w g i h o k l first nt r own e c v (λ n. omega arith) (λ m. q) (λ z. absurd (omega arith)) in
-          let a = successor t 𝓐 w g i h o k l first nt r own in
-          let small : r < 320 = rw (a .mine) at (record-small t 𝓐 (a .thread) (successor-real t 𝓐 w g i h o k l first nt r own) (a .index) (successor-within t 𝓐 w g i h o k l first nt r own)) in
-          rw (done-place-at t 𝓐 i h k l)
+          let nt = ticket-lower t (ancestor t i k) (λ z. omega (arith, ancestor-inner t valid i h k b)) in
+          let x = hand-lock t valid w g i h o k l first nt r own e c v (λ n. omega arith) (λ m. q) (λ z. absurd (omega arith)) in
+          let a = successor t valid w g i h o k l first nt r own in
+          let small : r < 320 = rw (a .mine) at (record-small t valid (a .thread) (successor-real t valid w g i h o k l first nt r own) (a .index) (successor-within t valid w g i h o k l first nt r own)) in
+          rw (done-place-at t valid i h k l)
           (with-moves _ (x .state) (status-placed s room i few (done-at t i k) r v small) (x .represents) (shows-ends t (x .move)))
 
   -- RAISE, of a ticket root
@@ -180,14 +180,14 @@ module _ (t : Tree) (𝓐 : Accepted t) (s : WordState) (room : Room s) (g : Sta
     raise-by : (xs : List ℕ) → g .queue (ancestor t i (height t i)) ≡ record-at t i (height t i) ∷ xs → {x : Row-result} → Branch t i s Raise x → Row-moves t g i 0 Raise x
     unfolding row-shown standing-shown ends-shown entry-shown is-entry words-in given taken-from ended-in made-first
     raise-by [] q raise-counts =
-        rw (nobody-shown t 𝓐 s room g i h o good ticket raising e c q, done-root t 𝓐 s room g i h o good ticket raising e c)
-        (with-moves _ (empty-state t 𝓐 s room g i h o good ticket raising e c) (grant-placed s room i few (done-at t i (height t i)) (raised t 𝓐 s room g i h o good ticket raising e c))
-        (emptied t 𝓐 s room g i h o good ticket raising e c q) (quiet (let-go i (height t i) (root e refl) q)))
+        rw (nobody-shown t valid s room g i h o good ticket raising e c q, done-root t valid s room g i h o good ticket raising e c)
+        (with-moves _ (empty-state t valid s room g i h o good ticket raising e c) (grant-placed s room i few (done-at t i (height t i)) (raised t valid s room g i h o good ticket raising e c))
+        (emptied t valid s room g i h o good ticket raising e c q) (quiet (let-go i (height t i) (root e refl) q)))
     raise-by (r ∷ ys) q raise-counts =
-        rw (r-shown t 𝓐 s room g i h o good ticket raising e c r ys q, done-root t 𝓐 s room g i h o good ticket raising e c)
-        (with-moves _ (handed-state t 𝓐 s room g i h o good ticket raising e c r ys q) (grant-placed s room i few (done-at t i (height t i)) (raised t 𝓐 s room g i h o good ticket raising e c))
-        (handed-over t 𝓐 s room g i h o good ticket raising e c r ys q)
-        (shows-ends t (ends-at t g _ (ancestor t i (height t i)) 0 r (ancestor-root t 𝓐 i h) (handed t 𝓐 s room g i h o good ticket raising e c r ys q))))
+        rw (r-shown t valid s room g i h o good ticket raising e c r ys q, done-root t valid s room g i h o good ticket raising e c)
+        (with-moves _ (handed-state t valid s room g i h o good ticket raising e c r ys q) (grant-placed s room i few (done-at t i (height t i)) (raised t valid s room g i h o good ticket raising e c))
+        (handed-over t valid s room g i h o good ticket raising e c r ys q)
+        (shows-ends t (ends-at t g _ (ancestor t i (height t i)) 0 r (ancestor-root t valid i h) (handed t valid s room g i h o good ticket raising e c r ys q))))
 
     pub raise-moves : Row-moves t g i 0 Raise (raise-row t i s)
     unfolding low

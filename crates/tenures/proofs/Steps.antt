@@ -29,12 +29,12 @@ use Rattle.tenures.proofs.Leaving.{leave-moves, check-moves, help-moves
 
 -- where there are two domains no thread's home is the root
 pub home-lower : (t : Tree) → Accepted t → 1 < t .domains → (i : ℕ) → i < t .threads → t .home i ≡ 0 → ⊥
-home-lower t 𝓐 two i h z =
-    let leaf : is-leaf t 0 ≡ true = ap (is-leaf t) (sym z) ∙ 𝓐 .home-leaf i h in
-    let low = 𝓐 .parent-lower 1 (omega arith) two in
+home-lower t valid two i h z =
+    let leaf : is-leaf t 0 ≡ true = ap (is-leaf t) (sym z) ∙ valid .home-leaf i h in
+    let low = valid .parent-lower 1 (omega arith) two in
     leaf-childless t 0 1 leaf (omega arith) two (omega arith)
 
-module _ (t : Tree) (𝓐 : Accepted t) (bits : Sixteen-bit t) (two : 1 < t .domains) (s : WordState) (room : Room s) (g : State) (rep : Represents t (words-in s) g)
+module _ (t : Tree) (valid : Accepted t) (bits : Sixteen-bit t) (two : 1 < t .domains) (s : WordState) (room : Room s) (g : State) (rep : Represents t (words-in s) g)
     (good : (j : ℕ) → j < t .threads → good-place t j (place s j) ≡ true) (i : ℕ) (h : i < t .threads) where
   abbrev o : Others t (words-in s) g i
   o = others-of rep i
@@ -42,9 +42,9 @@ module _ (t : Tree) (𝓐 : Accepted t) (bits : Sixteen-bit t) (two : 1 < t .dom
   -- IDLE: the thread starts, and does Prep at home
   idle-by : g .stage i ≡ out → (b : Bool) → is-ticket t (t .home i) ≡ b → Row-moves t g i (t .home i) Idle (cond b (draw-row t i s) (prep-row t i (t .home i) s))
   unfolding ancestor given taken-from
-  idle-by e true z = absurd (home-lower t 𝓐 two i h (ticket-facts t (t .home i) z .1))
+  idle-by e true z = absurd (home-lower t valid two i h (ticket-facts t (t .home i) z .1))
   idle-by e false z =
-      let x = prep-moves t 𝓐 s room (started-by g i) i h (started t 𝓐 s room g i h o e) 0 (omega arith) (put-same (g .stage) i (climb 0) i refl) (λ m b q. absurd (omega arith)) in
+      let x = prep-moves t valid s room (started-by g i) i h (started t valid s room g i h o e) 0 (omega arith) (put-same (g .stage) i (climb 0) i refl) (λ m b q. absurd (omega arith)) in
       record { state = x .state; represents = x .represents; moved = starts i h e (x .moved) }
 
   -- a queue place is not at a ticket root
@@ -56,24 +56,24 @@ module _ (t : Tree) (𝓐 : Accepted t) (bits : Sixteen-bit t) (two : 1 < t .dom
       Row-moves t g i (place-domain (t .home i) p) p (row t i p s)
   unfolding row good-place
   row-moves y q e at-idle = idle-by e _ refl
-  row-moves y q e (at-prep k l c) = prep-moves t 𝓐 s room g i h o k l e c
-  row-moves y q e (at-swap k l c n v) = swap-moves t 𝓐 s room g i h o k l (queue-there k q) e c n v
-  row-moves y q e (at-link k p l c d a n v) = link-moves t 𝓐 s room g i h o k p l d e c a n v
-  row-moves y q e (at-wait k p l c d a n v) = wait-moves t 𝓐 s room g i h o rep k l v
-  row-moves y q e (at-woken k b c v z) = woken-moves t 𝓐 s room g i h o k b e c v z
-  row-moves y q e (at-ready k l c v p) = ready-moves t 𝓐 s room g i h o bits k l e c v
-  row-moves y q e (at-inside c) = leave-moves t 𝓐 s room g i h o e c
-  row-moves y q e (at-check k b c) = check-moves t 𝓐 s room g i h o k b e c
-  row-moves y q e (at-pass k r v b c n z f) = pass-moves t 𝓐 s room g i h o k r v b e c n z f
-  row-moves y q e (at-help k l c) = help-moves t 𝓐 s room g i h o k l (queue-there k q) e c
-  row-moves y q e (at-cas k l c) = cas-moves t 𝓐 s room g i h o k l (queue-there k q) e c
-  row-moves y q e (at-linger k l c n) = linger-moves t 𝓐 s room g i h o k l (queue-there k q) e c rep
+  row-moves y q e (at-prep k l c) = prep-moves t valid s room g i h o k l e c
+  row-moves y q e (at-swap k l c n v) = swap-moves t valid s room g i h o k l (queue-there k q) e c n v
+  row-moves y q e (at-link k p l c d a n v) = link-moves t valid s room g i h o k p l d e c a n v
+  row-moves y q e (at-wait k p l c d a n v) = wait-moves t valid s room g i h o rep k l v
+  row-moves y q e (at-woken k b c v z) = woken-moves t valid s room g i h o k b e c v z
+  row-moves y q e (at-ready k l c v p) = ready-moves t valid s room g i h o bits k l e c v
+  row-moves y q e (at-inside c) = leave-moves t valid s room g i h o e c
+  row-moves y q e (at-check k b c) = check-moves t valid s room g i h o k b e c
+  row-moves y q e (at-pass k r v b c n z f) = pass-moves t valid s room g i h o k r v b e c n z f
+  row-moves y q e (at-help k l c) = help-moves t valid s room g i h o k l (queue-there k q) e c
+  row-moves y q e (at-cas k l c) = cas-moves t valid s room g i h o k l (queue-there k q) e c
+  row-moves y q e (at-linger k l c n) = linger-moves t valid s room g i h o k l (queue-there k q) e c rep
   row-moves y q e (at-grant k r l c n) =
-      grant-moves t 𝓐 s room g i h o k l (queue-there k (and-both (queue-on-path t i (ancestor t i k)) (is-member t (ancestor t i k) r) q .0)) e c r n
-  row-moves y q e (at-draw k l r c) = draw-moves t 𝓐 s room g i h o r k l e c
-  row-moves y q e (at-watch k l r c) = watch-moves t 𝓐 s room g i h o r rep (e ∙ ap queued l)
-  row-moves y q e (at-shown r c) = shown-moves t 𝓐 s room g i h o r e c
-  row-moves y q e (at-raise r c) = raise-moves t 𝓐 s room g i h o good r y e c
+      grant-moves t valid s room g i h o k l (queue-there k (and-both (queue-on-path t i (ancestor t i k)) (is-member t (ancestor t i k) r) q .0)) e c r n
+  row-moves y q e (at-draw k l r c) = draw-moves t valid s room g i h o r k l e c
+  row-moves y q e (at-watch k l r c) = watch-moves t valid s room g i h o r rep (e ∙ ap queued l)
+  row-moves y q e (at-shown r c) = shown-moves t valid s room g i h o r e c
+  row-moves y q e (at-raise r c) = raise-moves t valid s room g i h o good r y e c
 
   pub step-moves : Row-moves t g i (place-domain (t .home i) (place s i)) (place s i) (row t i (place s i) s)
   unfolding words-in

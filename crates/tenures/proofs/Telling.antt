@@ -67,7 +67,7 @@ ending (moves.entered i) = 0
 
 module _ (t : Tree) (s : State) (i d : ℕ) (pos : 0 < d) (room : i < length (s .places)) where
   -- the word that a thread holds to grant at the domain after a row: one that it held before, ACQUIRE_PARENT, or one that is told
-  abbrev pub Lands : (told : ℕ) → Row-result → Type 0
+  abbrev pub Lands : (length : ℕ) → Row-result → Type 0
   Lands u x = (j r v : ℕ) → place (x .state) j ≡ Grant d r v → (place s j ≡ Grant d r v) ⊎ (v ≡ acquire-parent) ⊎ (v ≤ u)
 
   stored : (p : Place) → place-of (getD (set (s .places) i (words-of p)) i (place-words 0 0 0 0)) ≡ p
@@ -95,11 +95,11 @@ module _ (t : Tree) (s : State) (i d : ℕ) (pos : 0 < d) (room : i < length (s 
   helping l r _ (below-root z) = lands 0 (Grant l r acquire-parent) (λ r′ v e. inl (sym (ap word-to-grant e)))
 
   -- the word that a Check at the domain tells
-  abbrev pub told-word : Place → Row-result → ℕ
-  told-word p x = cond (checks-at d p) (word-to-grant (place (x .state) i)) 0
+  abbrev pub tenure-word : Place → Row-result → ℕ
+  tenure-word p x = cond (checks-at d p) (word-to-grant (place (x .state) i)) 0
 
   -- it is at most the threshold
-  check-within : 1 ≤ t .threshold d → {l : ℕ} {x : Row-result} → Branch t i s (Check l) x → told-word (Check l) x ≤ t .threshold d
+  check-within : 1 ≤ t .threshold d → {l : ℕ} {x : Row-result} → Branch t i s (Check l) x → tenure-word (Check l) x ≤ t .threshold d
   unfolding checks-at word-to-grant
   check-within one {l} (check-passes _ less some) =
       let r = own-record t i l in
@@ -113,25 +113,25 @@ module _ (t : Tree) (s : State) (i d : ℕ) (pos : 0 < d) (room : i < length (s 
       (λ z. rw (eq-eqb l d z, stored (release-place t (t .parent l)), no-release (is-ticket t (t .parent l)) (eqb (t .parent l) 0) (t .parent l) .1) (omega arith))
       (λ z. rw (ne-eqb l d z) (omega arith))
 
-  pub told-within : 1 ≤ t .threshold d → (p : Place) → told-word p (row t i p s) ≤ t .threshold d
+  pub tenure-length-within : 1 ≤ t .threshold d → (p : Place) → tenure-word p (row t i p s) ≤ t .threshold d
   unfolding checks-at
-  told-within one Idle = omega arith
-  told-within one (Prep l) = omega arith
-  told-within one (Swap l) = omega arith
-  told-within one (Link l p) = omega arith
-  told-within one (Wait l) = omega arith
-  told-within one Inside = omega arith
-  told-within one (Check l) = check-within one (branch t i s (Check l))
-  told-within one (Help l) = omega arith
-  told-within one (Cas l) = omega arith
-  told-within one (Linger l) = omega arith
-  told-within one (Grant l r w) = omega arith
-  told-within one Draw = omega arith
-  told-within one Watch = omega arith
-  told-within one Raise = omega arith
-  told-within one Invalid = omega arith
+  tenure-length-within one Idle = omega arith
+  tenure-length-within one (Prep l) = omega arith
+  tenure-length-within one (Swap l) = omega arith
+  tenure-length-within one (Link l p) = omega arith
+  tenure-length-within one (Wait l) = omega arith
+  tenure-length-within one Inside = omega arith
+  tenure-length-within one (Check l) = check-within one (branch t i s (Check l))
+  tenure-length-within one (Help l) = omega arith
+  tenure-length-within one (Cas l) = omega arith
+  tenure-length-within one (Linger l) = omega arith
+  tenure-length-within one (Grant l r w) = omega arith
+  tenure-length-within one Draw = omega arith
+  tenure-length-within one Watch = omega arith
+  tenure-length-within one Raise = omega arith
+  tenure-length-within one Invalid = omega arith
 
-  branch-lands : {p : Place} {x : Row-result} → Branch t i s p x → Lands (told-word p x) x
+  branch-lands : {p : Place} {x : Row-result} → Branch t i s p x → Lands (tenure-word p x) x
   unfolding checks-at grants word-to-grant
   branch-lands (idle-draws z (draw-shown e)) = elsewhere Inside refl
   branch-lands (idle-draws z (draw-unshown e)) = elsewhere Watch refl
@@ -175,7 +175,7 @@ module _ (t : Tree) (s : State) (i d : ℕ) (pos : 0 < d) (room : i < length (s 
   branch-lands raise-counts = elsewhere (done-place t i 0) (no-done (eqb 0 (t .home i)) (child t i 0))
   branch-lands invalid-stays = λ j r w y. inl y
 
-  pub row-lands : (p : Place) → Lands (told-word p (row t i p s)) (row t i p s)
+  pub row-lands : (p : Place) → Lands (tenure-word p (row t i p s)) (row t i p s)
   row-lands p = branch-lands (branch t i s p)
 
   -- ONLY A GRANT THERE ends a standing there

@@ -9,7 +9,7 @@ use Rattle.model.specs.declared.TreeWords.{TreeWords}
 use Rattle.model.specs.Trees.{tree-of}
 use Rattle.model.specs.States.{fresh-state}
 use Rattle.model.specs.Runs.{steps}
-use Rattle.model.specs.Tenures.{domain-entries, domain-tenures, longest-told}
+use Rattle.model.specs.Tenures.{domain-entries, domain-tenures, longest-tenure}
 use Rattle.model.specs.Cases.{tree, at-ticket-root}
 
 -- a tree, the start of its fresh lock, a schedule, and what the steps tell of a domain: entries, tenures, longest tenure
@@ -25,15 +25,15 @@ pub record Case : Type 0 where
 abbrev pub case : TreeWords → (start : ℕ) → (schedule : List ℕ) → (domain entries tenures longest : ℕ) → Case
 case w v is d e n l = record { tree-words = w; start = v; schedule = is; domain = d; entries = e; tenures = n; longest = l }
 
-unfoldable pub told-so : Case → Bool
-told-so c =
+unfoldable pub counted-so : Case → Bool
+counted-so c =
     let t = tree-of (c .tree-words) in
     let xs = steps t (c .schedule) (fresh-state t (c .start)) in
-    eqb (domain-entries t (c .domain) xs) (c .entries) && (eqb (domain-tenures t (c .domain) xs) (c .tenures) && eqb (longest-told t (c .domain) xs) (c .longest))
+    eqb (domain-entries t (c .domain) xs) (c .entries) && (eqb (domain-tenures t (c .domain) xs) (c .tenures) && eqb (longest-tenure t (c .domain) xs) (c .longest))
 
-unfoldable pub all-told : List Case → Bool
-all-told [] = true
-all-told (c ∷ cs) = told-so c && all-told cs
+unfoldable pub all-counted : List Case → Bool
+all-counted [] = true
+all-counted (c ∷ cs) = counted-so c && all-counted cs
 
 -- below the root a leaf, threshold 3, with threads 0 and 1; the same with threshold 2 and three threads
 unfoldable pub two-threads : TreeWords
@@ -81,4 +81,4 @@ cases =
     ∷ []
 
 unfoldable pub Cases-hold : Type 0
-Cases-hold = all-told cases ≡ true
+Cases-hold = all-counted cases ≡ true

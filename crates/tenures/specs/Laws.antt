@@ -13,7 +13,7 @@ use Rattle.model.specs.Trees.{Tree, tree-of, is-child, is-leaf}
 use Rattle.model.specs.States.{fresh-state}
 use Rattle.model.specs.Steps.{Step}
 use Rattle.model.specs.Runs.{steps, run}
-use Rattle.model.specs.Tenures.{domain-entries, domain-tenures, longest-told}
+use Rattle.model.specs.Tenures.{domain-entries, domain-tenures, longest-tenure}
 use Rattle.model.specs.Refusals.{tree-refusal}
 use Rattle.model.specs.Laws.{_⟺_, All-threads, Sixteen-bit}
 use Rattle.model.specs.Answers.{fresh-answer}
@@ -38,9 +38,9 @@ Children-law = (t : Tree) → tree-refusal t .number ≡ 0 → (is : List ℕ) (
 
 -- TENURES, from fresh. The longest tenure is 0 exactly if the domain has had none, and never exceeds the threshold; of a leaf other than the root, entries are at most its tenures times its longest, and its tenures at most its entries and one more
 pub record Has-tenures (t : Tree) (xs : List Step) (d : ℕ) : Type 0 where
-  pub none-exactly : (longest-told t d xs ≡ 0) ⟺ (domain-tenures t d xs ≡ 0)
-  pub within : longest-told t d xs ≤ t .threshold d
-  pub leaf-entries : is-leaf t d ≡ true → domain-entries t d xs ≤ domain-tenures t d xs * longest-told t d xs
+  pub none-exactly : (longest-tenure t d xs ≡ 0) ⟺ (domain-tenures t d xs ≡ 0)
+  pub within : longest-tenure t d xs ≤ t .threshold d
+  pub leaf-entries : is-leaf t d ≡ true → domain-entries t d xs ≤ domain-tenures t d xs * longest-tenure t d xs
   pub leaf-tenures : is-leaf t d ≡ true → domain-tenures t d xs ≤ domain-entries t d xs + 1
 
 unfoldable pub Tenure-law : Type 0
@@ -49,10 +49,10 @@ Tenure-law =
     Has-tenures t (steps t is (fresh-state t start)) d
 
 -- IN A LOCK'S STATE. The state that a list of calls on a fresh lock returns holds what the steps of the list's schedule tell
-pub record Holds-told (t : Tree) (xs : List Step) (c : Counters) : Type 0 where
+pub record Counters-hold (t : Tree) (xs : List Step) (c : Counters) : Type 0 where
   pub entries : (d : ℕ) → d < 64 → getD (c .entries) d 0 ≡ domain-entries t d xs
   pub tenures : (d : ℕ) → d < 64 → getD (c .tenures) d 0 ≡ domain-tenures t d xs
-  pub longest : (d : ℕ) → d < 64 → getD (c .longest) d 0 ≡ longest-told t d xs
+  pub longest : (d : ℕ) → d < 64 → getD (c .longest) d 0 ≡ longest-tenure t d xs
 
 -- so its counters are: at every domain with children except the root, entries are the sum of its children's; if the root has child domains, all entries, of which the list has so many, are the sum over them; and tenures as above
 pub record Counts-tenures (t : Tree) (all : ℕ) (c : Counters) : Type 0 where
@@ -64,7 +64,7 @@ pub record Counts-tenures (t : Tree) (all : ℕ) (c : Counters) : Type 0 where
   pub leaf-tenures : (d : ℕ) → 0 < d → d < t .domains → is-leaf t d ≡ true → getD (c .tenures) d 0 ≤ getD (c .entries) d 0 + 1
 
 pub record Counted (t : Tree) (f : LockState) (cs : List Call) : Type 0 where
-  pub told : Holds-told t (steps t (joined cs f) (f .words)) (last-state cs f .counters)
+  pub holds : Counters-hold t (steps t (joined cs f) (f .words)) (last-state cs f .counters)
   pub counted : Counts-tenures t (run t (joined cs f) (f .words) .counts .entries) (last-state cs f .counters)
 
 unfoldable pub Counted-law : Type 0

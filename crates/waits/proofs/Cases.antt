@@ -12,7 +12,7 @@ use Rattle.model.specs.States.{fresh-words, fresh-state}
 use Rattle.model.specs.Steps.{is-kind, is-entry, prep-row, swap-row, link-row, wait-row, leave-row, check-row, help-row, cas-row, linger-row, grant-row, draw-row, watch-row, is-watched, shown-members, raise-row, row, step}
 use Rattle.model.specs.Runs.{steps, state-after, how-many, entering, counts-of, run-of, run, ended-in, entries-under, occurrences}
 use Rattle.model.specs.WellFormed.{good-tail, queue-on-path, good-place, good-counters}
-use Rattle.model.specs.Tenures.{finds-none, taken-from, given, starts, checks-at, word-to-grant, told-length, domain-entries, domain-tenures, longest-told}
+use Rattle.model.specs.Tenures.{finds-none, taken-from, given, starts, checks-at, word-to-grant, tenure-length, domain-entries, domain-tenures, longest-tenure}
 use Rattle.model.specs.Counters.{fresh-counters, each-with-index, counters-after, good-count, good-counts, count-above, any-above}
 use Rattle.model.specs.Refusals.{Refusal, test, refusal, accepted, lowest-bad, first-refusal, bad-domains, bad-threads, bad-parent, too-deep, no-threshold, bad-home, empty-domain, tree-tests, bad-state, bad-length, bad-entry, bad-room, bad-counter, counter-tests, schedule-tests, room-tests}
 use Rattle.model.specs.Answers.{counters-behind, run-reply, run-buffer}
@@ -73,9 +73,25 @@ same-cases (c ∷ cs) e =
     rw (same-case c (a .0), same-cases cs (a .1))
 
 cases-sized : all-sized cases ≡ true
-unfolding any-below filter-below all-below read-word tree-of is-ticket is-child is-leaf depth-from depth level meets on-path child-from child own-record is-record is-member owner-domain under place-of is-watch is-idle is-inside fresh-words fresh-state is-kind is-entry prep-row swap-row link-row wait-row leave-row check-row help-row cas-row linger-row grant-row draw-row watch-row is-watched shown-members raise-row row step steps state-after how-many entering counts-of run-of run good-tail queue-on-path good-place good-counters refusal accepted bad-domains bad-threads bad-parent too-deep no-threshold bad-home empty-domain tree-tests bad-length bad-entry bad-room run-reply run-buffer padded tree at-ticket-root two-homes first-entries two-in-root three-levels same-numbers place-numbers same-counts same-state total row-buffer swaps-at draws begins-from begins enters begun counted under-way-after finished finished-by waits-from waits-below largest divisor-in mean row-with row-of rows-below all-rows rows-given refused-from refused-with full-entries reached no-attempt no-wait taking-turns cases all-sized
+unfolding any-below filter-below all-below read-word tree-of is-ticket is-child is-leaf depth-from depth level meets on-path child-from child own-record
+    is-record is-member owner-domain under place-of is-watch is-idle is-inside fresh-words fresh-state is-kind is-entry prep-row swap-row link-row wait-row
+    leave-row check-row help-row cas-row linger-row grant-row draw-row watch-row is-watched shown-members raise-row row step steps state-after how-many
+    entering counts-of run-of run good-tail queue-on-path good-place good-counters refusal accepted bad-domains bad-threads bad-parent too-deep no-threshold
+    bad-home empty-domain tree-tests bad-length bad-entry bad-room run-reply run-buffer padded tree at-ticket-root two-homes first-entries two-in-root
+    three-levels same-numbers place-numbers same-counts same-state total row-buffer swaps-at draws begins-from begins enters begun counted under-way-after
+    finished finished-by waits-from waits-below largest divisor-in mean row-with row-of rows-below all-rows rows-given refused-from refused-with full-entries
+    reached no-attempt no-wait taking-turns cases all-sized
 cases-sized = refl
 
 pub cases-hold : all-hold cases ≡ true
-unfolding occurrences ended-in entries-under finds-none taken-from given starts checks-at word-to-grant told-length domain-entries domain-tenures longest-told fresh-counters each-with-index counters-after good-count good-counts count-above any-above bad-counter counters-behind any-below filter-below all-below read-word tree-of is-ticket is-child is-leaf depth-from depth level meets on-path child-from child own-record is-record is-member owner-domain under place-of is-watch is-idle is-inside fresh-words fresh-state is-kind is-entry prep-row swap-row link-row wait-row leave-row check-row help-row cas-row linger-row grant-row draw-row watch-row is-watched shown-members raise-row row step steps state-after how-many entering counts-of run-of run good-tail queue-on-path good-place good-counters refusal accepted lowest-bad first-refusal bad-domains bad-threads bad-parent too-deep no-threshold bad-home empty-domain tree-tests bad-length bad-entry bad-room run-reply run-buffer padded tree at-ticket-root two-homes first-entries two-in-root three-levels same-numbers place-numbers same-counts same-state same-counters same-lock total row-buffer swaps-at draws begins-from begins enters begun counted under-way-after finished finished-by waits-from waits-below largest divisor-in mean row-with row-of rows-below all-rows bad-row-room rows-given refused-from refused-with full-entries reached no-attempt no-wait taking-turns cases walked formed-by-walks walked-refusal holds-by-walks all-hold-by-walks
+unfolding occurrences ended-in entries-under finds-none taken-from given starts checks-at word-to-grant tenure-length domain-entries domain-tenures
+    longest-tenure fresh-counters each-with-index counters-after good-count good-counts count-above any-above bad-counter counters-behind any-below
+    filter-below all-below read-word tree-of is-ticket is-child is-leaf depth-from depth level meets on-path child-from child own-record is-record is-member
+    owner-domain under place-of is-watch is-idle is-inside fresh-words fresh-state is-kind is-entry prep-row swap-row link-row wait-row leave-row check-row
+    help-row cas-row linger-row grant-row draw-row watch-row is-watched shown-members raise-row row step steps state-after how-many entering counts-of run-of
+    run good-tail queue-on-path good-place good-counters refusal accepted lowest-bad first-refusal bad-domains bad-threads bad-parent too-deep no-threshold
+    bad-home empty-domain tree-tests bad-length bad-entry bad-room run-reply run-buffer padded tree at-ticket-root two-homes first-entries two-in-root
+    three-levels same-numbers place-numbers same-counts same-state same-counters same-lock total row-buffer swaps-at draws begins-from begins enters begun
+    counted under-way-after finished finished-by waits-from waits-below largest divisor-in mean row-with row-of rows-below all-rows bad-row-room rows-given
+    refused-from refused-with full-entries reached no-attempt no-wait taking-turns cases walked formed-by-walks walked-refusal holds-by-walks all-hold-by-walks
 cases-hold = same-cases cases cases-sized ∙ refl

@@ -90,13 +90,13 @@ draws-number Raise = refl
 draws-number Invalid = refl
 
 -- a step's number, divided by eight, is that of its place, and the rest is that of its kind
-place-told : (x : Step) → step-code x / 8 ≡ number-of (x .place)
+place-of-code : (x : Step) → step-code x / 8 ≡ number-of (x .place)
 unfolding step-code
-place-told x = let h = kind-small (x .kind) in omega arith
+place-of-code x = let h = kind-small (x .kind) in omega arith
 
-kind-told : (x : Step) → is-entry (x .kind) ≡ is-entry-number (step-code x % 8)
+kind-by-code : (x : Step) → is-entry (x .kind) ≡ is-entry-number (step-code x % 8)
 unfolding step-code
-kind-told x = let h = kind-small (x .kind) in let e : step-code x % 8 ≡ kind-number (x .kind) = omega arith in rw e (sym (entry-number (x .kind)))
+kind-by-code x = let h = kind-small (x .kind) in let e : step-code x % 8 ≡ kind-number (x .kind) = omega arith in rw e (sym (entry-number (x .kind)))
 
 home-at : (w : TreeWords) (i : ℕ) → i < tree-of w .threads → tree-of w .home i ≡ getD (w .homes) i 0
 unfolding tree-of read-word
@@ -106,39 +106,39 @@ begins-by : (t : Tree) (i home : ℕ) (p : Place) → t .home i ≡ home → beg
 unfolding begins-from is-ticket
 begins-by t i home p e = rw e
 
-begins-told :
+begins-by-code :
     (w : TreeWords) (i : ℕ) (x : Step) → i < tree-of w .threads →
     begins-from (tree-of w) i (x .place) ≡ begins-number (ticket-home (w .«ticket_root») (getD (w .homes) i 0)) (getD (w .homes) i 0) (step-code x / 8)
 unfolding begins-number tree-of
-begins-told w i x h = begins-by (tree-of w) i (getD (w .homes) i 0) (x .place) (home-at w i h) ∙ rw (place-told x, draws-number (x .place), swaps-number (getD (w .homes) i 0) (x .place))
+begins-by-code w i x h = begins-by (tree-of w) i (getD (w .homes) i 0) (x .place) (home-at w i h) ∙ rw (place-of-code x, draws-number (x .place), swaps-number (getD (w .homes) i 0) (x .place))
 
 -- A PIECE, one step after another
-module _ (w : TreeWords) (is told M₀ A₀ W₀ L₀ : List ℕ) (n₀ : ℕ) where
+module _ (w : TreeWords) (is codes M₀ A₀ W₀ L₀ : List ℕ) (n₀ : ℕ) where
   abbrev t : Tree
   t = tree-of w
 
   abbrev Given : List Step → State → Type 0
-  Given done s = Counting t is told M₀ A₀ W₀ L₀ n₀ done s
+  Given done s = Counting t is codes M₀ A₀ W₀ L₀ n₀ done s
 
   -- the first k steps are counted
-  pub record Going (M A W L : List ℕ) (n k : ℕ) : Type 0 where
+  pub record Counted-so-far (M A W L : List ℕ) (n k : ℕ) : Type 0 where
     pub within : k ≤ length is
     pub few : n ≤ n₀ + k
     pub tallies : (done : List Step) (s : State) → Given done s → Tallies t (done ++ steps t (take k is) s) M A W L n
 
-  pub going-start : Going M₀ A₀ W₀ L₀ n₀ 0
+  pub counted-start : Counted-so-far M₀ A₀ W₀ L₀ n₀ 0
   unfolding steps
-  going-start = record { within = omega arith; few = omega arith; tallies = λ done s g. rw (append-nil done) (g .tallied) }
+  counted-start = record { within = omega arith; few = omega arith; tallies = λ done s g. rw (append-nil done) (g .tallied) }
 
-  module _ (M A W L : List ℕ) (n k : ℕ) (G : Going M A W L n k) (h : k < length is) (C : Countable t is told M₀ A₀ W₀ L₀ n₀) where
+  module _ (M A W L : List ℕ) (n k : ℕ) (G : Counted-so-far M A W L n k) (h : k < length is) (C : Countable t is codes M₀ A₀ W₀ L₀ n₀) where
     pub thread-known : getD is k 0 < t .threads
     thread-known = thread-at t is (C .counting .threads) k h
 
     pub thread-small : getD is k 0 < 256
     thread-small = below t is (C .counting .tree) (C .counting .threads) k h
 
-    pub told-long : k < length told
-    told-long = omega (arith, C .counting .long)
+    pub codes-long : k < length codes
+    codes-long = omega (arith, C .counting .long)
 
     pub entered-few : n ≤ 65536
     entered-few = omega (arith, G .few, C .counting .short)
@@ -150,13 +150,13 @@ module _ (w : TreeWords) (is told M₀ A₀ W₀ L₀ : List ℕ) (n₀ : ℕ) w
         record { place = thread-small; few = entered-few; mark = o .0; attempts-few = o .1 .0; total-small = o .1 .1 }
 
     pub going-turn :
-        (b e : Bool) → b ≡ begins-number (ticket-home (w .«ticket_root») (getD (w .homes) (getD is k 0) 0)) (getD (w .homes) (getD is k 0) 0) (getD told k 0 / 8) →
-        e ≡ is-entry-number (getD told k 0 % 8) → (M′ A′ W′ L′ : List ℕ) →
+        (b e : Bool) → b ≡ begins-number (ticket-home (w .«ticket_root») (getD (w .homes) (getD is k 0) 0)) (getD (w .homes) (getD is k 0) 0) (getD codes k 0 / 8) →
+        e ≡ is-entry-number (getD codes k 0 % 8) → (M′ A′ W′ L′ : List ℕ) →
         (let at = getD is k 0 in
         let mark = mark-at M at n b in
         let f = finishes e mark in
         M′ ≡ set M at (cond e 0 mark) → A′ ≡ noted f A at (getD A at 0 + 1) → W′ ≡ noted f W at (getD W at 0 + wait-of n mark) → L′ ≡ noted f L at (max (getD L at 0) (wait-of n mark)) →
-        Going M′ A′ W′ L′ (n + cond e 1 0) (k + 1))
+        Counted-so-far M′ A′ W′ L′ (n + cond e 1 0) (k + 1))
     unfolding step
     going-turn b e eb ee M′ A′ W′ L′ em ea ew el =
         record {
@@ -166,31 +166,31 @@ module _ (w : TreeWords) (is told M₀ A₀ W₀ L₀ : List ℕ) (n₀ : ℕ) w
               λ done s g.
               (let i = getD is k 0 in
               let x = step t i (state-after s (steps t (take k is) s)) in
-              let code : getD told k 0 ≡ step-code x = g .codes k h in
-              let begins : begins-from t i (x .place) ≡ b = begins-told w i x thread-known ∙ sym (eb ∙ ap (λ v. begins-number (ticket-home (w .«ticket_root») (getD (w .homes) i 0)) (getD (w .homes) i 0) (v / 8)) code) in
-              let enters : is-entry (x .kind) ≡ e = kind-told x ∙ sym (ee ∙ ap (λ v. is-entry-number (v % 8)) code) in
+              let code : getD codes k 0 ≡ step-code x = g .each-code k h in
+              let begins : begins-from t i (x .place) ≡ b = begins-by-code w i x thread-known ∙ sym (eb ∙ ap (λ v. begins-number (ticket-home (w .«ticket_root») (getD (w .homes) i 0)) (getD (w .homes) i 0) (v / 8)) code) in
+              let enters : is-entry (x .kind) ≡ e = kind-by-code x ∙ sym (ee ∙ ap (λ v. is-entry-number (v % 8)) code) in
               let more : done ++ steps t (take (k + 1) is) s ≡ (done ++ steps t (take k is) s) ++ (x ∷ []) =
               ap (λ (r : List Step). done ++ r) (next-step t is [] s k h) ∙ sym (append-assoc done (steps t (take k is) s) (x ∷ [])) in
               rw more (turn t _ M A W L n (G .tallies done s g) x i refl thread-small b e begins enters M′ A′ W′ L′ em ea ew el));
         }
 
     -- the same by the numbers that the code has read
-    pub going-read :
+    pub counted-read :
         (at : ℕ) → at ≡ getD is k 0 → (th b e : Bool) → th ≡ ticket-home (w .«ticket_root») (getD (w .homes) at 0) →
-        b ≡ begins-number th (getD (w .homes) at 0) (getD told k 0 / 8) → e ≡ is-entry-number (getD told k 0 % 8) → (M′ A′ W′ L′ : List ℕ) (n′ : ℕ) → n′ ≡ n + cond e 1 0 →
+        b ≡ begins-number th (getD (w .homes) at 0) (getD codes k 0 / 8) → e ≡ is-entry-number (getD codes k 0 % 8) → (M′ A′ W′ L′ : List ℕ) (n′ : ℕ) → n′ ≡ n + cond e 1 0 →
         (let mark = mark-at M at n b in
         let f = finishes e mark in
         M′ ≡ set M at (cond e 0 mark) → A′ ≡ noted f A at (getD A at 0 + 1) → W′ ≡ noted f W at (getD W at 0 + wait-of n mark) → L′ ≡ noted f L at (max (getD L at 0) (wait-of n mark)) →
-        Going M′ A′ W′ L′ n′ (k + 1))
-    going-read at ei th b e et eb ee M′ A′ W′ L′ n′ en em ea ew el =
+        Counted-so-far M′ A′ W′ L′ n′ (k + 1))
+    counted-read at ei th b e et eb ee M′ A′ W′ L′ n′ en em ea ew el =
         rw en
         (going-turn b e
-        (eb ∙ ap (λ v. begins-number v (getD (w .homes) at 0) (getD told k 0 / 8)) et
-        ∙ ap (λ v. begins-number (ticket-home (w .«ticket_root») (getD (w .homes) v 0)) (getD (w .homes) v 0) (getD told k 0 / 8)) ei)
+        (eb ∙ ap (λ v. begins-number v (getD (w .homes) at 0) (getD codes k 0 / 8)) et
+        ∙ ap (λ v. begins-number (ticket-home (w .«ticket_root») (getD (w .homes) v 0)) (getD (w .homes) v 0) (getD codes k 0 / 8)) ei)
         ee M′ A′ W′ L′ (em ∙ ap (λ v. set M v (cond e 0 (mark-at M v n b))) ei)
         (ea ∙ ap (λ v. noted (finishes e (mark-at M v n b)) A v (getD A v 0 + 1)) ei)
         (ew ∙ ap (λ v. noted (finishes e (mark-at M v n b)) W v (getD W v 0 + wait-of n (mark-at M v n b))) ei)
         (el ∙ ap (λ v. noted (finishes e (mark-at M v n b)) L v (max (getD L v 0) (wait-of n (mark-at M v n b)))) ei))
 
-  pub going-ends : (M A W L : List ℕ) (n k : ℕ) → Going M A W L n k → length is ≤ k → Counted t is told M₀ A₀ W₀ L₀ n₀ M A W L n
-  going-ends M A W L n k G h = record { counted = λ done s g. subst (λ (r : List ℕ). Tallies t (done ++ steps t r s) M A W L n) (take-all k is h) (G .tallies done s g) }
+  pub counted-ends : (M A W L : List ℕ) (n k : ℕ) → Counted-so-far M A W L n k → length is ≤ k → Counted t is codes M₀ A₀ W₀ L₀ n₀ M A W L n
+  counted-ends M A W L n k G h = record { counted = λ done s g. subst (λ (r : List ℕ). Tallies t (done ++ steps t r s) M A W L n) (take-all k is h) (G .tallies done s g) }

@@ -146,18 +146,18 @@ module _ (i : ℕ) where
     own-late s x xs r m k pl room (at-once e ps b w) o ih late = absurd (true≢false (sym o ∙ w))
 
     module _ (sixteen : Sixteen-bit t) (ok : tree-refusal t .number ≡ 0) (h : i < t .threads) where
-      abbrev 𝓐 : Accepted t
-      𝓐 = accepted t ok
+      abbrev valid : Accepted t
+      valid = accepted t ok
 
       phase-of : (j : ℕ) (s : State) → j < t .threads → Formed t s → Phase t j s (place s j) (row t j (place s j) s)
-      phase-of j s l f = phase t 𝓐 j l s (place s j) (well-formed-facts t s f .places j .used l)
+      phase-of j s l f = phase t valid j l s (place s j) (well-formed-facts t s f .places j .used l)
 
       formed-next : (j : ℕ) (s : State) → j < t .threads → Formed t s → Formed t (step t j s .state)
       unfolding Form-law
       formed-next j s l f = form-law t sixteen ok .of-step j s l f
 
       room-for : (s : State) → Formed t s → i < length (s .places)
-      room-for s f = omega (arith, f .typed .places-room, 𝓐 .few-threads)
+      room-for s f = omega (arith, f .typed .places-room, valid .few-threads)
 
       pub exact : (is : List ℕ) (s : State) (a : ℕ) → All-threads t is → Formed t s → Mode (on-way t i (place s i)) a → E (steps t is s) ≡ length (waits-from t i a (steps t is s))
       unfolding steps step All-threads entering occurrences waits-from

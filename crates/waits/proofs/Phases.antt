@@ -50,18 +50,18 @@ pub data Phase (t : Tree) (i : ℕ) (s : State) (p : Place) (x : Row-result) : T
   arrives : is-entry (x .kind) ≡ true → x .state .places ≡ set (s .places) i (words-of Inside) → begins-from t i p ≡ false → on-way t i p ≡ true → Phase t i s p x
   at-once : is-entry (x .kind) ≡ true → x .state .places ≡ set (s .places) i (words-of Inside) → begins-from t i p ≡ true → on-way t i p ≡ false → Phase t i s p x
 
-module _ (t : Tree) (𝓐 : Accepted t) (i : ℕ) (h : i < t .threads) where
+module _ (t : Tree) (valid : Accepted t) (i : ℕ) (h : i < t .threads) where
   -- a home has no child domain, so no parent is one, and where there is a domain below the root, no home is the root
   upward : (l : ℕ) → 0 < l → l < t .domains → t .parent l ≢ t .home i
   unfolding is-leaf is-child
   upward l p r e =
-      let none-is = any-none (t .domains) (is-child t (t .home i)) (not-true _ (𝓐 .home-leaf i h)) l r in
+      let none-is = any-none (t .domains) (is-child t (t .home i)) (not-true _ (valid .home-leaf i h)) l r in
       true≢false (sym (rw (ne-eqb l 0 (omega arith), eq-eqb (t .parent l) (t .home i) e)) ∙ none-is)
 
   low : (l : ℕ) → 0 < l → l < t .domains → is-ticket t (t .home i) ≡ false
   unfolding is-ticket
   low l p r =
-      let n : t .home i ≢ 0 = λ z. upward 1 (omega arith) (omega arith) (let q = 𝓐 .parent-lower 1 (omega arith) (omega arith) in omega arith) in
+      let n : t .home i ≢ 0 = λ z. upward 1 (omega arith) (omega arith) (let q = valid .parent-lower 1 (omega arith) (omega arith) in omega arith) in
       rw (ne-eqb (t .home i) 0 n) (none-and (t .ticket-root))
     where
       none-and : (b : Bool) → (b && false) ≡ false
@@ -113,7 +113,7 @@ module _ (t : Tree) (𝓐 : Accepted t) (i : ℕ) (h : i < t .threads) where
     swap-phase l good true e = by
       where
         facts : (is-ticket t l ≡ false) × (l < t .domains)
-        facts = let q = queue-facts t i l good in (q .1, path-real t 𝓐 i h l (q .0))
+        facts = let q = queue-facts t i l good in (q .1, path-real t valid i h l (q .0))
 
         starts : begins-from t i (Swap l) ≡ true
         starts = let same = eqb-true l (t .home i) e in rw (← same, facts .0, eq-eqb l l refl)
@@ -136,7 +136,7 @@ module _ (t : Tree) (𝓐 : Accepted t) (i : ℕ) (h : i < t .threads) where
         by : {x : Row-result} → Branch t i s (Swap l) x → Of (Swap l) x
         by (swap-root _ z n) = arrives refl refl starts before
         by (swap-inner _ z n) =
-            goes (acquired-place t l) refl refl starts (acquired-on l (omega arith) (path-real t 𝓐 i h l (queue-facts t i l good .0)) ∙ sym before)
+            goes (acquired-place t l) refl refl starts (acquired-on l (omega arith) (path-real t valid i h l (queue-facts t i l good .0)) ∙ sym before)
         by (swap-behind _ n) = goes (Link l (tail s l - 1)) refl refl starts (sym before)
 
     -- the row of a good place
@@ -153,7 +153,7 @@ module _ (t : Tree) (𝓐 : Accepted t) (i : ℕ) (h : i < t .threads) where
     branch-phase g (wait-root-granted l z v) = arrives refl refl (begins-none (Wait l) refl refl) refl
     branch-phase g (wait-ungranted l z v) = rests refl refl (begins-none (Wait l) refl refl)
     branch-phase g (wait-acquires l z v) =
-        goes (acquired-place t l) refl refl (begins-none (Wait l) refl refl) (acquired-on l (omega arith) (path-real t 𝓐 i h l (queue-facts t i l g .0)))
+        goes (acquired-place t l) refl refl (begins-none (Wait l) refl refl) (acquired-on l (omega arith) (path-real t valid i h l (queue-facts t i l g .0)))
     branch-phase g (wait-passed l z v y a) = arrives refl refl (begins-none (Wait l) refl refl) refl
     branch-phase g (wait-crossed l z v y a) = arrives refl refl (begins-none (Wait l) refl refl) refl
     branch-phase g inside-leaves = goes (release-place t (t .home i)) refl refl (begins-none Inside refl refl) (released (t .home i))

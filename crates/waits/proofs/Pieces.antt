@@ -28,7 +28,7 @@ use Rattle.model.proofs.Laws.Calls.{Good-run, run-facts, run-counted, early-acc
 use Rattle.waits.specs.Rows.{all-rows}
 use Rattle.waits.specs.Tallies.{Tallies, rows-by}
 use Rattle.waits.proofs.Tables.{start, fits, rows-end}
-use Rattle.steps.specs.Running.{kinds-of, counts-by, trace-front, step-code, told-front}
+use Rattle.steps.specs.Running.{kinds-of, counts-by, trace-front, step-code, codes-front}
 use Rattle.waits.specs.Waiting.{kinds-added, Counting, Countable, Counted, Small}
 use Rattle.steps.proofs.SoFar.{counts-kinds}
 use Rattle.steps.proofs.Telling.{told-front-length}
@@ -85,11 +85,11 @@ trace-behind b₀ b T U ys n eb en h ey =
     rw (front, over, ey, all, rest, append-nil, drop-drop, length-append T U, append-assoc T U (drop (length T + length U) b₀))
 
 -- WHAT WAS TOLD of a step
-told-at-seam : (b : List ℕ) (ps : List Step) (x : Step) (qs : List Step) → length ps < length b → getD (told-front b (ps ++ (x ∷ qs))) (length ps) 0 ≡ step-code x
-unfolding told-front
-told-at-seam [] ps x qs h = absurd (omega arith)
-told-at-seam (c ∷ b) [] x qs h = refl
-told-at-seam (c ∷ b) (p ∷ ps) x qs h = told-at-seam b ps x qs (omega arith)
+code-at-seam : (b : List ℕ) (ps : List Step) (x : Step) (qs : List Step) → length ps < length b → getD (codes-front b (ps ++ (x ∷ qs))) (length ps) 0 ≡ step-code x
+unfolding codes-front
+code-at-seam [] ps x qs h = absurd (omega arith)
+code-at-seam (c ∷ b) [] x qs h = refl
+code-at-seam (c ∷ b) (p ∷ ps) x qs h = code-at-seam b ps x qs (omega arith)
 
 steps-split :
     (t : Tree) (is : List ℕ) (s : State) (k : ℕ) → k < length is →
@@ -233,36 +233,36 @@ module _ (w : TreeWords) (is b₀ : List ℕ) (s₀ : State) (c₀ : Counters) w
           omega (arith, a, c, more, fit, R .short)
 
       -- what was told of it can be counted
-      module _ (told : List ℕ) (et : told ≡ told-front (replicate 1024 0) (steps t piece s)) where
-        room : length told ≡ 1024
+      module _ (codes : List ℕ) (et : codes ≡ codes-front (replicate 1024 0) (steps t piece s)) where
+        room : length codes ≡ 1024
         room = ap length et ∙ told-front-length (replicate 1024 0) (steps t piece s) ∙ length-replicate {A = ℕ} 1024 0
 
-        code : (k : ℕ) → k < length piece → getD told k 0 ≡ step-code (step t (getD piece k 0) (state-after s (steps t (take k piece) s)))
+        code : (k : ℕ) → k < length piece → getD codes k 0 ≡ step-code (step t (getD piece k 0) (state-after s (steps t (take k piece) s)))
         code k h =
             let x = step t (getD piece k 0) (state-after s (steps t (take k piece) s)) in
             let qs = steps t (drop (suc k) piece) (x .state) in
             let long : length (steps t (take k piece) s) ≡ k = steps-length t (take k piece) s ∙ length-take-le k piece (omega arith) in
-            ap (λ v. getD v k 0) (et ∙ ap (told-front (replicate 1024 0)) (steps-split t piece s k h))
-            ∙ ap (λ j. getD (told-front (replicate 1024 0) (steps t (take k piece) s ++ (x ∷ qs))) j 0) (sym long)
-            ∙ told-at-seam (replicate 1024 0) (steps t (take k piece) s) x qs (omega (arith, long, length-replicate {A = ℕ} 1024 0, piece-long, short))
+            ap (λ v. getD v k 0) (et ∙ ap (codes-front (replicate 1024 0)) (steps-split t piece s k h))
+            ∙ ap (λ j. getD (codes-front (replicate 1024 0) (steps t (take k piece) s ++ (x ∷ qs))) j 0) (sym long)
+            ∙ code-at-seam (replicate 1024 0) (steps t (take k piece) s) x qs (omega (arith, long, length-replicate {A = ℕ} 1024 0, piece-long, short))
 
-        counting : Counting t piece told M A W L n (done from) s
+        counting : Counting t piece codes M A W L n (done from) s
         counting =
             record {
               tree = R .tree;
               threads = piece-threads;
               long = omega (arith, room, piece-long, short);
               short = omega (arith, entered-few, piece-long, fit, R .short, more);
-              codes = code;
+              each-code = code;
               tallied = G .tallies;
             }
 
-        pub countable : Countable t piece told M A W L n
+        pub countable : Countable t piece codes M A W L n
         countable = record { done = done from; state = s; counting = counting }
 
         pub pieces-turn :
             (s′ : State) (c′ : Counters) → s′ ≡ run t piece s .state → c′ ≡ counters-after t c (steps t piece s) → (ys : List ℕ) → ys ≡ trace-front (take (length b - n) (drop n b)) (run t piece s) → (pk kinds′ : List ℕ) →
-            pk ≡ kinds-of (steps t piece s) → kinds′ ≡ kinds-added kinds pk → (M′ A′ W′ L′ : List ℕ) (n′ : ℕ) → Counted t piece told M A W L n M′ A′ W′ L′ n′ →
+            pk ≡ kinds-of (steps t piece s) → kinds′ ≡ kinds-added kinds pk → (M′ A′ W′ L′ : List ℕ) (n′ : ℕ) → Counted t piece codes M A W L n M′ A′ W′ L′ n′ →
             In-pieces (take n b ++ (ys ++ drop (length b - n) (drop n b))) M′ A′ W′ L′ s′ c′ kinds′ n′ end
         unfolding run run-of Form-law
         pieces-turn s′ c′ es ec ys ey pk kinds′ ek em M′ A′ W′ L′ n′ C =

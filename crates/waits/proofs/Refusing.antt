@@ -14,10 +14,10 @@ use Rattle.model.specs.Laws.{Numbered, Refusal-law, Refuses-exactly}
 use Rattle.model.proofs.Refusing.{numbered}
 use Rattle.model.proofs.Laws.Refusals.{accepted-number, refusal-law, run-numbered-before-19}
 use Rattle.refusals.specs.declared.Refusal.{Refusal}
-use Rattle.refusals.specs.Arrays.{told}
+use Rattle.refusals.specs.Arrays.{refusal-words}
 use Rattle.refusals.proofs.Joining.{first-decides, other-decides}
 use Rattle.refusals.proofs.Scanning.{single-hit, single-missed}
-use Rattle.refusals.proofs.RunTests.{told-not, told-zero}
+use Rattle.refusals.proofs.RunTests.{refusal-words-not, refusal-words-zero}
 use Rattle.waits.specs.Refusals.{bad-row-room, row-room-tests, waits-tests-before-19, waits-tests, waits-refusal}
 use Rattle.waits.specs.Laws.{Waits-refusal-law}
 
@@ -111,30 +111,30 @@ waits-refusal-law t s is room n =
     }
 
 -- what the code tells, by what it has tested
-module _ (t : Tree) (s : LockState) (is : List ℕ) (room n : ℕ) (r : Refusal) (e : r ≡ told (run-early t s is room n)) where
-  pub told-run : (r .number ≡ 0 → ⊥) → r ≡ told (early t s is room n)
-  told-run h = e ∙ ap told (sym (run-decides t s is room n (told-not r _ e h)))
+module _ (t : Tree) (s : LockState) (is : List ℕ) (room n : ℕ) (r : Refusal) (e : r ≡ refusal-words (run-early t s is room n)) where
+  pub run-answered : (r .number ≡ 0 → ⊥) → r ≡ refusal-words (early t s is room n)
+  run-answered h = e ∙ ap refusal-words (sym (run-decides t s is room n (refusal-words-not r _ e h)))
 
   module _ (z : r .number ≡ 0) where
-    pub told-room : n / 5 ≤ t .threads → told (refusal 18 0) ≡ told (early t s is room n)
-    told-room l = ap told (sym (rows-refuse t s is room n (told-zero r _ e z) (omega arith)))
+    pub room-answered : n / 5 ≤ t .threads → refusal-words (refusal 18 0) ≡ refusal-words (early t s is room n)
+    room-answered l = ap refusal-words (sym (rows-refuse t s is room n (refusal-words-zero r _ e z) (omega arith)))
 
-    pub told-accepted : t .threads < n / 5 → r ≡ told (early t s is room n)
+    pub acceptance-answered : t .threads < n / 5 → r ≡ refusal-words (early t s is room n)
     unfolding Refusal-law
-    told-accepted l =
-        let passes = told-zero r _ e z in
-        e ∙ ap told (refusal-law (run-tests-before-19 t s is room) (run-numbered-before-19 t s is room) .zero-accepted passes ∙ sym (rows-pass t s is room n passes (omega arith)))
+    acceptance-answered l =
+        let passes = refusal-words-zero r _ e z in
+        e ∙ ap refusal-words (refusal-law (run-tests-before-19 t s is room) (run-numbered-before-19 t s is room) .zero-accepted passes ∙ sym (rows-pass t s is room n passes (omega arith)))
 
 -- what a caller learns from what it is told
-module _ (t : Tree) (s : LockState) (is : List ℕ) (room n : ℕ) (r : Refusal) (e : r ≡ told (early t s is room n)) where
+module _ (t : Tree) (s : LockState) (is : List ℕ) (room n : ℕ) (r : Refusal) (e : r ≡ refusal-words (early t s is room n)) where
   -- refused: what it is told is the answer
-  pub told-waits : (r .number ≡ 0 → ⊥) → r ≡ told (waits-refusal t s is room n)
-  told-waits h = e ∙ ap told (sym (early-decides t s is room n (told-not r _ e h)))
+  pub waits-answered : (r .number ≡ 0 → ⊥) → r ≡ refusal-words (waits-refusal t s is room n)
+  waits-answered h = e ∙ ap refusal-words (sym (early-decides t s is room n (refusal-words-not r _ e h)))
 
   -- not refused: 19 is left, and the run and its rows may go on
   module _ (z : r .number ≡ 0) where
-    pub told-left : waits-refusal t s is room n ≡ first-refusal (counter-tests t s is)
-    told-left = counters-decide t s is room n (told-zero r _ e z)
+    pub counters-left : waits-refusal t s is room n ≡ first-refusal (counter-tests t s is)
+    counters-left = counters-decide t s is room n (refusal-words-zero r _ e z)
 
-    pub told-passes : (first-refusal (run-tests-before-19 t s is room) .number ≡ 0) × (5 * (t .threads + 1) ≤ n)
-    told-passes = early-passes t s is room n (told-zero r _ e z)
+    pub answered-passes : (first-refusal (run-tests-before-19 t s is room) .number ≡ 0) × (5 * (t .threads + 1) ≤ n)
+    answered-passes = early-passes t s is room n (refusal-words-zero r _ e z)

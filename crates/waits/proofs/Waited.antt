@@ -21,8 +21,8 @@ use Rattle.model.specs.Answers.{counters-behind, run-refused, run-reply, run-bu
 use Rattle.model.proofs.Laws.Runs.{steps-length}
 use Rattle.model.proofs.Laws.Calls.{run-facts}
 use Rattle.refusals.specs.declared.Refusal.{Refusal}
-use Rattle.refusals.specs.Arrays.{told}
-use Rattle.refusals.proofs.RunTests.{told-not, told-zero}
+use Rattle.refusals.specs.Arrays.{refusal-words}
+use Rattle.refusals.proofs.RunTests.{refusal-words-not, refusal-words-zero}
 use Rattle.schedules.specs.Answers.{row-buffer}
 use Rattle.waits.specs.Rows.{all-rows}
 use Rattle.waits.specs.Refusals.{waits-refusal}
@@ -40,18 +40,18 @@ good t s is room n e =
     let passes = early-passes t s is room n (early-zero t s is room n e) in
     (sym (ap (λ r. r .number) (waits-refusal-law t s is room n .rows-fit (passes .0) (passes .1))) ∙ e, passes .1)
 
-module _ (w : TreeWords) (s : LockState) (is b rs : List ℕ) (r : Refusal) (e : r ≡ told (waits-refusal (tree-of w) s is (length b) (length rs))) where
+module _ (w : TreeWords) (s : LockState) (is b rs : List ℕ) (r : Refusal) (e : r ≡ refusal-words (waits-refusal (tree-of w) s is (length b) (length rs))) where
   pub waits-refuse :
       (y : RunReply) → (r .number ≡ 0 → ⊥) → y ≡ run-refused (refusal (r .number) (r .place)) s →
       (y ≡ waits-answer w s is b rs) × ((b ≡ waits-trace w s is b rs) × (rs ≡ waits-rows w s is b rs))
   unfolding waits-answer run-reply waits-trace run-buffer waits-rows row-buffer refused-by refusal
   waits-refuse y n f =
-      let m = ne-eqb (waits-refusal (tree-of w) s is (length b) (length rs) .number) 0 (told-not r _ e n) in
+      let m = ne-eqb (waits-refusal (tree-of w) s is (length b) (length rs) .number) 0 (refusal-words-not r _ e n) in
       (f ∙ rw (e, m), (rw m, rw m))
 
   module _ (z : r .number ≡ 0) where
     pub waits-pass : (run-refusal (tree-of w) s is (length b) .number ≡ 0) × (5 * (tree-of w .threads + 1) ≤ length rs)
-    waits-pass = good (tree-of w) s is (length b) (length rs) (told-zero r _ e z)
+    waits-pass = good (tree-of w) s is (length b) (length rs) (refusal-words-zero r _ e z)
 
     pub waits-kinds-few : (kinds : List ℕ) → kinds ≡ kinds-of (steps (tree-of w) is (s .words)) → counts-by kinds .steps ≤ 65536
     unfolding counts-of
@@ -66,7 +66,7 @@ module _ (w : TreeWords) (s : LockState) (is b rs : List ℕ) (r : Refusal) (e :
         (record { number = 0; place = 0; counts = counts; state = lock-state n c } ≡ waits-answer w s is b rs) × ((b′ ≡ waits-trace w s is b rs) × (rs′ ≡ waits-rows w s is b rs))
     unfolding waits-answer run-reply waits-trace run-buffer waits-rows row-buffer refused-by counters-behind run run-of
     waits-answered n b′ kinds counts rs′ c g h k y f counted =
-        let p = eq-eqb (waits-refusal (tree-of w) s is (length b) (length rs) .number) 0 (told-zero r _ e z) in
+        let p = eq-eqb (waits-refusal (tree-of w) s is (length b) (length rs) .number) 0 (refusal-words-zero r _ e z) in
         let xs = all-rows (tree-of w) (steps (tree-of w) is (s .words)) in
         let room : 0 + length xs ≤ length rs = omega (arith, all-long (tree-of w) (steps (tree-of w) is (s .words)), waits-pass .1) in
         let z0 : 0 + length xs ≡ length xs = omega arith in

@@ -31,23 +31,23 @@ pub record Fits (marks attempts totals : List ℕ) (at entered : ℕ) : Type 0 w
   pub total-small : getD totals at 0 ≤ entered
 
 -- steps of a schedule from a state, told one number each, behind steps that are counted already
-pub record Counting (t : Tree) (schedule told marks attempts totals longest : List ℕ) (entered : ℕ) (done : List Step) (s : State) : Type 0 where
+pub record Counting (t : Tree) (schedule codes marks attempts totals longest : List ℕ) (entered : ℕ) (done : List Step) (s : State) : Type 0 where
   pub tree : tree-refusal t .number ≡ 0
   pub threads : All-threads t schedule
-  pub long : length schedule ≤ length told
+  pub long : length schedule ≤ length codes
   pub short : entered + length schedule ≤ 65536
-  pub codes : (k : ℕ) → k < length schedule → getD told k 0 ≡ step-code (step t (getD schedule k 0) (state-after s (steps t (take k schedule) s)))
+  pub each-code : (k : ℕ) → k < length schedule → getD codes k 0 ≡ step-code (step t (getD schedule k 0) (state-after s (steps t (take k schedule) s)))
   pub tallied : Tallies t done marks attempts totals longest entered
 
-pub record Countable (t : Tree) (schedule told marks attempts totals longest : List ℕ) (entered : ℕ) : Type 0 where
+pub record Countable (t : Tree) (schedule codes marks attempts totals longest : List ℕ) (entered : ℕ) : Type 0 where
   pub done : List Step
   pub state : State
-  pub counting : Counting t schedule told marks attempts totals longest entered done state
+  pub counting : Counting t schedule codes marks attempts totals longest entered done state
 
 -- after them they are counted too
-pub record Counted (t : Tree) (schedule told marks attempts totals longest : List ℕ) (entered : ℕ) (marks′ attempts′ totals′ longest′ : List ℕ) (entered′ : ℕ) : Type 0 where
+pub record Counted (t : Tree) (schedule codes marks attempts totals longest : List ℕ) (entered : ℕ) (marks′ attempts′ totals′ longest′ : List ℕ) (entered′ : ℕ) : Type 0 where
   pub counted :
-      (done : List Step) (s : State) → Counting t schedule told marks attempts totals longest entered done s →
+      (done : List Step) (s : State) → Counting t schedule codes marks attempts totals longest entered done s →
       Tallies t (done ++ steps t schedule s) marks′ attempts′ totals′ longest′ entered′
 
 -- the numbers of a table are at most 65,536

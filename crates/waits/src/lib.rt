@@ -3,7 +3,7 @@ ghost use mathlib.Core.Path.{_≡_};
 ghost use Rattle.model.specs.Trees.{tree-of};
 ghost use Rattle.model.specs.Counters.{lock-state};
 ghost use Rattle.model.specs.Refusals.{first-refusal};
-ghost use Rattle.refusals.specs.Arrays.{told};
+ghost use Rattle.refusals.specs.Arrays.{refusal-words};
 ghost use Rattle.refusals.specs.Counts.{counters-in};
 ghost use Rattle.waits.specs.Rows.{greatest-divisor, mean};
 ghost use Rattle.waits.specs.Refusals.{waits-tests-before-19, waits-refusal};
@@ -66,7 +66,7 @@ pub fn waits_refusal_of<'c>(
     room: usize,
     row_room: usize,
 ) -> Refusal
-    ensures { λ r. ⌜ r ≡ told (first-refusal (waits-tests-before-19 (tree-of tree) (lock-state state (counters-in (now (entries .entry)) (now (tenures .entry)) (now (longest .entry)))) (now (schedule .entry)) room «row_room»)) ⌝ }
+    ensures { λ r. ⌜ r ≡ refusal-words (first-refusal (waits-tests-before-19 (tree-of tree) (lock-state state (counters-in (now (entries .entry)) (now (tenures .entry)) (now (longest .entry)))) (now (schedule .entry)) room «row_room»)) ⌝ }
 {
     let r = refusals::run_refusal_of(tree, state, entries, tenures, longest, schedule, room);
     if r.number != 0 {
@@ -92,7 +92,7 @@ fn refusal_of<'c>(
     room: usize,
     row_room: usize,
 ) -> Refusal
-    ensures { λ r. ⌜ r ≡ told (waits-refusal (tree-of tree) (lock-state state (counters-in (now (entries .entry)) (now (tenures .entry)) (now (longest .entry)))) (now (schedule .entry)) room «row_room») ⌝ }
+    ensures { λ r. ⌜ r ≡ refusal-words (waits-refusal (tree-of tree) (lock-state state (counters-in (now (entries .entry)) (now (tenures .entry)) (now (longest .entry)))) (now (schedule .entry)) room «row_room») ⌝ }
 {
     let r = waits_refusal_of(
         tree,

@@ -109,21 +109,21 @@ fn note(
 fn count_piece(
     tree: TreeWords,
     schedule: &[u16],
-    told: &[u16],
+    codes: &[u16],
     count: u64,
     marks: &mut [u64; 256],
     attempts: &mut [u64; 256],
     totals: &mut [u64; 256],
     longest: &mut [u64; 256],
 ) -> u64
-    requires { ⌜ Countable (tree-of tree) (now schedule) (now told) (now marks) (now attempts) (now totals) (now longest) count ⌝ }
-    ensures { λ r. ⌜ Counted (tree-of tree) (now (schedule .entry)) (now (told .entry)) (now (marks .entry)) (now (attempts .entry)) (now (totals .entry)) (now (longest .entry)) count (now (marks .exit)) (now (attempts .exit)) (now (totals .exit)) (now (longest .exit)) r ⌝ }
+    requires { ⌜ Countable (tree-of tree) (now schedule) (now codes) (now marks) (now attempts) (now totals) (now longest) count ⌝ }
+    ensures { λ r. ⌜ Counted (tree-of tree) (now (schedule .entry)) (now (codes .entry)) (now (marks .entry)) (now (attempts .entry)) (now (totals .entry)) (now (longest .entry)) count (now (marks .exit)) (now (attempts .exit)) (now (totals .exit)) (now (longest .exit)) r ⌝ }
 {
     let mut entered = count;
     let mut k: usize = 0;
     while k < schedule.len() {
         let at = wide(schedule[k]);
-        let code = told[k];
+        let code = codes[k];
         let home = tree.homes[at];
         let begins = begins_at(is_ticket_home(tree.ticket_root, home), home, code / 8);
         let enters = steps::run::is_entry((code % 8) as u8);
@@ -244,7 +244,7 @@ pub(crate) fn run_counted(
     let mut from: usize = 0;
     while from < schedule.len() {
         let end = piece_end(from, schedule.len());
-        let mut told = [0u16; 1024];
+        let mut codes = [0u16; 1024];
         let mut piece = [0u32; 6];
         let written = entered as usize;
         n = steps::run::run_steps(
@@ -253,7 +253,7 @@ pub(crate) fn run_counted(
             &schedule[from..end],
             &mut trace[written..],
             &mut piece,
-            &mut told,
+            &mut codes,
             entries,
             tenures,
             longest,
@@ -262,7 +262,7 @@ pub(crate) fn run_counted(
         entered = count_piece(
             tree,
             &schedule[from..end],
-            &told,
+            &codes,
             entered,
             &mut marks,
             &mut attempts,

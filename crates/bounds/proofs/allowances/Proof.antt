@@ -7,7 +7,7 @@ use borrow.Author.Needs.{needs}
 use Rattle.model.specs.Trees.{tree-of}
 use Rattle.model.specs.Refusals.{tree-refusal}
 use Rattle.model.proofs.Trees.Accepted.{accepted}
-use Rattle.refusals.proofs.Reading.{told-same}
+use Rattle.refusals.proofs.Reading.{refusal-words-same}
 use Rattle.bounds.specs.Answers.{allowances-answer}
 use Rattle.bounds.proofs.Filling.{Filled, filled-none}
 use Rattle.bounds.proofs.Words.{refused-left, accepted-number, accepted-left, filled-more}
@@ -28,16 +28,16 @@ returns : tie.Need-returns Inv-loop μ-loop
 unfolding allowances-answer
 returns c =
     let s = c .before .before .before .before .before .before .before in
-    let e = c .before .before .tree-refusal-of .ensures ∙ told-same (s .args .t1) in
+    let e = c .before .before .tree-refusal-of .ensures ∙ refusal-words-same (s .args .t1) in
     (e, refused-left _ _ _ e (c .if1 .taken))
 
 loop-holds : tie.Need-loop-holds Inv-loop μ-loop
 unfolding allowances-answer tree-of
 loop-holds c =
     let s = c .before .before .before .before .before .before .before in
-    let ok = accepted-number (s .args .t1) _ (c .before .before .tree-refusal-of .ensures ∙ told-same (s .args .t1)) (c .if1 .left) in
-    let 𝓐 = accepted (tree-of (s .args .t1)) ok in
-    (ok, 𝓐 .some-domain, omega arith, 𝓐 .few-domains, refl, filled-none (tree-of (s .args .t1)) (𝓐 .few-domains))
+    let ok = accepted-number (s .args .t1) _ (c .before .before .tree-refusal-of .ensures ∙ refusal-words-same (s .args .t1)) (c .if1 .left) in
+    let valid = accepted (tree-of (s .args .t1)) ok in
+    (ok, valid .some-domain, omega arith, valid .few-domains, refl, filled-none (tree-of (s .args .t1)) (valid .few-domains))
 
 sub-d : tie.Need-sub-d Inv-loop μ-loop
 sub-d c = omega arith
@@ -83,7 +83,7 @@ unfolding allowances-answer
 returns-2 c =
     let s = c .before .before .before .before .before .before .before .before .before in
     let v = c .before .loop .inv in
-    (c .before .before .before .before .tree-refusal-of .ensures ∙ told-same (s .args .t1), accepted-left _ _ _ _ (v .0) (omega arith) (v .5) (v .4))
+    (c .before .before .before .before .tree-refusal-of .ensures ∙ refusal-words-same (s .args .t1), accepted-left _ _ _ _ (v .0) (omega arith) (v .5) (v .4))
 
 pub allowances-spec : {M : Type 1} → statement M
 allowances-spec =

@@ -13,14 +13,14 @@ returns c = rounds-refused _ _ (c .before .before .allowances .ensures .0) (c .i
 
 acquire-words-requires : tie.Need-acquire-words-requires
 acquire-words-requires c κs =
-    let told = c .before .before .before .allowances .ensures in
-    let ok = accepted-number _ _ (told .0) (c .before .if1 .left) in
-    (ok, allowed-left _ _ _ ok (told .1))
+    let allowed = c .before .before .before .allowances .ensures in
+    let ok = accepted-number _ _ (allowed .0) (c .before .if1 .left) in
+    (ok, allowed-left _ _ _ ok (allowed .1))
 
 everyone-requires : tie.Need-everyone-requires
 everyone-requires c κs =
-    let told = c .before .before .before .before .before .allowances .ensures in
-    let ok = accepted-number _ _ (told .0) (c .before .before .before .if1 .left) in
+    let allowed = c .before .before .before .before .before .allowances .ensures in
+    let ok = accepted-number _ _ (allowed .0) (c .before .before .before .if1 .left) in
     (ok, c .before .acquire-words .ensures)
 
 cast-capped-product : tie.Need-cast-capped-product
@@ -31,8 +31,8 @@ capped-product-requires c κs = search needs
 
 returns-2 : tie.Need-returns-2
 returns-2 c =
-    let told = c .before .before .before .before .before .before .before .before .allowances .ensures in
-    rounds-accepted _ _ _ _ (told .0) (c .before .before .before .before .before .before .if1 .left) (c .before .before .everyone .ensures) (c .capped-product .ensures)
+    let allowed = c .before .before .before .before .before .before .before .before .allowances .ensures in
+    rounds-accepted _ _ _ _ (allowed .0) (c .before .before .before .before .before .before .if1 .left) (c .before .before .everyone .ensures) (c .capped-product .ensures)
 
 pub rounds-spec : {M : Type 1} → statement M
 rounds-spec =

@@ -30,7 +30,7 @@ use Rattle.claims.proofs.Words.Links.{after}
 use Rattle.claims.proofs.Words.View.{Words, words-in}
 use Rattle.claims.proofs.Words.Represents.{waiting-word, letting-go-low, Fits, at-idle, at-prep, at-swap, at-link, at-wait, at-woken, at-ready, at-inside, at-check, at-pass, at-help, at-cas, at-linger, at-grant, at-draw, at-watch, at-shown, at-raise}
 use Rattle.claims.proofs.Claims.Reached.{Queued}
-use Rattle.claims.proofs.Claims.Queues.{Acting, acting-index, index-acting, in-queue}
+use Rattle.claims.proofs.Claims.QueueLaw.{Acting, acting-index, index-acting, in-queue}
 use Rattle.model.proofs.Laws.Kinds.{may-stay}
 use Rattle.claims.proofs.Claims.Moving.{woken-moves, ready-moves, shown-moves}
 use Rattle.chain.specs.Chain.{stays}
@@ -61,7 +61,7 @@ pub record Placed (t : Tree) (g : State) (i : ℕ) (p : Place) (x : Stage) : Typ
   pub low-there : index ≤ low (height t i) x
   pub there : place-domain (t .home i) p ≡ ancestor t i index
 
-module _ (t : Tree) (𝓐 : Accepted t) (w : Words) (g : State) (i : ℕ) (h : i < t .threads) where
+module _ (t : Tree) (valid : Accepted t) (w : Words) (g : State) (i : ℕ) (h : i < t .threads) where
   placed-at : {p : Place} {x : Stage} (k : ℕ) → k ≤ height t i → k ≤ low (height t i) x → place-domain (t .home i) p ≡ ancestor t i k → Placed t g i p x
   placed-at k a b e = record { index = k; within = a; low-there = b; there = e }
 
@@ -81,12 +81,12 @@ module _ (t : Tree) (𝓐 : Accepted t) (w : Words) (g : State) (i : ℕ) (h : i
   placed (at-cas k l c) = placed-at k l (omega (arith, letting-go-low (height t i) k)) refl
   placed (at-linger k l c n) = placed-at k l (omega (arith, letting-go-low (height t i) k)) refl
   placed (at-grant k r l c n) = placed-at k l (omega (arith, letting-go-low (height t i) k)) refl
-  placed (at-draw k l r c) = placed-at (height t i) (omega arith) (omega arith) (sym (ancestor-root t 𝓐 i h))
-  placed (at-watch k l r c) = placed-at (height t i) (omega arith) (omega arith) (sym (ancestor-root t 𝓐 i h))
-  placed (at-shown r c) = placed-at (height t i) (omega arith) (omega arith) (sym (ancestor-root t 𝓐 i h))
-  placed (at-raise r c) = placed-at (height t i) (omega arith) (omega arith) (sym (ancestor-root t 𝓐 i h))
+  placed (at-draw k l r c) = placed-at (height t i) (omega arith) (omega arith) (sym (ancestor-root t valid i h))
+  placed (at-watch k l r c) = placed-at (height t i) (omega arith) (omega arith) (sym (ancestor-root t valid i h))
+  placed (at-shown r c) = placed-at (height t i) (omega arith) (omega arith) (sym (ancestor-root t valid i h))
+  placed (at-raise r c) = placed-at (height t i) (omega arith) (omega arith) (sym (ancestor-root t valid i h))
 
-module _ (t : Tree) (𝓐 : Accepted t) (bits : Sixteen-bit t) (s : WordState) (q : Queued t s) where
+module _ (t : Tree) (valid : Accepted t) (bits : Sixteen-bit t) (s : WordState) (q : Queued t s) where
   abbrev pub g : State
   g = q .queues
 
@@ -117,8 +117,8 @@ module _ (t : Tree) (𝓐 : Accepted t) (bits : Sixteen-bit t) (s : WordState) (
     waits-at e y o (at-swap k l c n v) = no-stay _ e refl
     waits-at e y o (at-link k p l c d a n v) = no-stay _ e refl
     waits-at e y o (at-wait k p l c d a n v) = waits k p l y d a n v
-    waits-at e y o (at-woken k b c v z) = absurd (woken-moves t 𝓐 bits s q i h k b v (kind-there _ e))
-    waits-at e y o (at-ready k l c v p) = absurd (ready-moves t 𝓐 bits s q i h k l y (λ b. c k b b) v (kind-there _ e))
+    waits-at e y o (at-woken k b c v z) = absurd (woken-moves t valid bits s q i h k b v (kind-there _ e))
+    waits-at e y o (at-ready k l c v p) = absurd (ready-moves t valid bits s q i h k l y (λ b. c k b b) v (kind-there _ e))
     waits-at e y o (at-inside c) = no-stay _ e refl
     waits-at e y o (at-check k b c) = no-stay _ e refl
     waits-at e y o (at-pass k r v b c n z f) = no-stay _ e refl
@@ -126,11 +126,11 @@ module _ (t : Tree) (𝓐 : Accepted t) (bits : Sixteen-bit t) (s : WordState) (
     waits-at e y o (at-cas k l c) = no-stay _ e refl
     waits-at e y o (at-linger k l c n) =
         let z : eqb (next s (own-record t i (ancestor t i k))) 0 ≡ true = sym (stays-at t s i (Linger (ancestor t i k)) e ∙ linger-stays t s i (ancestor t i k)) ∙ still in
-        lingers k l (rw y (omega (arith, letting-go-low (height t i) k))) n (rw (own-record-at t 𝓐 i h k l) at (eqb-true (next s (own-record t i (ancestor t i k))) 0 z))
+        lingers k l (rw y (omega (arith, letting-go-low (height t i) k))) n (rw (own-record-at t valid i h k l) at (eqb-true (next s (own-record t i (ancestor t i k))) 0 z))
     waits-at e y o (at-grant k r l c n) = no-stay _ e refl
     waits-at e y o (at-draw k l r c) = no-stay _ e refl
     waits-at e y o (at-watch k l r c) = watches (y ∙ ap queued l) r
-    waits-at e y o (at-shown r c) = absurd (shown-moves t 𝓐 bits s q i h r y (kind-there _ e))
+    waits-at e y o (at-shown r c) = absurd (shown-moves t valid bits s q i h r y (kind-there _ e))
     waits-at e y o (at-raise r c) = no-stay _ e refl
 
     pub stay-waits : Waits i (place s i)
@@ -139,10 +139,10 @@ module _ (t : Tree) (𝓐 : Accepted t) (bits : Sixteen-bit t) (s : WordState) (
 
   -- WHO ACTS for a record
   pub same-thread : (b c n m : ℕ) → n < moves.acts (height t b) (g .stage b) → m < moves.acts (height t c) (g .stage c) → record-at t b n ≡ record-at t c m → b ≡ c
-  same-thread b c n m x y e = unique t (laws t 𝓐) g inv b c n m x y e .0
+  same-thread b c n m x y e = unique t (laws t valid) g inv b c n m x y e .0
 
-  pub acting-there : (d b : ℕ) → b < t .threads → acts t s b d ≡ true → Acting t 𝓐 bits s q d (own-record t b d) b
-  acting-there d b h e = acting-index t 𝓐 bits s q d (own-record t b d) b (record { real = h; acting = e; record-there = refl })
+  pub acting-there : (d b : ℕ) → b < t .threads → acts t s b d ≡ true → Acting t valid bits s q d (own-record t b d) b
+  acting-there d b h e = acting-index t valid bits s q d (own-record t b d) b (record { real = h; acting = e; record-there = refl })
 
   -- the thread that acts for a member of a queue
   pub record Actor (d m : ℕ) : Type 0 where
@@ -158,11 +158,11 @@ module _ (t : Tree) (𝓐 : Accepted t) (bits : Sixteen-bit t) (s : WordState) (
   pub actor : (d m : ℕ) → 1 ≤ count m (g .queue d) → Actor d m
   actor d m c =
       let a = inv .acted d m c in
-      let f : Acts-for t s d m (a .thread) = rw (a .place, a .mine) at (index-acting t 𝓐 bits s q (a .thread) (a .index) (a .acting)) in
+      let f : Acts-for t s d m (a .thread) = rw (a .place, a .mine) at (index-acting t valid bits s q (a .thread) (a .index) (a .acting)) in
       record { thread = a .thread; index = a .index; within = a .acting; place-there = a .place; mine = a .mine; real = f .real; acting = f .acting; own = f .record-there }
 
-  pub queued-there : (d b : ℕ) (a : Acting t 𝓐 bits s q d (own-record t b d) b) → 1 ≤ count (own-record t b d) (g .queue d)
-  queued-there d b a = rw (a .mine, a .there) at (in-queue t 𝓐 bits s q b (a .index) (a .within))
+  pub queued-there : (d b : ℕ) (a : Acting t valid bits s q d (own-record t b d) b) → 1 ≤ count (own-record t b d) (g .queue d)
+  queued-there d b a = rw (a .mine, a .there) at (in-queue t valid bits s q b (a .index) (a .within))
 
   -- whoever acts ahead of a record stands just before it
   pub stands-before : (d r b : ℕ) → is-ticket t d ≡ false → b < t .threads → acts t s b d ≡ true → next s (own-record t b d) ≡ suc r → after (g .queue d) (own-record t b d) ≡ suc r

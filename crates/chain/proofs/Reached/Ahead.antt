@@ -63,7 +63,7 @@ link-place Watch r e = absurd (false≢true e)
 link-place Raise r e = absurd (false≢true e)
 link-place Invalid r e = absurd (false≢true e)
 
-module _ (t : Tree) (𝓐 : Accepted t) (bits : Sixteen-bit t) (s : WordState) (q : Queued t s) where
+module _ (t : Tree) (valid : Accepted t) (bits : Sixteen-bit t) (s : WordState) (q : Queued t s) where
   abbrev pub g : State
   g = q .queues
 
@@ -126,8 +126,8 @@ module _ (t : Tree) (𝓐 : Accepted t) (bits : Sixteen-bit t) (s : WordState) (
     unfolding looked-to acts-ahead
     wait-one k p l nt a n =
         let d = ancestor t i k in
-        let own = own-record-at t 𝓐 i h k l in
-        let b = actor t 𝓐 bits s q d p (after-in (g .queue d) p (record-at t i k) a) in
+        let own = own-record-at t valid i h k l in
+        let b = actor t valid bits s q d p (after-in (g .queue d) p (record-at t i k) a) in
         let named : next s (own-record t (b .thread) d) ≡ own-record t i d + 1 = ap (λ r. next s r) (b .own) ∙ n ∙ (let z : suc (record-at t i k) ≡ own-record t i d + 1 = omega arith in z) in (
           b .thread,
           b .real,
@@ -135,10 +135,10 @@ module _ (t : Tree) (𝓐 : Accepted t) (bits : Sixteen-bit t) (s : WordState) (
           λ j hj f.
               let both = and-both (acts t s j d) (eqb (next s (own-record t j d)) (own-record t i d + 1)) f in
               let nx : next s (own-record t j d) ≡ suc (record-at t i k) = eqb-true _ _ (both .1) ∙ (let z : own-record t i d + 1 ≡ suc (record-at t i k) = omega arith in z) in
-              let before = stands-before t 𝓐 bits s q d (record-at t i k) j nt hj (both .0) nx in
+              let before = stands-before t valid bits s q d (record-at t i k) j nt hj (both .0) nx in
               let same = after-same (g .queue d) (own-record t j d) p (record-at t i k) before a (once d) in
-              let x = acting-there t 𝓐 bits s q d j hj (both .0) in
-              same-thread t 𝓐 bits s q j (b .thread) (x .index) (b .index) (x .within) (b .within) (x .mine ∙ same ∙ sym (b .mine)),
+              let x = acting-there t valid bits s q d j hj (both .0) in
+              same-thread t valid bits s q j (b .thread) (x .index) (b .index) (x .within) (b .within) (x .mine ∙ same ∙ sym (b .mine)),
         )
 
     -- in Linger: the thread behind, which is in Link
@@ -160,7 +160,7 @@ module _ (t : Tree) (𝓐 : Accepted t) (bits : Sixteen-bit t) (s : WordState) (
       behind-one m ys shape b real (linking p e nd a z) =
           let a′ : after (R ∷ m ∷ ys) p ≡ suc m = rw (b .place, b .mine, shape) at a in
           let same : p ≡ R = before-second p R m ys a′ (rw shape at (inv .once d m)) in
-          let own = own-record-at t 𝓐 i h k l in (
+          let own = own-record-at t valid i h k l in (
             b .thread,
             real,
             rw (e, own, eq-eqb p R same) refl,
@@ -170,18 +170,18 @@ module _ (t : Tree) (𝓐 : Accepted t) (bits : Sixteen-bit t) (s : WordState) (
                 let y = linking-there j (x .0) R hj (x .1) in
                 let after-j : after (g .queue (ancestor t j (y .index))) R ≡ suc (record-at t j (y .index)) = y .behind in
                 let after-R : after (g .queue d) R ≡ suc m = rw shape (after-here R R (m ∷ ys) refl ∙ first-cons m ys) in
-                let there = one-queue t (laws t 𝓐) g inv (ancestor t j (y .index)) d R (after-in _ R _ after-j) (after-in _ R _ after-R) in
+                let there = one-queue t (laws t valid) g inv (ancestor t j (y .index)) d R (after-in _ R _ after-j) (after-in _ R _ after-R) in
                 let after-d : after (g .queue d) R ≡ suc (record-at t j (y .index)) = rw there at after-j in
                 let record-same : record-at t j (y .index) ≡ record-at t (b .thread) (b .index) = (let u : record-at t j (y .index) ≡ m = omega arith in u) ∙ sym (b .mine) in
                 let b-acts : b .index < moves.acts (height t (b .thread)) (g .stage (b .thread)) = rw (b .waits) (omega arith) in
-                same-thread t 𝓐 bits s q j (b .thread) (y .index) (b .index) (y .acting) b-acts record-same,
+                same-thread t valid bits s q j (b .thread) (y .index) (b .index) (y .acting) b-acts record-same,
           )
       behind-one m ys shape b real (waiting p e c a z) =
           let a′ : after (R ∷ m ∷ ys) p ≡ suc m = rw (b .place, b .mine, shape) at a in
           let same : p ≡ R = before-second p R m ys a′ (rw shape at (inv .once d m)) in
           absurd (let z′ : next s R ≡ suc (record-at t (b .thread) (b .index)) = rw same at z in omega arith)
       behind-one m ys shape b real (watching e z y c) =
-          absurd (false≢true (sym nt ∙ ticket-yes t d y (sym (b .place) ∙ ap (ancestor t (b .thread)) z ∙ ancestor-root t 𝓐 (b .thread) real)))
+          absurd (false≢true (sym nt ∙ ticket-yes t d y (sym (b .place) ∙ ap (ancestor t (b .thread)) z ∙ ancestor-root t valid (b .thread) real)))
 
       linger-one : One i (Linger d)
       unfolding words-in reach
@@ -199,7 +199,7 @@ module _ (t : Tree) (𝓐 : Accepted t) (bits : Sixteen-bit t) (s : WordState) (
       unfolding low moves.acts
       behind-first =
           let st = inv .threads i .stands (rw stands (omega arith)) in
-          rw (stands, ancestor-root t 𝓐 i h) at st
+          rw (stands, ancestor-root t valid i h) at st
 
       pub held : Tickets (λ r. status s r) (s .grant) (s .ticket) (g .queue 0)
       unfolding words-in
@@ -210,7 +210,7 @@ module _ (t : Tree) (𝓐 : Accepted t) (bits : Sixteen-bit t) (s : WordState) (
       grant-small = q .represents .numbered root .small
 
       pub short : length (g .queue 0) ≤ 320
-      short = list-short 320 (g .queue 0) (member-small t 𝓐 g inv 0) (inv .once 0)
+      short = list-short 320 (g .queue 0) (member-small t valid g inv 0) (inv .once 0)
 
       -- the member just before, and its ticket
       predecessor : (p : ℕ) × (after (g .queue 0) p ≡ suc mine)
@@ -226,12 +226,12 @@ module _ (t : Tree) (𝓐 : Accepted t) (bits : Sixteen-bit t) (s : WordState) (
           let small : status s p < 65536 = rw (x .ticket) (wrap-small (s .grant + x .behind)) in
           let one : status s mine ≡ wrap (status s p + 1) = ticket-next (λ r. status s r) (s .grant) (s .ticket) p mine (g .queue 0) held (predecessor .1) in
           let before : ticket-before (status s mine) ≡ status s p = rw one (omega arith) in
-          ap (λ r. ticket-before (status s r)) (root-record t 𝓐 i h) ∙ before
+          ap (λ r. ticket-before (status s r)) (root-record t valid i h) ∙ before
 
       same-member : (j : ℕ) → j < t .threads → acts t s j 0 ≡ true → status s (own-record t j 0) ≡ ticket-before (status s (own-record t i 0)) → own-record t j 0 ≡ predecessor .0
       same-member j hj e f =
-          let y = acting-there t 𝓐 bits s q 0 j hj e in
-          ticket-same (λ r. status s r) (s .grant) (s .ticket) (own-record t j 0) (predecessor .0) (g .queue 0) grant-small short held (queued-there t 𝓐 bits s q 0 j y) predecessor-there (f ∙ ticket-there)
+          let y = acting-there t valid bits s q 0 j hj e in
+          ticket-same (λ r. status s r) (s .grant) (s .ticket) (own-record t j 0) (predecessor .0) (g .queue 0) grant-small short held (queued-there t valid bits s q 0 j y) predecessor-there (f ∙ ticket-there)
 
       pub watch-before : (j : ℕ) → j < t .threads → acts t s j 0 ≡ true → status s (own-record t j 0) ≡ ticket-before (status s (own-record t i 0)) → after (g .queue 0) (own-record t j 0) ≡ suc mine
       watch-before j hj e f = ap (after (g .queue 0)) (same-member j hj e f) ∙ predecessor .1
@@ -239,19 +239,19 @@ module _ (t : Tree) (𝓐 : Accepted t) (bits : Sixteen-bit t) (s : WordState) (
       watch-one : One i Watch
       unfolding looked-to acts-holding
       watch-one =
-          let b = actor t 𝓐 bits s q 0 (predecessor .0) predecessor-there in
+          let b = actor t valid bits s q 0 (predecessor .0) predecessor-there in
           let there : status s (own-record t (b .thread) 0) ≡ ticket-before (status s (own-record t i 0)) = ap (λ r. status s r) (b .own) ∙ sym ticket-there in (
             b .thread,
             b .real,
             rw (b .acting, eq-eqb _ _ there) refl,
             λ j hj f.
                 let both = and-both (acts t s j 0) (eqb (status s (own-record t j 0)) (ticket-before (status s (own-record t i 0)))) f in
-                let y = acting-there t 𝓐 bits s q 0 j hj (both .0) in
+                let y = acting-there t valid bits s q 0 j hj (both .0) in
                 let same = same-member j hj (both .0) (eqb-true _ _ (both .1)) in
-                same-thread t 𝓐 bits s q j (b .thread) (y .index) (b .index) (y .within) (b .within) (y .mine ∙ same ∙ sym (b .mine)),
+                same-thread t valid bits s q j (b .thread) (y .index) (b .index) (y .within) (b .within) (y .mine ∙ same ∙ sym (b .mine)),
           )
 
-    one-by : (p : Place) → good-place t i p ≡ true → Waits t 𝓐 bits s q i p → One i p
+    one-by : (p : Place) → good-place t i p ≡ true → Waits t valid bits s q i p → One i p
     unfolding good-place
     one-by _ o (waits k p l e nt a n v) = wait-one k p l nt a n
     one-by _ o (lingers k l b n z) = linger-one k (queue-facts t i (ancestor t i k) o .1) b n l z
@@ -259,7 +259,7 @@ module _ (t : Tree) (𝓐 : Accepted t) (bits : Sixteen-bit t) (s : WordState) (
 
     pub looked-one : stays t s i ≡ true → (j : ℕ) × Looked i j
     looked-one still =
-        let x = one-by (place s i) (q .facts .places i .used h) (stay-waits t 𝓐 bits s q i h still) in
+        let x = one-by (place s i) (q .facts .places i .used h) (stay-waits t valid bits s q i h still) in
         (x .0, record { real = x .1; looked = x .2; only-one = x .3 })
 
     pub looks-one : (j : ℕ) → stays t s i ≡ true → Looked i j → looks-to t s i ≡ j ∷ []

@@ -42,7 +42,7 @@ stays-not-sent l v e = by (eqb l 0) refl
     by true z = let y : eqb v locked ≡ true = rw z at e in rw (z, y) refl
     by false z = let y : eqb v wait-word ≡ true = rw z at e in rw z (le-ltb v acquire-parent (let u = eqb-true v wait-word y in omega arith))
 
-module _ (t : Tree) (𝓐 : Accepted t) (bits : Sixteen-bit t) (s : WordState) (q : Queued t s) where
+module _ (t : Tree) (valid : Accepted t) (bits : Sixteen-bit t) (s : WordState) (q : Queued t s) where
   abbrev g : State
   g = q .queues
 
@@ -76,7 +76,7 @@ module _ (t : Tree) (𝓐 : Accepted t) (bits : Sixteen-bit t) (s : WordState) (
   rank-none i e = rw e refl
 
   few-there : (d r : ℕ) → position r (g .queue d) ≤ 320
-  few-there d r = omega (arith, position-small r (g .queue d), list-short 320 (g .queue d) (member-small t 𝓐 g inv d) (inv .once d))
+  few-there d r = omega (arith, position-small r (g .queue d), list-short 320 (g .queue d) (member-small t valid g inv d) (inv .once d))
 
   once : (d a : ℕ) → count a (g .queue d) ≤ 1
   once d a = inv .once d a
@@ -105,7 +105,7 @@ module _ (t : Tree) (𝓐 : Accepted t) (bits : Sixteen-bit t) (s : WordState) (
         (λ z. let u : position (own-record t b 0) (g .queue 0) ≡ position (own-record t b d) (g .queue d) = ap (λ x. position (own-record t b x) (g .queue x)) z in omega arith)
         (λ z. omega (arith, few-there 0 (own-record t b 0)))
 
-    bounded : (p : Place) → place s b ≡ p → Waits t 𝓐 bits s q b p → acts-at t s b p d ≡ true → rank-at b p ≤ bound
+    bounded : (p : Place) → place s b ≡ p → Waits t valid bits s q b p → acts-at t s b p d ≡ true → rank-at b p ≤ bound
     unfolding acts-at rank-at
     bounded _ y (waits k p l e nt f n v) acting = wait-bound (ancestor t b k) y acting
     bounded _ y (lingers k l c n z) acting = let u = leb-true (ancestor t b k) d acting in omega arith
@@ -116,18 +116,18 @@ module _ (t : Tree) (𝓐 : Accepted t) (bits : Sixteen-bit t) (s : WordState) (
   rank-bound b d hb e = by (stays t s b) refl
     where
       by : (c : Bool) → stays t s b ≡ c → cond (stays t s b) (rank-at b (place s b)) 0 ≤ 1 + 400 * d + position (own-record t b d) (g .queue d)
-      by true z = rw z (bounded b hb z d (place s b) refl (stay-waits t 𝓐 bits s q b hb z) (and-both (on-path t b d) (acts-at t s b (place s b) d) e .1))
+      by true z = rw z (bounded b hb z d (place s b) refl (stay-waits t valid bits s q b hb z) (and-both (on-path t b d) (acts-at t s b (place s b) d) e .1))
       by false z = rw z (omega arith)
 
   -- A LINK FALLS
   module _ (a b : ℕ) (ha : a < t .threads) (hb : b < t .threads) (still : stays t s a ≡ true) where
-    link-falls : (p : Place) → good-place t a p ≡ true → Waits t 𝓐 bits s q a p → looked-to t s a p b ≡ true → rank b < rank-at a p
+    link-falls : (p : Place) → good-place t a p ≡ true → Waits t valid bits s q a p → looked-to t s a p b ≡ true → rank b < rank-at a p
     unfolding looked-to acts-ahead acts-holding rank-at good-place may-stay
     link-falls _ o (waits k p l e nt f n v) looked =
         let d = ancestor t a k in
         let both = and-both (acts t s b d) (eqb (next s (own-record t b d)) (own-record t a d + 1)) looked in
         let named : next s (own-record t b d) ≡ suc (own-record t a d) = eqb-true _ _ (both .1) ∙ (let z : own-record t a d + 1 ≡ suc (own-record t a d) = omega arith in z) in
-        let before = stands-before t 𝓐 bits s q d (own-record t a d) b nt hb (both .0) named in
+        let before = stands-before t valid bits s q d (own-record t a d) b nt hb (both .0) named in
         omega (arith, rank-bound b d hb (both .0), position-next (g .queue d) (own-record t b d) (own-record t a d) before (once d))
     link-falls _ o (lingers k l c n z) looked =
         let x = link-place (place s b) (own-record t a (ancestor t a k)) looked in
@@ -135,11 +135,11 @@ module _ (t : Tree) (𝓐 : Accepted t) (bits : Sixteen-bit t) (s : WordState) (
         omega (arith, rank-none b moves)
     link-falls _ o (watches e r) looked =
         let both = and-both (acts t s b 0) (eqb (status s (own-record t b 0)) (ticket-before (status s (own-record t a 0)))) looked in
-        let before = watch-before t 𝓐 bits s q a ha e r b hb (both .0) (eqb-true _ _ (both .1)) in
-        let own = root-record t 𝓐 a ha in
+        let before = watch-before t valid bits s q a ha e r b hb (both .0) (eqb-true _ _ (both .1)) in
+        let own = root-record t valid a ha in
         let z : position (own-record t a 0) (g .queue 0) ≡ position (record-at t a (height t a)) (g .queue 0) = ap (λ x. position x (g .queue 0)) own in
         omega (arith, rank-bound b 0 hb (both .0), position-next (g .queue 0) (own-record t b 0) (record-at t a (height t a)) before (once 0))
 
     pub falls : looked-to t s a (place s a) b ≡ true → rank b < rank a
     unfolding rank
-    falls looked = let x = link-falls (place s a) (q .facts .places a .used ha) (stay-waits t 𝓐 bits s q a ha still) looked in rw still x
+    falls looked = let x = link-falls (place s a) (q .facts .places a .used ha) (stay-waits t valid bits s q a ha still) looked in rw still x

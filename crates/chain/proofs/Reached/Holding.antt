@@ -33,7 +33,7 @@ use Rattle.claims.proofs.Words.Represents.{letting-go-low, Fits, at-idle, at-pr
 use Rattle.claims.proofs.Words.Tickets.{tickets-rest}
 use Rattle.claims.proofs.Words.Frame.{others-of, other-record}
 use Rattle.claims.proofs.Claims.Reached.{Queued}
-use Rattle.claims.proofs.Claims.Queues.{Acting, in-queue}
+use Rattle.claims.proofs.Claims.QueueLaw.{Acting, in-queue}
 use Rattle.chain.specs.Chain.{stays, acts-ahead, links, ticket-before, acts-holding, looked-to}
 use Rattle.chain.specs.Tables.{waits-in}
 use Rattle.chain.proofs.Linking.{stays-at, wait-stays, linger-stays, watch-stays}
@@ -60,7 +60,7 @@ raise-or Draw C f n = n (λ e. let o = ap (λ u. words-of u .row) e in omega ari
 raise-or Watch C f n = n (λ e. let o = ap (λ u. words-of u .row) e in omega arith)
 raise-or Invalid C f n = n (λ e. let o = ap (λ u. words-of u .row) e in omega arith)
 
-module _ (t : Tree) (𝓐 : Accepted t) (bits : Sixteen-bit t) (s : WordState) (q : Queued t s) where
+module _ (t : Tree) (valid : Accepted t) (bits : Sixteen-bit t) (s : WordState) (q : Queued t s) where
   abbrev g : State
   g = q .queues
 
@@ -142,7 +142,7 @@ module _ (t : Tree) (𝓐 : Accepted t) (bits : Sixteen-bit t) (s : WordState) (
           index = x .index;
           acting = x .acting;
           queue-there = nt;
-          behind = sym (q .represents .linked (ancestor t c (x .index)) nt .chain (record-at t c (x .index)) (in-queue t 𝓐 bits s q c (x .index) (x .acting)) (λ z. let y = x .names in omega arith)) ∙ x .names;
+          behind = sym (q .represents .linked (ancestor t c (x .index)) nt .chain (record-at t c (x .index)) (in-queue t valid bits s q c (x .index) (x .acting)) (λ z. let y = x .names in omega arith)) ∙ x .names;
         }
 
     -- words of other threads' records
@@ -152,15 +152,15 @@ module _ (t : Tree) (𝓐 : Accepted t) (bits : Sixteen-bit t) (s : WordState) (
     pub far : (j m : ℕ) → j < t .threads → j ≢ c → m ≤ low (height t j) (g .stage j) → record-at t j m ≢ own-record t c (place-domain (t .home c) (place s c))
     unfolding words-in
     far j m hj n b e =
-        let p = placed t 𝓐 w g c hc (q .represents .fits c hc) in
-        let own : own-record t c (place-domain (t .home c) (place s c)) ≡ record-at t c (p .index) = ap (own-record t c) (p .there) ∙ own-record-at t 𝓐 c hc (p .index) (p .within) in
-        other-record t 𝓐 w g c hc (others-of (q .represents) c) j (p .index) m hj n (p .low-there) b (e ∙ own)
+        let p = placed t valid w g c hc (q .represents .fits c hc) in
+        let own : own-record t c (place-domain (t .home c) (place s c)) ≡ record-at t c (p .index) = ap (own-record t c) (p .there) ∙ own-record-at t valid c hc (p .index) (p .within) in
+        other-record t valid w g c hc (others-of (q .represents) c) j (p .index) m hj n (p .low-there) b (e ∙ own)
 
     pub status-same : (j m : ℕ) → j < t .threads → j ≢ c → m ≤ low (height t j) (g .stage j) → (Granted c (record-at t j m) → ⊥) → status after-step (record-at t j m) ≡ status s (record-at t j m)
     status-same j m hj n b never = status-kept t s c (record-at t j m) (place s c) (far j m hj n b) (λ l v e. never (granted l (record-at t j m) v e))
 
-    next-same : (j m : ℕ) → j < t .threads → j ≢ c → m ≤ low (height t j) (g .stage j) → (Linking t 𝓐 bits s q c (record-at t j m) → ⊥) → next after-step (record-at t j m) ≡ next s (record-at t j m)
-    next-same j m hj n b never = next-kept t s c (record-at t j m) (place s c) (far j m hj n b) (λ l e. never (linking-there t 𝓐 bits s q c l (record-at t j m) hc e))
+    next-same : (j m : ℕ) → j < t .threads → j ≢ c → m ≤ low (height t j) (g .stage j) → (Linking t valid bits s q c (record-at t j m) → ⊥) → next after-step (record-at t j m) ≡ next s (record-at t j m)
+    next-same j m hj n b never = next-kept t s c (record-at t j m) (place s c) (far j m hj n b) (λ l e. never (linking-there t valid bits s q c l (record-at t j m) hc e))
 
     -- nobody grants a member that is first
     pub not-first : (j m : ℕ) → m < low (height t j) (g .stage j) → Granted c (record-at t j m) → ⊥
@@ -169,7 +169,7 @@ module _ (t : Tree) (𝓐 : Accepted t) (bits : Sixteen-bit t) (s : WordState) (
         let f = inv .threads j .heads m b in
         let d = ancestor t c (x .index) in
         let rest-count = after-behind (g .queue d) (record-at t c (x .index)) r (x .behind) in
-        let same = one-queue t (laws t 𝓐) g inv (ancestor t j m) d r (first-in r (g .queue (ancestor t j m)) f) (omega (arith, count-rest r (g .queue d))) in
+        let same = one-queue t (laws t valid) g inv (ancestor t j m) d r (first-in r (g .queue (ancestor t j m)) f) (omega (arith, count-rest r (g .queue d))) in
         let f′ : first (g .queue d) ≡ suc r = rw same at f in
         omega (arith, first-count r (g .queue d) f′, inv .once d r)
 
@@ -178,8 +178,8 @@ module _ (t : Tree) (𝓐 : Accepted t) (bits : Sixteen-bit t) (s : WordState) (
       same-place : place after-step b ≡ place s b
       same-place = place-kept t s c b n (place s c)
 
-      abbrev x : Acting t 𝓐 bits s q d (own-record t b d) b
-      x = acting-there t 𝓐 bits s q d b hb acting
+      abbrev x : Acting t valid bits s q d (own-record t b d) b
+      x = acting-there t valid bits s q d b hb acting
 
       still-acts : (p : Place) → Placed t g b p (g .stage b) → acts-at t s b p d ≡ true → acts-at t after-step b p d ≡ true
       unfolding acts-at
@@ -187,12 +187,12 @@ module _ (t : Tree) (𝓐 : Accepted t) (bits : Sixteen-bit t) (s : WordState) (
           less-or (y .index) (x .index) _
           (λ h.
           let low-there : y .index < low (height t b) (g .stage b) = omega (arith, x .within, acts-low (height t b) (g .stage b)) in
-          let own : own-record t b l ≡ record-at t b (y .index) = ap (own-record t b) (y .there) ∙ own-record-at t 𝓐 b hb (y .index) (y .within) in
+          let own : own-record t b l ≡ record-at t b (y .index) = ap (own-record t b) (y .there) ∙ own-record-at t valid b hb (y .index) (y .within) in
           let same : status after-step (own-record t b l) ≡ status s (own-record t b l) = rw own (status-same b (y .index) hb n (y .low-there) (not-first b (y .index) low-there)) in
           ap (λ v. leb l d || sends-inside l v) same ∙ e)
           (λ h.
           let below : ancestor t b (y .index) ≤ ancestor t b (x .index) = same-or (x .index) (y .index) _
-          (λ z. rw z (omega arith)) (λ z. let f = ancestor-strict t 𝓐 b hb (x .index) (y .index) (omega arith) (y .within) in omega arith) in
+          (λ z. rw z (omega arith)) (λ z. let f = ancestor-strict t valid b hb (x .index) (y .index) (omega arith) (y .within) in omega arith) in
           let here : l ≤ d = let u = y .there in let v = x .there in omega arith in
           rw (le-leb l d here) refl)
       still-acts Idle y e = e
@@ -214,7 +214,7 @@ module _ (t : Tree) (𝓐 : Accepted t) (bits : Sixteen-bit t) (s : WordState) (
       unfolding acts words-in
       acts-kept =
           let both = and-both (on-path t b d) (acts-at t s b (place s b) d) acting in
-          rw (same-place, both .0) (still-acts (place s b) (placed t 𝓐 w g b hb (q .represents .fits b hb)) (both .1))
+          rw (same-place, both .0) (still-acts (place s b) (placed t valid w g b hb (q .represents .fits b hb)) (both .1))
 
     -- THE LINK IS KEPT: the thread a behind, the thread b ahead, a step of c
     module _ (a b : ℕ) (ha : a < t .threads) (hb : b < t .threads) (ca : a ≢ c) (cb : b ≢ c) where
@@ -225,7 +225,7 @@ module _ (t : Tree) (𝓐 : Accepted t) (bits : Sixteen-bit t) (s : WordState) (
       place-a = place-kept t s c a ca (place s c)
 
       -- the record of a thread that acts at a domain
-      acting-low : (d : ℕ) (x : Acting t 𝓐 bits s q d (own-record t b d) b) → x .index ≤ low (height t b) (g .stage b)
+      acting-low : (d : ℕ) (x : Acting t valid bits s q d (own-record t b d) b) → x .index ≤ low (height t b) (g .stage b)
       acting-low d x = omega (arith, x .within, acts-low (height t b) (g .stage b))
 
       wait-kept : (k p : ℕ) → k ≤ height t a → g .stage a ≡ queued k → is-ticket t (ancestor t a k) ≡ false → after (g .queue (ancestor t a k)) p ≡ suc (record-at t a k) →
@@ -234,19 +234,19 @@ module _ (t : Tree) (𝓐 : Accepted t) (bits : Sixteen-bit t) (s : WordState) (
       wait-kept k p l e nt behind y looked still =
           let d = ancestor t a k in
           let I = record-at t a k in
-          let own = own-record-at t 𝓐 a ha k l in
+          let own = own-record-at t valid a ha k l in
           let both = and-both (acts t s b d) (eqb (next s (own-record t b d)) (own-record t a d + 1)) looked in
           let named : next s (own-record t b d) ≡ own-record t a d + 1 = eqb-true _ _ (both .1) in
-          let x = acting-there t 𝓐 bits s q d b hb (both .0) in
-          let before = stands-before t 𝓐 bits s q d I b nt hb (both .0) (named ∙ (let z : own-record t a d + 1 ≡ suc I = omega arith in z)) in
+          let x = acting-there t valid bits s q d b hb (both .0) in
+          let before = stands-before t valid bits s q d I b nt hb (both .0) (named ∙ (let z : own-record t a d + 1 ≡ suc I = omega arith in z)) in
           let not-granted : Granted c I → ⊥ = λ gr.
           let e₁ = ancestor t c (gr .index) in
           let rest-count = after-behind (g .queue e₁) (record-at t c (gr .index)) I (gr .behind) in
           let own-count = after-behind (g .queue d) p I behind in
-          let same = one-queue t (laws t 𝓐) g inv e₁ d I (omega (arith, count-rest I (g .queue e₁))) (omega (arith, count-rest I (g .queue d))) in
+          let same = one-queue t (laws t valid) g inv e₁ d I (omega (arith, count-rest I (g .queue e₁))) (omega (arith, count-rest I (g .queue d))) in
           let behind-c : after (g .queue d) (record-at t c (gr .index)) ≡ suc I = rw same at (gr .behind) in
           let record-same = after-same (g .queue d) (record-at t c (gr .index)) (own-record t b d) I behind-c before (λ u. inv .once d u) in
-          cb (sym (same-thread t 𝓐 bits s q c b (gr .index) (x .index) (gr .acting) (x .within) (record-same ∙ sym (x .mine)))) in
+          cb (sym (same-thread t valid bits s q c b (gr .index) (x .index) (gr .acting) (x .within) (record-same ∙ sym (x .mine)))) in
           let status-is : status after-step (own-record t a d) ≡ status s (own-record t a d) = rw own (status-same a k ha ca (rw e (omega arith)) not-granted) in
           let next-is : next after-step (own-record t b d) ≡ next s (own-record t b d) = rw (← x .mine) (next-same b (x .index) hb cb (acting-low d x) (λ li. let z = li .quiet in let v : next s (record-at t b (x .index)) ≡ own-record t a d + 1 = rw (x .mine) named in omega arith)) in (
             stays-at t after-step a (Wait d) (place-a ∙ y) ∙ wait-stays t after-step a d ∙ ap (waits-in d) status-is ∙ sym (wait-stays t s a d) ∙ sym (stays-at t s a (Wait d) y) ∙ still,
@@ -258,15 +258,15 @@ module _ (t : Tree) (𝓐 : Accepted t) (bits : Sixteen-bit t) (s : WordState) (
       linger-kept k l first-there y looked still =
           let d = ancestor t a k in
           let R = record-at t a k in
-          let own = own-record-at t 𝓐 a ha k l in
+          let own = own-record-at t valid a ha k l in
           let looked′ : links (place s b) R ≡ true = ap (links (place s b)) (sym own) ∙ looked in
           let lb = link-place (place s b) R looked′ in
-          let xb = linking-there t 𝓐 bits s q b (lb .0) R hb (lb .1) in
-          let not-linked : Linking t 𝓐 bits s q c R → ⊥ = λ xc.
-          let same = one-queue t (laws t 𝓐) g inv (ancestor t c (xc .index)) (ancestor t b (xb .index)) R (after-in _ R _ (xc .behind)) (after-in _ R _ (xb .behind)) in
+          let xb = linking-there t valid bits s q b (lb .0) R hb (lb .1) in
+          let not-linked : Linking t valid bits s q c R → ⊥ = λ xc.
+          let same = one-queue t (laws t valid) g inv (ancestor t c (xc .index)) (ancestor t b (xb .index)) R (after-in _ R _ (xc .behind)) (after-in _ R _ (xb .behind)) in
           let bc : after (g .queue (ancestor t b (xb .index))) R ≡ suc (record-at t c (xc .index)) = rw same at (xc .behind) in
           let bb = xb .behind in
-          cb (sym (same-thread t 𝓐 bits s q c b (xc .index) (xb .index) (xc .acting) (xb .acting) (omega arith))) in
+          cb (sym (same-thread t valid bits s q c b (xc .index) (xb .index) (xc .acting) (xb .acting) (omega arith))) in
           let next-is : next after-step (own-record t a d) ≡ next s (own-record t a d) = rw own (next-same a k ha ca (omega arith) not-linked) in (
             stays-at t after-step a (Linger d) (place-a ∙ y) ∙ linger-stays t after-step a d ∙ ap (λ v. eqb v 0) next-is ∙ sym (linger-stays t s a d) ∙ sym (stays-at t s a (Linger d) y) ∙ still,
             rw (place-kept t s c b cb (place s c)) looked,
@@ -280,27 +280,27 @@ module _ (t : Tree) (𝓐 : Accepted t) (bits : Sixteen-bit t) (s : WordState) (
         unfolding looked-to acts-holding
         both = and-both (acts t s b 0) (eqb (status s (own-record t b 0)) (ticket-before v)) looked
 
-        abbrev ahead : Acting t 𝓐 bits s q 0 (own-record t b 0) b
-        ahead = acting-there t 𝓐 bits s q 0 b hb (both .0)
+        abbrev ahead : Acting t valid bits s q 0 (own-record t b 0) b
+        ahead = acting-there t valid bits s q 0 b hb (both .0)
 
         -- members of a ticket lock are granted by nobody
         not-granted-root : (r : ℕ) → 1 ≤ count r (g .queue 0) → Granted c r → ⊥
         not-granted-root r m gr =
             let d = ancestor t c (gr .index) in
             let rest-count = after-behind (g .queue d) (record-at t c (gr .index)) r (gr .behind) in
-            let same = one-queue t (laws t 𝓐) g inv d 0 r (omega (arith, count-rest r (g .queue d))) m in
+            let same = one-queue t (laws t valid) g inv d 0 r (omega (arith, count-rest r (g .queue d))) m in
             false≢true (sym (gr .queue-there) ∙ ticket-yes t d root same)
 
         own-status : status after-step (own-record t a 0) ≡ v
         unfolding low
         own-status =
             let m = record-at t a (height t a) in
-            let in-rest = behind-first t 𝓐 bits s q a ha stands root in
-            rw (root-record t 𝓐 a ha) (status-same a (height t a) ha ca (rw stands (omega arith)) (not-granted-root m (omega (arith, count-rest m (g .queue 0)))))
+            let in-rest = behind-first t valid bits s q a ha stands root in
+            rw (root-record t valid a ha) (status-same a (height t a) ha ca (rw stands (omega arith)) (not-granted-root m (omega (arith, count-rest m (g .queue 0)))))
 
         ahead-status : status after-step (own-record t b 0) ≡ status s (own-record t b 0)
         ahead-status =
-            rw (← ahead .mine) (status-same b (ahead .index) hb cb (acting-low 0 ahead) (not-granted-root (record-at t b (ahead .index)) (rw (ahead .mine) (queued-there t 𝓐 bits s q 0 b ahead))))
+            rw (← ahead .mine) (status-same b (ahead .index) hb cb (acting-low 0 ahead) (not-granted-root (record-at t b (ahead .index)) (rw (ahead .mine) (queued-there t valid bits s q 0 b ahead))))
 
         -- whoever raises the grant to this ticket has the one just before
         raised-other : place s c ≡ Raise → v ≢ wrap (s .grant + 1)
@@ -309,15 +309,15 @@ module _ (t : Tree) (𝓐 : Accepted t) (bits : Sixteen-bit t) (s : WordState) (
             let low-there = raising-fits c e refl (q .represents .fits c hc) in
             let C = record-at t c (height t c) in
             let B = own-record t b 0 in
-            let head : first (g .queue 0) ≡ suc C = rw (ancestor-root t 𝓐 c hc) at (inv .threads c .heads (height t c) low-there) in
-            let small = grant-small t 𝓐 bits s q a ha stands root in
+            let head : first (g .queue 0) ≡ suc C = rw (ancestor-root t valid c hc) at (inv .threads c .heads (height t c) low-there) in
+            let small = grant-small t valid bits s q a ha stands root in
             let before : ticket-before v ≡ s .grant = rw z (omega arith) in
             let same-ticket : status s B ≡ s .grant = eqb-true _ _ (both .1) ∙ before in
             same-or (first (g .queue 0)) (suc B) ⊥
-            (λ f. cb (sym (same-thread t 𝓐 bits s q c b (height t c) (ahead .index) (omega (arith, low-acts (height t c) (g .stage c))) (ahead .within)
+            (λ f. cb (sym (same-thread t valid bits s q c b (height t c) (ahead .index) (omega (arith, low-acts (height t c) (g .stage c))) (ahead .within)
             ((let u : C ≡ B = omega arith in u) ∙ sym (ahead .mine)))))
-            (λ f. tickets-rest (λ r. status s r) (s .grant) (s .ticket) B (g .queue 0) small (short t 𝓐 bits s q a ha stands root) (held t 𝓐 bits s q a ha stands root)
-            (count-later B (g .queue 0) f (queued-there t 𝓐 bits s q 0 b ahead)) same-ticket)
+            (λ f. tickets-rest (λ r. status s r) (s .grant) (s .ticket) B (g .queue 0) small (short t valid bits s q a ha stands root) (held t valid bits s q a ha stands root)
+            (count-later B (g .queue 0) f (queued-there t valid bits s q 0 b ahead)) same-ticket)
 
         raised-grant : place s c ≡ Raise → after-step .grant ≡ wrap (s .grant + 1)
         raised-grant e = ap (λ p. row t c p s .state .grant) e ∙ raise-grant t s c
@@ -332,12 +332,12 @@ module _ (t : Tree) (𝓐 : Accepted t) (bits : Sixteen-bit t) (s : WordState) (
               rw (acts-kept b 0 hb cb (both .0), ahead-status, own-status) (both .1),
             )
 
-      kept-by : (p : Place) → place s a ≡ p → Waits t 𝓐 bits s q a p → Kept p
+      kept-by : (p : Place) → place s a ≡ p → Waits t valid bits s q a p → Kept p
       kept-by _ y (waits k p l e nt f n v) = wait-kept k p l e nt f y
       kept-by _ y (lingers k l b n z) = linger-kept k l b y
       kept-by _ y (watches e r) = λ looked. watch-kept e r y looked
 
       pub link-kept : stays t s a ≡ true → looked-to t s a (place s a) b ≡ true → (stays t after-step a ≡ true) × (looked-to t after-step a (place after-step a) b ≡ true)
       link-kept still looked =
-          let x = kept-by (place s a) refl (stay-waits t 𝓐 bits s q a ha still) looked still in
+          let x = kept-by (place s a) refl (stay-waits t valid bits s q a ha still) looked still in
           (x .0, ap (λ p. looked-to t after-step a p b) place-a ∙ x .1)

@@ -24,13 +24,13 @@ use Rattle.chain.proofs.Reached.Actors.{row-stays}
 use Rattle.chain.proofs.Reached.Holding.{link-kept}
 
 module _ (t : Tree) (ok : tree-refusal t .number ≡ 0) (bits : Sixteen-bit t) (a b : ℕ) (ha : a < t .threads) (hb : b < t .threads) where
-  𝓐 : Accepted t
-  𝓐 = accepted t ok
+  valid : Accepted t
+  valid = accepted t ok
 
   -- the state after a step represents queues as well
   stepped : (s : WordState) → Queued t s → (c : ℕ) → c < t .threads → Queued t (step t c s .state)
   unfolding steps state-after All-threads
-  stepped s q c h = led t 𝓐 bits (c ∷ []) (h, tt) s q .there
+  stepped s q c h = led t valid bits (c ∷ []) (h, tt) s q .there
 
   abbrev Looks : WordState → Type 0
   Looks s = (stays t s a ≡ true) × (looked-to t s a (place s a) b ≡ true)
@@ -40,10 +40,10 @@ module _ (t : Tree) (ok : tree-refusal t .number ≡ 0) (bits : Sixteen-bit t) (
   one-step s q c h n x =
       same-or a c _
       (λ e.
-      let told = kind-law t a s ok ha (facts-well-formed t s (q .facts)) in
-      let same : step t c s .state ≡ s = ap (λ i. step t i s .state) (sym e) ∙ told .stays-exactly .0 (row-stays t s a (x .0)) in
+      let kinds = kind-law t a s ok ha (facts-well-formed t s (q .facts)) in
+      let same : step t c s .state ≡ s = ap (λ i. step t i s .state) (sym e) ∙ kinds .stays-exactly .0 (row-stays t s a (x .0)) in
       rw same x)
-      (λ e. link-kept t 𝓐 bits s q c h a b ha hb e n (x .0) (x .1))
+      (λ e. link-kept t valid bits s q c h a b ha hb e n (x .0) (x .1))
 
   along : (js : List ℕ) (s : WordState) → Queued t s → All-threads t js → occurrences b js ≡ 0 → Looks s → step t a (run t js s .state) .kind ≡ stay
   unfolding run run-of steps state-after All-threads occurrences step

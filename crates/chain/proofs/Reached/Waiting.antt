@@ -54,11 +54,11 @@ longer-link (x ∷ front) i j (z ∷ before) a b after e =
     ]
 
 module _ (t : Tree) (ok : tree-refusal t .number ≡ 0) (bits : Sixteen-bit t) (s : WordState) (q : Queued t s) (start : ℕ) where
-  𝓐 : Accepted t
-  𝓐 = accepted-tree t ok
+  valid : Accepted t
+  valid = accepted-tree t ok
 
   abbrev number : ℕ → ℕ
-  number i = rank t 𝓐 bits s q i
+  number i = rank t valid bits s q i
 
   -- a chain so far, from the start to its last
   record So-far (c : List ℕ) (i : ℕ) : Type 0 where
@@ -91,17 +91,17 @@ module _ (t : Tree) (ok : tree-refusal t .number ≡ 0) (bits : Sixteen-bit t) (
       lone (x ∷ y ∷ ys) after a b e = nil≢cons (tail-eq-of-cons-eq e)
 
   module _ (c : List ℕ) (i : ℕ) (x : So-far c i) (still : stays t s i ≡ true) where
-    abbrev seen : (j : ℕ) × Looked t 𝓐 bits s q i j
-    seen = looked-one t 𝓐 bits s q i (x .real) still
+    abbrev seen : (j : ℕ) × Looked t valid bits s q i j
+    seen = looked-one t valid bits s q i (x .real) still
 
     abbrev ahead : ℕ
     ahead = seen .0
 
     looks : looks-to t s i ≡ ahead ∷ []
-    looks = looks-one t 𝓐 bits s q i (x .real) ahead still (seen .1)
+    looks = looks-one t valid bits s q i (x .real) ahead still (seen .1)
 
     lower : number ahead < number i
-    lower = falls t 𝓐 bits s q i ahead (x .real) (seen .1 .real) still (seen .1 .looked)
+    lower = falls t valid bits s q i ahead (x .real) (seen .1 .real) still (seen .1 .looked)
 
     new : occurrences ahead c ≡ 0
     new = same-or (occurrences ahead c) 0 _ (λ e. e) (λ e. absurd (let b = x .lowest ahead (omega (arith, e)) in let l = lower in omega arith))

@@ -40,8 +40,8 @@ inside-stage e (at-raise r c) = absurd (let z : _≡_ {A = ℕ} 0 1 = cc in omeg
 
 pub alone : (t : Tree) → Accepted t → (s : WordState) → Facts t s → Queued t s → (i j : ℕ) → place s i ≡ Inside → place s j ≡ Inside → i ≡ j
 unfolding words-in
-alone t 𝓐 s f q i j e z =
+alone t valid s f q i j e z =
     let rep = q .represents in
     let real : (i : ℕ) → place s i ≡ Inside → i < t .threads = λ i e.
     less-or i (t .threads) _ (λ b. b) (λ b. absurd (let u = f .places i .unused b in let z : _≡_ {A = ℕ} 0 1 = cc in omega arith)) in
-    one-inside t (laws t 𝓐) (q .queues) (rep .invariant) i j (inside-stage e (rep .fits i (real i e))) (inside-stage z (rep .fits j (real j z)))
+    one-inside t (laws t valid) (q .queues) (rep .invariant) i j (inside-stage e (rep .fits i (real i e))) (inside-stage z (rep .fits j (real j z)))

@@ -21,10 +21,10 @@ use Rattle.claims.proofs.Queues.Moves.{State, Event, empty, Run}
 use Rattle.claims.proofs.Queues.Allowance.{between}
 use Rattle.claims.proofs.Words.Outcome.{standing-shown, entry-shown, shown}
 use Rattle.claims.proofs.Claims.Reached.{all-shown, All-real}
-use Rattle.claims.proofs.Claims.Order.{given-append, entry-given, ended-shown}
+use Rattle.claims.proofs.Claims.InOrder.{given-append, entry-given, ended-shown}
 
 -- AN ENTRY UNDER A MEMBER: the thread works with the member's record
-module _ (t : Tree) (𝓐 : Accepted t) (d q : ℕ) (mem : is-member t d q ≡ true) where
+module _ (t : Tree) (valid : Accepted t) (d q : ℕ) (mem : is-member t d q ≡ true) where
   found : (i n k : ℕ) → k < n → record-at t i k ≡ q → moves.under-from t i n q ≡ true
   unfolding moves.under-from
   found i zero k b e = absurd (omega arith)
@@ -36,7 +36,7 @@ module _ (t : Tree) (𝓐 : Accepted t) (d q : ℕ) (mem : is-member t d q ≡ t
   under-queues : (i : ℕ) → i < t .threads → under t q i ≡ true → moves.under t i q ≡ true
   unfolding moves.under
   under-queues i h u =
-      let w = member-works t 𝓐 i h d q mem u in
+      let w = member-works t valid i h d q mem u in
       found i (suc (height t i)) (w .index) (omega (arith, w .within)) (w .with-record)
 
   one-entry : (i : ℕ) → i < t .threads → (b c : Bool) → under t q i ≡ c → cond b (cond (under t q i) 1 0) 0 ≤ moves.entries t q (cond b (moves.entered i ∷ []) [])
@@ -91,7 +91,7 @@ pub bounded :
     (before meanwhile later : List Step) (x : Step) (m q : ℕ) → all ≡ before ++ (x ∷ (meanwhile ++ later)) → x .standing ≡ begins m →
     occurrences m (ended (x .domain) meanwhile) ≡ 0 → is-member t (x .domain) q ≡ true → q ≢ m → entries-under t q meanwhile ≤ allowance t q
 unfolding all-shown shown standing-shown entry-shown All-real
-bounded t 𝓐 all g real r before meanwhile later x m q e st none mem n =
+bounded t valid all g real r before meanwhile later x m q e st none mem n =
     let d = x .domain in
     let entry = cond (is-entry (x .kind)) (moves.entered (x .thread) ∷ []) [] in
     let split : all-shown all ≡ all-shown before ++ (moves.begins d m ∷ ((entry ++ all-shown meanwhile) ++ all-shown later)) =
@@ -99,11 +99,11 @@ bounded t 𝓐 all g real r before meanwhile later x m q e st none mem n =
     let quiet : count m (moves.given d (entry ++ all-shown meanwhile)) ≡ 0 =
     ap (count m) (given-append d entry (all-shown meanwhile) ∙ rw (entry-given d (is-entry (x .kind)) (x .thread)) (ended-shown d meanwhile))
     ∙ same-count m (ended d meanwhile) ∙ none in
-    let bound = between t (laws t 𝓐) r (all-shown before) (entry ++ all-shown meanwhile) (all-shown later) d m q split quiet (member-owner t 𝓐 d q mem) n in
+    let bound = between t (laws t valid) r (all-shown before) (entry ++ all-shown meanwhile) (all-shown later) d m q split quiet (member-owner t valid d q mem) n in
     let rest : All-real t (meanwhile ++ later) = real-behind t before (x ∷ (meanwhile ++ later)) (rw e at real) .1 in
     omega (
       arith,
       bound,
-      entries-shown t 𝓐 d q mem meanwhile (real-before t meanwhile later rest),
-      entries-append t 𝓐 d q mem entry (all-shown meanwhile),
+      entries-shown t valid d q mem meanwhile (real-before t meanwhile later rest),
+      entries-append t valid d q mem entry (all-shown meanwhile),
     )

@@ -19,7 +19,7 @@ use Rattle.model.proofs.Laws.Facts.{well-formed-facts}
 use Rattle.model.proofs.Laws.Form.{form-law}
 use Rattle.claims.proofs.Claims.Reached.{from-fresh, threads-take}
 use Rattle.claims.proofs.Claims.Alone.{alone}
-use Rattle.claims.proofs.Claims.Order.{ordered}
+use Rattle.claims.proofs.Claims.InOrder.{ordered}
 use Rattle.claims.proofs.Claims.Bounded.{bounded}
 use Rattle.claims.proofs.Claims.Calls.{reached, starts-here, each-from, stretches-from, joined-threads}
 
@@ -40,20 +40,20 @@ module _ (t : Tree) (bits : Sixteen-bit t) (ok : tree-refusal t .number ≡ 0) (
   claim : Claim t f cs S
   unfolding state-at Form-law run run-of
   claim =
-      let 𝓐 = accepted t ok in
-      let whole = from-fresh t 𝓐 bits v S threads in
+      let valid = accepted t ok in
+      let whole = from-fresh t valid bits v S threads in
       let front : (k : ℕ) → All-threads t (take k S) = λ k. threads-take t k S threads in
       record {
         each = each-from t f cs [] f start n;
         stretches = stretches-from t f cs [] f start n;
         alone = λ k.
-            let x = from-fresh t 𝓐 bits v (take k S) (front k) in
+            let x = from-fresh t valid bits v (take k S) (front k) in
             let formed = form-law t bits ok .of-run (take k S) (f .words) (front k) (form-law t bits ok .of-fresh v) in
-            alone t 𝓐 (run t (take k S) (f .words) .state) (well-formed-facts t _ formed) (x .there);
+            alone t valid (run t (take k S) (f .words) .state) (well-formed-facts t _ formed) (x .there);
         in-order = λ k d.
-            let x = from-fresh t 𝓐 bits v (take k S) (front k) in
+            let x = from-fresh t valid bits v (take k S) (front k) in
             rw (steps-take t k S (f .words)) at (ordered t d (steps t (take k S) (f .words)) (x .there .queues) (x .follows));
-        bounded = bounded t 𝓐 (steps t S (f .words)) (whole .there .queues) (whole .real) (whole .follows);
+        bounded = bounded t valid (steps t S (f .words)) (whole .there .queues) (whole .real) (whole .follows);
       }
 
 pub demand-three : Demand-three

@@ -67,14 +67,14 @@ same-by-equality t i l s within (check-releases _ why) =
 counts-at-check :
     (t : Tree) → Accepted t → (s : WordState) → Queued t s → (i l : ℕ) → i < t .threads → place s i ≡ Check l → Counts-at-check t s i l
 unfolding words-in low step
-counts-at-check t 𝓐 s q i l h e =
+counts-at-check t valid s q i l h e =
     let rep = q .represents in
     let x = checking l e (rep .fits i h) in
     let k = x .index in
-    let own : own-record t i l ≡ record-at t i k = ap (own-record t i) (x .there) ∙ own-record-at t 𝓐 i h k (omega (arith, x .below)) in
+    let own : own-record t i l ≡ record-at t i k = ap (own-record t i) (x .there) ∙ own-record-at t valid i h k (omega (arith, x .below)) in
     let all : low (height t i) (q .queues .stage i) ≡ suc (height t i) = ap (low (height t i)) (x .stage) in
     let first = rep .invariant .threads i .heads k (omega (arith, x .below)) in
-    let inner = ancestor-inner t 𝓐 i h k (x .below) in
+    let inner = ancestor-inner t valid i h k (x .below) in
     let counts = rep .invariant .counts (ancestor t i k) (record-at t i k) (λ z. omega arith) first in
     let limit : t .threshold l ≡ t .threshold (ancestor t i k) = ap (t .threshold) (x .there) in
     let value : status s (own-record t i l) ≡ q .queues .tally (record-at t i k) = ap (status s) own ∙ x .count in
@@ -89,5 +89,5 @@ counts-at-check t 𝓐 s q i l h e =
 pub equality-law : Equality-law
 unfolding Equality-law run run-of
 equality-law t bits ok v is all i l h e =
-    let 𝓐 = accepted t ok in
-    counts-at-check t 𝓐 (run t is (fresh-state t v) .state) (from-fresh t 𝓐 bits v is all .there) i l h e
+    let valid = accepted t ok in
+    counts-at-check t valid (run t is (fresh-state t v) .state) (from-fresh t valid bits v is all .there) i l h e

@@ -65,7 +65,7 @@ unfolding final
 two-there r q [] e n = absurd (n (ap final e))
 two-there r q (m ∷ ys) e n = (m, ys, e)
 
-module _ (t : Tree) (𝓐 : Accepted t) (bits : Sixteen-bit t) (s : WordState) (q : Queued t s) where
+module _ (t : Tree) (valid : Accepted t) (bits : Sixteen-bit t) (s : WordState) (q : Queued t s) where
   abbrev pub g : State
   g = q .queues
 
@@ -96,8 +96,8 @@ module _ (t : Tree) (𝓐 : Accepted t) (bits : Sixteen-bit t) (s : WordState) (
     pub woken-moves : (k : ℕ) → k < height t i → w .statuses (record-at t i k) ≡ acquire-parent → Moves (wait-row t i (ancestor t i k) s)
     unfolding words-in is-kind
     woken-moves k b v =
-        let inner = ancestor-inner t 𝓐 i h k b in
-        rw (acquiring-row t i s (ancestor t i k) (λ z. omega arith) (rw (own-record-at t 𝓐 i h k (omega arith)) v)) (no-stay other refl)
+        let inner = ancestor-inner t valid i h k b in
+        rw (acquiring-row t i s (ancestor t i k) (λ z. omega arith) (rw (own-record-at t valid i h k (omega arith)) v)) (no-stay other refl)
 
     -- granted the lock: UNLOCKED at the root, else a count
     pub ready-moves :
@@ -106,16 +106,16 @@ module _ (t : Tree) (𝓐 : Accepted t) (bits : Sixteen-bit t) (s : WordState) (
     unfolding words-in low is-kind
     ready-moves k l e c v =
         by (granted-row t i s (ancestor t i k)
-        (λ z. let free = v (ancestor-zero t 𝓐 i h k l z) in rw own (λ y. omega arith))
+        (λ z. let free = v (ancestor-zero t valid i h k l z) in rw own (λ y. omega arith))
         (λ n.
-        let b = ancestor-not-root t 𝓐 i h k l (omega (arith, n)) in
+        let b = ancestor-not-root t valid i h k l (omega (arith, n)) in
         let first-there = inv .threads i .heads k (rw e (omega arith)) in
         let fits = inv .counts (ancestor t i k) (record-at t i k) n first-there .1 in
         let count = c b in
         rw own (omega (arith, bits (ancestor t i k)))))
       where
         own : own-record t i (ancestor t i k) ≡ record-at t i k
-        own = own-record-at t 𝓐 i h k l
+        own = own-record-at t valid i h k l
 
         by : {x : Row-result} → Granted t i s (ancestor t i k) x → Moves x
         by (granted-root z) = no-stay root-entry refl
@@ -129,12 +129,12 @@ module _ (t : Tree) (𝓐 : Accepted t) (bits : Sixteen-bit t) (s : WordState) (
         shown : status s (record-at t i (height t i)) ≡ s .grant
         shown =
             let R = record-at t i (height t i) in
-            let head : first (g .queue 0) ≡ suc R = rw (ancestor-root t 𝓐 i h) at (inv .threads i .heads (height t i) (rw e (omega arith))) in
+            let head : first (g .queue 0) ≡ suc R = rw (ancestor-root t valid i h) at (inv .threads i .heads (height t i) (rw e (omega arith))) in
             tickets-first (w .statuses) (w .grant) (w .ticket) R (g .queue 0) (rep .numbered root .held) head
 
         by : {x : Row-result} → Branch t i s Watch x → Moves x
         by (watch-shown _) = no-stay root-entry refl
-        by (watch-unshown n) = absurd ((rw (root-record t 𝓐 i h) at n) shown)
+        by (watch-unshown n) = absurd ((rw (root-record t valid i h) at n) shown)
 
   -- whoever stands behind a record without next is in Link, and moves
   link-behind :
@@ -162,7 +162,7 @@ module _ (t : Tree) (𝓐 : Accepted t) (bits : Sixteen-bit t) (s : WordState) (
           let same = before-second p r m ys a′ one in
           absurd (let z′ : next s r ≡ suc (record-at t S N) = rw same at z in omega arith)
       by (watching e z y c) =
-          absurd (false≢true (sym nt ∙ ticket-yes t d y (sym (b .place) ∙ ap (ancestor t S) z ∙ ancestor-root t 𝓐 S real)))
+          absurd (false≢true (sym nt ∙ ticket-yes t d y (sym (b .place) ∙ ap (ancestor t S) z ∙ ancestor-root t valid S real)))
 
   module _ (i : ℕ) (h : i < t .threads) where
     -- LINGER: with a next it moves; without one, the member behind is in Link
@@ -171,7 +171,7 @@ module _ (t : Tree) (𝓐 : Accepted t) (bits : Sixteen-bit t) (s : WordState) (
         w .tails (ancestor t i k) ≢ suc (record-at t i k) → {x : Row-result} → row t i (Linger (ancestor t i k)) s ≡ x → Branch t i s (Linger (ancestor t i k)) x → Mover t s
     unfolding words-in good-place is-kind
     linger-someone k l y e n same (linger-alone _ none-next) =
-        let quiet : next s (record-at t i k) ≡ 0 = rw (own-record-at t 𝓐 i h k l) at none-next in
+        let quiet : next s (record-at t i k) ≡ 0 = rw (own-record-at t valid i h k l) at none-next in
         let good : good-place t i (Linger (ancestor t i k)) ≡ true = rw y at (q .facts .places i .used h) in
         let nt = queue-facts t i (ancestor t i k) good .1 in
         let first-there : k < low (height t i) (g .stage i) = rw e (omega (arith, letting-go-low (height t i) k)) in
@@ -227,7 +227,7 @@ module _ (t : Tree) (𝓐 : Accepted t) (bits : Sixteen-bit t) (s : WordState) (
     where
       by : Found i → Mover t s
       by (can-move x) = x
-      by (stands k e) = from-unblocked (unblocked t (laws t 𝓐) g inv i (rw e (omega arith)))
+      by (stands k e) = from-unblocked (unblocked t (laws t valid) g inv i (rw e (omega arith)))
       by (idles y e) = absurd (n y)
 
   -- room that the tree lacks is Idle
@@ -240,8 +240,8 @@ move-law t bits ok v is all i n =
     let s = run t is (fresh-state t v) .state in
     let x = someone-moves t (accepted t ok) bits s (from-fresh t (accepted t ok) bits v is all .there) i n in
     let form = form-law t bits ok in
-    let told = kind-law t (x .thread) s ok (x .real) (form .of-run is (fresh-state t v) all (form .of-fresh v)) in
-    record { thread = x .thread; real = x .real; not-idle = x .not-idle; no-stay = x .moves; changes = λ e. x .moves (told .stays-exactly .1 e) }
+    let kinds = kind-law t (x .thread) s ok (x .real) (form .of-run is (fresh-state t v) all (form .of-fresh v)) in
+    record { thread = x .thread; real = x .real; not-idle = x .not-idle; no-stay = x .moves; changes = λ e. x .moves (kinds .stays-exactly .1 e) }
 
 pub list-move-law : List-move-law
 unfolding List-move-law Move-law fresh-answer

@@ -42,7 +42,7 @@ pub passed-count-law : Passed-count-law
 unfolding Passed-count-law Equality-law run run-of step
 passed-count-law t bits ok start is all i l r v h e g =
     let s = run t is (fresh-state t start) .state in
-    let valid = accepted t ok in
-    let form = from-fresh t valid bits start is all .there .facts in
-    let room : i < length (s .places) = omega (arith, form .typed .places-room, valid .few-threads) in
+    let not-invalid = accepted t ok in
+    let form = from-fresh t not-invalid bits start is all .there .facts in
+    let room : i < length (s .places) = omega (arith, form .typed .places-room, not-invalid .few-threads) in
     passed-count t i l r v s room (equality-law t bits ok start is all i l h e) (branch t i s (Check l)) (rw e at g)

@@ -55,12 +55,12 @@ waiting l e (at-watch k b r c) = absurd (let z : _≡_ {A = ℕ} 0 1 = cc in ome
 waiting l e (at-shown r c) = absurd (let z : _≡_ {A = ℕ} 0 1 = cc in omega arith)
 waiting l e (at-raise r c) = absurd (let z : _≡_ {A = ℕ} 0 1 = cc in omega arith)
 
-module _ (t : Tree) (𝓐 : Accepted t) (s : WordState) (q : Queued t s) (i l : ℕ) (h : i < t .threads) (n : l ≢ 0) where
+module _ (t : Tree) (valid : Accepted t) (s : WordState) (q : Queued t s) (i l : ℕ) (h : i < t .threads) (n : l ≢ 0) where
   abbrev w : Words
   w = words-in s
 
   own : (k : ℕ) → k ≤ height t i → l ≡ ancestor t i k → own-record t i l ≡ record-at t i k
-  own k b z = ap (own-record t i) z ∙ own-record-at t 𝓐 i h k b
+  own k b z = ap (own-record t i) z ∙ own-record-at t valid i h k b
 
   -- with a status that stays or acquires the parent, the step is no entry
   stays-out : status s (own-record t i l) ≡ wait-word → is-entry (wait-row t i l s .kind) ≡ false
@@ -78,7 +78,7 @@ module _ (t : Tree) (𝓐 : Accepted t) (s : WordState) (q : Queued t s) (i l : 
   enough (passed-on k b z r p) e =
       let inv = q .represents .invariant in
       let inner : ancestor t i k ≢ 0 = λ y. n (z ∙ y) in
-      let below : k < height t i = ancestor-not-root t 𝓐 i h k b (omega (arith, inner)) in
+      let below : k < height t i = ancestor-not-root t valid i h k b (omega (arith, inner)) in
       let all : low (height t i) (q .queues .stage i) ≡ suc (height t i) = ap (low (height t i)) r in
       let limit = inv .counts (ancestor t i k) (record-at t i k) inner (inv .threads i .heads k (omega arith)) .1 in
       rw z (omega (arith, p below, limit))
@@ -86,9 +86,9 @@ module _ (t : Tree) (𝓐 : Accepted t) (s : WordState) (q : Queued t s) (i l : 
 pub passing-law : Passing-law
 unfolding Passing-law run run-of step row words-in
 passing-law t bits ok v is all i l h e n f =
-    let 𝓐 = accepted t ok in
-    let q = from-fresh t 𝓐 bits v is all .there in
-    enough t 𝓐 (run t is (fresh-state t v) .state) q i l h n (waiting l e (q .represents .fits i h)) (rw e at f)
+    let valid = accepted t ok in
+    let q = from-fresh t valid bits v is all .there in
+    enough t valid (run t is (fresh-state t v) .state) q i l h n (waiting l e (q .represents .fits i h)) (rw e at f)
 
 -- ALL THRESHOLDS 1
 and-false : (b : Bool) → b && false ≡ false

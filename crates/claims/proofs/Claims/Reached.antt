@@ -71,13 +71,13 @@ pub record Led (t : Tree) (s : WordState) (g : State) (xs : List Step) : Type 0 
   pub there : Queued t (state-after s xs)
   pub follows : Run t g (all-shown xs) (there .queues)
 
-module _ (t : Tree) (𝓐 : Accepted t) (bits : Sixteen-bit t) where
+module _ (t : Tree) (valid : Accepted t) (bits : Sixteen-bit t) where
   pub led : (is : List ℕ) → All-threads t is → (s : WordState) (q : Queued t s) → Led t s (q .queues) (steps t is s)
   unfolding steps state-after step shown row-shown all-shown All-threads All-real
   led [] l s q = record { real = tt; there = q; follows = done }
   led (i ∷ is) l s q =
-      let x = step-outcome t 𝓐 bits s (q .room) (q .queues) (q .represents) (λ j b. q .facts .places j .used b) i (l .0) in
-      let rest = led is (l .1) (step t i s .state) (record { queues = x .state; room = x .room; facts = step-keeps t bits 𝓐 i (l .0) s (q .facts); represents = x .represents }) in
+      let x = step-outcome t valid bits s (q .room) (q .queues) (q .represents) (λ j b. q .facts .places j .used b) i (l .0) in
+      let rest = led is (l .1) (step t i s .state) (record { queues = x .state; room = x .room; facts = step-keeps t bits valid i (l .0) s (q .facts); represents = x .represents }) in
       record { real = (l .0, rest .real); there = rest .there; follows = join-runs t (x .follows) (rest .follows) }
 
   pub from-fresh : (v : ℕ) (is : List ℕ) → All-threads t is → Led t (fresh-state t v) empty (steps t is (fresh-state t v))

@@ -163,12 +163,12 @@ pub record Claim (T : Tree) (st : State) (d m q n : ℕ) : Type 0 where
   pub if-first : (i k : ℕ) → k < low (height T i) (st .stage i) → record-at T i k ≡ q → first (st .queue d) ≡ suc q → left T (st .tally) (st .stage i) i k ≤ n
   pub if-ahead : 1 ≤ ahead q m (rest (st .queue d)) → allowance T q ≤ n
 
-module _ (T : Tree) (𝓛 : Laws T) where
+module _ (T : Tree) (tree-laws : Laws T) where
   -- at any time the allowance bounds them
   claim-start : (st : State) → Inv T st → (d m q : ℕ) → Claim T st d m q (allowance T q)
   claim-start st inv d m q =
       record {
-        if-first = λ i k h z f. rw z at (left-bound T 𝓛 st inv i k (omega (arith, low-acts (height T i) (st .stage i))));
+        if-first = λ i k h z f. rw z at (left-bound T tree-laws st inv i k (omega (arith, low-acts (height T i) (st .stage i))));
         if-ahead = λ a. omega arith;
       }
 
@@ -180,7 +180,7 @@ module _ (T : Tree) (𝓛 : Laws T) where
         let a = low-acts (height T i) (st′ .stage i) in
         let b = acts-reach (height T i) (st′ .stage i) in
         let th = inv′ .threads i in
-        sym (𝓛 .owner i k (th .real (omega arith)) (omega (arith, th .range))) ∙ ap (owner-domain T) z ∙ mem
+        sym (tree-laws .owner i k (th .real (omega arith)) (omega (arith, th .range))) ∙ ap (owner-domain T) z ∙ mem
 
     -- an entry under q is one of the thread that acts for q
     entry-hit : (i k : ℕ) → k < low (height T i) (st′ .stage i) → record-at T i k ≡ q → entry-by T q e ≤ hit e i
@@ -189,7 +189,7 @@ module _ (T : Tree) (𝓛 : Laws T) where
         (λ g.
         let t = entrant T q e g in
         let a : t .index < low (height T (t .thread)) (st′ .stage (t .thread)) = omega (arith, entered-low T mv (t .thread) (t .enters), t .range) in
-        let u = unique T 𝓛 st′ inv′ i (t .thread) k (t .index) (omega (arith, low-acts (height T i) (st′ .stage i)))
+        let u = unique T tree-laws st′ inv′ i (t .thread) k (t .index) (omega (arith, low-acts (height T i) (st′ .stage i)))
         (omega (arith, low-acts (height T (t .thread)) (st′ .stage (t .thread)))) (z ∙ sym (t .mine)) in
         let w : hit e i ≡ 1 = ap (hit e) (u .0) ∙ t .enters in
         omega (arith, entry-one T q e))
@@ -204,12 +204,12 @@ module _ (T : Tree) (𝓛 : Laws T) where
     spent i k h z f =
         first-before d m q e (st .queue d) (st′ .queue d) _ (change T st d mv) stands not-now ne f
         (λ g.
-        let b = falls T 𝓛 st inv mv i k h (ap (λ x. first (st .queue x)) (there i k h z) ∙ g ∙ ap suc (sym z)) in
+        let b = falls T tree-laws st inv mv i k h (ap (λ x. first (st .queue x)) (there i k h z) ∙ g ∙ ap suc (sym z)) in
         let c = claim .if-first (b .thread) (b .index) (b .was-first) (b .same ∙ z) g in
         omega (arith, b .falls, entry-hit i k h z))
         (λ a o.
         let c = claim .if-ahead a in
-        let b : left T (st′ .tally) (st′ .stage i) i k ≤ allowance T q = rw z at (left-bound T 𝓛 st′ inv′ i k (omega (arith, low-acts (height T i) (st′ .stage i)))) in
+        let b : left T (st′ .tally) (st′ .stage i) i k ≤ allowance T q = rw z at (left-bound T tree-laws st′ inv′ i k (omega (arith, low-acts (height T i) (st′ .stage i)))) in
         omega (arith, quiet o))
 
     -- if an entry is under q, q is first
@@ -244,7 +244,7 @@ module _ (T : Tree) (𝓛 : Laws T) where
   unfolding given entries given-by
   bounded done inv d m q n mem ne h o c = omega arith
   bounded (silent {st = st} {st₁ = st₁} mv r) inv d m q n mem ne h o c =
-      let inv′ = keeps T 𝓛 st inv mv in
+      let inv′ = keeps T tree-laws st inv mv in
       let c′ = claim-step st st₁ nothing inv inv′ mv d m q n mem ne h (count-nil m) c in
       let h′ = still-stands d m nothing (st .queue d) (st₁ .queue d) (change T st d mv) h (count-nil m) in
       let b = bounded r inv′ d m q (n - entry-by T q nothing) mem ne h′ o c′ in
@@ -253,7 +253,7 @@ module _ (T : Tree) (𝓛 : Laws T) where
       let a = count-append m (given-by d e) (given d es) in
       let o₁ : count m (given-by d e) ≡ 0 = omega arith in
       let o₂ : count m (given d es) ≡ 0 = omega arith in
-      let inv′ = keeps T 𝓛 st inv mv in
+      let inv′ = keeps T tree-laws st inv mv in
       let c′ = claim-step st st₁ e inv inv′ mv d m q n mem ne h o₁ c in
       let h′ = still-stands d m e (st .queue d) (st₁ .queue d) (change T st d mv) h o₁ in
       let b = bounded r inv′ d m q (n - entry-by T q e) mem ne h′ o₂ c′ in
@@ -264,7 +264,7 @@ module _ (T : Tree) (𝓛 : Laws T) where
       {st st′ : State} {es fs : List Event} → Run T empty es st → Run T st fs st′ → (d m q : ℕ) → owner-domain T q ≡ d → q ≢ m → 1 ≤ count m (rest (st .queue d)) →
       count m (given d fs) ≡ 0 → entries T q fs ≤ allowance T q
   within-allowance {st = st} r s d m q mem ne h o =
-      let inv = reached T 𝓛 r in
+      let inv = reached T tree-laws r in
       bounded s inv d m q (allowance T q) mem ne h o (claim-start st inv d m q)
 
   -- the same, read off the events: from the beginning of m's standing on, ys without its grant

@@ -111,10 +111,10 @@ same-user T Q i j hi hj (suc k) (suc l) b c e =
     let r = same-user T Q i j hi hj k l (λ n h. b n (omega arith)) (λ n h. c n (omega arith)) (omega arith) in
     (r .0, ap suc (r .1))
 
-module _ (T : Tree) (𝓛 : Laws T) (st : State) (inv : Inv T st) where
+module _ (T : Tree) (tree-laws : Laws T) (st : State) (inv : Inv T st) where
   -- a thread's record number, and its heads
   pub small : (i k : ℕ) → k < reach (height T i) (st .stage i) → i < 256
-  small i k h = let r = inv .threads i .real (omega arith) in let f = 𝓛 .few in omega arith
+  small i k h = let r = inv .threads i .real (omega arith) in let f = tree-laws .few in omega arith
 
   pub acts-small : (i k : ℕ) → k < acts (height T i) (st .stage i) → i < 256
   acts-small i k h = small i k (omega (arith, acts-reach (height T i) (st .stage i)))

@@ -15,7 +15,7 @@ acted-more :
 acted-more T f g d m h a =
     record { thread = a .thread; index = a .index; acting = omega (arith, h (a .thread), a .acting); place = a .place; mine = a .mine }
 
-module _ (T : Tree) (𝓛 : Laws T) (st : State) (inv : Inv T st) where
+module _ (T : Tree) (tree-laws : Laws T) (st : State) (inv : Inv T st) where
   grown-thread : (L m n : ℕ) (x : Stage) → Thread T (st .queue) n x → Thread T (grown (st .queue) L m) n x
   grown-thread L m n x t =
       record {
@@ -69,7 +69,7 @@ module _ (T : Tree) (𝓛 : Laws T) (st : State) (inv : Inv T st) where
         once = λ d r. same-or d L _
             (λ z. same-or r m _
             (λ w.
-            let o : count r (st .queue d) ≡ 0 = rw w (fresh T 𝓛 st inv i j d e) in
+            let o : count r (st .queue d) ≡ 0 = rw w (fresh T tree-laws st inv i j d e) in
             omega (arith, grown-count (st .queue) L m d r z, is-same r m w))
             (λ w. omega (arith, grown-count (st .queue) L m d r z, is-other r m w, inv .once d r)))
             (λ z. omega (arith, grown-other (st .queue) L m d r z, inv .once d r));

@@ -13,7 +13,7 @@ use Rattle.claims.proofs.Queues.Meeting.{follow, follow-record-at, same
 use Rattle.claims.proofs.Queues.Joined.{restaged, joined}
 use Rattle.claims.proofs.Queues.Invariant.{low-acts, acts-reach, low-down, acts-down, reach-down, Below, Thread, Acted, Counts, Inv, unique, one-head, one-queue, fresh}
 
-module _ (T : Tree) (𝓛 : Laws T) (st : State) (inv : Inv T st) where
+module _ (T : Tree) (tree-laws : Laws T) (st : State) (inv : Inv T st) where
   -- A THREAD LETS GO at index j
   -- those who have nothing to do with it
   pub bystander :
@@ -26,7 +26,7 @@ module _ (T : Tree) (𝓛 : Laws T) (st : State) (inv : Inv T st) where
       record {
         real = t .real;
         range = t .range;
-        heads = λ k b. rw (put-other (st .queue) L ys (ancestor T n k) (λ z. ne (one-head T 𝓛 st inv n i k j b h z .0))) (t .heads k b);
+        heads = λ k b. rw (put-other (st .queue) L ys (ancestor T n k) (λ z. ne (one-head T tree-laws st inv n i k j b h z .0))) (t .heads k b);
         stands = λ b. popped-rest (st .queue) L (record-at T i j) ys shape (ancestor T n (low (height T n) (st .stage n))) (record-at T n (low (height T n) (st .stage n)))
             (λ z. far b) (t .stands b);
       }
@@ -45,7 +45,7 @@ module _ (T : Tree) (𝓛 : Laws T) (st : State) (inv : Inv T st) where
       record {
         real = λ g. t .real (omega arith);
         range = omega (arith, t .range);
-        heads = λ k g. rw (put-other (st .queue) L ys (ancestor T i k) (λ z. let u = one-head T 𝓛 st inv i i k j (omega arith) h z .1 in omega arith)) (t .heads k (omega arith));
+        heads = λ k g. rw (put-other (st .queue) L ys (ancestor T i k) (λ z. let u = one-head T tree-laws st inv i i k j (omega arith) h z .1 in omega arith)) (t .heads k (omega arith));
         stands = λ g. absurd (omega arith);
       }
 
@@ -100,7 +100,7 @@ module _ (T : Tree) (𝓛 : Laws T) (st : State) (inv : Inv T st) where
   keeps-start : (i : ℕ) → i < T .threads → st .stage i ≡ out → Restaged i (climb 0)
   unfolding low acts reach
   keeps-start i h e =
-      restaged T 𝓛 st inv i (climb 0)
+      restaged T tree-laws st inv i (climb 0)
       (record { real = λ g. h; range = omega arith; heads = λ n g. absurd (omega arith); stands = λ g. absurd (omega arith) })
       (rw e (omega arith))
 
@@ -108,13 +108,13 @@ module _ (T : Tree) (𝓛 : Laws T) (st : State) (inv : Inv T st) where
   unfolding low acts reach
   keeps-enter i e =
       let t : Thread T (st .queue) i ready = rw e at (inv .threads i) in
-      restaged T 𝓛 st inv i inside (record { real = t .real; range = t .range; heads = t .heads; stands = t .stands }) (rw e (omega arith))
+      restaged T tree-laws st inv i inside (record { real = t .real; range = t .range; heads = t .heads; stands = t .stands }) (rw e (omega arith))
 
   keeps-leave : (i : ℕ) → st .stage i ≡ inside → Restaged i holding
   unfolding low acts reach
   keeps-leave i e =
       let t : Thread T (st .queue) i inside = rw e at (inv .threads i) in
-      restaged T 𝓛 st inv i holding (record { real = t .real; range = t .range; heads = t .heads; stands = t .stands }) (rw e (omega arith))
+      restaged T tree-laws st inv i holding (record { real = t .real; range = t .range; heads = t .heads; stands = t .stands }) (rw e (omega arith))
 
   -- THE JOINS
   -- what a thread about to join knows
@@ -148,18 +148,18 @@ module _ (T : Tree) (𝓛 : Laws T) (st : State) (inv : Inv T st) where
       let c = climber i j e in
       let L = ancestor T i j in
       let m = record-at T i j in
-      let inner : j < height T i = same-or j (height T i) _ (λ w. absurd (n (ap (ancestor T i) w ∙ 𝓛 .top i (c .0)))) (λ w. omega (arith, c .1)) in
-      joined T 𝓛 st inv i j (climb (suc j)) (put (st .tally) m 1) e
+      let inner : j < height T i = same-or j (height T i) _ (λ w. absurd (n (ap (ancestor T i) w ∙ tree-laws .top i (c .0)))) (λ w. omega (arith, c .1)) in
+      joined T tree-laws st inv i j (climb (suc j)) (put (st .tally) m 1) e
       (record { real = λ g. c .0; range = omega arith; heads = first-there i j e z; stands = λ g. absurd (omega arith) })
       (omega arith)
       (λ d r nd h. same-or d L _
       (λ w.
       let f : first (grown (st .queue) L m d) ≡ suc m = rw w (first-there i j e z j (omega arith)) in
       let rm : r ≡ m = omega arith in
-      rw (put-same (st .tally) m 1 r rm, w) (omega arith, 𝓛 .positive i j (c .0) inner))
+      rw (put-same (st .tally) m 1 r rm, w) (omega arith, tree-laws .positive i j (c .0) inner))
       (λ w.
       let old : first (st .queue d) ≡ suc r = rw (put-other (st .queue) L (st .queue L ++ (m ∷ [])) d w) at h in
-      let far : r ≢ m = λ y. let o : count r (st .queue d) ≡ 0 = rw y (fresh T 𝓛 st inv i j d e) in omega (arith, first-in r (st .queue d) old) in
+      let far : r ≢ m = λ y. let o : count r (st .queue d) ≡ 0 = rw y (fresh T tree-laws st inv i j d e) in omega (arith, first-in r (st .queue d) old) in
       rw (put-other (st .tally) m 1 r far) (inv .counts d r nd old)))
 
   keeps-join-root :
@@ -170,8 +170,8 @@ module _ (T : Tree) (𝓛 : Laws T) (st : State) (inv : Inv T st) where
       let c = climber i j e in
       let L = ancestor T i j in
       let m = record-at T i j in
-      let top : j ≡ height T i = less-or j (height T i) _ (λ w. absurd (𝓛 .inner i j (c .0) w r)) (λ w. omega (arith, c .1)) in
-      joined T 𝓛 st inv i j inside (st .tally) e
+      let top : j ≡ height T i = less-or j (height T i) _ (λ w. absurd (tree-laws .inner i j (c .0) w r)) (λ w. omega (arith, c .1)) in
+      joined T tree-laws st inv i j inside (st .tally) e
       (record { real = λ g. c .0; range = omega arith; heads = λ n h. first-there i j e z n (omega arith); stands = λ g. absurd (omega arith) })
       (omega arith)
       (λ d q nd h. inv .counts d q nd (rw (put-other (st .queue) L (st .queue L ++ (m ∷ [])) d (λ w. nd (w ∙ r))) at h))
@@ -184,7 +184,7 @@ module _ (T : Tree) (𝓛 : Laws T) (st : State) (inv : Inv T st) where
       let c = climber i j e in
       let L = ancestor T i j in
       let m = record-at T i j in
-      joined T 𝓛 st inv i j (queued j) (st .tally) e
+      joined T tree-laws st inv i j (queued j) (st .tally) e
       (record {
         real = λ g. c .0;
         range = omega (arith, c .1);
@@ -221,7 +221,7 @@ module _ (T : Tree) (𝓛 : Laws T) (st : State) (inv : Inv T st) where
         let L = ancestor T i j in
         less-or n l _
         (λ g.
-        rw (put-other (st .queue) L (record-at T s l ∷ xs) (ancestor T s n) (λ z. apart (one-head T 𝓛 st inv s i n j (omega (arith, successor-low)) holds z .0)))
+        rw (put-other (st .queue) L (record-at T s l ∷ xs) (ancestor T s n) (λ z. apart (one-head T tree-laws st inv s i n j (omega (arith, successor-low)) holds z .0)))
         (successor .2 n g))
         (λ g.
         let w : n ≡ l = omega arith in
@@ -242,7 +242,7 @@ module _ (T : Tree) (𝓛 : Laws T) (st : State) (inv : Inv T st) where
         rw (put-same (st .tally) (record-at T s l) w r q, z) (ok (λ y. nd (z ∙ y))))
         (λ z.
         let old : first (st .queue d) ≡ suc r = rw (put-other (st .queue) L (record-at T s l ∷ xs) d z) at h in
-        let far : r ≢ record-at T s l = λ y. z (one-queue T 𝓛 st inv d L r (first-in r (st .queue d) old) (rw y successor-in)) in
+        let far : r ≢ record-at T s l = λ y. z (one-queue T tree-laws st inv d L r (first-in r (st .queue d) old) (rw y successor-in)) in
         rw (put-other (st .tally) (record-at T s l) w r far) (inv .counts d r nd old))
 
     handed :
@@ -261,7 +261,7 @@ module _ (T : Tree) (𝓛 : Laws T) (st : State) (inv : Inv T st) where
         (λ z. rw (same n p z) (bystander i j n (record-at T s l ∷ xs) shape holds p
         (λ b y.
         let u : record-at T n (low (height T n) (st .stage n)) ≡ record-at T s l = omega (arith, first-cons (record-at T s l) xs) in
-        z (unique T 𝓛 st inv n s (low (height T n) (st .stage n)) l b (omega (arith, successor-acts)) u .0)))))
+        z (unique T tree-laws st inv n s (low (height T n) (st .stage n)) l b (omega (arith, successor-acts)) u .0)))))
         (λ n p. same-or n s _
         (λ z. rw z (rw (put-same f₁ s x s refl) (omega (arith, successor-acts))))
         (λ z. rw (same n p z) (omega arith)))
@@ -279,12 +279,12 @@ module _ (T : Tree) (𝓛 : Laws T) (st : State) (inv : Inv T st) where
         let t : Thread T (st .queue) i (releasing j) = rw e at (inv .threads i) in
         let real : i < T .threads = t .real (omega arith) in
         let h : j < height T i = omega (arith, t .range) in
-        let k = same-height T 𝓛 s l i j (successor .0) real (successor .1) (omega arith) meet in
+        let k = same-height T tree-laws s l i j (successor .0) real (successor .1) (omega arith) meet in
         handed (climb (suc l)) (put (st .tally) (record-at T s l) 1)
         (record { real = λ g. successor .0; range = omega arith; heads = successor-heads; stands = λ g. absurd (omega arith) })
         (omega arith)
         (λ n g b. let b′ : n < suc j = rw e at b in absurd (omega arith))
-        (successor-counts 1 (λ n. (omega arith, 𝓛 .positive i j real h)))
+        (successor-counts 1 (λ n. (omega arith, tree-laws .positive i j real h)))
 
     keeps-hand-on :
         st .stage i ≡ holding → j ≤ height T i → (ancestor T i j ≢ 0 → st .tally (record-at T i j) < T .threshold (ancestor T i j)) →
@@ -296,7 +296,7 @@ module _ (T : Tree) (𝓛 : Laws T) (st : State) (inv : Inv T st) where
     unfolding low acts reach
     keeps-hand-on e h ok =
         let real : i < T .threads = inv .threads i .real (rw e (omega arith)) in
-        let k = same-height T 𝓛 s l i j (successor .0) real (successor .1) h meet in
+        let k = same-height T tree-laws s l i j (successor .0) real (successor .1) h meet in
         let L = ancestor T i j in
         let heads : Below T (put (st .queue) L (record-at T s l ∷ xs)) s (suc (height T s)) = λ n b. less-or n (suc l) _
         (λ g. successor-heads n g)
@@ -305,7 +305,7 @@ module _ (T : Tree) (𝓛 : Laws T) (st : State) (inv : Inv T st) where
         let nl : n ≡ l + suc d = omega arith in
         let low-i : j + suc d < low (height T i) (st .stage i) = rw e (omega arith) in
         let old : first (st .queue (ancestor T i (j + suc d))) ≡ suc (record-at T i (j + suc d)) = inv .threads i .heads (j + suc d) low-i in
-        let far : ancestor T i (j + suc d) ≢ L = λ z. let u = one-head T 𝓛 st inv i i (j + suc d) j low-i holds z .1 in omega arith in
+        let far : ancestor T i (j + suc d) ≢ L = λ z. let u = one-head T tree-laws st inv i i (j + suc d) j low-i holds z .1 in omega arith in
         rw (nl, follow T s l i j meet (suc d), follow-record-at T s l i j meet d) (rw (put-other (st .queue) L (record-at T s l ∷ xs) (ancestor T i (j + suc d)) far) old)) in
         handed ready (put (st .tally) (record-at T s l) (suc (st .tally (record-at T i j))))
         (record { real = λ g. successor .0; range = omega arith; heads = heads; stands = λ g. absurd (omega arith) })

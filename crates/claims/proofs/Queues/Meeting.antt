@@ -22,7 +22,7 @@ follow-record-at T s l i j h e = rw (add-suc l e, add-suc j e) (ap (λ d. 256 + 
 pub same-height :
     (T : Tree) → Laws T → (s l i j : ℕ) → s < T .threads → i < T .threads → l ≤ height T s → j ≤ height T i → ancestor T s l ≡ ancestor T i j →
     height T s + j ≡ height T i + l
-same-height T 𝓛 s l i j hs hi a b e =
+same-height T tree-laws s l i j hs hi a b e =
     less-or (height T s + j) (height T i + l) _
     (λ h. absurd (not-lower s l i j hs hi a (omega arith) e))
     (λ h. less-or (height T i + l) (height T s + j) _
@@ -33,5 +33,5 @@ same-height T 𝓛 s l i j hs hi a b e =
     not-lower : (s l i j : ℕ) → s < T .threads → i < T .threads → l ≤ height T s → height T s + j < height T i + l → ancestor T s l ≡ ancestor T i j → ⊥
     not-lower s l i j hs hi a h e =
         let k = height T s - l in
-        let x : ancestor T s (l + k) ≡ 0 = let z : l + k ≡ height T s = omega arith in rw z (𝓛 .top s hs) in
-        𝓛 .inner i (j + k) hi (omega arith) (sym (follow T s l i j e k) ∙ x)
+        let x : ancestor T s (l + k) ≡ 0 = let z : l + k ≡ height T s = omega arith in rw z (tree-laws .top s hs) in
+        tree-laws .inner i (j + k) hi (omega arith) (sym (follow T s l i j e k) ∙ x)

@@ -15,20 +15,20 @@ use Rattle.claims.proofs.Queues.Keeps.{keeps}
 
 -- THE INVARIANT ALONG A RUN
 pub kept-along : (T : Tree) → Laws T → {st st′ : State} {es : List Event} → Run T st es st′ → Inv T st → Inv T st′
-kept-along T 𝓛 done inv = inv
-kept-along T 𝓛 (silent {st = st} m r) inv = kept-along T 𝓛 r (keeps T 𝓛 st inv m)
-kept-along T 𝓛 (more {st = st} m r) inv = kept-along T 𝓛 r (keeps T 𝓛 st inv m)
+kept-along T tree-laws done inv = inv
+kept-along T tree-laws (silent {st = st} m r) inv = kept-along T tree-laws r (keeps T tree-laws st inv m)
+kept-along T tree-laws (more {st = st} m r) inv = kept-along T tree-laws r (keeps T tree-laws st inv m)
 
 pub reached : (T : Tree) → Laws T → {st : State} {es : List Event} → Run T empty es st → Inv T st
-reached T 𝓛 r = kept-along T 𝓛 r (inv-empty T)
+reached T tree-laws r = kept-along T tree-laws r (inv-empty T)
 
 -- AT MOST ONE INSIDE
 pub one-inside : (T : Tree) → Laws T → (st : State) → Inv T st → (i j : ℕ) → st .stage i ≡ inside → st .stage j ≡ inside → i ≡ j
 unfolding low acts reach
-one-inside T 𝓛 st inv i j e f =
+one-inside T tree-laws st inv i j e f =
     let hi : i < T .threads = inv .threads i .real (rw e (omega arith)) in
     let hj : j < T .threads = inv .threads j .real (rw f (omega arith)) in
-    one-head T 𝓛 st inv i j (height T i) (height T j) (rw e (omega arith)) (rw f (omega arith)) (𝓛 .top i hi ∙ sym (𝓛 .top j hj)) .0
+    one-head T tree-laws st inv i j (height T i) (height T j) (rw e (omega arith)) (rw f (omega arith)) (tree-laws .top i hi ∙ sym (tree-laws .top j hj)) .0
 
 -- WHO STANDS SECOND: a thread queued there acts for it. (For whoever has to make a hand-over.)
 standing : (h k : ℕ) (x : Stage) → low h x ≤ k → k < acts h x → x ≡ queued k

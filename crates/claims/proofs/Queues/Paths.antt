@@ -21,15 +21,15 @@ pub record Laws (T : Tree) : Type 0 where
   pub at-most : (i k : ℕ) → i < T .threads → k < height T i → allowance T (record-at T i k) ≤ member-allowance T (ancestor T i k)
 
 pub laws : (T : Tree) → Accepted T → Laws T
-laws T 𝓐 =
-    let deep : (i k : ℕ) → i < T .threads → k < height T i → 0 < ancestor T i k = λ i k h b. ancestor-inner T 𝓐 i h k b in
+laws T valid =
+    let deep : (i k : ℕ) → i < T .threads → k < height T i → 0 < ancestor T i k = λ i k h b. ancestor-inner T valid i h k b in
     record {
-      few = 𝓐 .few-threads;
-      top = λ i h. ancestor-root T 𝓐 i h;
+      few = valid .few-threads;
+      top = λ i h. ancestor-root T valid i h;
       inner = λ i k h b e. omega (arith, deep i k h b);
-      positive = λ i k h b. 𝓐 .threshold-some (ancestor T i k) (deep i k h b) (ancestor-real T 𝓐 i h k);
-      of-thread = λ i h. omega (arith, thread-allowance T i (omega (arith, 𝓐 .few-threads)));
-      of-domain = λ i k h b. omega (arith, allowance-domain T 𝓐 (ancestor T i k));
-      owner = λ i k h b. owner-at T 𝓐 i h k b;
-      at-most = λ i k h b. allowance-within T 𝓐 i h k (omega arith);
+      positive = λ i k h b. valid .threshold-some (ancestor T i k) (deep i k h b) (ancestor-real T valid i h k);
+      of-thread = λ i h. omega (arith, thread-allowance T i (omega (arith, valid .few-threads)));
+      of-domain = λ i k h b. omega (arith, allowance-domain T valid (ancestor T i k));
+      owner = λ i k h b. owner-at T valid i h k b;
+      at-most = λ i k h b. allowance-within T valid i h k (omega arith);
     }

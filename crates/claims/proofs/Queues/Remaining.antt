@@ -66,26 +66,26 @@ left-same T t t′ x x′ i n (suc k) h g =
     let z = g k (omega arith) in
     rw z (omega arith)
 
-module _ (T : Tree) (𝓛 : Laws T) (st : State) (inv : Inv T st) where
+module _ (T : Tree) (tree-laws : Laws T) (st : State) (inv : Inv T st) where
   -- a thread that acts somewhere
   pub acts-real : (i k : ℕ) → k < acts (height T i) (st .stage i) → (i < T .threads) × (i < 256) × (k ≤ height T i)
   acts-real i k h =
       let t = inv .threads i in
       let b = acts-reach (height T i) (st .stage i) in
       let r = t .real (omega arith) in
-      (r, omega (arith, 𝓛 .few), omega (arith, t .range))
+      (r, omega (arith, tree-laws .few), omega (arith, t .range))
 
   pub left-bound : (i k : ℕ) → k < acts (height T i) (st .stage i) → left T (st .tally) (st .stage i) i k ≤ allowance T (record-at T i k)
   unfolding left record-at
-  left-bound i zero h = omega (arith, 𝓛 .of-thread i (acts-real i 0 h .0), pending-one (st .stage i))
+  left-bound i zero h = omega (arith, tree-laws .of-thread i (acts-real i 0 h .0), pending-one (st .stage i))
   left-bound i (suc k) h =
       let f = acts-real i (suc k) h in
       let ih = left-bound i k (omega arith) in
       let a = acts-low (height T i) (st .stage i) in
-      let c = inv .counts (ancestor T i k) (record-at T i k) (𝓛 .inner i k (f .0) (omega (arith, f .2))) (inv .threads i .heads k (omega arith)) in
-      let m = 𝓛 .at-most i k (f .0) (omega (arith, f .2)) in
+      let c = inv .counts (ancestor T i k) (record-at T i k) (tree-laws .inner i k (f .0) (omega (arith, f .2))) (inv .threads i .heads k (omega arith)) in
+      let m = tree-laws .at-most i k (f .0) (omega (arith, f .2)) in
       let r = room (T .threshold (ancestor T i k)) (st .tally (record-at T i k)) (member-allowance T (ancestor T i k)) (left T (st .tally) (st .stage i) i k) (c .0) (c .1) (omega arith) in
-      omega (arith, 𝓛 .of-domain i k (f .0) (omega (arith, f .2)))
+      omega (arith, tree-laws .of-domain i k (f .0) (omega (arith, f .2)))
 
 -- ONE MOVE: whoever is first at a queue where its record was first before has no more left than whoever acted for it, less its entry
 pub record Before (T : Tree) (st : State) (i k n : ℕ) : Type 0 where
@@ -95,7 +95,7 @@ pub record Before (T : Tree) (st : State) (i k n : ℕ) : Type 0 where
   pub same : record-at T thread index ≡ record-at T i k
   pub falls : n ≤ left T (st .tally) (st .stage thread) thread index
 
-module _ (T : Tree) (𝓛 : Laws T) (st : State) (inv : Inv T st) where
+module _ (T : Tree) (tree-laws : Laws T) (st : State) (inv : Inv T st) where
   -- the same thread
   itself :
       (t′ : ℕ → ℕ) (x′ : Stage) (i k n : ℕ) → k < low (height T i) (st .stage i) → pending x′ + n ≤ pending (st .stage i) →
@@ -106,14 +106,14 @@ module _ (T : Tree) (𝓛 : Laws T) (st : State) (inv : Inv T st) where
   -- a tally written at the record of a thread about to join, or that stands, is no tally of a first record
   joining-far : (i j : ℕ) → st .stage i ≡ climb j → (n l : ℕ) → l < low (height T n) (st .stage n) → record-at T n l ≢ record-at T i j
   joining-far i j e n l h z =
-      let o : count (record-at T n l) (st .queue (ancestor T n l)) ≡ 0 = rw z (fresh T 𝓛 st inv i j (ancestor T n l) e) in
+      let o : count (record-at T n l) (st .queue (ancestor T n l)) ≡ 0 = rw z (fresh T tree-laws st inv i j (ancestor T n l) e) in
       omega (arith, first-in (record-at T n l) (st .queue (ancestor T n l)) (inv .threads n .heads l h))
 
   standing-far : (s l : ℕ) → st .stage s ≡ queued l → (n k : ℕ) → k < low (height T n) (st .stage n) → record-at T n k ≢ record-at T s l
   unfolding low acts
   standing-far s l e n k h z =
       let a : l < acts (height T s) (st .stage s) = rw e (omega arith) in
-      let u = unique T 𝓛 st inv n s k l (omega (arith, low-acts (height T n) (st .stage n))) a z in
+      let u = unique T tree-laws st inv n s k l (omega (arith, low-acts (height T n) (st .stage n))) a z in
       let b : low (height T n) (st .stage n) ≡ l = ap (λ m. low (height T m) (st .stage m)) (u .0) ∙ rw e refl in
       let c = u .1 in
       omega arith
@@ -175,7 +175,7 @@ module _ (T : Tree) (𝓛 : Laws T) (st : State) (inv : Inv T st) where
   falls-join-root i j e r z =
       let t : Thread T (st .queue) i (climb j) = rw e at (inv .threads i) in
       let real = t .real (omega arith) in
-      let top : height T i ≤ j = less-or j (height T i) _ (λ w. absurd (𝓛 .inner i j real w r)) (λ w. w) in
+      let top : height T i ≤ j = less-or j (height T i) _ (λ w. absurd (tree-laws .inner i j real w r)) (λ w. w) in
       falls-one (entered i) i inside (st .tally) (λ n l b. refl) (λ n y. is-other i n (λ q. y (sym q)))
       (λ k h f. let w = not-empty i j k z f in rw e (omega (arith, t .range), omega (arith, is-same i i refl)))
 
@@ -248,11 +248,11 @@ module _ (T : Tree) (𝓛 : Laws T) (st : State) (inv : Inv T st) where
 
     successor-real : (s < T .threads) × (s < 256) × (l ≤ height T s)
     unfolding acts
-    successor-real = acts-real T 𝓛 st inv s l (rw waits (omega arith))
+    successor-real = acts-real T tree-laws st inv s l (rw waits (omega arith))
 
     heights : st .stage i ≡ holding → j ≤ height T i → height T s + j ≡ height T i + l
     unfolding acts
-    heights e h = same-height T 𝓛 s l i j (successor-real .0) (acts-real T 𝓛 st inv i j (rw e (omega arith)) .0) (successor-real .2) h meet
+    heights e h = same-height T tree-laws s l i j (successor-real .0) (acts-real T tree-laws st inv i j (rw e (omega arith)) .0) (successor-real .2) h meet
 
     -- what the successor has left at the index where it stood is less than a tenure
     successor-left : l < height T s → left T (put (st .tally) (record-at T s l) (suc (st .tally (record-at T i j)))) ready s l ≤ member-allowance T (ancestor T s l)
@@ -260,8 +260,8 @@ module _ (T : Tree) (𝓛 : Laws T) (st : State) (inv : Inv T st) where
     successor-left b =
         let w = suc (st .tally (record-at T i j)) in
         let x = left-same T (st .tally) (put (st .tally) (record-at T s l) w) (st .stage s) ready s 0 l (rw waits (omega arith)) (λ n g. kept-tally w s n (rw waits g)) in
-        let y = left-bound T 𝓛 st inv s l (rw waits (omega arith)) in
-        let z = 𝓛 .at-most s l (successor-real .0) b in
+        let y = left-bound T tree-laws st inv s l (rw waits (omega arith)) in
+        let z = tree-laws .at-most s l (successor-real .0) b in
         omega arith
 
     -- above that index the successor takes the place of i, with one tenure less
@@ -273,7 +273,7 @@ module _ (T : Tree) (𝓛 : Laws T) (st : State) (inv : Inv T st) where
         let v = st .tally (record-at T i j) in
         let t′ = put (st .tally) (record-at T s l) (suc v) in
         let x : left T t′ ready s l ≤ member-allowance T (ancestor T i j) = rw meet at (successor-left (omega arith)) in
-        let ok′ : v < T .threshold (ancestor T i j) = ok (λ z. 𝓛 .inner s l (successor-real .0) (omega arith) (meet ∙ z)) in
+        let ok′ : v < T .threshold (ancestor T i j) = ok (λ z. tree-laws .inner s l (successor-real .0) (omega arith) (meet ∙ z)) in
         let sl : l + 1 ≡ suc l = omega arith in
         let sj : j + 1 ≡ suc j = omega arith in
         rw (sl, sj) (rw (put-same (st .tally) (record-at T s l) (suc v) (record-at T s l) refl, meet)
@@ -319,7 +319,7 @@ module _ (T : Tree) (𝓛 : Laws T) (st : State) (inv : Inv T st) where
   falls (enter i e) = falls-enter i e
   falls (leave i e) = falls-leave i e
   falls (hand-on i j s l xs e h w m ok shape) =
-      falls-hand-on i j s l xs shape (rw e (omega arith)) w m (standing-not T 𝓛 st inv i s l holding w e refl) e h ok
+      falls-hand-on i j s l xs shape (rw e (omega arith)) w m (standing-not T tree-laws st inv i s l holding w e refl) e h ok
   falls (release i j s l xs e w m shape) =
-      falls-release i j s l xs shape (rw e (omega arith)) w m (standing-not T 𝓛 st inv i s l (releasing j) w e refl)
-  falls (let-go i j b shape) = falls-let-go i j (omega (arith, last-low T 𝓛 st inv i j b))
+      falls-release i j s l xs shape (rw e (omega arith)) w m (standing-not T tree-laws st inv i s l (releasing j) w e refl)
+  falls (let-go i j b shape) = falls-let-go i j (omega (arith, last-low T tree-laws st inv i j b))

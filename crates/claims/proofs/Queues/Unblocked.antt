@@ -23,7 +23,7 @@ unfolding first rest count
 some-first r [] h = absurd (omega arith)
 some-first r (x ∷ xs) h = (x, refl)
 
-module _ (T : Tree) (𝓛 : Laws T) (st : State) (inv : Inv T st) where
+module _ (T : Tree) (tree-laws : Laws T) (st : State) (inv : Inv T st) where
   abbrev lo : ℕ → ℕ
   lo i = low (height T i) (st .stage i)
 
@@ -63,7 +63,7 @@ module _ (T : Tree) (𝓛 : Laws T) (st : State) (inv : Inv T st) where
       let b = acts-reach (height T n) (st .stage n) in
       let a′ = acts-reach (height T i) (st .stage i) in
       let u = inv .threads n in
-      let e = same-height T 𝓛 n (c .index) i (lo i) (u .real (omega arith)) (t .real (omega arith)) (omega (arith, u .range)) (omega (arith, t .range)) (c .there) in
+      let e = same-height T tree-laws n (c .index) i (lo i) (u .real (omega arith)) (t .real (omega arith)) (omega (arith, u .range)) (omega (arith, t .range)) (c .there) in
       record { thread = n; higher = omega arith; busy = omega arith }
 
   -- from one who stands up the tree, which ends

@@ -26,16 +26,16 @@ use Rattle.claims.proofs.Words.Frame.{Others, apart, replaced}
 use Rattle.claims.proofs.Words.Joining.{prepare, empty-there, take-root, take, stand-first, stand, link, climb-on}
 use Rattle.claims.proofs.Words.Outcome.{standing-shown, entry-shown, row-shown, Outcome, outcome, placed, status-placed, next-placed, tail-placed, prep-placed, swap-placed, member-small}
 
-module _ (t : Tree) (𝓐 : Accepted t) (s : WordState) (room : Room s) (g : State) (i : ℕ) (h : i < t .threads) (o : Others t (words-in s) g i) where
+module _ (t : Tree) (valid : Accepted t) (s : WordState) (room : Room s) (g : State) (i : ℕ) (h : i < t .threads) (o : Others t (words-in s) g i) where
   abbrev w : Words
   w = words-in s
 
   few : i < 256
-  few = omega (arith, 𝓐 .few-threads)
+  few = omega (arith, valid .few-threads)
 
   -- the domain and the record at an index are within the room
   domain-small : (k : ℕ) → ancestor t i k < 64
-  domain-small k = omega (arith, ancestor-real t 𝓐 i h k, 𝓐 .few-domains)
+  domain-small k = omega (arith, ancestor-real t valid i h k, valid .few-domains)
 
   -- PREP
   pub prep-outcome : (k : ℕ) → k ≤ height t i → g .stage i ≡ climb k → Counted t w g i k → Outcome t g i (ancestor t i k) (prep-row t i (ancestor t i k) s)
@@ -44,9 +44,9 @@ module _ (t : Tree) (𝓐 : Accepted t) (s : WordState) (room : Room s) (g : Sta
     where
       by : {x : Row-result} → Branch t i s (Prep (ancestor t i k)) x → Outcome t g i (ancestor t i k) x
       by (prepares _ v at) =
-          let b = record-small t 𝓐 i h k l in
-          rw (word-is at, own-record-at t 𝓐 i h k l)
-          (outcome _ g (prep-placed s room i few (Swap (ancestor t i k)) (record-at t i k) (waiting-word (ancestor t i k)) none b) (prepare t 𝓐 w g i h o k l e c) done)
+          let b = record-small t valid i h k l in
+          rw (word-is at, own-record-at t valid i h k l)
+          (outcome _ g (prep-placed s room i few (Swap (ancestor t i k)) (record-at t i k) (waiting-word (ancestor t i k)) none b) (prepare t valid w g i h o k l e c) done)
 
   -- SWAP
   pub swap-outcome :
@@ -57,24 +57,24 @@ module _ (t : Tree) (𝓐 : Accepted t) (s : WordState) (room : Room s) (g : Sta
     where
       by : {x : Row-result} → Branch t i s (Swap (ancestor t i k)) x → Outcome t g i (ancestor t i k) x
       by (swap-root _ root tl) =
-          let b = record-small t 𝓐 i h k l in
+          let b = record-small t valid i h k l in
           let d = domain-small k in
-          rw (own-record-at t 𝓐 i h k l)
+          rw (own-record-at t valid i h k l)
           (outcome _ _ (swap-placed s room i few Inside (ancestor t i k) (record-at t i k + 1) (record-at t i k) 0 d b)
-          (take-root t 𝓐 w g i h o k l nt e root (ancestor-zero t 𝓐 i h k l root) tl nx c) (more (join-root i k e root (empty-there t 𝓐 w g i h o k l nt tl)) done))
+          (take-root t valid w g i h o k l nt e root (ancestor-zero t valid i h k l root) tl nx c) (more (join-root i k e root (empty-there t valid w g i h o k l nt tl)) done))
       by (swap-inner _ n tl) =
-          let b = record-small t 𝓐 i h k l in
+          let b = record-small t valid i h k l in
           let d = domain-small k in
-          let lower = ancestor-not-root t 𝓐 i h k l (omega (arith, n)) in
-          rw (own-record-at t 𝓐 i h k l, ancestor-parent-of t 𝓐 i h k lower)
+          let lower = ancestor-not-root t valid i h k l (omega (arith, n)) in
+          rw (own-record-at t valid i h k l, ancestor-parent-of t valid i h k lower)
           (outcome _ _ (swap-placed s room i few (acquire-place t (ancestor t i (suc k))) (ancestor t i k) (record-at t i k + 1) (record-at t i k) 1 d b)
-          (take t 𝓐 w g i h o k l nt e n lower tl nx c) (silent (join-empty i k e n (empty-there t 𝓐 w g i h o k l nt tl)) done))
+          (take t valid w g i h o k l nt e n lower tl nx c) (silent (join-empty i k e n (empty-there t valid w g i h o k l nt tl)) done))
       by (swap-behind _ tl) =
           let d = domain-small k in
-          let f = stand-first t 𝓐 w g i h o k l nt tl in
-          rw (own-record-at t 𝓐 i h k l)
+          let f = stand-first t valid w g i h o k l nt tl in
+          rw (own-record-at t valid i h k l)
           (outcome _ _ (tail-placed s room i few (Link (ancestor t i k) (tail s (ancestor t i k) - 1)) (ancestor t i k) (record-at t i k + 1) d)
-          (stand t 𝓐 w g i h o k l nt e tl nx sw c) (more (join-behind i k (f .0) e (f .1)) done))
+          (stand t valid w g i h o k l nt e tl nx sw c) (more (join-behind i k (f .0) e (f .1)) done))
 
   -- LINK
   pub link-outcome :
@@ -85,10 +85,10 @@ module _ (t : Tree) (𝓐 : Accepted t) (s : WordState) (room : Room s) (g : Sta
     where
       by : {x : Row-result} → Branch t i s (Link (ancestor t i k) p) x → Outcome t g i (ancestor t i k) x
       by (link-writes _ _) =
-          let b = member-small t 𝓐 g (o .invariant) (ancestor t i k) p (after-in (g .queue (ancestor t i k)) p (record-at t i k) a) in
-          rw (own-record-at t 𝓐 i h k l)
+          let b = member-small t valid g (o .invariant) (ancestor t i k) p (after-in (g .queue (ancestor t i k)) p (record-at t i k) a) in
+          rw (own-record-at t valid i h k l)
           (outcome _ g (next-placed s room i few (Wait (ancestor t i k)) p (record-at t i k + 1) b)
-          (link t 𝓐 w g i h o k l nt p e a nx sw c) done)
+          (link t valid w g i h o k l nt p e a nx sw c) done)
 
   -- WAIT, not granted
   pub wait-outcome :
@@ -96,7 +96,7 @@ module _ (t : Tree) (𝓐 : Accepted t) (s : WordState) (room : Room s) (g : Sta
       Outcome t g i (ancestor t i k) (wait-row t i (ancestor t i k) s)
   unfolding row-shown standing-shown entry-shown is-entry words-in
   wait-outcome rep k l sw =
-      rw (ungranted-row t i s (ancestor t i k) (rw (own-record-at t 𝓐 i h k l) sw)) (outcome _ g (record { same = refl; room = room }) rep done)
+      rw (ungranted-row t i s (ancestor t i k) (rw (own-record-at t valid i h k l) sw)) (outcome _ g (record { same = refl; room = room }) rep done)
 
   -- WAIT, granted and to acquire the parent
   pub woken-outcome :
@@ -105,10 +105,10 @@ module _ (t : Tree) (𝓐 : Accepted t) (s : WordState) (room : Room s) (g : Sta
   unfolding row-shown standing-shown entry-shown is-entry words-in
   woken-outcome k b e c sw ta =
       let l : k ≤ height t i = omega arith in
-      let own = own-record-at t 𝓐 i h k l in
-      let inner = ancestor-inner t 𝓐 i h k b in
-      rw (acquiring-row t i s (ancestor t i k) (λ z. omega arith) (rw own sw), own, ancestor-parent-of t 𝓐 i h k b)
-      (outcome _ g (status-placed s room i few (acquire-place t (ancestor t i (suc k))) (record-at t i k) 1 (record-small t 𝓐 i h k l)) (climb-on t 𝓐 w g i h o k l e b ta c) done)
+      let own = own-record-at t valid i h k l in
+      let inner = ancestor-inner t valid i h k b in
+      rw (acquiring-row t i s (ancestor t i k) (λ z. omega arith) (rw own sw), own, ancestor-parent-of t valid i h k b)
+      (outcome _ g (status-placed s room i few (acquire-place t (ancestor t i (suc k))) (record-at t i k) 1 (record-small t valid i h k l)) (climb-on t valid w g i h o k l e b ta c) done)
 
   -- WAIT, granted the lock
   abbrev pub entered-state : State
@@ -116,7 +116,7 @@ module _ (t : Tree) (𝓐 : Accepted t) (s : WordState) (room : Room s) (g : Sta
 
   pub entered : g .stage i ≡ ready → Counted t w g i (height t i) → Represents t (place-to i Inside w) entered-state
   entered e c =
-      replaced t 𝓐 w g i h o entered-state Inside inside (keeps t (laws t 𝓐) g (o .invariant) (enter i e)) refl refl (put-same (g .stage) i inside i refl)
+      replaced t valid w g i h o entered-state Inside inside (keeps t (laws t valid) g (o .invariant) (enter i e)) refl refl (put-same (g .stage) i inside i refl)
       (λ j n. put-other (g .stage) i inside j n) (at-inside c)
 
   -- the word that says so: UNLOCKED at the root, below it a count
@@ -125,11 +125,11 @@ module _ (t : Tree) (𝓐 : Accepted t) (s : WordState) (room : Room s) (g : Sta
       (k ≡ height t i → w .statuses (record-at t i k) ≡ 0) → Granted t i s (ancestor t i k) (wait-row t i (ancestor t i k) s)
   unfolding words-in low
   ready-row bits k l e c sw =
-      let own = own-record-at t 𝓐 i h k l in
+      let own = own-record-at t valid i h k l in
       granted-row t i s (ancestor t i k)
-      (λ z. let v : status s (record-at t i k) ≡ 0 = sw (ancestor-zero t 𝓐 i h k l z) in rw own (λ y. omega arith))
+      (λ z. let v : status s (record-at t i k) ≡ 0 = sw (ancestor-zero t valid i h k l z) in rw own (λ y. omega arith))
       (λ n.
-      let b = ancestor-not-root t 𝓐 i h k l (omega (arith, n)) in
+      let b = ancestor-not-root t valid i h k l (omega (arith, n)) in
       let count = c k b b in
       let first = o .invariant .threads i .heads k (rw e (omega arith)) in
       let fits = o .invariant .counts (ancestor t i k) (record-at t i k) n first .1 in
@@ -152,18 +152,18 @@ module _ (t : Tree) (𝓐 : Accepted t) (s : WordState) (room : Room s) (g : Sta
   pub started : g .stage i ≡ out → Others t w started-state i
   started e =
       record {
-        invariant = keeps t (laws t 𝓐) g (o .invariant) (start i h e);
+        invariant = keeps t (laws t valid) g (o .invariant) (start i h e);
         linked = o .linked;
         numbered = o .numbered;
-        others = λ j hj n. left-alone (apart t 𝓐 w g i h o w started-state 0 (omega arith) j hj n refl (put-other (g .stage) i (climb 0) j n) (λ r q. refl)
+        others = λ j hj n. left-alone (apart t valid w g i h o w started-state 0 (omega arith) j hj n refl (put-other (g .stage) i (climb 0) j n) (λ r q. refl)
             (λ r q. refl) (λ r q. refl) (λ m p q nd a. (a, refl)) (λ d r q z. z)) (o .others j hj n);
       }
 
 pub prepared-outcome :
-    (t : Tree) (𝓐 : Accepted t) (s : WordState) (room : Room s) (g : State) (i : ℕ) (h : i < t .threads) → Others t (words-in s) g i →
+    (t : Tree) (valid : Accepted t) (s : WordState) (room : Room s) (g : State) (i : ℕ) (h : i < t .threads) → Others t (words-in s) g i →
     g .stage i ≡ out → Outcome t g i (t .home i) (prep-row t i (t .home i) s)
 unfolding ancestor
-prepared-outcome t 𝓐 s room g i h o e =
-    let x = prep-outcome t 𝓐 s room (record { queue = g .queue; stage = put (g .stage) i (climb 0); tally = g .tally }) i h (started t 𝓐 s room g i h o e) 0 (omega arith)
+prepared-outcome t valid s room g i h o e =
+    let x = prep-outcome t valid s room (record { queue = g .queue; stage = put (g .stage) i (climb 0); tally = g .tally }) i h (started t valid s room g i h o e) 0 (omega arith)
     (put-same (g .stage) i (climb 0) i refl) (λ m b q. absurd (omega arith)) in
     record { state = x .state; room = x .room; represents = x .represents; follows = silent (start i h e) (x .follows) }

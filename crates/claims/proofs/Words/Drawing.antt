@@ -41,9 +41,9 @@ begins-at t g g′ d e m z mv = rw z at mv
 
 -- the members at a ticket root, few enough for the counters
 pub root-short : (t : Tree) → Accepted t → (g : State) → Inv t g → length (g .queue 0) ≤ 320
-root-short t 𝓐 g inv = list-short 320 (g .queue 0) (member-small t 𝓐 g inv 0) (inv .once 0)
+root-short t valid g inv = list-short 320 (g .queue 0) (member-small t valid g inv 0) (inv .once 0)
 
-module _ (t : Tree) (𝓐 : Accepted t) (s : WordState) (room : Room s) (g : State) (i : ℕ) (h : i < t .threads) (o : Others t (words-in s) g i)
+module _ (t : Tree) (valid : Accepted t) (s : WordState) (room : Room s) (g : State) (i : ℕ) (h : i < t .threads) (o : Others t (words-in s) g i)
     (root : t .ticket-root ≡ true) where
   abbrev w : Words
   w = words-in s
@@ -52,7 +52,7 @@ module _ (t : Tree) (𝓐 : Accepted t) (s : WordState) (room : Room s) (g : Sta
   inv = o .invariant
 
   few : i < 256
-  few = omega (arith, 𝓐 .few-threads)
+  few = omega (arith, valid .few-threads)
 
   -- DRAW
   module _ (k : ℕ) (top : k ≡ height t i) where
@@ -63,7 +63,7 @@ module _ (t : Tree) (𝓐 : Accepted t) (s : WordState) (room : Room s) (g : Sta
     R = record-at t i k
 
     there : L ≡ 0
-    there = ap (ancestor t i) top ∙ ancestor-root t 𝓐 i h
+    there = ap (ancestor t i) top ∙ ancestor-root t valid i h
 
     pub within : k ≤ height t i
     within = omega arith
@@ -77,7 +77,7 @@ module _ (t : Tree) (𝓐 : Accepted t) (s : WordState) (room : Room s) (g : Sta
     others-kept : (r : ℕ) → r ≢ R → put (w .statuses) R (w .ticket) r ≡ w .statuses r
     others-kept r n = put-other (w .statuses) R (w .ticket) r n
 
-    module _ (e : g .stage i ≡ climb k) (p : Place) (g′ : State) (queues : g′ .queue ≡ grown t 𝓐 w g i h o k within) where
+    module _ (e : g .stage i ≡ climb k) (p : Place) (g′ : State) (queues : g′ .queue ≡ grown t valid w g i h o k within) where
       drawn-linked : (d : ℕ) → is-ticket t d ≡ false → Linked (drawn p) (g′ .queue d) d
       drawn-linked d nd =
           let other : d ≢ L = λ z. queue-lower t d nd root (z ∙ there) in
@@ -91,7 +91,7 @@ module _ (t : Tree) (𝓐 : Accepted t) (s : WordState) (room : Room s) (g : Sta
             small = old .small;
             held = tickets-snoc (drawn p .statuses) (w .grant) (w .ticket) R (g .queue 0) (put-same (w .statuses) R (w .ticket) R refl)
                 (tickets-kept (w .statuses) (drawn p .statuses) (w .grant) (w .ticket) (g .queue 0)
-                (λ a m. others-kept a (away t 𝓐 w g i h o k within e 0 a m)) (old .held));
+                (λ a m. others-kept a (away t valid w g i h o k within e 0 a m)) (old .held));
           })
 
     -- the ticket equals the grant exactly where nobody is there
@@ -99,7 +99,7 @@ module _ (t : Tree) (𝓐 : Accepted t) (s : WordState) (room : Room s) (g : Sta
     nobody-there z =
         let old = o .numbered root in
         let b = tickets-behind (w .statuses) (w .grant) (w .ticket) (g .queue 0) (old .small) (old .held) in
-        let few-there = root-short t 𝓐 g inv in
+        let few-there = root-short t valid g inv in
         let small = old .small in
         queue-there ∙ length-none (g .queue 0) (omega arith)
 
@@ -111,25 +111,25 @@ module _ (t : Tree) (𝓐 : Accepted t) (s : WordState) (room : Room s) (g : Sta
         let empty : Tickets (w .statuses) (w .grant) (w .ticket) [] = rw (sym queue-there ∙ z) at (old .held) in
         n empty)
 
-    pub draw-enters : g .stage i ≡ climb k → Counted t w g i k → w .ticket ≡ w .grant → Represents t (drawn Inside) (took-root-state t 𝓐 w g i h o k within)
+    pub draw-enters : g .stage i ≡ climb k → Counted t w g i k → w .ticket ≡ w .grant → Represents t (drawn Inside) (took-root-state t valid w g i h o k within)
     draw-enters e c z =
-        let g′ = took-root-state t 𝓐 w g i h o k within in
-        assembled t 𝓐 w g i h o (drawn Inside) g′ Inside inside (keeps t (laws t 𝓐) g inv (join-root i k e there (nobody-there z)))
+        let g′ = took-root-state t valid w g i h o k within in
+        assembled t valid w g i h o (drawn Inside) g′ Inside inside (keeps t (laws t valid) g inv (join-root i k e there (nobody-there z)))
         (drawn-linked e Inside g′ refl) (drawn-numbered e Inside g′ refl)
         (put-same (w .places) i Inside i refl) (put-same (g .stage) i inside i refl)
-        (at-inside (λ m b q. counted-below t 𝓐 w g i h o (drawn Inside) g′ k within others-kept (λ r n. refl) c m (omega arith) q))
-        (λ j hj n. join-apart t 𝓐 w g i h o k within (drawn Inside) g′ refl refl e j hj n (put-other (w .places) i Inside j n)
+        (at-inside (λ m b q. counted-below t valid w g i h o (drawn Inside) g′ k within others-kept (λ r n. refl) c m (omega arith) q))
+        (λ j hj n. join-apart t valid w g i h o k within (drawn Inside) g′ refl refl e j hj n (put-other (w .places) i Inside j n)
         (put-other (g .stage) i inside j n) others-kept (λ r q. refl) (λ d r q z. z))
 
-    pub draw-watches : g .stage i ≡ climb k → Counted t w g i k → w .ticket ≢ w .grant → Represents t (drawn Watch) (stood-state t 𝓐 w g i h o k within)
+    pub draw-watches : g .stage i ≡ climb k → Counted t w g i k → w .ticket ≢ w .grant → Represents t (drawn Watch) (stood-state t valid w g i h o k within)
     draw-watches e c z =
-        let g′ = stood-state t 𝓐 w g i h o k within in
+        let g′ = stood-state t valid w g i h o k within in
         let f = somebody-there z in
-        assembled t 𝓐 w g i h o (drawn Watch) g′ Watch (queued k) (keeps t (laws t 𝓐) g inv (join-behind i k (f .0) e (f .1)))
+        assembled t valid w g i h o (drawn Watch) g′ Watch (queued k) (keeps t (laws t valid) g inv (join-behind i k (f .0) e (f .1)))
         (drawn-linked e Watch g′ refl) (drawn-numbered e Watch g′ refl)
         (put-same (w .places) i Watch i refl) (put-same (g .stage) i (queued k) i refl)
-        (at-watch k top root (counted-below t 𝓐 w g i h o (drawn Watch) g′ k within others-kept (λ r n. refl) c))
-        (λ j hj n. join-apart t 𝓐 w g i h o k within (drawn Watch) g′ refl refl e j hj n (put-other (w .places) i Watch j n)
+        (at-watch k top root (counted-below t valid w g i h o (drawn Watch) g′ k within others-kept (λ r n. refl) c))
+        (λ j hj n. join-apart t valid w g i h o k within (drawn Watch) g′ refl refl e j hj n (put-other (w .places) i Watch j n)
         (put-other (g .stage) i (queued k) j n) others-kept (λ r q. refl) (λ d r q z. z))
 
     pub draw-outcome : (d : ℕ) → L ≡ d → g .stage i ≡ climb k → Counted t w g i k → Outcome t g i d (draw-row t i s)
@@ -138,13 +138,13 @@ module _ (t : Tree) (𝓐 : Accepted t) (s : WordState) (room : Room s) (g : Sta
       where
         by : {x : Row-result} → Branch t i s Draw x → Outcome t g i d x
         by (draw-shown same) =
-            rw (root-record t 𝓐 i h, ← top)
-            (outcome _ _ (draw-placed s room i few Inside R (s .ticket) (wrap (s .ticket + 1)) (record-small t 𝓐 i h k within)) (draw-enters e c same)
+            rw (root-record t valid i h, ← top)
+            (outcome _ _ (draw-placed s room i few Inside R (s .ticket) (wrap (s .ticket + 1)) (record-small t valid i h k within)) (draw-enters e c same)
             (more (join-root i k e there (nobody-there same)) done))
         by (draw-unshown other) =
             let f = somebody-there other in
-            rw (root-record t 𝓐 i h, ← top)
-            (outcome _ _ (draw-placed s room i few Watch R (s .ticket) (wrap (s .ticket + 1)) (record-small t 𝓐 i h k within)) (draw-watches e c other)
+            rw (root-record t valid i h, ← top)
+            (outcome _ _ (draw-placed s room i few Watch R (s .ticket) (wrap (s .ticket + 1)) (record-small t valid i h k within)) (draw-watches e c other)
             (more (begins-at t g _ L d R z (join-behind i k (f .0) e (f .1))) done))
 
   -- WATCH: not shown yet
@@ -154,15 +154,15 @@ module _ (t : Tree) (𝓐 : Accepted t) (s : WordState) (room : Room s) (g : Sta
       let old = o .numbered root in
       let R = record-at t i (height t i) in
       let stands : 1 ≤ count R (rest (g .queue (ancestor t i (height t i)))) = rw e at (inv .threads i .stands (rw e (omega arith))) in
-      let behind : 1 ≤ count R (rest (g .queue 0)) = rw (ancestor-root t 𝓐 i h) at stands in
-      tickets-rest (w .statuses) (w .grant) (w .ticket) R (g .queue 0) (old .small) (root-short t 𝓐 g inv) (old .held) behind
+      let behind : 1 ≤ count R (rest (g .queue 0)) = rw (ancestor-root t valid i h) at stands in
+      tickets-rest (w .statuses) (w .grant) (w .ticket) R (g .queue 0) (old .small) (root-short t valid g inv) (old .held) behind
 
   pub watch-outcome : Represents t w g → g .stage i ≡ queued (height t i) → Outcome t g i 0 (watch-row t i s)
   unfolding row-shown standing-shown entry-shown is-entry words-in low acts
   watch-outcome rep e = by (watch-branch t i s)
     where
       by : {x : Row-result} → Branch t i s Watch x → Outcome t g i 0 x
-      by (watch-shown same) = absurd (not-shown e (rw (root-record t 𝓐 i h) at same))
+      by (watch-shown same) = absurd (not-shown e (rw (root-record t valid i h) at same))
       by (watch-unshown _) = outcome _ g (record { same = refl; room = room }) rep done
 
   -- shown: the first at the root
@@ -170,7 +170,7 @@ module _ (t : Tree) (𝓐 : Accepted t) (s : WordState) (room : Room s) (g : Sta
   unfolding words-in low
   is-shown e =
       let R = record-at t i (height t i) in
-      let head : first (g .queue 0) ≡ suc R = rw (ancestor-root t 𝓐 i h) at (inv .threads i .heads (height t i) (rw e (omega arith))) in
+      let head : first (g .queue 0) ≡ suc R = rw (ancestor-root t valid i h) at (inv .threads i .heads (height t i) (rw e (omega arith))) in
       tickets-first (w .statuses) (w .grant) (w .ticket) R (g .queue 0) (o .numbered root .held) head
 
   pub shown-outcome : g .stage i ≡ ready → Counted t w g i (height t i) → Outcome t g i 0 (watch-row t i s)
@@ -178,5 +178,5 @@ module _ (t : Tree) (𝓐 : Accepted t) (s : WordState) (room : Room s) (g : Sta
   shown-outcome e c = by (watch-branch t i s)
     where
       by : {x : Row-result} → Branch t i s Watch x → Outcome t g i 0 x
-      by (watch-shown _) = outcome _ (entered-state t 𝓐 s room g i h o) (placed s room i few Inside) (entered t 𝓐 s room g i h o e c) (more (enter i e) done)
-      by (watch-unshown other) = absurd ((rw (root-record t 𝓐 i h) at other) (is-shown e))
+      by (watch-shown _) = outcome _ (entered-state t valid s room g i h o) (placed s room i few Inside) (entered t valid s room g i h o e c) (more (enter i e) done)
+      by (watch-unshown other) = absurd ((rw (root-record t valid i h) at other) (is-shown e))

@@ -37,7 +37,7 @@ tickets-kept f f′ v b (m ∷ ms) s h = (
   tickets-kept f f′ _ b ms (λ a c. s a (omega (arith, count-cons a m ms))) (h .1),
 )
 
-module _ (t : Tree) (𝓐 : Accepted t) (w : Words) (g : State) (i : ℕ) (h : i < t .threads) (o : Others t w g i) where
+module _ (t : Tree) (valid : Accepted t) (w : Words) (g : State) (i : ℕ) (h : i < t .threads) (o : Others t w g i) where
   -- a thread's records, up to where it is first, are its own
   pub below-low : (j k : ℕ) → k ≤ low (height t j) (g .stage j) → Below t (g .queue) j k
   below-low j k b n l = o .invariant .threads j .heads n (omega arith)
@@ -45,11 +45,11 @@ module _ (t : Tree) (𝓐 : Accepted t) (w : Words) (g : State) (i : ℕ) (h : i
   pub other-record :
       (j k l : ℕ) → j < t .threads → j ≢ i → k ≤ low (height t i) (g .stage i) → l ≤ low (height t j) (g .stage j) → record-at t j l ≢ record-at t i k
   other-record j k l hj n a b e =
-      let f = 𝓐 .few-threads in
+      let f = valid .few-threads in
       n (same-user t (g .queue) j i (omega arith) (omega arith) l k (below-low j l b) (below-low i k a) e .0)
 
   pub lower-record : (k m : ℕ) → k ≤ height t i → m < k → record-at t i m ≢ record-at t i k
-  lower-record k m a b e = let z = record-injective t 𝓐 i h m k (omega arith) a e in omega arith
+  lower-record k m a b e = let z = record-injective t valid i h m k (omega arith) a e in omega arith
 
   -- counts below an index, where statuses and counts change at the record there alone
   pub counted-below :

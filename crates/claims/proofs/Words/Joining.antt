@@ -29,12 +29,12 @@ use Rattle.claims.proofs.Words.Frame.{Others, counted-below, counted-th
 pub acquired-fits :
     (t : Tree) → Accepted t → (w : Words) (g : State) (i : ℕ) → i < t .threads → (k : ℕ) → k ≤ height t i → Counted t w g i k →
     Fits t w g i (acquire-place t (ancestor t i k)) (climb k)
-acquired-fits t 𝓐 w g i h k l c =
+acquired-fits t valid w g i h k l c =
     by-test (λ p. Fits t w g i p (climb k)) (is-ticket t (ancestor t i k)) Draw (Prep (ancestor t i k))
-    (λ e. let f = ticket-facts t (ancestor t i k) e in at-draw k (ancestor-zero t 𝓐 i h k l (f .1)) (f .0) c)
+    (λ e. let f = ticket-facts t (ancestor t i k) e in at-draw k (ancestor-zero t valid i h k l (f .1)) (f .0) c)
     (λ e. at-prep k l c)
 
-module _ (t : Tree) (𝓐 : Accepted t) (w : Words) (g : State) (i : ℕ) (h : i < t .threads) (o : Others t w g i) (k : ℕ) (l : k ≤ height t i) where
+module _ (t : Tree) (valid : Accepted t) (w : Words) (g : State) (i : ℕ) (h : i < t .threads) (o : Others t w g i) (k : ℕ) (l : k ≤ height t i) where
   abbrev inv : Inv t g
   inv = o .invariant
 
@@ -53,7 +53,7 @@ module _ (t : Tree) (𝓐 : Accepted t) (w : Words) (g : State) (i : ℕ) (h : i
 
   -- a record that is about to join is in no queue
   pub away : g .stage i ≡ climb k → (d a : ℕ) → 1 ≤ count a (g .queue d) → a ≢ R
-  away e d a m z = let f = fresh t (laws t 𝓐) g inv i k d e in let m′ : 1 ≤ count R (g .queue d) = rw z at m in omega arith
+  away e d a m z = let f = fresh t (laws t valid) g inv i k d e in let m′ : 1 ≤ count R (g .queue d) = rw z at m in omega arith
 
   -- PREP
   abbrev pub prepared : Words
@@ -61,18 +61,18 @@ module _ (t : Tree) (𝓐 : Accepted t) (w : Words) (g : State) (i : ℕ) (h : i
 
   pub prepare : g .stage i ≡ climb k → Counted t w g i k → Represents t prepared g
   prepare e c =
-      assembled t 𝓐 w g i h o prepared g (Swap L) (climb k) inv
+      assembled t valid w g i h o prepared g (Swap L) (climb k) inv
       (λ d nd. record {
         last = o .linked d nd .last;
         chain = λ a m n.
             let z = changed (w .nexts) none a (away e d a m) in
             z ∙ o .linked d nd .chain a m (λ q. n (z ∙ q));
       })
-      (numbered-kept t 𝓐 w g i h o prepared g refl refl (λ _. refl) (λ _ a m. changed (w .statuses) (waiting-word L) a (away e 0 a m)))
+      (numbered-kept t valid w g i h o prepared g refl refl (λ _. refl) (λ _ a m. changed (w .statuses) (waiting-word L) a (away e 0 a m)))
       (put-same (w .places) i (Swap L) i refl) e
-      (at-swap k l (counted-below t 𝓐 w g i h o prepared g k l (changed (w .statuses) (waiting-word L)) (λ r n. refl) c)
+      (at-swap k l (counted-below t valid w g i h o prepared g k l (changed (w .statuses) (waiting-word L)) (λ r n. refl) c)
       (put-same (w .nexts) R none R refl) (put-same (w .statuses) R (waiting-word L) R refl))
-      (λ j hj n. apart t 𝓐 w g i h o prepared g k (climb-low e) j hj n (put-other (w .places) i (Swap L) j n) refl
+      (λ j hj n. apart t valid w g i h o prepared g k (climb-low e) j hj n (put-other (w .places) i (Swap L) j n) refl
       (changed (w .statuses) (waiting-word L)) (λ r q. refl) (changed (w .nexts) none)
       (λ m p q nd a. (a, changed (w .nexts) none p (away e (ancestor t j m) p (after-in (g .queue (ancestor t j m)) p (record-at t j m) a)))) (λ d r q z. z))
 
@@ -99,7 +99,7 @@ module _ (t : Tree) (𝓐 : Accepted t) (w : Words) (g : State) (i : ℕ) (h : i
         ((r : ℕ) → r ≢ R → w′ .statuses r ≡ w .statuses r) → ((r : ℕ) → r ≢ R → g′ .tally r ≡ g .tally r) →
         ((d r : ℕ) → r ≢ R → w .tails d ≢ suc r → w′ .tails d ≢ suc r) → Apart t w g w′ g′ j
     join-apart e j hj n pl sg st ta tl =
-        apart t 𝓐 w g i h o w′ g′ k (climb-low e) j hj n pl sg st ta (λ r q. next-same r)
+        apart t valid w g i h o w′ g′ k (climb-low e) j hj n pl sg st ta (λ r q. next-same r)
         (λ m p q nd a. (
           rw queues (same-or (ancestor t j m) L _
               (λ y.
@@ -114,7 +114,7 @@ module _ (t : Tree) (𝓐 : Accepted t) (w : Words) (g : State) (i : ℕ) (h : i
         is-ticket t L ≡ false → g .stage i ≡ climb k → w′ .ticket ≡ w .ticket → w′ .grant ≡ w .grant → ((r : ℕ) → r ≢ R → w′ .statuses r ≡ w .statuses r) →
         t .ticket-root ≡ true → Numbered w′ (g′ .queue 0)
     join-numbered nt e ti gr st =
-        numbered-kept t 𝓐 w g i h o w′ g′ ti gr
+        numbered-kept t valid w g i h o w′ g′ ti gr
         (λ z. rw queues (put-other (g .queue) L (g .queue L ++ (R ∷ [])) 0 (λ y. queue-lower t L nt z (sym y)))) (λ _ a m. st a (away e 0 a m))
 
     module _ (nt : is-ticket t L ≡ false) (tails : w′ .tails ≡ swapped .tails) (own : w .nexts R ≡ 0) where
@@ -164,10 +164,10 @@ module _ (t : Tree) (𝓐 : Accepted t) (w : Words) (g : State) (i : ℕ) (h : i
     take-root e z y tl nx c =
         let empty = empty-there tl in
         let st = changed (w .statuses) unlocked in
-        assembled t 𝓐 w g i h o took-root took-root-state Inside inside (keeps t (laws t 𝓐) g inv (join-root i k e z empty))
+        assembled t valid w g i h o took-root took-root-state Inside inside (keeps t (laws t valid) g inv (join-root i k e z empty))
         (join-linked took-root took-root-state refl refl nt refl nx) (join-numbered took-root took-root-state refl refl nt e refl refl st)
         (put-same (w .places) i Inside i refl) (put-same (g .stage) i inside i refl)
-        (at-inside (λ m b q. counted-below t 𝓐 w g i h o took-root took-root-state k l st (λ r n. refl) c m (omega arith) q))
+        (at-inside (λ m b q. counted-below t valid w g i h o took-root took-root-state k l st (λ r n. refl) c m (omega arith) q))
         (λ j hj n. join-apart took-root took-root-state refl refl e j hj n (put-other (w .places) i Inside j n) (put-other (g .stage) i inside j n) st
         (λ r q. refl) swapped-last)
 
@@ -185,10 +185,10 @@ module _ (t : Tree) (𝓐 : Accepted t) (w : Words) (g : State) (i : ℕ) (h : i
         let empty = empty-there tl in
         let st = changed (w .statuses) cohort-start in
         let ta = changed (g .tally) 1 in
-        assembled t 𝓐 w g i h o (took p) took-state p (climb (suc k)) (keeps t (laws t 𝓐) g inv (join-empty i k e z empty))
+        assembled t valid w g i h o (took p) took-state p (climb (suc k)) (keeps t (laws t valid) g inv (join-empty i k e z empty))
         (join-linked (took p) took-state refl refl nt refl nx) (join-numbered (took p) took-state refl refl nt e refl refl st)
         (put-same (w .places) i p i refl) (put-same (g .stage) i (climb (suc k)) i refl)
-        (acquired-fits t 𝓐 (took p) took-state i h (suc k) b (counted-through t 𝓐 w g i h o (took p) took-state k (counted-below t 𝓐 w g i h o (took p) took-state k l st ta c)
+        (acquired-fits t valid (took p) took-state i h (suc k) b (counted-through t valid w g i h o (took p) took-state k (counted-below t valid w g i h o (took p) took-state k l st ta c)
         (put-same (w .statuses) R cohort-start R refl ∙ sym (put-same (g .tally) R 1 R refl))))
         (λ j hj n. join-apart (took p) took-state refl refl e j hj n (put-other (w .places) i p j n) (put-other (g .stage) i (climb (suc k)) j n) st ta swapped-last)
 
@@ -207,10 +207,10 @@ module _ (t : Tree) (𝓐 : Accepted t) (w : Words) (g : State) (i : ℕ) (h : i
         let quiet : w .nexts p ≡ 0 =
         same-or (w .nexts p) 0 _ (λ z. z)
         (λ z. absurd (z (o .linked L nt .chain p (final-in p (g .queue L) last) z ∙ after-last p (g .queue L) last (inv .once L p)))) in
-        assembled t 𝓐 w g i h o stood stood-state (Link L p) (queued k) (keeps t (laws t 𝓐) g inv (join-behind i k (f .0) e (f .1)))
+        assembled t valid w g i h o stood stood-state (Link L p) (queued k) (keeps t (laws t valid) g inv (join-behind i k (f .0) e (f .1)))
         (join-linked stood stood-state refl refl nt refl nx) (join-numbered stood stood-state refl refl nt e refl refl (λ r n. refl))
         (put-same (w .places) i (Link L p) i refl) (put-same (g .stage) i (queued k) i refl)
-        (at-link k p l (counted-below t 𝓐 w g i h o stood stood-state k l (λ r n. refl) (λ r n. refl) c) nt
+        (at-link k p l (counted-below t valid w g i h o stood stood-state k l (λ r n. refl) (λ r n. refl) c) nt
         (rw (put-same (g .queue) L (g .queue L ++ (R ∷ [])) L refl) (after-snoc-last p R (g .queue L) last (inv .once L p))) quiet sw)
         (λ j hj n. join-apart stood stood-state refl refl e j hj n (put-other (w .places) i (Link L p) j n) (put-other (g .stage) i (queued k) j n)
         (λ r q. refl) (λ r q. refl) swapped-last)
@@ -226,17 +226,17 @@ module _ (t : Tree) (𝓐 : Accepted t) (w : Words) (g : State) (i : ℕ) (h : i
         let here = after-in (g .queue L) p R a in
         let nx : (r : ℕ) → r ≢ p → put (w .nexts) p (R + 1) r ≡ w .nexts r = λ r n. put-other (w .nexts) p (R + 1) r n in
         let acting : k < acts (height t i) (g .stage i) = rw e (omega arith) in
-        assembled t 𝓐 w g i h o (linked-up p) g (Wait L) (queued k) inv
+        assembled t valid w g i h o (linked-up p) g (Wait L) (queued k) inv
         (λ d nd. record {
           last = o .linked d nd .last;
           chain = λ b m n. same-or b p _
               (λ y.
               let m′ : 1 ≤ count p (g .queue d) = rw y at m in
-              let there = one-queue t (laws t 𝓐) g inv d L p m′ here in
+              let there = one-queue t (laws t valid) g inv d L p m′ here in
               rw (y, there) (put-same (w .nexts) p (R + 1) p refl ∙ (let q : R + 1 ≡ suc R = omega arith in q) ∙ sym a))
               (λ y. nx b y ∙ o .linked d nd .chain b m (λ q. n (nx b y ∙ q)));
         })
-        (numbered-kept t 𝓐 w g i h o (linked-up p) g refl refl (λ _. refl) (λ _ b m. refl))
+        (numbered-kept t valid w g i h o (linked-up p) g refl refl (λ _. refl) (λ _ b m. refl))
         (put-same (w .places) i (Wait L) i refl) e
         (at-wait k p l c nt a (put-same (w .nexts) p (R + 1) p refl ∙ (let q : R + 1 ≡ suc R = omega arith in q)) sw)
         (λ j hj n. record {
@@ -248,16 +248,16 @@ module _ (t : Tree) (𝓐 : Accepted t) (w : Words) (g : State) (i : ℕ) (h : i
               nx (record-at t j m) (λ y. let q′ : w .nexts p ≡ suc r = rw y at q in omega arith) ∙ q;
           next-none = λ m q y.
               nx (record-at t j m) (λ x.
-              let f = fresh t (laws t 𝓐) g inv j m L q in
+              let f = fresh t (laws t valid) g inv j m L q in
               let f′ : count p (g .queue L) ≡ 0 = rw x at f in omega arith) ∙ y;
           same-link = λ m q s nd b. (
             b,
             nx q (λ x.
                 let b′ : after (g .queue (ancestor t j m)) p ≡ suc (record-at t j m) = rw x at b in
-                let same = one-queue t (laws t 𝓐) g inv (ancestor t j m) L p (after-in (g .queue (ancestor t j m)) p (record-at t j m) b′) here in
+                let same = one-queue t (laws t valid) g inv (ancestor t j m) L p (after-in (g .queue (ancestor t j m)) p (record-at t j m) b′) here in
                 let b″ : after (g .queue L) p ≡ suc (record-at t j m) = rw same at b′ in
                 let acts-j : m < acts (height t j) (g .stage j) = rw s (omega arith) in
-                n (unique t (laws t 𝓐) g inv j i m k acts-j acting (omega arith) .0)),
+                n (unique t (laws t valid) g inv j i m k acts-j acting (omega arith) .0)),
           );
           not-last = λ m b z. z;
         })
@@ -275,12 +275,12 @@ module _ (t : Tree) (𝓐 : Accepted t) (w : Words) (g : State) (i : ℕ) (h : i
       λ a m z.
       let m′ : 1 ≤ count R (g .queue 0) = rw z at m in
       let here = first-in R (g .queue L) (inv .threads i .heads k (rw e (omega arith))) in
-      let same = one-queue t (laws t 𝓐) g inv 0 L R m′ here in
-      omega (arith, ancestor-inner t 𝓐 i h k b) in
-      assembled t 𝓐 w g i h o (climbed p) g p (climb (suc k)) inv (λ d nd. record { last = o .linked d nd .last; chain = o .linked d nd .chain })
-      (numbered-kept t 𝓐 w g i h o (climbed p) g refl refl (λ _. refl) (λ _ a m. st a (lower a m)))
+      let same = one-queue t (laws t valid) g inv 0 L R m′ here in
+      omega (arith, ancestor-inner t valid i h k b) in
+      assembled t valid w g i h o (climbed p) g p (climb (suc k)) inv (λ d nd. record { last = o .linked d nd .last; chain = o .linked d nd .chain })
+      (numbered-kept t valid w g i h o (climbed p) g refl refl (λ _. refl) (λ _ a m. st a (lower a m)))
       (put-same (w .places) i p i refl) e
-      (acquired-fits t 𝓐 (climbed p) g i h (suc k) b (counted-through t 𝓐 w g i h o (climbed p) g k (counted-below t 𝓐 w g i h o (climbed p) g k l st (λ r n. refl) c)
+      (acquired-fits t valid (climbed p) g i h (suc k) b (counted-through t valid w g i h o (climbed p) g k (counted-below t valid w g i h o (climbed p) g k l st (λ r n. refl) c)
       (put-same (w .statuses) R cohort-start R refl ∙ sym ta)))
-      (λ j hj n. apart t 𝓐 w g i h o (climbed p) g k (rw e (omega arith)) j hj n (put-other (w .places) i p j n) refl st (λ r q. refl) (λ r q. refl)
+      (λ j hj n. apart t valid w g i h o (climbed p) g k (rw e (omega arith)) j hj n (put-other (w .places) i p j n) refl st (λ r q. refl) (λ r q. refl)
       (λ m q s nd b. (b, refl)) (λ d r q z. z))

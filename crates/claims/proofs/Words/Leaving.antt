@@ -29,16 +29,16 @@ use Rattle.claims.proofs.Words.Releasing.{done-at, done-place-at, lone,
 use Rattle.claims.proofs.Words.Granting.{hand-lock, hand-domain}
 use Rattle.claims.proofs.Words.Outcome.{ends-shown, standing-shown, entry-shown, row-shown, Outcome, outcome, placed, status-placed, tail-placed}
 
-module _ (t : Tree) (𝓐 : Accepted t) (s : WordState) (room : Room s) (g : State) (i : ℕ) (h : i < t .threads) (o : Others t (words-in s) g i) where
+module _ (t : Tree) (valid : Accepted t) (s : WordState) (room : Room s) (g : State) (i : ℕ) (h : i < t .threads) (o : Others t (words-in s) g i) where
   abbrev w : Words
   w = words-in s
 
   few : i < 256
-  few = omega (arith, 𝓐 .few-threads)
+  few = omega (arith, valid .few-threads)
 
   -- only the place changes, and no queue moves
   pub stands-still : (p : Place) (x : Stage) → g .stage i ≡ x → Fits t (place-to i p w) g i p x → Represents t (place-to i p w) g
-  stands-still p x e f = replaced t 𝓐 w g i h o g p x (o .invariant) refl refl e (λ j n. refl) f
+  stands-still p x e f = replaced t valid w g i h o g p x (o .invariant) refl refl e (λ j n. refl) f
 
   -- the place from which the domain at an index is released
   pub release-fits :
@@ -46,10 +46,10 @@ module _ (t : Tree) (𝓐 : Accepted t) (s : WordState) (room : Room s) (g : Sta
       eqb (ancestor t i k) 0 ≡ b → Fits t w′ g′ i (cond r Raise (cond b (Help (ancestor t i k)) (Check (ancestor t i k)))) holding
   release-fits w′ g′ k l c true b q e = at-raise (ticket-facts t (ancestor t i k) q .0) c
   release-fits w′ g′ k l c false true q e =
-      let z : k ≡ height t i = eqb-true k (height t i) (sym (root-test t 𝓐 i h k l) ∙ e) in
+      let z : k ≡ height t i = eqb-true k (height t i) (sym (root-test t valid i h k l) ∙ e) in
       rw (← letting-go-root (height t i) k z) (at-help k l (λ m b q. c m q q))
   release-fits w′ g′ k l c false false q e =
-      let z = eqb-false k (height t i) (sym (root-test t 𝓐 i h k l) ∙ e) in
+      let z = eqb-false k (height t i) (sym (root-test t valid i h k l) ∙ e) in
       at-check k (omega arith) c
 
   -- INSIDE
@@ -66,7 +66,7 @@ module _ (t : Tree) (𝓐 : Accepted t) (s : WordState) (room : Room s) (g : Sta
       by : {x : Row-result} → Branch t i s Inside x → Outcome t g i (t .home i) x
       by inside-leaves =
           outcome _ left-state (placed s room i few p)
-          (replaced t 𝓐 w g i h o left-state p holding (keeps t (laws t 𝓐) g (o .invariant) (leave i e)) refl refl (put-same (g .stage) i holding i refl)
+          (replaced t valid w g i h o left-state p holding (keeps t (laws t valid) g (o .invariant) (leave i e)) refl refl (put-same (g .stage) i holding i refl)
           (λ j n. put-other (g .stage) i holding j n) (release-fits (place-to i p w) left-state 0 (omega arith) c _ _ refl refl)) (silent (leave i e) done)
 
   -- CHECK
@@ -75,7 +75,7 @@ module _ (t : Tree) (𝓐 : Accepted t) (s : WordState) (room : Room s) (g : Sta
   check-outcome k b e c = by (check-branch t i s (ancestor t i k))
     where
       own : own-record t i (ancestor t i k) ≡ record-at t i k
-      own = own-record-at t 𝓐 i h k (omega arith)
+      own = own-record-at t valid i h k (omega arith)
 
       by : {x : Row-result} → Branch t i s (Check (ancestor t i k)) x → Outcome t g i (ancestor t i k) x
       by (check-passes _ less some) =
@@ -90,7 +90,7 @@ module _ (t : Tree) (𝓐 : Accepted t) (s : WordState) (room : Room s) (g : Sta
           (stands-still p holding e (at-pass k (n - 1) (v + 1) b c (omega (arith, some′)) (omega arith) (omega arith))) done)
       by (check-releases _ _) =
           let p = release-place t (ancestor t i (suc k)) in
-          rw (ancestor-parent-of t 𝓐 i h k b)
+          rw (ancestor-parent-of t valid i h k b)
           (outcome _ g (placed s room i few p) (stands-still p holding e (release-fits (place-to i p w) g (suc k) b c _ _ refl refl)) done)
 
   -- at the places where a domain is let go last
@@ -99,7 +99,7 @@ module _ (t : Tree) (𝓐 : Accepted t) (s : WordState) (room : Room s) (g : Sta
     first-there = rw e (omega (arith, letting-go-low (height t i) k))
 
     own : own-record t i (ancestor t i k) ≡ record-at t i k
-    own = own-record-at t 𝓐 i h k l
+    own = own-record-at t valid i h k l
 
     pub to-grant : next s (record-at t i k) ≢ 0 → Represents t (place-to i (Grant (ancestor t i k) (next s (record-at t i k) - 1) (release-word (ancestor t i k))) w) g
     unfolding words-in
@@ -130,10 +130,10 @@ module _ (t : Tree) (𝓐 : Accepted t) (s : WordState) (room : Room s) (g : Sta
         by : {x : Row-result} → Branch t i s (Cas (ancestor t i k)) x → Outcome t g i (ancestor t i k) x
         by (cas-last _ last) =
             let tl = rw own at last in
-            let d : ancestor t i k < 64 = omega (arith, ancestor-real t 𝓐 i h k, 𝓐 .few-domains) in
-            rw (done-place-at t 𝓐 i h k l)
-            (outcome _ _ (tail-placed s room i few (done-at t i k) (ancestor t i k) 0 d) (vacate t 𝓐 w g i h o k l first-there nt e tl c)
-            (silent (let-go i k (last-there t 𝓐 w g i h o k l first-there nt e) (lone t 𝓐 w g i h o k l first-there nt tl)) done))
+            let d : ancestor t i k < 64 = omega (arith, ancestor-real t valid i h k, valid .few-domains) in
+            rw (done-place-at t valid i h k l)
+            (outcome _ _ (tail-placed s room i few (done-at t i k) (ancestor t i k) 0 d) (vacate t valid w g i h o k l first-there nt e tl c)
+            (silent (let-go i k (last-there t valid w g i h o k l first-there nt e) (lone t valid w g i h o k l first-there nt tl)) done))
         by (cas-not-last _ other) =
             let other′ = rw own at other in
             outcome _ g (placed s room i few (Linger (ancestor t i k)))
@@ -151,24 +151,24 @@ module _ (t : Tree) (𝓐 : Accepted t) (s : WordState) (room : Room s) (g : Sta
     -- GRANT of the domain, or of the lock at the root
     pub successor-small : (r : ℕ) → w .nexts (record-at t i k) ≡ suc r → r < 320
     successor-small r own =
-        let x = successor t 𝓐 w g i h o k l first-there nt r own in
-        rw (x .mine) at (record-small t 𝓐 (x .thread) (successor-real t 𝓐 w g i h o k l first-there nt r own) (x .index) (successor-within t 𝓐 w g i h o k l first-there nt r own))
+        let x = successor t valid w g i h o k l first-there nt r own in
+        rw (x .mine) at (record-small t valid (x .thread) (successor-real t valid w g i h o k l first-there nt r own) (x .index) (successor-within t valid w g i h o k l first-there nt r own))
 
     grant-word :
         (r v : ℕ) → w .nexts (record-at t i k) ≡ suc r → Word-at (ancestor t i k) unlocked acquire-parent v → {x : Row-result} →
         Branch t i s (Grant (ancestor t i k) r v) x → Outcome t g i (ancestor t i k) x
     unfolding row-shown standing-shown ends-shown entry-shown is-entry
     grant-word r _ linked (at-root z) (grant-writes _ _ _) =
-        let root : k ≡ height t i = ancestor-zero t 𝓐 i h k l z in
+        let root : k ≡ height t i = ancestor-zero t valid i h k l z in
         let holds = e ∙ letting-go-root (height t i) k root in
-        let x = hand-lock t 𝓐 w g i h o k l first-there nt r linked holds (λ m b q. c m (omega arith) q) unlocked
+        let x = hand-lock t valid w g i h o k l first-there nt r linked holds (λ m b q. c m (omega arith) q) unlocked
         (λ n. absurd (n z)) (λ b. absurd (omega arith)) (λ q. refl) in
-        rw (done-place-at t 𝓐 i h k l)
+        rw (done-place-at t valid i h k l)
         (outcome _ (x .state) (status-placed s room i few (done-at t i k) r unlocked (successor-small r linked)) (x .represents) (more (x .move) done))
     grant-word r _ linked (below-root z) (grant-writes _ _ _) =
-        let b : k < height t i = ancestor-not-root t 𝓐 i h k l (omega (arith, z)) in
-        let x = hand-domain t 𝓐 w g i h o k l first-there nt r linked (e ∙ letting-go-lower (height t i) k b) b (λ m y q. c m (omega arith) q) in
-        rw (done-place-at t 𝓐 i h k l)
+        let b : k < height t i = ancestor-not-root t valid i h k l (omega (arith, z)) in
+        let x = hand-domain t valid w g i h o k l first-there nt r linked (e ∙ letting-go-lower (height t i) k b) b (λ m y q. c m (omega arith) q) in
+        rw (done-place-at t valid i h k l)
         (outcome _ (x .state) (status-placed s room i few (done-at t i k) r acquire-parent (successor-small r linked)) (x .represents) (more (x .move) done))
 
     pub grant-outcome : (r : ℕ) → w .nexts (record-at t i k) ≡ suc r → Outcome t g i (ancestor t i k) (grant-row t i (ancestor t i k) r (release-word (ancestor t i k)) s)
@@ -185,9 +185,9 @@ module _ (t : Tree) (𝓐 : Accepted t) (s : WordState) (room : Room s) (g : Sta
       by (grant-writes _ _ _) =
           let l : k ≤ height t i = omega arith in
           let first : k < low (height t i) (g .stage i) = rw e (omega arith) in
-          let nt = ticket-lower t (ancestor t i k) (λ z. omega (arith, ancestor-inner t 𝓐 i h k b)) in
-          let x = hand-lock t 𝓐 w g i h o k l first nt r own e c v (λ n. omega arith) (λ m. q) (λ z. absurd (omega arith)) in
-          let a = successor t 𝓐 w g i h o k l first nt r own in
-          let small : r < 320 = rw (a .mine) at (record-small t 𝓐 (a .thread) (successor-real t 𝓐 w g i h o k l first nt r own) (a .index) (successor-within t 𝓐 w g i h o k l first nt r own)) in
-          rw (done-place-at t 𝓐 i h k l)
+          let nt = ticket-lower t (ancestor t i k) (λ z. omega (arith, ancestor-inner t valid i h k b)) in
+          let x = hand-lock t valid w g i h o k l first nt r own e c v (λ n. omega arith) (λ m. q) (λ z. absurd (omega arith)) in
+          let a = successor t valid w g i h o k l first nt r own in
+          let small : r < 320 = rw (a .mine) at (record-small t valid (a .thread) (successor-real t valid w g i h o k l first nt r own) (a .index) (successor-within t valid w g i h o k l first nt r own)) in
+          rw (done-place-at t valid i h k l)
           (outcome _ (x .state) (status-placed s room i few (done-at t i k) r v small) (x .represents) (more (x .move) done))

@@ -106,7 +106,7 @@ module _ (s : WordState) (room : Room s) (i : ℕ) (h : i < 256) (p : Place) whe
 
 -- a member in a queue is a record
 pub member-small : (t : Tree) → Accepted t → (g : State) → Inv t g → (d m : ℕ) → 1 ≤ count m (g .queue d) → m < 320
-member-small t 𝓐 g inv d m b =
+member-small t valid g inv d m b =
     let a = inv .acted d m b in
-    let r = acts-real t (laws t 𝓐) g inv (a .thread) (a .index) (a .acting) in
-    rw (a .mine) at (record-small t 𝓐 (a .thread) (r .0) (a .index) (r .2))
+    let r = acts-real t (laws t valid) g inv (a .thread) (a .index) (a .acting) in
+    rw (a .mine) at (record-small t valid (a .thread) (r .0) (a .index) (r .2))

@@ -64,7 +64,7 @@ watcher (at-raise r c) e = absurd (false≢true e)
 pub ends-at : (t : Tree) (g g′ : State) (d e m : ℕ) → d ≡ e → Move t g (moves.ends d m) g′ → Move t g (moves.ends e m) g′
 ends-at t g g′ d e m z mv = rw z at mv
 
-module _ (t : Tree) (𝓐 : Accepted t) (s : WordState) (room : Room s) (g : State) (i : ℕ) (h : i < t .threads) (o : Others t (words-in s) g i)
+module _ (t : Tree) (valid : Accepted t) (s : WordState) (room : Room s) (g : State) (i : ℕ) (h : i < t .threads) (o : Others t (words-in s) g i)
     (good : (j : ℕ) → j < t .threads → good-place t j (place s j) ≡ true) (ticket : t .ticket-root ≡ true)
     (raising : place s i ≡ Raise) (e : g .stage i ≡ holding) (c : Counted t (words-in s) g i (height t i)) where
   abbrev w : Words
@@ -74,7 +74,7 @@ module _ (t : Tree) (𝓐 : Accepted t) (s : WordState) (room : Room s) (g : Sta
   inv = o .invariant
 
   few : i < 256
-  few = omega (arith, 𝓐 .few-threads)
+  few = omega (arith, valid .few-threads)
 
   abbrev k : ℕ
   k = height t i
@@ -86,7 +86,7 @@ module _ (t : Tree) (𝓐 : Accepted t) (s : WordState) (room : Room s) (g : Sta
   R = record-at t i k
 
   there : L ≡ 0
-  there = ancestor-root t 𝓐 i h
+  there = ancestor-root t valid i h
 
   abbrev pub raised : ℕ
   raised = wrap (w .grant + 1)
@@ -100,7 +100,7 @@ module _ (t : Tree) (𝓐 : Accepted t) (s : WordState) (room : Room s) (g : Sta
 
   -- the row's place
   pub done-root : done-place t i 0 ≡ done-at t i k
-  done-root = rw there at (done-place-at t 𝓐 i h k (omega arith))
+  done-root = rw there at (done-place-at t valid i h k (omega arith))
 
   abbrev pub raised-words : Words
   raised-words = place-to i (done-at t i k) (grant-to raised w)
@@ -119,15 +119,15 @@ module _ (t : Tree) (𝓐 : Accepted t) (s : WordState) (room : Room s) (g : Sta
       let j = found .index in
       let hj = found .below in
       let both = and-both (is-watch (place s j)) (eqb (own-record t j 0) x) (found .holds) in
-      let mine : record-at t j (height t j) ≡ x = sym (root-record t 𝓐 j hj) ∙ eqb-true (own-record t j 0) x (both .1) in
+      let mine : record-at t j (height t j) ≡ x = sym (root-record t valid j hj) ∙ eqb-true (own-record t j 0) x (both .1) in
       let other : j ≢ i = λ z. false≢true (let f : is-watch (place s j) ≡ false = rw (z, raising) (unfold is-watch in refl) in sym f ∙ both .0) in
       elim (watcher (o .others j hj other) (both .0)) [
         | inl q ↦
             let stands : 1 ≤ count (record-at t j (height t j)) (rest (g .queue (ancestor t j (height t j)))) = rw q at (inv .threads j .stands (rw q (omega arith))) in
-            rw (mine, ancestor-root t 𝓐 j hj) at stands
+            rw (mine, ancestor-root t valid j hj) at stands
         | inr q ↦
             let first-j : height t j < low (height t j) (g .stage j) = rw q (omega arith) in
-            absurd (other (one-head t (laws t 𝓐) g inv j i (height t j) k first-j (omega (arith, low-i)) (ancestor-root t 𝓐 j hj ∙ sym there) .0))
+            absurd (other (one-head t (laws t valid) g inv j i (height t j) k first-j (omega (arith, low-i)) (ancestor-root t valid j hj ∙ sym there) .0))
       ]
 
   abbrev is-shown : ℕ → Bool
@@ -159,11 +159,11 @@ module _ (t : Tree) (𝓐 : Accepted t) (s : WordState) (room : Room s) (g : Sta
 
     pub emptied : Represents t raised-words empty-state
     emptied =
-        assembled t 𝓐 w g i h o raised-words empty-state (done-at t i k) (down k)
-        (keeps t (laws t 𝓐) g inv (let-go i k (root e refl) shape)) (kept-linked empty-state [] refl) emptied-numbered
+        assembled t valid w g i h o raised-words empty-state (done-at t i k) (down k)
+        (keeps t (laws t valid) g inv (let-go i k (root e refl) shape)) (kept-linked empty-state [] refl) emptied-numbered
         (put-same (w .places) i (done-at t i k) i refl) (put-same (g .stage) i (down k) i refl)
         (done-fits t raised-words empty-state i k (omega arith) c)
-        (λ j hj n. apart t 𝓐 w g i h o raised-words empty-state 0 (omega arith) j hj n (put-other (w .places) i (done-at t i k) j n)
+        (λ j hj n. apart t valid w g i h o raised-words empty-state 0 (omega arith) j hj n (put-other (w .places) i (done-at t i k) j n)
         (put-other (g .stage) i (down k) j n) (λ r q. refl) (λ r q. refl) (λ r q. refl)
         (λ m p q nd a. (rw (put-other (g .queue) L [] (ancestor t j m) (λ y. queue-lower t (ancestor t j m) nd ticket (y ∙ there))) a, refl)) (λ d r q z. z))
 
@@ -228,10 +228,10 @@ module _ (t : Tree) (𝓐 : Accepted t) (s : WordState) (room : Room s) (g : Sta
     shown-ticket = all-held .1 .0
 
     r-small : r < 320
-    r-small = rw (behind .mine) at (record-small t 𝓐 S S-real N S-within)
+    r-small = rw (behind .mine) at (record-small t valid S S-real N S-within)
 
     S-record : own-record t S 0 ≡ r
-    S-record = root-record t 𝓐 S S-real ∙ ap (record-at t S) (sym (S-watches .at-top)) ∙ behind .mine
+    S-record = root-record t valid S S-real ∙ ap (record-at t S) (sym (S-watches .at-top)) ∙ behind .mine
 
     r-watched : is-watched t s r ≡ true
     unfolding is-watched is-watch
@@ -246,7 +246,7 @@ module _ (t : Tree) (𝓐 : Accepted t) (s : WordState) (room : Room s) (g : Sta
         let in-rest = behind-first x (both .1) in
         let shape-rest : rest (g .queue 0) ≡ r ∷ ys = ap (λ d. rest (g .queue d)) (sym there) ∙ ap rest shape ∙ rest-cons R (r ∷ ys) in
         let in-ys : 1 ≤ count x ys = omega (arith, ap (count x) shape-rest, count-cons x r ys, is-other x r n) in
-        let long : length (R ∷ r ∷ ys) ≤ 320 = rw (ap (g .queue) (sym there) ∙ shape) at (root-short t 𝓐 g inv) in
+        let long : length (R ∷ r ∷ ys) ≤ 320 = rw (ap (g .queue) (sym there) ∙ shape) at (root-short t valid g inv) in
         absurd (tickets-rest (w .statuses) raised (w .ticket) x (r ∷ ys) (wrap-small (w .grant + 1)) (omega arith) (all-held .1)
         (rw (rest-cons r ys) in-ys) same)
 
@@ -278,16 +278,16 @@ module _ (t : Tree) (𝓐 : Accepted t) (s : WordState) (room : Room s) (g : Sta
     tally-far q n = put-other (g .tally) r (suc (g .tally R)) q n
 
     own-far : (m : ℕ) → m ≤ low (height t i) (g .stage i) → record-at t i m ≢ r
-    own-far m b z = other-record t 𝓐 w g i h o S m N S-real S-other b (omega (arith, low-S)) (behind .mine ∙ sym z)
+    own-far m b z = other-record t valid w g i h o S m N S-real S-other b (omega (arith, low-S)) (behind .mine ∙ sym z)
 
     S-far : (m : ℕ) → m < N → record-at t S m ≢ r
-    S-far m b z = let y = record-injective t 𝓐 S S-real m N (omega (arith, S-within)) S-within (z ∙ sym (behind .mine)) in omega arith
+    S-far m b z = let y = record-injective t valid S S-real m N (omega (arith, S-within)) S-within (z ∙ sym (behind .mine)) in omega arith
 
     others-far : (j m : ℕ) → j < t .threads → j ≢ S → m ≤ low (height t j) (g .stage j) → record-at t j m ≢ r
     others-far j m hj ns b z =
-        let f = 𝓐 .few-threads in
+        let f = valid .few-threads in
         let hs = S-real in
-        ns (same-user t (g .queue) j S (omega arith) (omega arith) m N (below-low t 𝓐 w g i h o j m b) (below-low t 𝓐 w g i h o S N (omega (arith, low-S)))
+        ns (same-user t (g .queue) j S (omega arith) (omega arith) m N (below-low t valid w g i h o j m b) (below-low t valid w g i h o S N (omega (arith, low-S)))
         (z ∙ sym (behind .mine)) .0)
 
     handed-apart : (j : ℕ) → j < t .threads → j ≢ i → j ≢ S → Apart t w g raised-words handed-state j
@@ -310,7 +310,7 @@ module _ (t : Tree) (𝓐 : Accepted t) (s : WordState) (room : Room s) (g : Sta
     unfolding words-in
     handed-over =
         record {
-          invariant = keeps t (laws t 𝓐) g inv handed;
+          invariant = keeps t (laws t valid) g inv handed;
           linked = kept-linked handed-state (r ∷ ys) refl;
           numbered = handed-numbered;
           fits = λ j hj. same-or j i _

@@ -42,10 +42,10 @@ done-at t i zero = Idle
 done-at t i (suc k) = Help (ancestor t i k)
 
 pub done-place-at : (t : Tree) → Accepted t → (i : ℕ) → i < t .threads → (k : ℕ) → k ≤ height t i → done-place t i (ancestor t i k) ≡ done-at t i k
-done-place-at t 𝓐 i h zero l = let z = home-test t 𝓐 i h 0 l in rw z
-done-place-at t 𝓐 i h (suc k) l =
-    let z = home-test t 𝓐 i h (suc k) l in
-    rw (z, ne-eqb (suc k) 0 (omega arith)) (ap Help (child-at t 𝓐 i h k l))
+done-place-at t valid i h zero l = let z = home-test t valid i h 0 l in rw z
+done-place-at t valid i h (suc k) l =
+    let z = home-test t valid i h (suc k) l in
+    rw (z, ne-eqb (suc k) 0 (omega arith)) (ap Help (child-at t valid i h k l))
 
 pub done-fits : (t : Tree) (w : Words) (g : State) (i k : ℕ) → k ≤ height t i → Counted t w g i k → Fits t w g i (done-at t i k) (down k)
 unfolding down
@@ -91,7 +91,7 @@ ungranted {t} {s = s} n e (at-cas k l c) = firm-last (height t s) n k e
 ungranted {t} {s = s} n e (at-linger k l c m) = firm-last (height t s) n k e
 ungranted {t} {s = s} n e (at-grant k r l c a) = firm-last (height t s) n k e
 
-module _ (t : Tree) (𝓐 : Accepted t) (w : Words) (g : State) (i : ℕ) (h : i < t .threads) (o : Others t w g i) (k : ℕ) (l : k ≤ height t i)
+module _ (t : Tree) (valid : Accepted t) (w : Words) (g : State) (i : ℕ) (h : i < t .threads) (o : Others t w g i) (k : ℕ) (l : k ≤ height t i)
     (first-there : k < low (height t i) (g .stage i)) (nt : is-ticket t (ancestor t i k) ≡ false) where
   abbrev inv : Inv t g
   inv = o .invariant
@@ -123,16 +123,16 @@ module _ (t : Tree) (𝓐 : Accepted t) (w : Words) (g : State) (i : ℕ) (h : i
   pub vacate : g .stage i ≡ letting-go (height t i) k → w .tails L ≡ R + 1 → Counted t w g i (suc k) → Represents t vacated vacated-state
   vacate e tl c =
       let shape = lone tl in
-      assembled t 𝓐 w g i h o vacated vacated-state (done-at t i k) (down k) (keeps t (laws t 𝓐) g inv (let-go i k (last-there e) shape))
+      assembled t valid w g i h o vacated vacated-state (done-at t i k) (down k) (keeps t (laws t valid) g inv (let-go i k (last-there e) shape))
       (λ d nd. same-or d L _
       (λ z. rw (z, put-same (g .queue) L [] L refl)
       (record { last = put-same (w .tails) L none L refl ∙ sym final-nil; chain = λ a m n. absurd (omega (arith, count-nil a)) }))
       (λ z. rw (put-other (g .queue) L [] d z)
       (record { last = put-other (w .tails) L none d z ∙ o .linked d nd .last; chain = o .linked d nd .chain })))
-      (numbered-kept t 𝓐 w g i h o vacated vacated-state refl refl (λ z. put-other (g .queue) L [] 0 (λ y. queue-lower t L nt z (sym y))) (λ _ a m. refl))
+      (numbered-kept t valid w g i h o vacated vacated-state refl refl (λ z. put-other (g .queue) L [] 0 (λ y. queue-lower t L nt z (sym y))) (λ _ a m. refl))
       (put-same (w .places) i (done-at t i k) i refl) (put-same (g .stage) i (down k) i refl)
       (done-fits t vacated vacated-state i k l (λ m b q. c m (omega arith) q))
-      (λ j hj n. apart t 𝓐 w g i h o vacated vacated-state 0 (omega arith) j hj n (put-other (w .places) i (done-at t i k) j n)
+      (λ j hj n. apart t valid w g i h o vacated vacated-state 0 (omega arith) j hj n (put-other (w .places) i (done-at t i k) j n)
       (put-other (g .stage) i (down k) j n) (λ r q. refl) (λ r q. refl) (λ r q. refl)
       (λ m p q nd a. (
         same-or (ancestor t j m) L _
@@ -202,7 +202,7 @@ module _ (t : Tree) (𝓐 : Accepted t) (w : Words) (g : State) (i : ℕ) (h : i
             absurd (let z′ : w .nexts R ≡ 0 = rw e at z in omega arith)
         by (waiting q e c a z) = (e, c)
         by (watching e z y c) =
-            let root : ancestor t S N ≡ 0 = ap (ancestor t S) z ∙ ancestor-root t 𝓐 S successor-real in
+            let root : ancestor t S N ≡ 0 = ap (ancestor t S) z ∙ ancestor-root t valid S successor-real in
             absurd (false≢true (sym nt ∙ ticket-yes t L y (sym (successor .place) ∙ root)))
 
     module _ (v c : ℕ) (x : Stage) (n : g .stage i ≢ queued N) where
@@ -239,22 +239,22 @@ module _ (t : Tree) (𝓐 : Accepted t) (w : Words) (g : State) (i : ℕ) (h : i
       -- a ticket lock is another domain, with other members
       popped-numbered : t .ticket-root ≡ true → Numbered granted-words (granted-state .queue 0)
       popped-numbered =
-          numbered-kept t 𝓐 w g i h o granted-words granted-state refl refl (λ z. put-other (g .queue) L (r ∷ rest-two) 0 (λ y. queue-lower t L nt z (sym y)))
+          numbered-kept t valid w g i h o granted-words granted-state refl refl (λ z. put-other (g .queue) L (r ∷ rest-two) 0 (λ y. queue-lower t L nt z (sym y)))
           (λ z a m. status-far a (λ y.
           let m′ : 1 ≤ count r (g .queue 0) = rw y at m in
           let there : 1 ≤ count r (g .queue L) = rw shape-two (omega (arith, count-cons r R (r ∷ rest-two), count-cons r r rest-two, is-same r r refl)) in
-          queue-lower t L nt z (sym (one-queue t (laws t 𝓐) g inv 0 L r m′ there))))
+          queue-lower t L nt z (sym (one-queue t (laws t valid) g inv 0 L r m′ there))))
 
       pub own-far : (m : ℕ) → m ≤ low (height t i) (g .stage i) → record-at t i m ≢ r
       own-far m b e =
-          other-record t 𝓐 w g i h o S m N successor-real (successor-other n) b (omega (arith, successor-low)) (successor .mine ∙ sym e)
+          other-record t valid w g i h o S m N successor-real (successor-other n) b (omega (arith, successor-low)) (successor .mine ∙ sym e)
 
       others-far : (j m : ℕ) → j < t .threads → j ≢ i → j ≢ S → m ≤ low (height t j) (g .stage j) → record-at t j m ≢ r
       others-far j m hj ni ns b e =
-          let f = 𝓐 .few-threads in
+          let f = valid .few-threads in
           let hs = successor-real in
-          ns (same-user t (g .queue) j S (omega arith) (omega arith) m N (below-low t 𝓐 w g i h o j m b)
-          (below-low t 𝓐 w g i h o S N (omega (arith, successor-low))) (e ∙ sym (successor .mine)) .0)
+          ns (same-user t (g .queue) j S (omega arith) (omega arith) m N (below-low t valid w g i h o j m b)
+          (below-low t valid w g i h o S N (omega (arith, successor-low))) (e ∙ sym (successor .mine)) .0)
 
       granted-apart : (j : ℕ) → j < t .threads → j ≢ i → j ≢ S → Apart t w g granted-words granted-state j
       unfolding low
@@ -285,7 +285,7 @@ module _ (t : Tree) (𝓐 : Accepted t) (w : Words) (g : State) (i : ℕ) (h : i
       successor-counted m b q =
           let hs = successor-real in
           let reached : N ≤ height t S = successor-within in
-          let away : record-at t S m ≢ r = λ e. let z = record-injective t 𝓐 S hs m N (omega arith) reached (e ∙ sym (successor .mine)) in omega arith in
+          let away : record-at t S m ≢ r = λ e. let z = record-injective t valid S hs m N (omega arith) reached (e ∙ sym (successor .mine)) in omega arith in
           status-far (record-at t S m) away ∙ successor-waits (successor-other n) .1 m b q ∙ sym (tally-far (record-at t S m) away)
 
       pub grant :

@@ -27,7 +27,7 @@ use Rattle.claims.proofs.Words.Drawing.{draw-outcome, watch-outcome, sh
 use Rattle.claims.proofs.Words.Raising.{raise-outcome}
 use Rattle.claims.proofs.Words.Leaving.{leave-outcome, check-outcome, help-outcome, cas-outcome, linger-outcome, grant-outcome, pass-outcome}
 
-module _ (t : Tree) (𝓐 : Accepted t) (bits : Sixteen-bit t) (s : WordState) (room : Room s) (g : State) (rep : Represents t (words-in s) g)
+module _ (t : Tree) (valid : Accepted t) (bits : Sixteen-bit t) (s : WordState) (room : Room s) (g : State) (rep : Represents t (words-in s) g)
     (good : (j : ℕ) → j < t .threads → good-place t j (place s j) ≡ true) (i : ℕ) (h : i < t .threads) where
   abbrev o : Others t (words-in s) g i
   o = others-of rep i
@@ -36,11 +36,11 @@ module _ (t : Tree) (𝓐 : Accepted t) (bits : Sixteen-bit t) (s : WordState) (
   idle-by : g .stage i ≡ out → (b : Bool) → is-ticket t (t .home i) ≡ b → Outcome t g i (t .home i) (cond b (draw-row t i s) (prep-row t i (t .home i) s))
   idle-by e true z =
       let f = ticket-facts t (t .home i) z in
-      let top : 0 ≡ height t i = ancestor-zero t 𝓐 i h 0 (omega arith) (ancestor-home t i ∙ f .1) in
-      let x = draw-outcome t 𝓐 s room (started-state t 𝓐 s room g i h o) i h (started t 𝓐 s room g i h o e) (f .0) 0 top (t .home i) (ancestor-home t i)
+      let top : 0 ≡ height t i = ancestor-zero t valid i h 0 (omega arith) (ancestor-home t i ∙ f .1) in
+      let x = draw-outcome t valid s room (started-state t valid s room g i h o) i h (started t valid s room g i h o e) (f .0) 0 top (t .home i) (ancestor-home t i)
       (put-same (g .stage) i (climb 0) i refl) (λ m b q. absurd (omega arith)) in
       record { state = x .state; room = x .room; represents = x .represents; follows = silent (start i h e) (x .follows) }
-  idle-by e false z = prepared-outcome t 𝓐 s room g i h o e
+  idle-by e false z = prepared-outcome t valid s room g i h o e
 
   -- a queue place is not at a ticket root
   queue-there : (k : ℕ) → queue-on-path t i (ancestor t i k) ≡ true → is-ticket t (ancestor t i k) ≡ false
@@ -51,24 +51,24 @@ module _ (t : Tree) (𝓐 : Accepted t) (bits : Sixteen-bit t) (s : WordState) (
       Outcome t g i (place-domain (t .home i) p) (row t i p s)
   unfolding row good-place
   row-outcome y q e at-idle = idle-by e _ refl
-  row-outcome y q e (at-prep k l c) = prep-outcome t 𝓐 s room g i h o k l e c
-  row-outcome y q e (at-swap k l c n v) = swap-outcome t 𝓐 s room g i h o k l (queue-there k q) e c n v
-  row-outcome y q e (at-link k p l c d a n v) = link-outcome t 𝓐 s room g i h o k p l d e c a n v
-  row-outcome y q e (at-wait k p l c d a n v) = wait-outcome t 𝓐 s room g i h o rep k l v
-  row-outcome y q e (at-woken k b c v z) = woken-outcome t 𝓐 s room g i h o k b e c v z
-  row-outcome y q e (at-ready k l c v p) = ready-outcome t 𝓐 s room g i h o bits k l e c v
-  row-outcome y q e (at-inside c) = leave-outcome t 𝓐 s room g i h o e c
-  row-outcome y q e (at-check k b c) = check-outcome t 𝓐 s room g i h o k b e c
-  row-outcome y q e (at-pass k r v b c n z f) = pass-outcome t 𝓐 s room g i h o k r v b e c n z f
-  row-outcome y q e (at-help k l c) = help-outcome t 𝓐 s room g i h o k l (queue-there k q) e c
-  row-outcome y q e (at-cas k l c) = cas-outcome t 𝓐 s room g i h o k l (queue-there k q) e c
-  row-outcome y q e (at-linger k l c n) = linger-outcome t 𝓐 s room g i h o k l (queue-there k q) e c rep
+  row-outcome y q e (at-prep k l c) = prep-outcome t valid s room g i h o k l e c
+  row-outcome y q e (at-swap k l c n v) = swap-outcome t valid s room g i h o k l (queue-there k q) e c n v
+  row-outcome y q e (at-link k p l c d a n v) = link-outcome t valid s room g i h o k p l d e c a n v
+  row-outcome y q e (at-wait k p l c d a n v) = wait-outcome t valid s room g i h o rep k l v
+  row-outcome y q e (at-woken k b c v z) = woken-outcome t valid s room g i h o k b e c v z
+  row-outcome y q e (at-ready k l c v p) = ready-outcome t valid s room g i h o bits k l e c v
+  row-outcome y q e (at-inside c) = leave-outcome t valid s room g i h o e c
+  row-outcome y q e (at-check k b c) = check-outcome t valid s room g i h o k b e c
+  row-outcome y q e (at-pass k r v b c n z f) = pass-outcome t valid s room g i h o k r v b e c n z f
+  row-outcome y q e (at-help k l c) = help-outcome t valid s room g i h o k l (queue-there k q) e c
+  row-outcome y q e (at-cas k l c) = cas-outcome t valid s room g i h o k l (queue-there k q) e c
+  row-outcome y q e (at-linger k l c n) = linger-outcome t valid s room g i h o k l (queue-there k q) e c rep
   row-outcome y q e (at-grant k r l c n) =
-      grant-outcome t 𝓐 s room g i h o k l (queue-there k (and-both (queue-on-path t i (ancestor t i k)) (is-member t (ancestor t i k) r) q .0)) e c r n
-  row-outcome y q e (at-draw k l r c) = draw-outcome t 𝓐 s room g i h o r k l 0 (ap (ancestor t i) l ∙ ancestor-root t 𝓐 i h) e c
-  row-outcome y q e (at-watch k l r c) = watch-outcome t 𝓐 s room g i h o r rep (e ∙ ap queued l)
-  row-outcome y q e (at-shown r c) = shown-outcome t 𝓐 s room g i h o r e c
-  row-outcome y q e (at-raise r c) = raise-outcome t 𝓐 s room g i h o good r y e c
+      grant-outcome t valid s room g i h o k l (queue-there k (and-both (queue-on-path t i (ancestor t i k)) (is-member t (ancestor t i k) r) q .0)) e c r n
+  row-outcome y q e (at-draw k l r c) = draw-outcome t valid s room g i h o r k l 0 (ap (ancestor t i) l ∙ ancestor-root t valid i h) e c
+  row-outcome y q e (at-watch k l r c) = watch-outcome t valid s room g i h o r rep (e ∙ ap queued l)
+  row-outcome y q e (at-shown r c) = shown-outcome t valid s room g i h o r e c
+  row-outcome y q e (at-raise r c) = raise-outcome t valid s room g i h o good r y e c
 
   pub step-outcome : Outcome t g i (place-domain (t .home i) (place s i)) (row t i (place s i) s)
   unfolding words-in

@@ -1,7 +1,7 @@
 -- `host::hmcs_allowances` meets its contract: what `allowances` ensures, with its refusal as the host gets it. Assumes nothing.
 use mathlib.Core.Path.{ap}
 use borrow.Author.Needs.{needs}
-use Rattle.host.proofs.Told.{as-answer}
+use Rattle.host.proofs.Answered.{as-answer}
 use Rattle.host.proofs.hmcs_allowances.Statement.{statement}
 use Rattle.host.proofs.hmcs_allowances.Tie as tie
 

@@ -49,15 +49,15 @@ use Rattle.model.proofs.LockState.Laws as S′
 use Rattle.model.specs.declared.FreshReply.{FreshReply}
 use Rattle.host.specs.declared.Answer.{Answer}
 use Rattle.model.specs.Answers.{fresh-answer}
-use Rattle.host.specs.InPlace.{fresh-kept, fresh-number}
+use Rattle.host.specs.InPlace.{fresh-kept, fresh-without-state}
 use Rattle.host.proofs.Answer as An
 use Rattle.host.proofs.Answer.Laws as An′
 use Rattle.model.proofs.FreshReply as Rp
 use Rattle.model.proofs.FreshReply.Laws as Rp′
-use Rattle.host.proofs.fresh_kept as step
-use Rattle.host.proofs.fresh_kept.Symbol as step-def
-use Rattle.host.proofs.fresh_kept.Symbol.{name as #step}
-use Rattle.host.proofs.fresh_kept.Met as step-thm
+use Rattle.host.proofs.fresh_kept as fresh
+use Rattle.host.proofs.fresh_kept.Symbol as fresh-def
+use Rattle.host.proofs.fresh_kept.Symbol.{name as #fresh}
+use Rattle.host.proofs.fresh_kept.Met as fresh-thm
 use Rattle.host.proofs.hmcs_fresh_in_place.Key.{name as #self}
 use Rattle.host.proofs.hmcs_fresh_in_place as self
 use Rattle.host.proofs.hmcs_fresh_in_place.Statement as stated
@@ -77,8 +77,8 @@ abbrev answer-vals : Answer → List Val
 answer-vals = LL.vals An.the-type An′.the-laws
 
 -- the contract that the proof cites, that of `fresh_kept`
-abbrev Step : {M : Type 1} (𝓤 : URA M) (H : Heap 𝓤) (A : Atoms 𝓤) (mem : Memory → SProp 𝓤) (run : Routine → Fun 𝓤) → Contract 𝓤
-Step 𝓤 H A mem run = tripleOf 𝓤 H A step.signature (step.spec 𝓤 H A mem run)
+abbrev Fresh : {M : Type 1} (𝓤 : URA M) (H : Heap 𝓤) (A : Atoms 𝓤) (mem : Memory → SProp 𝓤) (run : Routine → Fun 𝓤) → Contract 𝓤
+Fresh 𝓤 H A mem run = tripleOf 𝓤 H A fresh.signature (fresh.spec 𝓤 H A mem run)
 
 module _ {M : Type 1} (𝓤 : URA M) (H : Heap 𝓤) (A : Atoms 𝓤) (W : Given 𝓤 H A) (at-mem : Memory → SProp 𝓤) (run : Routine → Fun 𝓤) (κ : Lft) (q : Share) (b o : ℕ) (γ : GName) (t : TreeWords) (h : LockState) (n : ℕ)
     (is-t : Is Tr.the-row t (tree-vals t)) (fits : n < 2 ^ 16) where
@@ -95,28 +95,28 @@ module _ {M : Type 1} (𝓤 : URA M) (H : Heap 𝓤) (A : Atoms 𝓤) (W : Given
   Post = walkOf 𝓤 H A self.ended stayed (self.clauses 𝓤 H A at-mem run) .post (((κ, tt), (q, tt), tt, x, at), tt)
 
   -- what the triple of `fresh_kept` binds outside, what it asks, and what it says of its reply
-  abbrev to-step : Step 𝓤 H A at-mem run .Ghost
-  to-step = ((tt, tt, tt, (t, (h, (n, tt))), (tree-vals t, (state-vals h, (vint w16 n ∷ [], tt)))), tt)
+  abbrev to-fresh : Fresh 𝓤 H A at-mem run .Ghost
+  to-fresh = ((tt, tt, tt, (t, (h, (n, tt))), (tree-vals t, (state-vals h, (vint w16 n ∷ [], tt)))), tt)
 
-  goes : Is S.the-row h (state-vals h) → ent 𝓤 (sem 𝓤 H A ftrue) (Step 𝓤 H A at-mem run .pre to-step)
+  goes : Is S.the-row h (state-vals h) → ent 𝓤 (sem 𝓤 H A ftrue) (Fresh 𝓤 H A at-mem run .pre to-fresh)
   goes is-h =
       qed W (‵ ftrue ∷ []) ∵ owned ! u16 (Is u16) (uint-makes 𝓤 H A W w16) n _ (refl, fits) $ fjoin ! $ owned ! S.the-row (Is S.the-row) (LL.makes S.the-type S′.the-plain 𝓤 H A) h _ is-h $ fjoin ! $
       owned ! Tr.the-row (Is Tr.the-row) (LL.makes Tr.the-type Tr′.the-plain 𝓤 H A) t _ is-t $ fjoin ! $ nothing ! $ join ! $ frame ! $ done !
 
-  told : (r : FreshReply) → ent 𝓤 (ensured 𝓤 H A step.ended (step.clauses 𝓤 H A at-mem run) tt (t, (h, (n, tt))) tt r) (fact 𝓤 (r ≡ fresh-kept (fresh-answer t n) h))
-  told r = exE 𝓤 _ (λ ws. snd∗ 𝓤 (sem 𝓤 H A (lasts step.ended tt (t, (h, (n, tt))) ws)) (fact 𝓤 (r ≡ fresh-kept (fresh-answer t n) h)))
+  reply-is : (r : FreshReply) → ent 𝓤 (ensured 𝓤 H A fresh.ended (fresh.clauses 𝓤 H A at-mem run) tt (t, (h, (n, tt))) tt r) (fact 𝓤 (r ≡ fresh-kept (fresh-answer t n) h))
+  reply-is r = exE 𝓤 _ (λ ws. snd∗ 𝓤 (sem 𝓤 H A (lasts fresh.ended tt (t, (h, (n, tt))) ws)) (fact 𝓤 (r ≡ fresh-kept (fresh-answer t n) h)))
 
   exits : (r : FreshReply) → r .number < 2 ^ 32 → r .place < 2 ^ 32 → r ≡ fresh-kept (fresh-answer t n) h
-      → ent 𝓤 (sep 𝓤 (A .obs γ (S.the-row .coded .code (r .state))) (sep 𝓤 (A .bor κ (Body (mem S.the-row) b o γ)) (A .lft κ q))) (Post (only (answer-vals (fresh-number r))))
+      → ent 𝓤 (sep 𝓤 (A .obs γ (S.the-row .coded .code (r .state))) (sep 𝓤 (A .bor κ (Body (mem S.the-row) b o γ)) (A .lft κ q))) (Post (only (answer-vals (fresh-without-state r))))
   exits r small near e =
       qed W (‵ (fobs γ (S.the-row .coded .code (r .state))) ∷ ‵ (fbor κ (Body (mem S.the-row) b o γ)) ∷ ‵ (flft κ q) ∷ []) ∵
-      suffices ! _ (ends-at 𝓤 H A self.ended stayed (self.clauses 𝓤 H A at-mem run) W (((κ, tt), (q, tt), tt, x, at), tt) (only (answer-vals (fresh-number r))) (fresh-number r) (tt, (r .state, (tt, tt))) (tt, (tt, (tt, tt)))) $
-      says ! (ap fresh-number e, ap (λ (y : FreshReply). y .state) e) $ nothing ! $ move ! (3 ∷ 0 ∷ []) $ join ! $ frame ! $
+      suffices ! _ (ends-at 𝓤 H A self.ended stayed (self.clauses 𝓤 H A at-mem run) W (((κ, tt), (q, tt), tt, x, at), tt) (only (answer-vals (fresh-without-state r))) (fresh-without-state r) (tt, (r .state, (tt, tt))) (tt, (tt, (tt, tt)))) $
+      says ! (ap fresh-without-state e, ap (λ (y : FreshReply). y .state) e) $ nothing ! $ move ! (3 ∷ 0 ∷ []) $ join ! $ frame ! $
       feqI ! (List Val) (vptr b o ∷ []) (vptr b o ∷ []) refl $ fjoin3 ! $ nothing ! $ owned ! u16 (Is u16) (uint-makes 𝓤 H A W w16) n _ (refl, fits) $ fjoin ! $ move ! (1 ∷ 0 ∷ []) $ fjoin ! $
       owned ! Tr.the-row (Is Tr.the-row) (LL.makes Tr.the-type Tr′.the-plain 𝓤 H A) t _ is-t $ fjoin ! $
-      owned ! An.the-row (Is An.the-row) (LL.makes An.the-type An′.the-plain 𝓤 H A) (fresh-number r) _ (LL.owes An.the-type An′.the-laws (fresh-number r) ((refl, small), ((refl, near), tt))) $ move ! (1 ∷ 0 ∷ []) $ done !
+      owned ! An.the-row (Is An.the-row) (LL.makes An.the-type An′.the-plain 𝓤 H A) (fresh-without-state r) _ (LL.owes An.the-type An′.the-laws (fresh-without-state r) ((refl, small), ((refl, near), tt))) $ move ! (1 ∷ 0 ∷ []) $ done !
 
-  module _ (C : Calls 𝓤 H) (Λ : Loops 𝓤 H) (fm : FmC 𝓤 H (W .laws) C) (known : Triple 𝓤 (C #step) (Step 𝓤 H A at-mem run)) where
+  module _ (C : Calls 𝓤 H) (Λ : Loops 𝓤 H) (fm : FmC 𝓤 H (W .laws) C) (known : Triple 𝓤 (C #fresh) (Fresh 𝓤 H A at-mem run)) where
     walk : ent 𝓤 (onEntry 𝓤 H A self.signature (κ, tt) (q, tt) x at) (WpFn 𝓤 H C Λ code.function (only (tree-vals t) ∷ vptr b o ∷ vint w16 n ∷ []) Post)
     walk =
         qed W ((‵ (flft κ q) ⊛ ‵ ftrue) ∷ ‵ (owns (Tr.the-row ∷ MutRef (named 0) κ S.the-row ∷ u16 ∷ []) x at) ∷ []) ∵ enter ! C Λ code.function (only (tree-vals t) ∷ vptr b o ∷ vint w16 n ∷ []) _ $
@@ -129,10 +129,10 @@ module _ {M : Type 1} (𝓤 : URA M) (H : Heap 𝓤) (A : Atoms 𝓤) (W : Given
         -- [the state's cell; what a LockState owns; the open borrow; obs; auth; true; the start's; _5; …; _4; …; _3; …; _2; …; _1; …; room for _0; …]: _5 = *_2
         assigns ! (of-opd ! (load ! (from ! (hop ! (look ! 13 refl) (stop !))) (look-raw ! 0 refl))) (from ! (stop !)) (init ! 7 refl (LL.lawful S.the-type S′.the-laws 𝓤 H A W .typed h _ is-h .0)) $
         -- _4 = fresh_kept(_1, _5, _3)
-        nothing ! $ use1 W (raw (Step 𝓤 H A at-mem run .pre to-step)) (goes is-h) $
-        calls-at ! fm (Step 𝓤 H A at-mem run) known to-step (and-then ! (load ! (from ! (stop !)) (look ! 16 refl)) (and-then ! (load ! (from ! (stop !)) (look ! 8 refl)) (and-then ! (load ! (from ! (stop !)) (look ! 12 refl)) (no-more !)))) (λ v.
-        use1 W (later (some (λ (r : FreshReply). (‵ ftrue ⊛ ‵ (Rp.the-row .own r (v ∷ []))) ⊛ raw (ensured 𝓤 H A step.ended (step.clauses 𝓤 H A at-mem run) tt (t, (h, (n, tt))) tt r)))) (id⊢ 𝓤 _) $ await ! tt $ pick ! (λ r.
-        split ! $ move ! (1 ∷ []) $ use1 W (raw (fact 𝓤 (r ≡ fresh-kept (fresh-answer t n) h))) (told r) $ heard ! (r ≡ fresh-kept (fresh-answer t n) h) (λ e. split ! $ drop ! $
+        nothing ! $ use1 W (raw (Fresh 𝓤 H A at-mem run .pre to-fresh)) (goes is-h) $
+        calls-at ! fm (Fresh 𝓤 H A at-mem run) known to-fresh (and-then ! (load ! (from ! (stop !)) (look ! 16 refl)) (and-then ! (load ! (from ! (stop !)) (look ! 8 refl)) (and-then ! (load ! (from ! (stop !)) (look ! 12 refl)) (no-more !)))) (λ v.
+        use1 W (later (some (λ (r : FreshReply). (‵ ftrue ⊛ ‵ (Rp.the-row .own r (v ∷ []))) ⊛ raw (ensured 𝓤 H A fresh.ended (fresh.clauses 𝓤 H A at-mem run) tt (t, (h, (n, tt))) tt r)))) (id⊢ 𝓤 _) $ await ! tt $ pick ! (λ r.
+        split ! $ move ! (1 ∷ []) $ use1 W (raw (fact 𝓤 (r ≡ fresh-kept (fresh-answer t n) h))) (reply-is r) $ heard ! (r ≡ fresh-kept (fresh-answer t n) h) (λ e. split ! $ drop ! $
         peeks ! Rp.the-row (Is Rp.the-row) (shows 𝓤 H A Rp.the-row) r (v ∷ []) (λ is.
         land ! (from ! (stop !)) (init ! 10 refl (LL.lawful Rp.the-type Rp′.the-laws 𝓤 H A W .typed r _ is .0)) $
         rewrite ! 10 (λ (us : List Val). ‵ (fat fullShare Rp′.mir l₄ 0 (only us))) (LL.tells Rp.the-type Rp′.the-laws r (v ∷ []) is) refl $ drop ! $
@@ -156,7 +156,7 @@ module _ {M : Type 1} (𝓤 : URA M) (H : Heap 𝓤) (A : Atoms 𝓤) (W : Given
         kept r vs is = LL.owed Rp.the-type Rp′.the-laws r vs is .1 .1 .0
 
 module _ {M : Type 1} (𝓤 : URA M) (H : Heap 𝓤) (A : Atoms 𝓤) (W : Given 𝓤 H A) (mem : Memory → SProp 𝓤) (run : Routine → Fun 𝓤) where
-  self-walks : (C : Calls 𝓤 H) (Λ : Loops 𝓤 H) → FmC 𝓤 H (W .laws) C → Triple 𝓤 (C #step) (Step 𝓤 H A mem run) → Walks 𝓤 H A self.ended stayed (WpFn 𝓤 H C Λ code.function) (self.clauses 𝓤 H A mem run)
+  self-walks : (C : Calls 𝓤 H) (Λ : Loops 𝓤 H) → FmC 𝓤 H (W .laws) C → Triple 𝓤 (C #fresh) (Fresh 𝓤 H A mem run) → Walks 𝓤 H A self.ended stayed (WpFn 𝓤 H C Λ code.function) (self.clauses 𝓤 H A mem run)
   self-walks C Λ fm known = walked 𝓤 H A self.ended stayed (self.clauses 𝓤 H A mem run) (WpFn 𝓤 H C Λ code.function) (λ κs. (tree-vals, (ptr-vals, (uint-vals w16, tt))))
       (λ κs. (LL.tells Tr.the-type Tr′.the-laws, (mut-tells (named 0) (κs .0) S.the-row, (uint-tells w16, tt))))
       (λ κs qs bounds a g are. via 𝓤 _ (fst∗ 𝓤 _ (emp 𝓤))
@@ -165,7 +165,7 @@ module _ {M : Type 1} (𝓤 : URA M) (H : Heap 𝓤) (A : Atoms 𝓤) (W : Given
   self-goes : AllGo 𝓤 H A W 1 (self.signature .params) (self.ended .kept) stayed
   self-goes = (goes-none 𝓤 H A W 1 (λ _. Tr.the-row) yes (λ κs x f. refl), (goes-ref 𝓤 H A W 1 0 tt (plain (λ _. S.the-row)), (goes-none 𝓤 H A W 1 (λ _. u16) yes (λ κs x f. refl), tt)))
 
-self-meets : {M : Type 1} (𝓤 : URA M) (H : Heap 𝓤) (A : Atoms 𝓤) → Given 𝓤 H A → (mem : Memory → SProp 𝓤) (run : Routine → Fun 𝓤) (𝓣 : Tables 𝓤 H) → Triple 𝓤 (𝓣 .C #step) (Step 𝓤 H A mem run)
+self-meets : {M : Type 1} (𝓤 : URA M) (H : Heap 𝓤) (A : Atoms 𝓤) → Given 𝓤 H A → (mem : Memory → SProp 𝓤) (run : Routine → Fun 𝓤) (𝓣 : Tables 𝓤 H) → Triple 𝓤 (𝓣 .C #fresh) (Fresh 𝓤 H A mem run)
     → Meets 𝓤 H A self.signature (WpFn 𝓤 H (𝓣 .C) (𝓣 .Λ) code.function) (self.spec 𝓤 H A mem run)
 self-meets 𝓤 H A W mem run 𝓣 known =
     walk-meets 𝓤 H A self.ended stayed W (self-goes 𝓤 H A W mem run) (self.clauses 𝓤 H A mem run) (WpFn 𝓤 H (𝓣 .C) (𝓣 .Λ) code.function) (WpFn-mono 𝓤 H (W .laws) 𝓣 code.function)
@@ -177,4 +177,4 @@ hmcs-fresh-in-place-spec 𝓤 H 𝓜 𝓖 𝓡 =
     entered 𝓤 H (tripleOf 𝓤 H (𝓖 .A) self.signature (self.spec 𝓤 H (𝓖 .A) (𝓜 .mem) (𝓡 .run)))
     (tables 𝓤 H 𝓜 𝓡 code.env .C) (tables 𝓤 H 𝓜 𝓡 code.env .Λ) #self code.function (code.unfolded 𝓤 H 𝓜 𝓡)
     (self-meets 𝓤 H (𝓖 .A) (givenOf 𝓤 H 𝓜 𝓖) (𝓜 .mem) (𝓡 .run) (tablesOf 𝓤 H 𝓜 (tables 𝓤 H 𝓜 𝓡 code.env))
-    (cited 𝓤 H (Step 𝓤 H (𝓖 .A) (𝓜 .mem) (𝓡 .run)) 𝓜 𝓡 code.env #step step-def.routine code.calls-host·fresh-kept (step-thm.met 𝓤 H 𝓜 𝓖 𝓡)))
+    (cited 𝓤 H (Fresh 𝓤 H (𝓖 .A) (𝓜 .mem) (𝓡 .run)) 𝓜 𝓡 code.env #fresh fresh-def.routine code.calls-host·fresh-kept (fresh-thm.met 𝓤 H 𝓜 𝓖 𝓡)))

@@ -1,7 +1,7 @@
 -- `host::hmcs_run_many` meets its contract: what `run_many` ensures, with its refusal as the host gets it. Assumes nothing.
 use mathlib.Core.Path.{ap}
 use borrow.Author.Needs.{needs}
-use Rattle.host.proofs.Told.{as-answer}
+use Rattle.host.proofs.Answered.{as-answer}
 use Rattle.host.proofs.hmcs_run_many.Statement.{statement}
 use Rattle.host.proofs.hmcs_run_many.Tie as tie
 

@@ -49,7 +49,7 @@ use Rattle.model.proofs.LockState.Laws as S′
 use Rattle.model.specs.declared.StepReply.{StepReply}
 use Rattle.host.specs.declared.StepAnswer.{StepAnswer}
 use Rattle.model.specs.Answers.{step-answer}
-use Rattle.host.specs.InPlace.{step-told}
+use Rattle.host.specs.InPlace.{step-without-state}
 use Rattle.host.proofs.StepAnswer as An
 use Rattle.host.proofs.StepAnswer.Laws as An′
 use Rattle.model.proofs.StepReply as Rp
@@ -103,18 +103,18 @@ module _ {M : Type 1} (𝓤 : URA M) (H : Heap 𝓤) (A : Atoms 𝓤) (W : Given
       qed W (‵ ftrue ∷ []) ∵ owned ! u16 (Is u16) (uint-makes 𝓤 H A W w16) n _ (refl, fits) $ fjoin ! $ owned ! S.the-row (Is S.the-row) (LL.makes S.the-type S′.the-plain 𝓤 H A) h _ is-h $ fjoin ! $
       owned ! Tr.the-row (Is Tr.the-row) (LL.makes Tr.the-type Tr′.the-plain 𝓤 H A) t _ is-t $ fjoin ! $ nothing ! $ join ! $ frame ! $ done !
 
-  told : (r : StepReply) → ent 𝓤 (ensured 𝓤 H A step.ended (step.clauses 𝓤 H A at-mem run) tt (t, (h, (n, tt))) tt r) (fact 𝓤 (r ≡ step-answer t h n))
-  told r = exE 𝓤 _ (λ ws. snd∗ 𝓤 (sem 𝓤 H A (lasts step.ended tt (t, (h, (n, tt))) ws)) (fact 𝓤 (r ≡ step-answer t h n)))
+  reply-is : (r : StepReply) → ent 𝓤 (ensured 𝓤 H A step.ended (step.clauses 𝓤 H A at-mem run) tt (t, (h, (n, tt))) tt r) (fact 𝓤 (r ≡ step-answer t h n))
+  reply-is r = exE 𝓤 _ (λ ws. snd∗ 𝓤 (sem 𝓤 H A (lasts step.ended tt (t, (h, (n, tt))) ws)) (fact 𝓤 (r ≡ step-answer t h n)))
 
   exits : (r : StepReply) → r .number < 2 ^ 32 → r .place < 2 ^ 32 → r .kind < 2 ^ 32 → r .domain < 2 ^ 32 → r ≡ step-answer t h n
-      → ent 𝓤 (sep 𝓤 (A .obs γ (S.the-row .coded .code (r .state))) (sep 𝓤 (A .bor κ (Body (mem S.the-row) b o γ)) (A .lft κ q))) (Post (only (answer-vals (step-told r))))
+      → ent 𝓤 (sep 𝓤 (A .obs γ (S.the-row .coded .code (r .state))) (sep 𝓤 (A .bor κ (Body (mem S.the-row) b o γ)) (A .lft κ q))) (Post (only (answer-vals (step-without-state r))))
   exits r small near kind-fits domain-fits e =
       qed W (‵ (fobs γ (S.the-row .coded .code (r .state))) ∷ ‵ (fbor κ (Body (mem S.the-row) b o γ)) ∷ ‵ (flft κ q) ∷ []) ∵
-      suffices ! _ (ends-at 𝓤 H A self.ended stayed (self.clauses 𝓤 H A at-mem run) W (((κ, tt), (q, tt), tt, x, at), tt) (only (answer-vals (step-told r))) (step-told r) (tt, (r .state, (tt, tt))) (tt, (tt, (tt, tt)))) $
-      says ! (ap step-told e, ap (λ (y : StepReply). y .state) e) $ nothing ! $ move ! (3 ∷ 0 ∷ []) $ join ! $ frame ! $
+      suffices ! _ (ends-at 𝓤 H A self.ended stayed (self.clauses 𝓤 H A at-mem run) W (((κ, tt), (q, tt), tt, x, at), tt) (only (answer-vals (step-without-state r))) (step-without-state r) (tt, (r .state, (tt, tt))) (tt, (tt, (tt, tt)))) $
+      says ! (ap step-without-state e, ap (λ (y : StepReply). y .state) e) $ nothing ! $ move ! (3 ∷ 0 ∷ []) $ join ! $ frame ! $
       feqI ! (List Val) (vptr b o ∷ []) (vptr b o ∷ []) refl $ fjoin3 ! $ nothing ! $ owned ! u16 (Is u16) (uint-makes 𝓤 H A W w16) n _ (refl, fits) $ fjoin ! $ move ! (1 ∷ 0 ∷ []) $ fjoin ! $
       owned ! Tr.the-row (Is Tr.the-row) (LL.makes Tr.the-type Tr′.the-plain 𝓤 H A) t _ is-t $ fjoin ! $
-      owned ! An.the-row (Is An.the-row) (LL.makes An.the-type An′.the-plain 𝓤 H A) (step-told r) _ (LL.owes An.the-type An′.the-laws (step-told r) ((refl, small), ((refl, near), ((refl, kind-fits), ((refl, domain-fits), tt))))) $ move ! (1 ∷ 0 ∷ []) $ done !
+      owned ! An.the-row (Is An.the-row) (LL.makes An.the-type An′.the-plain 𝓤 H A) (step-without-state r) _ (LL.owes An.the-type An′.the-laws (step-without-state r) ((refl, small), ((refl, near), ((refl, kind-fits), ((refl, domain-fits), tt))))) $ move ! (1 ∷ 0 ∷ []) $ done !
 
   module _ (C : Calls 𝓤 H) (Λ : Loops 𝓤 H) (fm : FmC 𝓤 H (W .laws) C) (known : Triple 𝓤 (C #step) (Step 𝓤 H A at-mem run)) where
     walk : ent 𝓤 (onEntry 𝓤 H A self.signature (κ, tt) (q, tt) x at) (WpFn 𝓤 H C Λ code.function (only (tree-vals t) ∷ vptr b o ∷ vint w16 n ∷ []) Post)
@@ -132,7 +132,7 @@ module _ {M : Type 1} (𝓤 : URA M) (H : Heap 𝓤) (A : Atoms 𝓤) (W : Given
         nothing ! $ use1 W (raw (Step 𝓤 H A at-mem run .pre to-step)) (goes is-h) $
         calls-at ! fm (Step 𝓤 H A at-mem run) known to-step (and-then ! (load ! (from ! (stop !)) (look ! 16 refl)) (and-then ! (load ! (from ! (stop !)) (look ! 8 refl)) (and-then ! (load ! (from ! (stop !)) (look ! 12 refl)) (no-more !)))) (λ v.
         use1 W (later (some (λ (r : StepReply). (‵ ftrue ⊛ ‵ (Rp.the-row .own r (v ∷ []))) ⊛ raw (ensured 𝓤 H A step.ended (step.clauses 𝓤 H A at-mem run) tt (t, (h, (n, tt))) tt r)))) (id⊢ 𝓤 _) $ await ! tt $ pick ! (λ r.
-        split ! $ move ! (1 ∷ []) $ use1 W (raw (fact 𝓤 (r ≡ step-answer t h n))) (told r) $ heard ! (r ≡ step-answer t h n) (λ e. split ! $ drop ! $
+        split ! $ move ! (1 ∷ []) $ use1 W (raw (fact 𝓤 (r ≡ step-answer t h n))) (reply-is r) $ heard ! (r ≡ step-answer t h n) (λ e. split ! $ drop ! $
         peeks ! Rp.the-row (Is Rp.the-row) (shows 𝓤 H A Rp.the-row) r (v ∷ []) (λ is.
         land ! (from ! (stop !)) (init ! 10 refl (LL.lawful Rp.the-type Rp′.the-laws 𝓤 H A W .typed r _ is .0)) $
         rewrite ! 10 (λ (us : List Val). ‵ (fat fullShare Rp′.mir l₄ 0 (only us))) (LL.tells Rp.the-type Rp′.the-laws r (v ∷ []) is) refl $ drop ! $

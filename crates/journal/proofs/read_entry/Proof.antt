@@ -99,22 +99,45 @@ add-t33 : tie.Need-add-t33
 add-t33 c = search needs
 
 shared-slice-read-t35 : tie.Need-shared-slice-read-t35
-shared-slice-read-t35 c = omega (arith, c .before .before .before .before .before .before .size-of .ensures ∙ ap entry-size (three (getD (c .before .before .before .before .before .before .before .before .before .before .before .before .args .journal .now) (c .before .before .before .before .before .before .before .before .before .before .before .before .args .position) 0) (c .before .before .before .before .before .before .before .before .if2 .left) (c .before .before .before .before .match .rest .0 .0 .1) (c .before .before .before .before .match .rest .0 .1) (c .before .before .before .before .match .rest .1)), c .before .before .before .before .before .if4 .left)
+shared-slice-read-t35 c =
+    let a = c .before .before .before .before .before .before .before .before .before .before .before .before .args in
+    let m = c .before .before .before .before .match in
+    let bits = three (getD (a .journal .now) (a .position) 0) (c .before .before .before .before .before .before .before .before .if2 .left) (m .rest .0 .0 .1) (m .rest .0 .1) (m .rest .1) in
+    let size = c .before .before .before .before .before .before .size-of .ensures ∙ ap entry-size bits in
+    omega (arith, size, c .before .before .before .before .before .if4 .left)
 
 add-t36 : tie.Need-add-t36
 add-t36 c = search needs
 
 returns-5 : tie.Need-returns-5
-returns-5 c = sym (whole-entry (c .before .before .before .before .before .before .before .before .args .journal .now) (c .before .before .before .before .before .before .before .before .args .position) (c .before .before .before .before .before .before .before .before .args .before) 0 (c .before .before .before .before .before .before .if1 .left) (c .match .keys1) (lit≤ tt) (omega (arith, c .before .before .size-of .ensures ∙ ap entry-size (c .match .keys1), c .before .if4 .left)))
+returns-5 c =
+    let a = c .before .before .before .before .before .before .before .before .args in
+    let size = c .before .before .size-of .ensures ∙ ap entry-size (c .match .keys1) in
+    sym (whole-entry (a .journal .now) (a .position) (a .before) 0 (c .before .before .before .before .before .before .if1 .left) (c .match .keys1) (lit≤ tt) (omega (arith, size, c .before .if4 .left)))
 
 returns-6 : tie.Need-returns-6
-returns-6 c = ap (λ (w : ℕ). Named w 0 (c .before .before .before .before .before .before .before .before .before .before .before .args .position + 3)) (c .two-bytes .ensures) ∙ sym (whole-entry (c .before .before .before .before .before .before .before .before .before .before .before .args .journal .now) (c .before .before .before .before .before .before .before .before .before .before .before .args .position) (c .before .before .before .before .before .before .before .before .before .before .before .args .before) 1 (c .before .before .before .before .before .before .before .before .before .if1 .left) (c .before .before .before .match .keys2) (lit≤ tt) (omega (arith, c .before .before .before .before .before .size-of .ensures ∙ ap entry-size (c .before .before .before .match .keys2), c .before .before .before .before .if4 .left)))
+returns-6 c =
+    let a = c .before .before .before .before .before .before .before .before .before .before .before .args in
+    let bits = c .before .before .before .match .keys2 in
+    let size = c .before .before .before .before .before .size-of .ensures ∙ ap entry-size bits in
+    ap (λ (w : ℕ). Named w 0 (a .position + 3)) (c .two-bytes .ensures)
+    ∙ sym (whole-entry (a .journal .now) (a .position) (a .before) 1 (c .before .before .before .before .before .before .before .before .before .if1 .left) bits (lit≤ tt) (omega (arith, size, c .before .before .before .before .if4 .left)))
 
 returns-7 : tie.Need-returns-7
-returns-7 c = sym (whole-entry (c .before .before .before .before .before .before .before .before .before .args .journal .now) (c .before .before .before .before .before .before .before .before .before .args .position) (c .before .before .before .before .before .before .before .before .before .args .before) 2 (c .before .before .before .before .before .before .before .if1 .left) (c .before .match .keys3) (lit≤ tt) (omega (arith, c .before .before .before .size-of .ensures ∙ ap entry-size (c .before .match .keys3), c .before .before .if4 .left)))
+returns-7 c =
+    let a = c .before .before .before .before .before .before .before .before .before .args in
+    let bits = c .before .match .keys3 in
+    let size = c .before .before .before .size-of .ensures ∙ ap entry-size bits in
+    sym (whole-entry (a .journal .now) (a .position) (a .before) 2 (c .before .before .before .before .before .before .before .if1 .left) bits (lit≤ tt) (omega (arith, size, c .before .before .if4 .left)))
 
 returns-8 : tie.Need-returns-8
-returns-8 c = ap (λ (w : ℕ). Named w (getD (c .before .before .before .before .before .before .before .before .before .before .before .before .args .journal .now) (c .before .before .before .before .before .before .before .before .before .before .before .before .args .position + 3) 0) (c .before .before .before .before .before .before .before .before .before .before .before .before .args .position + 4)) (c .before .two-bytes2 .ensures) ∙ sym (whole-entry (c .before .before .before .before .before .before .before .before .before .before .before .before .args .journal .now) (c .before .before .before .before .before .before .before .before .before .before .before .before .args .position) (c .before .before .before .before .before .before .before .before .before .before .before .before .args .before) 3 (c .before .before .before .before .before .before .before .before .before .before .if1 .left) (three (getD (c .before .before .before .before .before .before .before .before .before .before .before .before .args .journal .now) (c .before .before .before .before .before .before .before .before .before .before .before .before .args .position) 0) (c .before .before .before .before .before .before .before .before .if2 .left) (c .before .before .before .before .match .rest .0 .0 .1) (c .before .before .before .before .match .rest .0 .1) (c .before .before .before .before .match .rest .1)) (lit≤ tt) (omega (arith, c .before .before .before .before .before .before .size-of .ensures ∙ ap entry-size (three (getD (c .before .before .before .before .before .before .before .before .before .before .before .before .args .journal .now) (c .before .before .before .before .before .before .before .before .before .before .before .before .args .position) 0) (c .before .before .before .before .before .before .before .before .if2 .left) (c .before .before .before .before .match .rest .0 .0 .1) (c .before .before .before .before .match .rest .0 .1) (c .before .before .before .before .match .rest .1)), c .before .before .before .before .before .if4 .left)))
+returns-8 c =
+    let a = c .before .before .before .before .before .before .before .before .before .before .before .before .args in
+    let m = c .before .before .before .before .match in
+    let bits = three (getD (a .journal .now) (a .position) 0) (c .before .before .before .before .before .before .before .before .if2 .left) (m .rest .0 .0 .1) (m .rest .0 .1) (m .rest .1) in
+    let size = c .before .before .before .before .before .before .size-of .ensures ∙ ap entry-size bits in
+    ap (λ (w : ℕ). Named w (getD (a .journal .now) (a .position + 3) 0) (a .position + 4)) (c .before .two-bytes2 .ensures)
+    ∙ sym (whole-entry (a .journal .now) (a .position) (a .before) 3 (c .before .before .before .before .before .before .before .before .before .before .if1 .left) bits (lit≤ tt) (omega (arith, size, c .before .before .before .before .before .if4 .left)))
 
 pub read-entry-spec : {M : Type 1} → statement M
 read-entry-spec =

@@ -2,7 +2,7 @@
 use mathlib.Core.Path.{_∙_}
 use native.Mathlib.Omega.{arith}
 use Rattle.model.specs.Answers.{fresh-answer}
-use Rattle.refusals.proofs.Reading.{told-same}
+use Rattle.refusals.proofs.Reading.{refusal-words-same}
 use Rattle.steps.proofs.Starting.{fresh-is}
 use borrow.Author.Needs.{needs}
 use Rattle.lock.proofs.fresh_lock.Statement.{statement}
@@ -25,7 +25,7 @@ unfolding fresh-answer
 returns c =
     let s = c .before .before .before .before .before .before .before .before in
     let asked = c .before .before .before .tree-refusal-of in
-    rw (c .fresh-counters .ensures, c .before .fresh-state .ensures, c .before .before .first-of .ensures, fresh-is (s .args .t1) (asked .result .number) (s .args .start) (omega arith), asked .ensures ∙ told-same (s .args .t1))
+    rw (c .fresh-counters .ensures, c .before .fresh-state .ensures, c .before .before .first-of .ensures, fresh-is (s .args .t1) (asked .result .number) (s .args .start) (omega arith), asked .ensures ∙ refusal-words-same (s .args .t1))
 
 pub fresh-lock-spec : {M : Type 1} → statement M
 fresh-lock-spec = tie.close (tie.spec tree-refusal-of-requires first-of-requires fresh-state-requires fresh-counters-requires returns)

@@ -33,17 +33,17 @@ array-read-code c = search needs
 cast-kind : tie.Need-cast-kind
 cast-kind c = search needs
 
-element-copy-out-domain-told : tie.Need-element-copy-out-domain-told
-element-copy-out-domain-told c = let begin = c .before .before .before .before .before .before .before .before .before .before .before .before .before .before .before .before .before .before .before .before .before .before in one-small (begin .args .t1) (begin .args .state) _ _ (c .before .before .before .before .before .before .before .before .before .before .before .before .refusal-of .ensures) (c .before .before .before .before .before .before .before .before .before .before .if1 .left)
+element-copy-out-domain-of-code : tie.Need-element-copy-out-domain-of-code
+element-copy-out-domain-of-code c = let begin = c .before .before .before .before .before .before .before .before .before .before .before .before .before .before .before .before .before .before .before .before .before .before in one-small (begin .args .t1) (begin .args .state) _ _ (c .before .before .before .before .before .before .before .before .before .before .before .before .refusal-of .ensures) (c .before .before .before .before .before .before .before .before .before .before .if1 .left)
 
-domain-told-requires : tie.Need-domain-told-requires
-domain-told-requires c κs = search needs
+domain-of-code-requires : tie.Need-domain-of-code-requires
+domain-of-code-requires c κs = search needs
 
 returns-2 : tie.Need-returns-2
 returns-2 c =
     let begin = c .before .before .before .before .before .before .before .before .before .before .before .before .before .before .before .before .before .before .before .before .before .before .before .before in
     let ran = c .before .before .before .before .run-steps .ensures in
-    step-answered _ (begin .args .state) _ _ (c .before .before .before .before .before .before .before .before .before .before .before .before .before .before .refusal-of .ensures) (c .before .before .before .before .before .before .before .before .before .before .before .before .if1 .left) _ (0 ∷ []) _ _ _ (ran .0) refl (ran .1 .1 .1 .0) (c .domain-told .ensures) (ran .1 .1 .1 .1)
+    step-answered _ (begin .args .state) _ _ (c .before .before .before .before .before .before .before .before .before .before .before .before .before .before .refusal-of .ensures) (c .before .before .before .before .before .before .before .before .before .before .before .before .if1 .left) _ (0 ∷ []) _ _ _ (ran .0) refl (ran .1 .1 .1 .0) (c .domain-of-code .ensures) (ran .1 .1 .1 .1)
 
 pub step-lock-spec : {M : Type 1} → statement M
 step-lock-spec =
@@ -58,6 +58,6 @@ step-lock-spec =
     run-steps-requires
     array-read-code
     cast-kind
-    element-copy-out-domain-told
-    domain-told-requires
+    element-copy-out-domain-of-code
+    domain-of-code-requires
     returns-2)

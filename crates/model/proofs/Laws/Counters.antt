@@ -18,7 +18,7 @@ use Rattle.model.specs.States.{place, fresh-state}
 use Rattle.model.specs.Steps.{is-entry, Step, step}
 use Rattle.model.specs.Runs.{steps, state-after, run-of, run, entries-under}
 use Rattle.model.specs.WellFormed.{good-place}
-use Rattle.model.specs.Tenures.{domain-entries, domain-tenures, longest-told, starts, told-length}
+use Rattle.model.specs.Tenures.{domain-entries, domain-tenures, longest-tenure, starts, tenure-length}
 use Rattle.model.specs.Counters.{lock-state, fresh-counters, each-with-index, counters-after, most-counted, is-counted, count-fits, good-count, good-counts, count-above, any-above}
 use Rattle.model.specs.Refusals.{bad-counter, tree-refusal, step-refusal, run-refusal}
 use Rattle.model.specs.Answers.{counters-behind, step-reply, step-answer, run-reply, run-buffer, run-answer, trace-answer}
@@ -31,7 +31,7 @@ use Rattle.model.proofs.Counted.{indexed-long, indexed-at, indexed-fact
 use Rattle.model.proofs.Laws.Runs.{steps-length, steps-take}
 use Rattle.model.proofs.Laws.Facts.{well-formed-facts}
 use Rattle.model.proofs.Laws.Form.{form-law, replicate-all}
-use Rattle.model.proofs.Laws.Given.{starts-few, starts-real, told-few, told-within, told-real}
+use Rattle.model.proofs.Laws.Given.{starts-few, starts-real, tenure-length-few, tenure-length-within, tenure-length-real}
 
 -- 1. INDEX BY INDEX
 pub counter-law : Counter-law
@@ -41,10 +41,10 @@ counter-law t c xs =
     record {
       entries = λ d h. indexed-at (λ d v. v + domain-entries t d xs) 0 (c .entries) d h ∙ ap (λ j. getD (c .entries) d 0 + domain-entries t j xs) (z d);
       tenures = λ d h. indexed-at (λ d v. v + domain-tenures t d xs) 0 (c .tenures) d h ∙ ap (λ j. getD (c .tenures) d 0 + domain-tenures t j xs) (z d);
-      longest = λ d h. indexed-at (λ d v. max v (longest-told t d xs)) 0 (c .longest) d h ∙ ap (λ j. max (getD (c .longest) d 0) (longest-told t j xs)) (z d);
+      longest = λ d h. indexed-at (λ d v. max v (longest-tenure t d xs)) 0 (c .longest) d h ∙ ap (λ j. max (getD (c .longest) d 0) (longest-tenure t j xs)) (z d);
       entries-room = indexed-long (λ d v. v + domain-entries t d xs) 0 (c .entries);
       tenures-room = indexed-long (λ d v. v + domain-tenures t d xs) 0 (c .tenures);
-      longest-room = indexed-long (λ d v. max v (longest-told t d xs)) 0 (c .longest);
+      longest-room = indexed-long (λ d v. max v (longest-tenure t d xs)) 0 (c .longest);
       joined = λ ys. counters-join t c xs ys;
     }
 
@@ -150,7 +150,7 @@ is-real : (t : Tree) (d : ℕ) → is-counted t d ≡ false → (d ≢ 0) × (d 
 is-real t d e r = true≢false (sym (rw (ne-eqb d 0 (r .0), lt-ltb d (t .domains) (r .1))) ∙ e)
 
 -- an entry counts for a domain of the thread's path other than the root
-module _ (t : Tree) (𝓐 : Accepted t) (i : ℕ) (b : i < t .threads) (s : State) (d : ℕ) where
+module _ (t : Tree) (valid : Accepted t) (i : ℕ) (b : i < t .threads) (s : State) (d : ℕ) where
   entry-real : 1 ≤ domain-entries t d (step t i s ∷ []) → (d ≢ 0) × (d < t .domains)
   unfolding domain-entries entries-under step under
   entry-real h = by (eqb d 0) (is-entry (step t i s .kind)) (under t (256 + d) i) refl refl h
@@ -162,7 +162,7 @@ module _ (t : Tree) (𝓐 : Accepted t) (i : ℕ) (b : i < t .threads) (s : Stat
       by false true true e f h =
           let q : 256 + d - 256 ≡ d = omega arith in
           let p : on-path t i d ≡ true = rw (le-ltb (256 + d) 256 (omega arith), q) at f in
-          (eqb-false d 0 e, path-real t 𝓐 i b d p)
+          (eqb-false d 0 e, path-real t valid i b d p)
 
 domain-entries-few : (t : Tree) (d : ℕ) (xs : List Step) → domain-entries t d xs ≤ length xs
 unfolding domain-entries entries-under
@@ -177,13 +177,13 @@ unfolding domain-tenures steps
 tenures-few t d [] s = omega arith
 tenures-few t d (i ∷ is) s = omega (arith, starts-few t i s d, tenures-few t d is (step t i s .state))
 
-longest-few : (t : Tree) (d : ℕ) (is : List ℕ) (s : State) → longest-told t d (steps t is s) ≤ max 1 (t .threshold d)
-unfolding longest-told steps
+longest-few : (t : Tree) (d : ℕ) (is : List ℕ) (s : State) → longest-tenure t d (steps t is s) ≤ max 1 (t .threshold d)
+unfolding longest-tenure steps
 longest-few t d [] s = omega arith
-longest-few t d (i ∷ is) s = omega (arith, told-few t i s d, longest-few t d is (step t i s .state))
+longest-few t d (i ∷ is) s = omega (arith, tenure-length-few t i s d, longest-few t d is (step t i s .state))
 
 -- one step keeps the form, where 19 does not refuse it
-module _ (t : Tree) (𝓐 : Accepted t) (i : ℕ) (b : i < t .threads) (s : State) (g : good-place t i (place s i) ≡ true) (c : Counters) where
+module _ (t : Tree) (valid : Accepted t) (i : ℕ) (b : i < t .threads) (s : State) (g : good-place t i (place s i) ≡ true) (c : Counters) where
   abbrev after : Counters
   after = counters-after t c (step t i s ∷ [])
 
@@ -192,18 +192,18 @@ module _ (t : Tree) (𝓐 : Accepted t) (i : ℕ) (b : i < t .threads) (s : Stat
   kept d v v′ f same low = record { counted = λ y. low; others = λ y. same (is-real t d y) (f .others y) }
 
   step-keeps-counts : Good-counts t c → any-above after ≡ false → Good-counts t after
-  unfolding counters-after domain-tenures longest-told
+  unfolding counters-after domain-tenures longest-tenure
   step-keeps-counts f low =
       let na = not-above after low in
       record {
         entries = λ d h. indexed-fact (λ d v. v ≤ most-counted → d < 64 → Fits t d v) (λ d v. v + domain-entries t d (step t i s ∷ [])) (c .entries) (λ d l h. zero-fits t d)
-            (λ d l h. kept d _ _ (f .entries d h) (λ n z. none (domain-entries t d (step t i s ∷ [])) z (λ m. n (entry-real t 𝓐 i b s d m))) l) d (na d h .entries) h;
+            (λ d l h. kept d _ _ (f .entries d h) (λ n z. none (domain-entries t d (step t i s ∷ [])) z (λ m. n (entry-real t valid i b s d m))) l) d (na d h .entries) h;
         tenures = λ d h. indexed-fact (λ d v. v ≤ most-counted → d < 64 → Fits t d v) (λ d v. v + (starts t d (step t i s) + 0)) (c .tenures) (λ d l h. zero-fits t d)
-            (λ d l h. kept d _ _ (f .tenures d h) (λ n z. none (starts t d (step t i s) + 0) z (λ m. n (starts-real t 𝓐 i b s g d (omega arith)))) l) d (na d h .tenures) h;
-        longest = λ d h. indexed-fact (λ d v. v ≤ most-counted → d < 64 → Fits t d v) (λ d v. max v (max (told-length t d (step t i s)) 0)) (c .longest) (λ d l h. zero-fits t d)
-            (λ d l h. kept d _ _ (f .longest d h) (λ n z. none-told (told-length t d (step t i s)) z (λ m. n (told-real t 𝓐 i b s g d m))) l) d (na d h .longest) h;
-        within = λ d h. indexed-fact (λ d v. d < 64 → v ≤ t .threshold d) (λ d v. max v (max (told-length t d (step t i s)) 0)) (c .longest) (λ d h. omega arith)
-            (λ d h. omega (arith, f .within d h, told-within t 𝓐 i b s g d)) d h;
+            (λ d l h. kept d _ _ (f .tenures d h) (λ n z. none (starts t d (step t i s) + 0) z (λ m. n (starts-real t valid i b s g d (omega arith)))) l) d (na d h .tenures) h;
+        longest = λ d h. indexed-fact (λ d v. v ≤ most-counted → d < 64 → Fits t d v) (λ d v. max v (max (tenure-length t d (step t i s)) 0)) (c .longest) (λ d l h. zero-fits t d)
+            (λ d l h. kept d _ _ (f .longest d h) (λ n z. none-longest (tenure-length t d (step t i s)) z (λ m. n (tenure-length-real t valid i b s g d m))) l) d (na d h .longest) h;
+        within = λ d h. indexed-fact (λ d v. d < 64 → v ≤ t .threshold d) (λ d v. max v (max (tenure-length t d (step t i s)) 0)) (c .longest) (λ d h. omega arith)
+            (λ d h. omega (arith, f .within d h, tenure-length-within t valid i b s g d)) d h;
       }
     where
       less-one : (n : ℕ) → (1 ≤ n → ⊥) → n ≡ 0
@@ -213,8 +213,8 @@ module _ (t : Tree) (𝓐 : Accepted t) (i : ℕ) (b : i < t .threads) (s : Stat
       none : {v : ℕ} (n : ℕ) → v ≡ 0 → (1 ≤ n → ⊥) → v + n ≡ 0
       none n z h = omega (arith, less-one n h)
 
-      none-told : {v : ℕ} (n : ℕ) → v ≡ 0 → (1 ≤ n → ⊥) → max v (max n 0) ≡ 0
-      none-told n z h = omega (arith, less-one n h)
+      none-longest : {v : ℕ} (n : ℕ) → v ≡ 0 → (1 ≤ n → ⊥) → max v (max n 0) ≡ 0
+      none-longest n z h = omega (arith, less-one n h)
 
 -- the test of 19 behind the first entry
 pub count-later :
@@ -288,7 +288,7 @@ module _ (t : Tree) (bits : Sixteen-bit t) (c : Counters) (is : List ℕ) (s : S
 
   longest-left : (d : ℕ) → getD (left .longest) d 0 ≤ max (getD (c .longest) d 0) 65535
   unfolding counters-after
-  longest-left = indexed-fact (λ d v. v ≤ max (getD (c .longest) d 0) 65535) (λ d v. max v (longest-told t d (steps t is s))) (c .longest) (λ d. omega arith) (λ d. omega (arith, longest-few t d is s, bits d))
+  longest-left = indexed-fact (λ d v. v ≤ max (getD (c .longest) d 0) 65535) (λ d v. max v (longest-tenure t d (steps t is s))) (c .longest) (λ d. omega arith) (λ d. omega (arith, longest-few t d is s, bits d))
 
   room-stays : (n : ℕ) → Room-left c (length is + n) → Room-left left n
   room-stays n r =

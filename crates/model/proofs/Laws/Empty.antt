@@ -131,9 +131,9 @@ module _ (t : Tree) where
   -- each thread's path ends at the root
   root-there : All-pass before → Has-thread t 0
   root-there g =
-      let 𝓐 = accepted-before t (ap (λ r. r .number) (law .passed .1 g) ∙ accepted-number) in
-      let at = on-path-at t 𝓐 0 (𝓐 .some-thread) (height t 0) (omega arith) in
-      record { thread = 0; real = 𝓐 .some-thread; below = under-domain t 0 0 ∙ rw (ancestor-root t 𝓐 0 (𝓐 .some-thread)) at at }
+      let valid = accepted-before t (ap (λ r. r .number) (law .passed .1 g) ∙ accepted-number) in
+      let at = on-path-at t valid 0 (valid .some-thread) (height t 0) (omega arith) in
+      record { thread = 0; real = valid .some-thread; below = under-domain t 0 0 ∙ rw (ancestor-root t valid 0 (valid .some-thread)) at at }
 
   refuses-empty : Refuses-empty t
   refuses-empty =

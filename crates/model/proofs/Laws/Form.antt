@@ -99,22 +99,22 @@ abbrev Kept : Tree → Row-result → Type 0
 Kept t x = Facts t (x .state)
 
 -- Invalid is nowhere good
-pub valid : (t : Tree) (i : ℕ) (p : Place) → good-place t i p ≡ true → p ≢ Invalid
+pub not-invalid : (t : Tree) (i : ℕ) (p : Place) → good-place t i p ≡ true → p ≢ Invalid
 unfolding good-place
-valid t i p g e = false≢true (rw e at g)
+not-invalid t i p g e = false≢true (rw e at g)
 
 -- a place that is good, with a word that fits, and not Watch
 abbrev Fits : Tree → (thread : ℕ) → Place → Type 0
 Fits t i p = (good-place t i p ≡ true) × (Sixty-four-bit (words-of p .word)) × (is-watch p ≡ false)
 
-module _ (t : Tree) (b : Sixteen-bit t) (𝓐 : Accepted t) (i : ℕ) (h : i < t .threads) where
+module _ (t : Tree) (b : Sixteen-bit t) (valid : Accepted t) (i : ℕ) (h : i < t .threads) where
   record-good : (l : ℕ) → on-path t i l ≡ true → is-record t (own-record t i l) ≡ true
-  record-good l o = member-record t 𝓐 l (own-record t i l) (own-record-member t 𝓐 i h l o)
+  record-good l o = member-record t valid l (own-record t i l) (own-record-member t valid i h l o)
 
   climb-fits : (l : ℕ) → l ≢ 0 → on-path t i l ≡ true → Fits t i (acquired-place t l)
   unfolding good-place is-watch
   climb-fits l n o =
-      let p = on-path-parent t 𝓐 i h l (omega arith) o in
+      let p = on-path-parent t valid i h l (omega arith) o in
       by-test (Fits t i) (is-ticket t (t .parent l)) Draw (Prep (t .parent l))
       (λ z. (ticket-facts t (t .parent l) z .0, omega arith, refl))
       (λ z. (queue-yes t i (t .parent l) p z, omega arith, refl))
@@ -133,7 +133,7 @@ module _ (t : Tree) (b : Sixteen-bit t) (𝓐 : Accepted t) (i : ℕ) (h : i < t
       by-test (Fits t i) (eqb l (t .home i)) Idle (Help (child t i l)) (λ z. (refl, omega arith, refl))
       (λ z.
       let n = eqb-false l (t .home i) z in
-      (queue-yes t i (child t i l) (on-path-child t 𝓐 i h l o n) (ticket-lower t (child t i l) (child-inner t 𝓐 i h l o n)), omega arith, refl))
+      (queue-yes t i (child t i l) (on-path-child t valid i h l o n) (ticket-lower t (child t i l) (child-inner t valid i h l o n)), omega arith, refl))
 
   placed : {n : State} → Facts t n → (p : Place) → Fits t i p → Facts t (with-place i p n)
   unfolding is-watch
@@ -144,7 +144,7 @@ module _ (t : Tree) (b : Sixteen-bit t) (𝓐 : Accepted t) (i : ℕ) (h : i < t
     successor : (l : ℕ) → on-path t i l ≡ true → next s (own-record t i l) ≢ 0 → is-member t l (next s (own-record t i l) - 1) ≡ true
     successor l o n =
         let I = own-record t i l in
-        let e = member-owner t 𝓐 l I (own-record-member t 𝓐 i h l o) in
+        let e = member-owner t valid l I (own-record-member t valid i h l o) in
         rw e at (some-next t I (next s I) (k .nexts I) n)
 
     -- a record of a domain with a queue is watched by nobody
@@ -153,12 +153,12 @@ module _ (t : Tree) (b : Sixteen-bit t) (𝓐 : Accepted t) (i : ℕ) (h : i < t
     unfolding good-place
     unwatched l r v n m j hj w e =
         let root : t .ticket-root ≡ true = rw w at (k .places j .used hj) in
-        let there = own-record-member t 𝓐 j hj 0 (on-path-root t 𝓐 j hj) in
-        absurd (queue-lower t l n root (member-once t 𝓐 l 0 r m (rw e at there)))
+        let there = own-record-member t valid j hj 0 (on-path-root t valid j hj) in
+        absurd (queue-lower t l n root (member-once t valid l 0 r m (rw e at there)))
 
     -- a status of a record of such a domain
     marked : (l r v : ℕ) → is-ticket t l ≡ false → is-member t l r ≡ true → Sixty-four-bit v → Facts t (with-status r v s)
-    marked l r v n m f = status-keeps t s k r v (member-record t 𝓐 l r m) f (unwatched l r v n m)
+    marked l r v n m f = status-keeps t s k r v (member-record t valid l r m) f (unwatched l r v n m)
 
     grant-fits :
         (l w : ℕ) → on-path t i l ≡ true → is-ticket t l ≡ false → next s (own-record t i l) ≢ 0 → Sixty-four-bit w →
@@ -171,7 +171,7 @@ module _ (t : Tree) (b : Sixteen-bit t) (𝓐 : Accepted t) (i : ℕ) (h : i < t
     unfolding good-place is-watch
     prepared-keeps l v o q f =
         let I = own-record t i l in
-        let a = marked l I v q (own-record-member t 𝓐 i h l o) f in
+        let a = marked l I v q (own-record-member t valid i h l o) f in
         let c = next-keeps t _ a I none (inl refl) in
         placed c (Swap l) (queue-yes t i l o q, omega arith, refl)
 
@@ -179,7 +179,7 @@ module _ (t : Tree) (b : Sixteen-bit t) (𝓐 : Accepted t) (i : ℕ) (h : i < t
     swapped-in : (l v : ℕ) → on-path t i l ≡ true → is-ticket t l ≡ false → Sixty-four-bit v → Facts t (with-tail l (own-record t i l + 1) (with-status (own-record t i l) v s))
     swapped-in l v o q f =
         let I = own-record t i l in
-        let m = own-record-member t 𝓐 i h l o in
+        let m = own-record-member t valid i h l o in
         tail-keeps t _ (marked l I v q m f) l (I + 1) (inr (q, rw (one-more I) m))
 
     -- about to grant the successor a word
@@ -188,10 +188,10 @@ module _ (t : Tree) (b : Sixteen-bit t) (𝓐 : Accepted t) (i : ℕ) (h : i < t
 
     -- the rows of a ticket lock at the root
     root-there : on-path t i 0 ≡ true
-    root-there = on-path-root t 𝓐 i h
+    root-there = on-path-root t valid i h
 
     root-small : own-record t i 0 < 320
-    root-small = member-small t 𝓐 0 (own-record t i 0) (own-record-member t 𝓐 i h 0 root-there)
+    root-small = member-small t valid 0 (own-record t i 0) (own-record-member t valid i h 0 root-there)
 
     drawn-keeps : t .ticket-root ≡ true → Facts t (with-ticket (wrap (s .ticket + 1)) (with-status (own-record t i 0) (s .ticket) s))
     drawn-keeps e =
@@ -203,7 +203,7 @@ module _ (t : Tree) (b : Sixteen-bit t) (𝓐 : Accepted t) (i : ℕ) (h : i < t
     row-keeps : {p : Place} {x : Row-result} → good-place t i p ≡ true → Sixty-four-bit (words-of p .word) → Branch t i s p x → Kept t x
     unfolding good-place is-watch
     row-keeps g f (idle-draws z b) = row-keeps (ticket-facts t (t .home i) z .0) (omega arith) b
-    row-keeps g f (idle-prepares z b) = row-keeps (queue-yes t i (t .home i) (on-path-home t 𝓐 i h) z) (omega arith) b
+    row-keeps g f (idle-prepares z b) = row-keeps (queue-yes t i (t .home i) (on-path-home t valid i h) z) (omega arith) b
     row-keeps g f (prepares l v (at-root z)) = let q = queue-facts t i l g in prepared-keeps l _ (q .0) (q .1) (omega arith)
     row-keeps g f (prepares l v (below-root z)) = let q = queue-facts t i l g in prepared-keeps l _ (q .0) (q .1) (omega arith)
     row-keeps g f (swap-root l z e) = let q = queue-facts t i l g in placed (swapped-in l unlocked (q .0) (q .1) (omega arith)) Inside (refl, omega arith, refl)
@@ -213,31 +213,31 @@ module _ (t : Tree) (b : Sixteen-bit t) (𝓐 : Accepted t) (i : ℕ) (h : i < t
     row-keeps g f (swap-behind l e) =
         let q = queue-facts t i l g in
         let I = own-record t i l in
-        placed (tail-keeps t s k l (I + 1) (inr (q .1, rw (one-more I) (own-record-member t 𝓐 i h l (q .0))))) (Link l (tail s l - 1))
+        placed (tail-keeps t s k l (I + 1) (inr (q .1, rw (one-more I) (own-record-member t valid i h l (q .0))))) (Link l (tail s l - 1))
         (rw (queue-yes t i l (q .0) (q .1), some-tail t l (tail s l) (k .tails l) e), omega arith, refl)
     row-keeps g f (link-writes l p) =
         let c = and-both (queue-on-path t i l) (is-member t l p) g in
         let q = queue-facts t i l (c .0) in
-        let n = own-record-member t 𝓐 i h l (q .0) in
+        let n = own-record-member t valid i h l (q .0) in
         let I = own-record t i l in
-        let a = next-keeps t s k p (I + 1) (inr (member-record t 𝓐 l p (c .1), rw (one-more I, member-owner t 𝓐 l p (c .1)) n)) in
+        let a = next-keeps t s k p (I + 1) (inr (member-record t valid l p (c .1), rw (one-more I, member-owner t valid l p (c .1)) n)) in
         placed a (Wait l) (queue-yes t i l (q .0) (q .1), omega arith, refl)
     row-keeps g f (wait-root-locked l z e) = k
     row-keeps g f (wait-root-granted l z e) = placed k Inside (refl, omega arith, refl)
     row-keeps g f (wait-ungranted l z e) = k
     row-keeps g f (wait-acquires l z e) =
         let q = queue-facts t i l g in
-        placed (marked l (own-record t i l) cohort-start (q .1) (own-record-member t 𝓐 i h l (q .0)) (omega arith)) (acquired-place t l) (climb-fits l z (q .0))
+        placed (marked l (own-record t i l) cohort-start (q .1) (own-record-member t valid i h l (q .0)) (omega arith)) (acquired-place t l) (climb-fits l z (q .0))
     row-keeps g f (wait-passed l z e y a) = placed k Inside (refl, omega arith, refl)
     row-keeps g f (wait-crossed l z e y a) = placed k Inside (refl, omega arith, refl)
-    row-keeps g f inside-leaves = placed k (release-place t (t .home i)) (release-fits (t .home i) (on-path-home t 𝓐 i h))
+    row-keeps g f inside-leaves = placed k (release-place t (t .home i)) (release-fits (t .home i) (on-path-home t valid i h))
     row-keeps g f (check-passes l e n) =
         let c = and-both (on-path t i l) (not (eqb l 0)) g in
         grant-next l (status s (own-record t i l) + 1) (c .0) (ticket-lower t l (eqb-false l 0 (not-true (eqb l 0) (c .1)))) n (omega (arith, b l))
     row-keeps g f (check-releases l e) =
         let c = and-both (on-path t i l) (not (eqb l 0)) g in
         let n = eqb-false l 0 (not-true (eqb l 0) (c .1)) in
-        placed k (release-place t (t .parent l)) (release-fits (t .parent l) (on-path-parent t 𝓐 i h l (omega arith) (c .0)))
+        placed k (release-place t (t .parent l)) (release-fits (t .parent l) (on-path-parent t valid i h l (omega arith) (c .0)))
     row-keeps g f (help-alone l n) = placed k (Cas l) (g, omega arith, refl)
     row-keeps g f (help-linked l v n (at-root z)) = let q = queue-facts t i l g in grant-next l _ (q .0) (q .1) n (omega arith)
     row-keeps g f (help-linked l v n (below-root z)) = let q = queue-facts t i l g in grant-next l _ (q .0) (q .1) n (omega arith)
@@ -265,14 +265,14 @@ module _ (t : Tree) (b : Sixteen-bit t) (𝓐 : Accepted t) (i : ℕ) (h : i < t
     step-keeps =
         let x = getD (s .places) i (place-words 0 0 0 0) in
         let good = k .places i .used h in
-        row-keeps good (rw (words-of-place x (valid t i (place-of x) good)) (k .typed .words-fit i)) (branch t i s (place s i))
+        row-keeps good (rw (words-of-place x (not-invalid t i (place-of x) good)) (k .typed .words-fit i)) (branch t i s (place s i))
 
 pub form-law : Form-law
 unfolding Form-law
 form-law t b e =
-    let 𝓐 = accepted t e in
+    let valid = accepted t e in
     let one : (i : ℕ) (s : State) → i < t .threads → Formed t s → Formed t (step t i s .state) =
-    λ i s h f. facts-well-formed t _ (step-keeps t b 𝓐 i h s (well-formed-facts t s f)) in
+    λ i s h f. facts-well-formed t _ (step-keeps t b valid i h s (well-formed-facts t s f)) in
     record {
       of-fresh = λ v. facts-well-formed t (fresh-state t v) (fresh-facts t v);
       of-step = one;

@@ -18,7 +18,7 @@ use Rattle.model.specs.States.{none, tail, next, status, place, wrap, wi
 use Rattle.model.specs.Steps.{is-entry, Row-result, step-from, release-place, is-watched, shown-members, row, step}
 use Rattle.model.specs.Runs.{ended-in, occurrences}
 use Rattle.model.specs.WellFormed.{queue-on-path, good-place}
-use Rattle.model.specs.Tenures.{finds-none, taken-from, given, starts, checks-at, word-to-grant, told-length}
+use Rattle.model.specs.Tenures.{finds-none, taken-from, given, starts, checks-at, word-to-grant, tenure-length}
 use Rattle.model.proofs.Tests.{and-both, by-test, any-one}
 use Rattle.model.proofs.Places.{place-stored}
 use Rattle.model.proofs.Branches.{Branch, idle-draws, idle-prepares, prepares, swap-root, swap-inner, swap-behind, link-writes, wait-root-locked, wait-root-granted, wait-ungranted, wait-acquires, wait-passed, wait-crossed, inside-leaves, check-passes, check-releases, help-alone, help-linked, cas-last, cas-not-last, linger-alone, linger-linked, grant-writes, draw-shown, draw-unshown, watch-shown, watch-unshown, raise-counts, invalid-stays, branch}
@@ -145,7 +145,7 @@ one-member t true m r d e h = by (eqb m r) refl h
     by false z h = absurd (omega arith)
 one-member t false m r d e h = absurd (omega arith)
 
-module _ (t : Tree) (𝓐 : Accepted t) where
+module _ (t : Tree) (valid : Accepted t) where
   shown-member : (s : State) (v m : ℕ) → 1 ≤ occurrences m (shown-members t s v) → Member-of-some t m
   unfolding shown-members is-watched
   shown-member s v m h = by (ltb m 320) (f m) refl (rw (filter-occurs 320 f m) at h)
@@ -157,7 +157,7 @@ module _ (t : Tree) (𝓐 : Accepted t) where
       watched e =
           let x = any-one (t .threads) (λ j. is-watch (place s j) && eqb (own-record t j 0) m) e in
           let both = and-both (is-watch (place s (x .index))) (eqb (own-record t (x .index) 0) m) (x .holds) in
-          record { domain = 0; member = rw (← eqb-true (own-record t (x .index) 0) m (both .1)) (own-record-member t 𝓐 (x .index) (x .below) 0 (on-path-root t 𝓐 (x .index) (x .below))) }
+          record { domain = 0; member = rw (← eqb-true (own-record t (x .index) 0) m (both .1)) (own-record-member t valid (x .index) (x .below) 0 (on-path-root t valid (x .index) (x .below))) }
 
       by : (a b : Bool) → f m ≡ b → 1 ≤ cond a (cond b 1 0) 0 → Member-of-some t m
       by true true z h = watched (and-both (eqb (status s m) v) (is-watched t s m) z .1)
@@ -168,7 +168,7 @@ module _ (t : Tree) (𝓐 : Accepted t) where
   unfolding occurrences good-place given-at
   given-member i b Idle g s m h = absurd (omega arith)
   given-member i b (Prep l) g s m h = absurd (omega arith)
-  given-member i b (Swap l) g s m h = one-member t (eqb (tail s l) none) m (own-record t i l) l (own-record-member t 𝓐 i b l (queue-facts t i l g .0)) h
+  given-member i b (Swap l) g s m h = one-member t (eqb (tail s l) none) m (own-record t i l) l (own-record-member t valid i b l (queue-facts t i l g .0)) h
   given-member i b (Link l p) g s m h = absurd (omega arith)
   given-member i b (Wait l) g s m h = absurd (omega arith)
   given-member i b Inside g s m h = absurd (omega arith)
@@ -177,7 +177,7 @@ module _ (t : Tree) (𝓐 : Accepted t) where
   given-member i b (Cas l) g s m h = absurd (omega arith)
   given-member i b (Linger l) g s m h = absurd (omega arith)
   given-member i b (Grant l r w) g s m h = one-member t true m r l (and-both (queue-on-path t i l) (is-member t l r) g .1) h
-  given-member i b Draw g s m h = one-member t (eqb (s .ticket) (s .grant)) m (own-record t i 0) 0 (own-record-member t 𝓐 i b 0 (on-path-root t 𝓐 i b)) h
+  given-member i b Draw g s m h = one-member t (eqb (s .ticket) (s .grant)) m (own-record t i 0) 0 (own-record-member t valid i b 0 (on-path-root t valid i b)) h
   given-member i b Watch g s m h = absurd (omega arith)
   given-member i b Raise g s m h = shown-member s (wrap (s .grant + 1)) m h
   given-member i b Invalid g s m h = absurd (omega arith)
@@ -198,7 +198,7 @@ module _ (t : Tree) (𝓐 : Accepted t) where
       by true e h = absurd (omega arith)
       by false e h =
           let m = given-member i b (place s i) g s (256 + d) (rw (gives t i (place s i) s) at h) in
-          (eqb-false d 0 e, record-domain d (member-record t 𝓐 (m .domain) (256 + d) (m .member)))
+          (eqb-false d 0 e, record-domain d (member-record t valid (m .domain) (256 + d) (m .member)))
 
 -- THE LENGTH THAT A STEP TELLS. The word that a stored place will grant is the place's, or none where there is no such thread
 stored-word : (i : ℕ) (p : Place) (s : State) → word-to-grant (place (with-place i p s) i) ≤ word-to-grant p
@@ -250,58 +250,58 @@ checked-within t i Raise s d = omega arith
 checked-within t i Invalid s d = omega arith
 
 -- a Check is at a domain of the tree other than the root
-checks-real : (t : Tree) (𝓐 : Accepted t) (i : ℕ) → i < t .threads → (p : Place) → good-place t i p ≡ true → (d : ℕ) → checks-at d p ≡ true → (d ≢ 0) × (d < t .domains)
+checks-real : (t : Tree) (valid : Accepted t) (i : ℕ) → i < t .threads → (p : Place) → good-place t i p ≡ true → (d : ℕ) → checks-at d p ≡ true → (d ≢ 0) × (d < t .domains)
 unfolding checks-at good-place
-checks-real t 𝓐 i b Idle g d e = absurd (false≢true e)
-checks-real t 𝓐 i b (Prep l) g d e = absurd (false≢true e)
-checks-real t 𝓐 i b (Swap l) g d e = absurd (false≢true e)
-checks-real t 𝓐 i b (Link l p) g d e = absurd (false≢true e)
-checks-real t 𝓐 i b (Wait l) g d e = absurd (false≢true e)
-checks-real t 𝓐 i b Inside g d e = absurd (false≢true e)
-checks-real t 𝓐 i b (Check l) g d e =
+checks-real t valid i b Idle g d e = absurd (false≢true e)
+checks-real t valid i b (Prep l) g d e = absurd (false≢true e)
+checks-real t valid i b (Swap l) g d e = absurd (false≢true e)
+checks-real t valid i b (Link l p) g d e = absurd (false≢true e)
+checks-real t valid i b (Wait l) g d e = absurd (false≢true e)
+checks-real t valid i b Inside g d e = absurd (false≢true e)
+checks-real t valid i b (Check l) g d e =
     let z = eqb-true l d e in
     let both = and-both (on-path t i l) (not (eqb l 0)) g in
-    (rw z at (not-zero (eqb l 0) refl (both .1)), rw z at (path-real t 𝓐 i b l (both .0)))
+    (rw z at (not-zero (eqb l 0) refl (both .1)), rw z at (path-real t valid i b l (both .0)))
   where
     not-zero : (c : Bool) → eqb l 0 ≡ c → not c ≡ true → l ≢ 0
     not-zero true y h = absurd (false≢true h)
     not-zero false y h = eqb-false l 0 y
-checks-real t 𝓐 i b (Help l) g d e = absurd (false≢true e)
-checks-real t 𝓐 i b (Cas l) g d e = absurd (false≢true e)
-checks-real t 𝓐 i b (Linger l) g d e = absurd (false≢true e)
-checks-real t 𝓐 i b (Grant l r w) g d e = absurd (false≢true e)
-checks-real t 𝓐 i b Draw g d e = absurd (false≢true e)
-checks-real t 𝓐 i b Watch g d e = absurd (false≢true e)
-checks-real t 𝓐 i b Raise g d e = absurd (false≢true e)
-checks-real t 𝓐 i b Invalid g d e = absurd (false≢true e)
+checks-real t valid i b (Help l) g d e = absurd (false≢true e)
+checks-real t valid i b (Cas l) g d e = absurd (false≢true e)
+checks-real t valid i b (Linger l) g d e = absurd (false≢true e)
+checks-real t valid i b (Grant l r w) g d e = absurd (false≢true e)
+checks-real t valid i b Draw g d e = absurd (false≢true e)
+checks-real t valid i b Watch g d e = absurd (false≢true e)
+checks-real t valid i b Raise g d e = absurd (false≢true e)
+checks-real t valid i b Invalid g d e = absurd (false≢true e)
 
 started-one : (n : ℕ) → cond (eqb n 0) 0 1 ≤ 1
 started-one n = by-test (λ v. v ≤ 1) (eqb n 0) 0 1 (λ e. omega arith) (λ e. omega arith)
 
 -- a step tells at most 1, or the threshold
-pub told-few : (t : Tree) (i : ℕ) (s : State) (d : ℕ) → told-length t d (step t i s) ≤ max 1 (t .threshold d)
-unfolding told-length step
-told-few t i s d = omega (arith, started-one (starts t d (step t i s)), checked-within t i (place s i) s d)
+pub tenure-length-few : (t : Tree) (i : ℕ) (s : State) (d : ℕ) → tenure-length t d (step t i s) ≤ max 1 (t .threshold d)
+unfolding tenure-length step
+tenure-length-few t i s d = omega (arith, started-one (starts t d (step t i s)), checked-within t i (place s i) s d)
 
-module _ (t : Tree) (𝓐 : Accepted t) (i : ℕ) (b : i < t .threads) (s : State) (g : good-place t i (place s i) ≡ true) (d : ℕ) where
+module _ (t : Tree) (valid : Accepted t) (i : ℕ) (b : i < t .threads) (s : State) (g : good-place t i (place s i) ≡ true) (d : ℕ) where
   -- and of a domain of the tree at most its threshold
-  pub told-within : told-length t d (step t i s) ≤ t .threshold d
-  unfolding told-length step
-  told-within = by (eqb (starts t d (step t i s)) 0) refl
+  pub tenure-length-within : tenure-length t d (step t i s) ≤ t .threshold d
+  unfolding tenure-length step
+  tenure-length-within = by (eqb (starts t d (step t i s)) 0) refl
     where
       by : (c : Bool) → eqb (starts t d (step t i s)) 0 ≡ c → max (cond c 0 1) (checked-length d (place s i) (row t i (place s i) s .state) i) ≤ t .threshold d
       by true e = omega (arith, checked-within t i (place s i) s d)
       by false e =
           let n = eqb-false (starts t d (step t i s)) 0 e in
-          let real = starts-real t 𝓐 i b s g d (omega arith) in
-          omega (arith, checked-within t i (place s i) s d, 𝓐 .threshold-some d (omega (arith, real .0)) (real .1))
+          let real = starts-real t valid i b s g d (omega arith) in
+          omega (arith, checked-within t i (place s i) s d, valid .threshold-some d (omega (arith, real .0)) (real .1))
 
   -- of the root, and of what is no domain of the tree, nothing
-  pub told-real : 1 ≤ told-length t d (step t i s) → (d ≢ 0) × (d < t .domains)
-  unfolding told-length step
-  told-real h = by (eqb (starts t d (step t i s)) 0) (checks-at d (place s i)) refl refl h
+  pub tenure-length-real : 1 ≤ tenure-length t d (step t i s) → (d ≢ 0) × (d < t .domains)
+  unfolding tenure-length step
+  tenure-length-real h = by (eqb (starts t d (step t i s)) 0) (checks-at d (place s i)) refl refl h
     where
       by : (a c : Bool) → eqb (starts t d (step t i s)) 0 ≡ a → checks-at d (place s i) ≡ c → 1 ≤ max (cond a 0 1) (cond c (word-to-grant (place (row t i (place s i) s .state) i)) 0) → (d ≢ 0) × (d < t .domains)
-      by a true e f h = checks-real t 𝓐 i b (place s i) g d f
+      by a true e f h = checks-real t valid i b (place s i) g d f
       by true false e f h = absurd (omega arith)
-      by false false e f h = let n = eqb-false (starts t d (step t i s)) 0 e in starts-real t 𝓐 i b s g d (omega arith)
+      by false false e f h = let n = eqb-false (starts t d (step t i s)) 0 e in starts-real t valid i b s g d (omega arith)

@@ -45,13 +45,13 @@ pub data Outcome (t : Tree) (s : State) (i : ℕ) (p : Place) (x : Row-result) :
   entered-crossed :
       x .kind ≡ crossed-entry → place (x .state) i ≡ Inside → (l : ℕ) × (l ≢ 0) × (l ≢ t .home i) × (p ≡ Wait l) → Outcome t s i p x
 
-module _ (t : Tree) (𝓐 : Accepted t) (i : ℕ) (h : i < t .threads) (s : State) (k : Facts t s) where
+module _ (t : Tree) (valid : Accepted t) (i : ℕ) (h : i < t .threads) (s : State) (k : Facts t s) where
   abbrev Of : Place → Row-result → Type 0
   Of p x = Outcome t s i p x
 
   -- the stores of a row leave the places alone but for the thread's own
   stored : (q : Place) → place (with-place i q s) i ≡ q
-  stored q = place-stored i q s (omega (arith, k .typed .places-room, 𝓐 .few-threads))
+  stored q = place-stored i q s (omega (arith, k .typed .places-room, valid .few-threads))
 
   acquire-moves : (p : Place) (d : ℕ) → Moves-to p Draw → Moves-to p (Prep d) → Moves-to p (acquire-place t d)
   acquire-moves p d f g = by-test (Moves-to p) (is-ticket t d) Draw (Prep d) (λ _. f) (λ _. g)
@@ -67,7 +67,7 @@ module _ (t : Tree) (𝓐 : Accepted t) (i : ℕ) (h : i < t .threads) (s : Stat
   parent-moves : (l : ℕ) → on-path t i l ≡ true → l ≢ 0 → Moves-to (Check l) (release-place t (t .parent l))
   parent-moves l o n =
       let d = t .parent l in
-      let lower = 𝓐 .parent-lower l (omega arith) (path-real t 𝓐 i h l o) in
+      let lower = valid .parent-lower l (omega arith) (path-real t valid i h l o) in
       release-moves (Check l) d (moves-to (Check l) Raise refl) (moves-to (Check l) (Help d) refl)
       (λ e. let z = ap (λ x. words-of x .domain) e in omega arith, λ e. let z = ap (λ x. words-of x .row) e in omega arith)
 
@@ -309,4 +309,4 @@ module _ (t : Tree) (i : ℕ) (s : State) where
 
 pub kind-law : Kind-law
 unfolding Kind-law
-kind-law t i s e h f = let 𝓐 = accepted t e in tells t i s (step-outcome t 𝓐 i h s (well-formed-facts t s f))
+kind-law t i s e h f = let valid = accepted t e in tells t i s (step-outcome t valid i h s (well-formed-facts t s f))

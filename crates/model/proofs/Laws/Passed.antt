@@ -15,10 +15,10 @@ use Rattle.model.specs.Laws.{waits-below, entries-from-below, Passed-law
 use Rattle.model.proofs.Branches.{Branch, idle-draws, idle-prepares, prepares, swap-root, swap-inner, swap-behind, link-writes, wait-root-locked, wait-root-granted, wait-ungranted, wait-acquires, wait-passed, wait-crossed, inside-leaves, check-passes, check-releases, help-alone, help-linked, cas-last, cas-not-last, linger-alone, linger-linked, grant-writes, draw-shown, draw-unshown, watch-shown, watch-unshown, raise-counts, invalid-stays, branch}
 
 -- one of the two is counted exactly for an entry from Wait below the root
-abbrev Told-apart : Place → Row-result → Type 0
-Told-apart p x = cond (is-kind passed-entry (x .kind)) 1 0 + cond (is-kind crossed-entry (x .kind)) 1 0 ≡ cond (is-entry (x .kind) && waits-below p) 1 0
+abbrev Kinds-apart : Place → Row-result → Type 0
+Kinds-apart p x = cond (is-kind passed-entry (x .kind)) 1 0 + cond (is-kind crossed-entry (x .kind)) 1 0 ≡ cond (is-entry (x .kind) && waits-below p) 1 0
 
-row-apart : {t : Tree} {i : ℕ} {s : State} {p : Place} {x : Row-result} → Branch t i s p x → Told-apart p x
+row-apart : {t : Tree} {i : ℕ} {s : State} {p : Place} {x : Row-result} → Branch t i s p x → Kinds-apart p x
 unfolding is-kind is-entry waits-below
 row-apart (idle-draws z (draw-shown e)) = refl
 row-apart (idle-draws z (draw-unshown e)) = refl

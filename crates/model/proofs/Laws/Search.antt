@@ -35,7 +35,7 @@ same-child-law t i l = same-child-from 6 t l (t .home i) 0
 same-found : {c d m n : ℕ} → c ≡ d → m ≡ n → found c m ≡ found d n
 same-found e f = rw (e, f)
 
-module _ (t : Tree) (𝓐 : Accepted t) (i : ℕ) (h : i < t .threads) where
+module _ (t : Tree) (valid : Accepted t) (i : ℕ) (h : i < t .threads) where
   -- another tree has the parents of the path's domains up to index k
   abbrev Agrees : (k : ℕ) → Tree → Type 0
   Agrees k u = (m : ℕ) → m ≤ k → u .parent (ancestor t i m) ≡ t .parent (ancestor t i m)
@@ -47,14 +47,14 @@ module _ (t : Tree) (𝓐 : Accepted t) (i : ℕ) (h : i < t .threads) where
   unfolding search-from
   leaves u zero j k n a b c g = absurd (omega arith)
   leaves u (suc f) j k n a b c g =
-      let p = ancestor-inner t 𝓐 i h j (omega arith) in
+      let p = ancestor-inner t valid i h j (omega arith) in
       let z = ne-eqb (ancestor t i j) 0 (omega arith) in
-      let up = g j a ∙ ancestor-parent-of t 𝓐 i h j (omega arith) in
+      let up = g j a ∙ ancestor-parent-of t valid i h j (omega arith) in
       elim (ℕ-discrete j k) [
         | yes e ↦
             rw (z, up, eq-eqb (ancestor t i (suc j)) (ancestor t i (suc k)) (ap (λ x. ancestor t i (suc x)) e)) (same-found (ap (ancestor t i) e) (omega arith))
         | no e ↦
-            let q = ancestor-strict t 𝓐 i h (suc j) (suc k) (omega arith) (omega arith) in
+            let q = ancestor-strict t valid i h (suc j) (suc k) (omega arith) (omega arith) in
             let rest = leaves u f (suc j) k (n + 1) (omega arith) b (omega arith) g in
             rw (z, up, ne-eqb (ancestor t i (suc j)) (ancestor t i (suc k)) (omega arith)) (rest ∙ same-found refl (omega arith))
       ]
@@ -64,17 +64,17 @@ module _ (t : Tree) (𝓐 : Accepted t) (i : ℕ) (h : i < t .threads) where
       search u i (ancestor t i (suc k)) ≡ found (ancestor t i k) (suc k)
   unfolding search
   leaves-home u k b e g =
-      rw (e, ← ancestor-home t i) (leaves u 6 0 k 0 (omega arith) b (omega (arith, height-few t 𝓐 i h)) g ∙ same-found refl (omega arith))
+      rw (e, ← ancestor-home t i) (leaves u 6 0 k 0 (omega arith) b (omega (arith, height-few t valid i h)) g ∙ same-found refl (omega arith))
 
   leaves-here : (k : ℕ) → k < height t i → search t i (ancestor t i (suc k)) ≡ found (ancestor t i k) (suc k)
   leaves-here k b = leaves-home t k b refl (λ m a. refl)
 
   agrees : (k : ℕ) → k < height t i → (u : Tree) → Same-up-to (ancestor t i k) t u i → Agrees k u
   agrees k b u s m a =
-      s .parent (ancestor t i m) (on-path-at t 𝓐 i h m (omega arith))
+      s .parent (ancestor t i m) (on-path-at t valid i h m (omega arith))
       (elim (ℕ-discrete m k) [
         | yes e ↦ omega (arith, ap (ancestor t i) e)
-        | no e ↦ omega (arith, ancestor-strict t 𝓐 i h m k (omega arith) (omega arith))
+        | no e ↦ omega (arith, ancestor-strict t valid i h m k (omega arith) (omega arith))
       ])
 
   leaves-at : (k : ℕ) → k < height t i → Leaves-at-child t i (ancestor t i (suc k))
@@ -82,14 +82,14 @@ module _ (t : Tree) (𝓐 : Accepted t) (i : ℕ) (h : i < t .threads) where
   leaves-at k b =
       let z = leaves-here k b in
       record {
-        hangs = rw z (child-yes t (ancestor t i (suc k)) (ancestor t i k) (ancestor-inner t 𝓐 i h k b) (ancestor-parent-of t 𝓐 i h k b));
-        there = rw z (on-path-at t 𝓐 i h k (omega arith));
-        exactly = rw z (omega (arith, ancestor-depth t 𝓐 i h k (omega arith)));
+        hangs = rw z (child-yes t (ancestor t i (suc k)) (ancestor t i k) (ancestor-inner t valid i h k b) (ancestor-parent-of t valid i h k b));
+        there = rw z (on-path-at t valid i h k (omega arith));
+        exactly = rw z (omega (arith, ancestor-depth t valid i h k (omega arith)));
         not-beyond = λ u s. leaves-home u k b (s .home) (agrees k b u (rw z at s)) ∙ sym z;
       }
 
   above-at : (l : ℕ) → on-path t i l ≡ true → l ≢ t .home i → Leaves-at-child t i l
-  above-at l e n = let o = path-index t 𝓐 i h l e in go (o .index) (o .within) (o .there)
+  above-at l e n = let o = path-index t valid i h l e in go (o .index) (o .within) (o .there)
     where
       go : (k : ℕ) → k ≤ height t i → ancestor t i k ≡ l → Leaves-at-child t i l
       go zero b q = absurd (n (sym q ∙ ancestor-home t i))
@@ -104,31 +104,31 @@ module _ (t : Tree) (𝓐 : Accepted t) (i : ℕ) (h : i < t .threads) where
   ends l miss (suc f) j n a b =
       elim (ℕ-discrete j (height t i)) [
         | yes e ↦
-            let z = ap (ancestor t i) e ∙ ancestor-root t 𝓐 i h in
+            let z = ap (ancestor t i) e ∙ ancestor-root t valid i h in
             rw (eq-eqb (ancestor t i j) 0 z) (same-found z (omega arith))
         | no e ↦
-            let p = ancestor-inner t 𝓐 i h j (omega arith) in
+            let p = ancestor-inner t valid i h j (omega arith) in
             let rest = ends l miss f (suc j) (n + 1) (omega arith) (omega arith) in
-            rw (ne-eqb (ancestor t i j) 0 (omega arith), ancestor-parent-of t 𝓐 i h j (omega arith), ne-eqb (ancestor t i (suc j)) l (miss j (omega arith))) (rest ∙ same-found refl (omega arith))
+            rw (ne-eqb (ancestor t i j) 0 (omega arith), ancestor-parent-of t valid i h j (omega arith), ne-eqb (ancestor t i (suc j)) l (miss j (omega arith))) (rest ∙ same-found refl (omega arith))
       ]
 
   ends-home : (l : ℕ) → ((k : ℕ) → k < height t i → ancestor t i (suc k) ≢ l) → search t i l ≡ found 0 (suc (height t i))
   unfolding search
   ends-home l miss =
-      rw (← ancestor-home t i) (ends l miss 6 0 0 (omega arith) (omega (arith, height-few t 𝓐 i h)) ∙ same-found refl (omega arith))
+      rw (← ancestor-home t i) (ends l miss 6 0 0 (omega arith) (omega (arith, height-few t valid i h)) ∙ same-found refl (omega arith))
 
   no-child-at : (l : ℕ) → (l ≡ t .home i) ⊎ (on-path t i l ≡ false) → search t i l ≡ found 0 (level t (t .home i))
   unfolding level height
   no-child-at l (inl e) =
-      ends-home l (λ k b q. absurd (omega (arith, ancestor-strict t 𝓐 i h 0 (suc k) (omega arith) b, ancestor-home t i)))
+      ends-home l (λ k b q. absurd (omega (arith, ancestor-strict t valid i h 0 (suc k) (omega arith) b, ancestor-home t i)))
   no-child-at l (inr e) =
-      ends-home l (λ k b q. true≢false (sym (on-path-at t 𝓐 i h (suc k) b) ∙ ap (on-path t i) q ∙ e))
+      ends-home l (λ k b q. true≢false (sym (on-path-at t valid i h (suc k) b) ∙ ap (on-path t i) q ∙ e))
 
 pub search-law : Search-law
 unfolding Search-law
 search-law t e i h =
-    let 𝓐 = accepted t e in
-    record { above-home = above-at t 𝓐 i h; no-child = no-child-at t 𝓐 i h }
+    let valid = accepted t e in
+    record { above-home = above-at t valid i h; no-child = no-child-at t valid i h }
 
 -- CASES: each is computed
 pub six-levels-searched : Six-levels-searched

@@ -92,19 +92,19 @@ module _ (t : Tree) (s : State) (k : Good-words t s) where
 abbrev Kept : Tree → Row-result → Type 0
 Kept t x = Good-words t (x .state)
 
-module _ (t : Tree) (𝓐 : Accepted t) (i : ℕ) (h : i < t .threads) where
+module _ (t : Tree) (valid : Accepted t) (i : ℕ) (h : i < t .threads) where
   -- a word for a member of a domain
   for-member : (l r v : ℕ) → is-member t l r ≡ true → (l ≢ 0 → Good-word t l v) → Good-status-word t r v
   for-member l r v m f d n e =
-      let z : l ≡ d = member-once t 𝓐 l d r m e in
+      let z : l ≡ d = member-once t valid l d r m e in
       rw z at (f (λ y. n (sym z ∙ y)))
 
   own-word : (l v : ℕ) → on-path t i l ≡ true → (l ≢ 0 → Good-word t l v) → Good-status-word t (own-record t i l) v
-  own-word l v o f = for-member l (own-record t i l) v (own-record-member t 𝓐 i h l o) f
+  own-word l v o f = for-member l (own-record t i l) v (own-record-member t valid i h l o) f
 
   -- 1 is at most a threshold
   start-word : (l : ℕ) → on-path t i l ≡ true → l ≢ 0 → Good-word t l cohort-start
-  start-word l o n = inr (inr (𝓐 .threshold-some l (omega arith) (path-real t 𝓐 i h l o)))
+  start-word l o n = inr (inr (valid .threshold-some l (omega arith) (path-real t valid i h l o)))
 
   acquire-good : (d : ℕ) → Good-grant t (acquire-place t d)
   unfolding Good-grant
@@ -142,14 +142,14 @@ module _ (t : Tree) (𝓐 : Accepted t) (i : ℕ) (h : i < t .threads) where
     -- a ticket is drawn at the root alone
     drawn-keeps : Good-words t (drawn t i s)
     drawn-keeps =
-        let marked = status-store t s k (own-record t i 0) (s .ticket) (own-word 0 (s .ticket) (on-path-root t 𝓐 i h) (λ n. absurd (n refl))) in
+        let marked = status-store t s k (own-record t i 0) (s .ticket) (own-word 0 (s .ticket) (on-path-root t valid i h) (λ n. absurd (n refl))) in
         ticket-store t _ marked (wrap (s .ticket + 1))
 
     -- Check grants one more than a status below the threshold
     row-keeps : {p : Place} {x : Row-result} → good-place t i p ≡ true → Good-grant t p → Branch t i s p x → Kept t x
     unfolding good-place Good-grant
     row-keeps g f (idle-draws z b) = row-keeps (ticket-facts t (t .home i) z .0) tt b
-    row-keeps g f (idle-prepares z b) = row-keeps (queue-yes t i (t .home i) (on-path-home t 𝓐 i h) z) tt b
+    row-keeps g f (idle-prepares z b) = row-keeps (queue-yes t i (t .home i) (on-path-home t valid i h) z) tt b
     row-keeps g f (prepares l v (at-root z)) = prepared-keeps l _ (queue-facts t i l g .0) (λ n. absurd (n z))
     row-keeps g f (prepares l v (below-root z)) = prepared-keeps l _ (queue-facts t i l g .0) (λ _. inr (inl refl))
     row-keeps g f (swap-root l z e) =
@@ -191,8 +191,8 @@ module _ (t : Tree) (𝓐 : Accepted t) (i : ℕ) (h : i < t .threads) where
 
 -- in every state reached from fresh
 pub reached-good-words : (t : Tree) → Sixteen-bit t → Accepted t → (start : ℕ) (is : List ℕ) → All-threads t is → Good-words t (run t is (fresh-state t start) .state)
-reached-good-words t b 𝓐 v is all =
-    run-keeps t (λ s. Facts t s × Good-words t s) (λ i s h k. (step-keeps t b 𝓐 i h s (k .0), words-kept t 𝓐 i h s (k .1) (k .0))) is (fresh-state t v) all
+reached-good-words t b valid v is all =
+    run-keeps t (λ s. Facts t s × Good-words t s) (λ i s h k. (step-keeps t b valid i h s (k .0), words-kept t valid i h s (k .1) (k .0))) is (fresh-state t v) all
     (fresh-facts t v, fresh-good-words t v) .1
 
 pub word-law : Word-law

@@ -48,7 +48,7 @@ inner-child : (t : Tree) (d : ℕ) → is-leaf t d ≡ false → Found (t .domai
 unfolding is-leaf
 inner-child t d e = any-one (t .domains) (is-child t d) (not-false _ e)
 
-module _ (t : Tree) (𝓐 : Accepted t) where
+module _ (t : Tree) (valid : Accepted t) where
   -- at the deepest level there are leaves only
   deepest-leaf : (d : ℕ) → d < t .domains → 5 ≤ depth t d → is-leaf t d ≡ true
   deepest-leaf d s l = go (is-leaf t d) refl
@@ -58,7 +58,7 @@ module _ (t : Tree) (𝓐 : Accepted t) where
       go false e =
           let c = inner-child t d e in
           let k = child-facts t d (c .index) (c .holds) in
-          absurd (omega (arith, depth-child t 𝓐 (c .index) (k .no-root) (c .below), depth-few t 𝓐 (c .index) (c .below), ap (depth t) (k .hangs)))
+          absurd (omega (arith, depth-child t valid (c .index) (k .no-root) (c .below), depth-few t valid (c .index) (c .below), ap (depth t) (k .hangs)))
 
   -- fuel for the levels left is enough
   fuel-enough : (f d : ℕ) → d < t .domains → 5 ≤ f + depth t d → domain-allowance f t d ≡ domain-allowance (suc f) t d
@@ -71,7 +71,7 @@ module _ (t : Tree) (𝓐 : Accepted t) where
       go true e r = at-leaf (suc f) t d e ∙ sym (at-leaf (suc (suc f)) t d e)
       go false e r =
           at-inner f t d e
-          ∙ ap (λ n. t .threshold d * n) (children-same t d _ _ (λ c p u q. r c u (omega (arith, depth-child t 𝓐 c p u, ap (depth t) q))))
+          ∙ ap (λ n. t .threshold d * n) (children-same t d _ _ (λ c p u q. r c u (omega (arith, depth-child t valid c p u, ap (depth t) q))))
           ∙ sym (at-inner (suc f) t d e)
 
   child-allowance : (c : ℕ) → 0 < c → c < t .domains → domain-allowance 5 t c ≡ allowance t (256 + c)
@@ -91,7 +91,7 @@ module _ (t : Tree) (𝓐 : Accepted t) where
     where
       go : (r : ℕ) → Member t d r → allowance t r ≤ member-allowance t d
       go r (a-thread i s q) =
-          let leaf : is-leaf t d ≡ true = rw q at (𝓐 .home-leaf i s) in
+          let leaf : is-leaf t d ≡ true = rw q at (valid .home-leaf i s) in
           rw (leaf, thread-allowance t i (omega arith)) (omega arith)
       go r (a-domain c p s q) = by (is-leaf t d) refl
         where
@@ -112,12 +112,12 @@ module _ (t : Tree) (𝓐 : Accepted t) where
           let found = inner-child t d e in
           let c = found .index in
           let k = child-facts t d c (found .holds) in
-          let one = r c (found .below) (omega (arith, depth-child t 𝓐 c (k .no-root) (found .below), ap (depth t) (k .hangs))) in
-          let product = one-le-mul (𝓐 .threshold-some c (k .no-root) (found .below)) one in
+          let one = r c (found .below) (omega (arith, depth-child t valid c (k .no-root) (found .below), ap (depth t) (k .hangs))) in
+          let product = one-le-mul (valid .threshold-some c (k .no-root) (found .below)) one in
           let most = allowance-member d (256 + c) (member-domain t d c (k .no-root) (found .below) (k .hangs)) in
           omega (arith, allowance-domain c, product, most)
 
   -- along a thread's path
   module _ (i : ℕ) (h : i < t .threads) where
     pub allowance-within : (k : ℕ) → k ≤ height t i → allowance t (record-at t i k) ≤ member-allowance t (ancestor t i k)
-    allowance-within k l = allowance-member (ancestor t i k) (record-at t i k) (member-at t 𝓐 i h k l)
+    allowance-within k l = allowance-member (ancestor t i k) (record-at t i k) (member-at t valid i h k l)

@@ -71,9 +71,9 @@ module _ (t : Tree) (low : (d : ℕ) → 0 < d → d < t .domains → t .parent 
       let l = low d h s in
       depth-fuel (t .domains) (suc (t .domains)) d s (omega arith) (omega arith) ∙ depth-step (t .domains) t d h
 
-module _ (t : Tree) (𝓐 : Accepted t) where
+module _ (t : Tree) (valid : Accepted t) where
   pub depth-child : (d : ℕ) → 0 < d → d < t .domains → depth t d ≡ suc (depth t (t .parent d))
-  depth-child = deeper-by-one t (𝓐 .parent-lower)
+  depth-child = deeper-by-one t (valid .parent-lower)
 
   pub depth-zero : (d : ℕ) → d ≡ 0 → depth t d ≡ 0
   unfolding depth
@@ -81,7 +81,7 @@ module _ (t : Tree) (𝓐 : Accepted t) where
 
   pub depth-few : (d : ℕ) → d < t .domains → depth t d ≤ 5
   unfolding level
-  depth-few d s = omega (arith, 𝓐 .flat d s)
+  depth-few d s = omega (arith, valid .flat d s)
 
 -- ONE THREAD'S PATH
 pub record On-path (t : Tree) (i d : ℕ) : Type 0 where
@@ -89,19 +89,19 @@ pub record On-path (t : Tree) (i d : ℕ) : Type 0 where
   pub within : index ≤ height t i
   pub there : ancestor t i index ≡ d
 
-module _ (t : Tree) (𝓐 : Accepted t) (i : ℕ) (h : i < t .threads) where
+module _ (t : Tree) (valid : Accepted t) (i : ℕ) (h : i < t .threads) where
   pub height-few : height t i ≤ 5
   unfolding height
-  height-few = depth-few t 𝓐 (t .home i) (𝓐 .home-real i h)
+  height-few = depth-few t valid (t .home i) (valid .home-real i h)
 
   pub ancestor-real : (k : ℕ) → ancestor t i k < t .domains
-  ancestor-real zero = rw ancestor-home (𝓐 .home-real i h)
+  ancestor-real zero = rw ancestor-home (valid .home-real i h)
   ancestor-real (suc k) =
       let r = ancestor-real k in
       elim (ℕ-discrete (ancestor t i k) 0) [
-        | yes e ↦ rw (ancestor-suc, above-root t (ancestor t i k) e) (𝓐 .some-domain)
+        | yes e ↦ rw (ancestor-suc, above-root t (ancestor t i k) e) (valid .some-domain)
         | no n ↦
-            let p = 𝓐 .parent-lower (ancestor t i k) (omega arith) r in
+            let p = valid .parent-lower (ancestor t i k) (omega arith) r in
             rw (ancestor-suc, above-parent t (ancestor t i k) (omega arith)) (omega arith)
       ]
 
@@ -113,9 +113,9 @@ module _ (t : Tree) (𝓐 : Accepted t) (i : ℕ) (h : i < t .threads) where
       let before = ancestor-depth k (omega arith) in
       let real = ancestor-real k in
       elim (ℕ-discrete (ancestor t i k) 0) [
-        | yes e ↦ let z = depth-zero t 𝓐 (ancestor t i k) e in absurd (omega arith)
+        | yes e ↦ let z = depth-zero t valid (ancestor t i k) e in absurd (omega arith)
         | no n ↦
-            let one = depth-child t 𝓐 (ancestor t i k) (omega arith) real in
+            let one = depth-child t valid (ancestor t i k) (omega arith) real in
             rw (ancestor-suc, above-parent t (ancestor t i k) (omega arith)) (omega arith)
       ]
 
@@ -123,7 +123,7 @@ module _ (t : Tree) (𝓐 : Accepted t) (i : ℕ) (h : i < t .threads) where
   ancestor-inner k l =
       let here = ancestor-depth k (omega arith) in
       elim (ℕ-discrete (ancestor t i k) 0) [
-        | yes e ↦ let z = depth-zero t 𝓐 (ancestor t i k) e in absurd (omega arith)
+        | yes e ↦ let z = depth-zero t valid (ancestor t i k) e in absurd (omega arith)
         | no n ↦ omega arith
       ]
 
@@ -133,7 +133,7 @@ module _ (t : Tree) (𝓐 : Accepted t) (i : ℕ) (h : i < t .threads) where
       let real = ancestor-real (height t i) in
       elim (ℕ-discrete (ancestor t i (height t i)) 0) [
         | yes e ↦ e
-        | no n ↦ let one = depth-child t 𝓐 (ancestor t i (height t i)) (omega arith) real in absurd (omega arith)
+        | no n ↦ let one = depth-child t valid (ancestor t i (height t i)) (omega arith) real in absurd (omega arith)
       ]
 
   -- the root is at the height and nowhere below it
@@ -148,7 +148,7 @@ module _ (t : Tree) (𝓐 : Accepted t) (i : ℕ) (h : i < t .threads) where
 
   pub ancestor-falls : (k : ℕ) → k < height t i → ancestor t i (suc k) < ancestor t i k
   ancestor-falls k l =
-      let low = 𝓐 .parent-lower (ancestor t i k) (ancestor-inner k l) (ancestor-real k) in
+      let low = valid .parent-lower (ancestor t i k) (ancestor-inner k l) (ancestor-real k) in
       omega (arith, ancestor-parent-of k l)
 
   -- strictly, over any distance

@@ -46,10 +46,10 @@ member-domain t d c p s e = rw (domain-record c, minus-256 c, lt-ltb c (t .domai
 
 pub member-thread : (t : Tree) → Accepted t → (d i : ℕ) → i < t .threads → t .home i ≡ d → is-member t d i ≡ true
 unfolding is-member
-member-thread t 𝓐 d i h e = rw (lt-ltb i 256 (omega arith), lt-ltb i (t .threads) h, eq-eqb (t .home i) d e)
+member-thread t valid d i h e = rw (lt-ltb i 256 (omega arith), lt-ltb i (t .threads) h, eq-eqb (t .home i) d e)
 
 -- a member owns one record, of one domain of the tree; and each record is a member's of its owner's domain
-module _ (t : Tree) (𝓐 : Accepted t) where
+module _ (t : Tree) (valid : Accepted t) where
   pub member-owner : (d r : ℕ) → is-member t d r ≡ true → owner-domain t r ≡ d
   unfolding owner-domain
   member-owner d r m = go r (member-facts t d r m)
@@ -92,45 +92,45 @@ pub record Works (t : Tree) (i d r : ℕ) : Type 0 where
   pub there : ancestor t i index ≡ d
   pub with-record : record-at t i index ≡ r
 
-module _ (t : Tree) (𝓐 : Accepted t) (i : ℕ) (h : i < t .threads) where
+module _ (t : Tree) (valid : Accepted t) (i : ℕ) (h : i < t .threads) where
   child-found : (f j k : ℕ) → j ≤ k → k < height t i → k < j + f → child-from f t (ancestor t i (suc k)) (ancestor t i j) ≡ ancestor t i k
   unfolding child-from
   child-found zero j k a b c = absurd (omega arith)
   child-found (suc f) j k a b c =
-      let p = ancestor-inner t 𝓐 i h j (omega arith) in
+      let p = ancestor-inner t valid i h j (omega arith) in
       let z = ne-eqb (ancestor t i j) 0 (omega arith) in
       elim (ℕ-discrete j k) [
-        | yes e ↦ rw (z, ancestor-parent-of t 𝓐 i h j (omega arith), eq-eqb (ancestor t i (suc j)) (ancestor t i (suc k)) (ap (λ n. ancestor t i (suc n)) e)) (ap (ancestor t i) e)
+        | yes e ↦ rw (z, ancestor-parent-of t valid i h j (omega arith), eq-eqb (ancestor t i (suc j)) (ancestor t i (suc k)) (ap (λ n. ancestor t i (suc n)) e)) (ap (ancestor t i) e)
         | no n ↦
-            let q = ancestor-strict t 𝓐 i h (suc j) (suc k) (omega arith) (omega arith) in
+            let q = ancestor-strict t valid i h (suc j) (suc k) (omega arith) (omega arith) in
             let rest = child-found f (suc j) k (omega arith) b (omega arith) in
-            rw (z, ancestor-parent-of t 𝓐 i h j (omega arith), ne-eqb (ancestor t i (suc j)) (ancestor t i (suc k)) (omega arith)) rest
+            rw (z, ancestor-parent-of t valid i h j (omega arith), ne-eqb (ancestor t i (suc j)) (ancestor t i (suc k)) (omega arith)) rest
       ]
 
   pub child-at : (k : ℕ) → k < height t i → child t i (ancestor t i (suc k)) ≡ ancestor t i k
   unfolding child
-  child-at k l = rw (← ancestor-home t i) (child-found 6 0 k (omega arith) l (omega (arith, height-few t 𝓐 i h)))
+  child-at k l = rw (← ancestor-home t i) (child-found 6 0 k (omega arith) l (omega (arith, height-few t valid i h)))
 
   pub own-record-at : (k : ℕ) → k ≤ height t i → own-record t i (ancestor t i k) ≡ record-at t i k
   unfolding own-record record-at
   own-record-at zero l = rw (eq-eqb (ancestor t i 0) (t .home i) (ancestor-home t i))
   own-record-at (suc k) l =
-      let q = ancestor-strict t 𝓐 i h 0 (suc k) (omega arith) l in
+      let q = ancestor-strict t valid i h 0 (suc k) (omega arith) l in
       rw (ne-eqb (ancestor t i (suc k)) (t .home i) (omega (arith, ancestor-home t i)), child-at k l)
 
   pub root-record : own-record t i 0 ≡ record-at t i (height t i)
-  root-record = rw (ancestor-root t 𝓐 i h) at (own-record-at (height t i) (omega arith))
+  root-record = rw (ancestor-root t valid i h) at (own-record-at (height t i) (omega arith))
 
   pub member-at : (k : ℕ) → k ≤ height t i → is-member t (ancestor t i k) (record-at t i k) ≡ true
   unfolding record-at
-  member-at zero l = member-thread t 𝓐 (ancestor t i 0) i h (sym (ancestor-home t i))
-  member-at (suc k) l = member-domain t (ancestor t i (suc k)) (ancestor t i k) (ancestor-inner t 𝓐 i h k l) (ancestor-real t 𝓐 i h k) (ancestor-parent-of t 𝓐 i h k l)
+  member-at zero l = member-thread t valid (ancestor t i 0) i h (sym (ancestor-home t i))
+  member-at (suc k) l = member-domain t (ancestor t i (suc k)) (ancestor t i k) (ancestor-inner t valid i h k l) (ancestor-real t valid i h k) (ancestor-parent-of t valid i h k l)
 
   pub owner-at : (k : ℕ) → k ≤ height t i → owner-domain t (record-at t i k) ≡ ancestor t i k
-  owner-at k l = member-owner t 𝓐 (ancestor t i k) (record-at t i k) (member-at k l)
+  owner-at k l = member-owner t valid (ancestor t i k) (record-at t i k) (member-at k l)
 
   pub record-small : (k : ℕ) → k ≤ height t i → record-at t i k < 320
-  record-small k l = member-small t 𝓐 (ancestor t i k) (record-at t i k) (member-at k l)
+  record-small k l = member-small t valid (ancestor t i k) (record-at t i k) (member-at k l)
 
   -- a member with this thread under it is the record with which the thread works there
   pub member-works : (d r : ℕ) → is-member t d r ≡ true → under t r i ≡ true → Works t i d r
@@ -142,43 +142,43 @@ module _ (t : Tree) (𝓐 : Accepted t) (i : ℕ) (h : i < t .threads) where
           let same = eqb-true j i (rw (lt-ltb j 256 (omega arith)) at u) in
           record { index = 0; within = omega arith; there = ancestor-home t i ∙ ap (t .home) (sym same) ∙ p; with-record = record-own t i ∙ sym same }
       go r (a-domain c p s q) u =
-          let o = path-index t 𝓐 i h c (rw (domain-record c, minus-256 c) at u) in
+          let o = path-index t valid i h c (rw (domain-record c, minus-256 c) at u) in
           let k = o .index in
-          let below = ancestor-not-root t 𝓐 i h k (o .within) (omega (arith, o .there)) in
+          let below = ancestor-not-root t valid i h k (o .within) (omega (arith, o .there)) in
           record {
             index = suc k;
             within = below;
-            there = sym (ancestor-parent-of t 𝓐 i h k below) ∙ ap (t .parent) (o .there) ∙ q;
+            there = sym (ancestor-parent-of t valid i h k below) ∙ ap (t .parent) (o .there) ∙ q;
             with-record = record-suc t i k ∙ ap (λ n. 256 + n) (o .there);
           }
 
   -- by domain, where a state is handed in: the thread's record there is a member's, and the child is on the path
   pub works-at : (d : ℕ) → on-path t i d ≡ true → Works t i d (own-record t i d)
   works-at d e =
-      let o = path-index t 𝓐 i h d e in
+      let o = path-index t valid i h d e in
       record { index = o .index; within = o .within; there = o .there; with-record = sym (own-record-at (o .index) (o .within)) ∙ ap (own-record t i) (o .there) }
 
   pub own-record-member : (d : ℕ) → on-path t i d ≡ true → is-member t d (own-record t i d) ≡ true
   own-record-member d e = let w = works-at d e in rw (w .there, w .with-record) at (member-at (w .index) (w .within))
 
   pub on-path-child : (d : ℕ) → on-path t i d ≡ true → d ≢ t .home i → on-path t i (child t i d) ≡ true
-  on-path-child d e n = let o = path-index t 𝓐 i h d e in go (o .index) (o .within) (o .there)
+  on-path-child d e n = let o = path-index t valid i h d e in go (o .index) (o .within) (o .there)
     where
       go : (k : ℕ) → k ≤ height t i → ancestor t i k ≡ d → on-path t i (child t i d) ≡ true
       go zero l q = absurd (n (sym q ∙ ancestor-home t i))
-      go (suc k) l q = rw (← q, child-at k l) (on-path-at t 𝓐 i h k (omega arith))
+      go (suc k) l q = rw (← q, child-at k l) (on-path-at t valid i h k (omega arith))
 
   pub record-injective : (k l : ℕ) → k ≤ height t i → l ≤ height t i → record-at t i k ≡ record-at t i l → k ≡ l
   unfolding record-at
   record-injective zero zero a b e = refl
-  record-injective zero (suc l) a b e = absurd (omega (arith, 𝓐 .few-threads))
-  record-injective (suc k) zero a b e = absurd (omega (arith, 𝓐 .few-threads))
-  record-injective (suc k) (suc l) a b e = ap suc (ancestor-injective t 𝓐 i h k l (omega arith) (omega arith) (omega arith))
+  record-injective zero (suc l) a b e = absurd (omega (arith, valid .few-threads))
+  record-injective (suc k) zero a b e = absurd (omega (arith, valid .few-threads))
+  record-injective (suc k) (suc l) a b e = ap suc (ancestor-injective t valid i h k l (omega arith) (omega arith) (omega arith))
 
   -- the child of a domain above the home is not the root
   pub child-inner : (d : ℕ) → on-path t i d ≡ true → d ≢ t .home i → child t i d ≢ 0
-  child-inner d e n = let o = path-index t 𝓐 i h d e in go (o .index) (o .within) (o .there)
+  child-inner d e n = let o = path-index t valid i h d e in go (o .index) (o .within) (o .there)
     where
       go : (k : ℕ) → k ≤ height t i → ancestor t i k ≡ d → child t i d ≢ 0
       go zero l q = absurd (n (sym q ∙ ancestor-home t i))
-      go (suc k) l q = λ z. let p = ancestor-inner t 𝓐 i h k l in let e = sym (child-at k l) ∙ ap (child t i) q ∙ z in omega arith
+      go (suc k) l q = λ z. let p = ancestor-inner t valid i h k l in let e = sym (child-at k l) ∙ ap (child t i) q ∙ z in omega arith

@@ -11,15 +11,15 @@ use Rattle.refusals.proofs.domains_refusal.Tie as tie
 abbrev words : (domains : ℕ) → (parents thresholds : List ℕ) → TreeWords
 words n ps ts = record { domains = n; threads = 0; parents = ps; thresholds = ts; homes = []; «ticket_root» = 0 }
 
-sound-domains-requires : tie.Need-sound-domains-requires
-sound-domains-requires c κs = search needs
+domains-pass-requires : tie.Need-domains-pass-requires
+domains-pass-requires c κs = search needs
 
 refusal-at-requires : tie.Need-refusal-at-requires
 refusal-at-requires c κs = search needs
 
 returns : tie.Need-returns
 unfolding accepted
-returns c = rw (c .refusal-at .ensures, c .before .before .sound-domains .ensures .sound (c .before .if1 .taken))
+returns c = rw (c .refusal-at .ensures, c .before .before .domains-pass .ensures .sound (c .before .if1 .taken))
 
 lowest-bad-parent-requires : tie.Need-lowest-bad-parent-requires
 lowest-bad-parent-requires c κs = search needs
@@ -80,7 +80,7 @@ pub domains-refusal-spec : {M : Type 1} → statement M
 domains-refusal-spec =
     tie.close
     (tie.spec
-    sound-domains-requires
+    domains-pass-requires
     refusal-at-requires
     returns
     lowest-bad-parent-requires

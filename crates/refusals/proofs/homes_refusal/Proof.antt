@@ -7,8 +7,8 @@ use borrow.Author.Needs.{needs}
 use Rattle.refusals.proofs.homes_refusal.Statement.{statement}
 use Rattle.refusals.proofs.homes_refusal.Tie as tie
 
-no-homes-requires : tie.Need-no-homes-requires
-no-homes-requires c κs =
+mark-unfit-homes-requires : tie.Need-mark-unfit-homes-requires
+mark-unfit-homes-requires c κs =
     let s = c .before in
     let k = shape (words-in (s .args .domains) (s .args .threads) (s .args .parents .now) (s .args .thresholds .now) (s .args .homes .now)) (s .pre) in
     (k .some-domain, k .few-domains)
@@ -18,7 +18,7 @@ lowest-bad-home-requires c κs =
     let table = c .before in
     let s = table .before .before in
     let k = shape (words-in (s .args .domains) (s .args .threads) (s .args .parents .now) (s .args .thresholds .now) (s .args .homes .now)) (s .pre) in
-    ((k .few-domains, k .few-threads), table .no-homes .ensures)
+    ((k .few-domains, k .few-threads), table .mark-unfit-homes .ensures)
 
 refusal-at-requires : tie.Need-refusal-at-requires
 refusal-at-requires c κs = search needs
@@ -75,7 +75,7 @@ pub homes-refusal-spec : {M : Type 1} → statement M
 homes-refusal-spec =
     tie.close
     (tie.spec
-    no-homes-requires
+    mark-unfit-homes-requires
     lowest-bad-home-requires
     refusal-at-requires
     returns

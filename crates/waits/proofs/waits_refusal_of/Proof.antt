@@ -1,7 +1,7 @@
 -- `waits::waits_refusal_of` meets its contract: the run's tests but 19, then the one of its own. Assumes nothing.
 use Rattle.model.specs.Trees.{tree-of}
 use Rattle.model.specs.Refusals.{refusal}
-use Rattle.waits.proofs.Refusing.{told-run, told-room, told-accepted}
+use Rattle.waits.proofs.Refusing.{run-answered, room-answered, acceptance-answered}
 use borrow.Author.Needs.{needs}
 use Rattle.waits.proofs.waits_refusal_of.Statement.{statement}
 use Rattle.waits.proofs.waits_refusal_of.Tie as tie
@@ -10,18 +10,18 @@ run-refusal-of-requires : tie.Need-run-refusal-of-requires
 run-refusal-of-requires c κs = search needs
 
 returns : tie.Need-returns
-returns c = told-run _ _ _ _ _ _ (c .before .before .run-refusal-of .ensures) (c .if1 .taken)
+returns c = run-answered _ _ _ _ _ _ (c .before .before .run-refusal-of .ensures) (c .if1 .taken)
 
 cast-if2 : tie.Need-cast-if2
 cast-if2 c = search needs
 
 returns-2 : tie.Need-returns-2
 unfolding refusal tree-of
-returns-2 c = told-room _ _ _ _ _ _ (c .before .before .before .before .run-refusal-of .ensures) (c .before .before .if1 .left) (c .if2 .taken)
+returns-2 c = room-answered _ _ _ _ _ _ (c .before .before .before .before .run-refusal-of .ensures) (c .before .before .if1 .left) (c .if2 .taken)
 
 returns-3 : tie.Need-returns-3
 unfolding tree-of
-returns-3 c = told-accepted _ _ _ _ _ _ (c .before .before .before .before .run-refusal-of .ensures) (c .before .before .if1 .left) (c .if2 .left)
+returns-3 c = acceptance-answered _ _ _ _ _ _ (c .before .before .before .before .run-refusal-of .ensures) (c .before .before .if1 .left) (c .if2 .left)
 
 pub waits-refusal-of-spec : {M : Type 1} → statement M
 waits-refusal-of-spec = tie.close (tie.spec run-refusal-of-requires returns cast-if2 returns-2 returns-3)

@@ -123,9 +123,14 @@ returns c =
     let a = c .before .before .before .before .before .before .before .before .before .before .before .before .before .before .before .before .before .before .before .before .before .before .before .before .before .before .before .before .before .before .before .before .args in
     let begin = c .before .before .before .before .before .before .before .before .before .before .before .before .before .before .before .before .before .before .before .before .before .before .before .before .before .before .before .before .before .before .before .before in
     let same = c .before .before .before .before .before .before .before .before .before .before .before .before .before .before .before .before .before .before .before .before .before .before .before .before .all-are .ensures (c .before .before .before .before .before .before .before .before .before .before .before .before .before .before .before .before .before .before .before .before .before .before .before .if1 .taken) in
+    let first = c .before .before .before .before .before .before .before .before .before .before .before .before .before .before .before .before .before .before .before .before .two-bytes .ensures in
+    let second = c .before .before .before .before .before .before .before .before .before .before .before .before .before .before .before .before .before .two-bytes2 .ensures in
+    let third = c .before .before .before .before .before .before .before .before .before .before .before .before .before .before .two-bytes3 .ensures in
+    let fourth = c .before .before .before .before .before .before .before .before .before .before .before .two-bytes4 .ensures in
+    let known = c .before .before .before .before .before .before .before .before .before .before .all-known .ensures (c .before .before .before .before .before .before .before .before .before .if2 .taken) in
     rw (c .stopped .ensures)
     (four-read _ _ _ _ _ _ _ (begin .pre .threads-left) (begin .pre .kinds-left) (c .before .before .before .before .before .before .before .put-threads .ensures) (c .before .before .before .put-kinds .ensures)
-    (four-others (a .journal .now) (a .position) (a .before) _ (begin .pre .bytes-left) same _ _ _ _ (c .before .before .before .before .before .before .before .before .before .before .before .before .before .before .before .before .before .before .before .before .two-bytes .ensures) (c .before .before .before .before .before .before .before .before .before .before .before .before .before .before .before .before .before .two-bytes2 .ensures) (c .before .before .before .before .before .before .before .before .before .before .before .before .before .before .two-bytes3 .ensures) (c .before .before .before .before .before .before .before .before .before .before .before .two-bytes4 .ensures) (c .before .before .before .before .before .before .before .before .before .before .all-known .ensures (c .before .before .before .before .before .before .before .before .before .if2 .taken))))
+    (four-others (a .journal .now) (a .position) (a .before) _ (begin .pre .bytes-left) same _ _ _ _ first second third fourth known))
 
 stopped-requires-2 : tie.Need-stopped-requires-2
 stopped-requires-2 c κs = search needs

@@ -7,26 +7,26 @@ use native.Mathlib.Omega.{arith}
 use lib.Dec.{eqb}
 use lib.ListN.{getD}
 use Rattle.refusals.proofs.Scanning.{one-more}
-use Rattle.journal.specs.Reading.{All-as-told}
+use Rattle.journal.specs.Reading.{All-same-kinds}
 use borrow.Author.Needs.{needs}
 use Rattle.journal.proofs.journals.any_difference.Statement.{statement}
 use Rattle.journal.proofs.journals.any_difference.Tie as tie
 
 -- one entry more
 one-told :
-    (ks cs : List ℕ) (n mark next : ℕ) → (mark ≡ 0 → All-as-told ks cs n) → next ≡ cond (eqb (getD ks n 0) (getD cs n 0 % 8)) mark 1 → next ≡ 0 →
-    All-as-told ks cs (n + 1)
+    (ks cs : List ℕ) (n mark next : ℕ) → (mark ≡ 0 → All-same-kinds ks cs n) → next ≡ cond (eqb (getD ks n 0) (getD cs n 0 % 8)) mark 1 → next ≡ 0 →
+    All-same-kinds ks cs (n + 1)
 one-told ks cs n mark next h e z = by (eqb (getD ks n 0) (getD cs n 0 % 8)) refl e
   where
-    by : (b : Bool) → eqb (getD ks n 0) (getD cs n 0 % 8) ≡ b → next ≡ cond b mark 1 → All-as-told ks cs (n + 1)
+    by : (b : Bool) → eqb (getD ks n 0) (getD cs n 0 % 8) ≡ b → next ≡ cond b mark 1 → All-same-kinds ks cs (n + 1)
     by true f g = one-more _ false _ (h (sym g ∙ z)) (rw f)
     by false f g = absurd (omega (arith, g, z))
 
 abbrev Inv-loop : tie.InvT-loop
-Inv-loop kinds told count mark₀ k₀ mark k = (k ≤ count) × (mark ≡ 0 → All-as-told kinds told k)
+Inv-loop kinds codes count mark₀ k₀ mark k = (k ≤ count) × (mark ≡ 0 → All-same-kinds kinds codes k)
 
 abbrev μ-loop : tie.MeasureT-loop
-μ-loop kinds told count mark₀ k₀ mark k = count - k
+μ-loop kinds codes count mark₀ k₀ mark k = count - k
 
 loop-holds : tie.Need-loop-holds Inv-loop μ-loop
 loop-holds c = (omega arith, λ _ j l. absurd (omega arith))
@@ -52,7 +52,7 @@ loop-less c = omega arith
 loop-again : tie.Need-loop-again Inv-loop μ-loop
 loop-again c =
     let a = c .before .before .before .before .before .before .before .args in
-    (omega arith, one-told (a .kinds .now) (a .told .now) _ _ _ (c .before .before .before .before .loop .inv .1) (c .marked .ensures))
+    (omega arith, one-told (a .kinds .now) (a .codes .now) _ _ _ (c .before .before .before .before .loop .inv .1) (c .marked .ensures))
 
 returns : tie.Need-returns Inv-loop μ-loop
 returns c z j h = c .before .loop .inv .1 z j (omega arith)

@@ -10,12 +10,12 @@ use Rattle.journal.proofs.journals.check_entries.Statement.{statement}
 use Rattle.journal.proofs.journals.check_entries.Tie as tie
 
 abbrev Inv-loop : tie.InvT-loop
-Inv-loop tree journal threads₀ kinds₀ trace₀ told₀ tails₀ nexts₀ statuses₀ places₀ ticket₀ granted₀ position₀ before₀ threads kinds trace told tails nexts statuses places ticket granted position before =
+Inv-loop tree journal threads₀ kinds₀ trace₀ codes₀ tails₀ nexts₀ statuses₀ places₀ ticket₀ granted₀ position₀ before₀ threads kinds trace codes tails nexts statuses places ticket granted position before =
     So-far tree journal (state-in tails nexts statuses ticket granted places) position before
-    × (length threads ≡ length threads₀) × (length kinds ≡ length kinds₀) × (length trace ≡ length trace₀) × (length told ≡ length told₀)
+    × (length threads ≡ length threads₀) × (length kinds ≡ length kinds₀) × (length trace ≡ length trace₀) × (length codes ≡ length codes₀)
 
 abbrev μ-loop : tie.MeasureT-loop
-μ-loop tree journal threads₀ kinds₀ trace₀ told₀ tails₀ nexts₀ statuses₀ places₀ ticket₀ granted₀ position₀ before₀ threads kinds trace told tails nexts statuses places ticket granted position before =
+μ-loop tree journal threads₀ kinds₀ trace₀ codes₀ tails₀ nexts₀ statuses₀ places₀ ticket₀ granted₀ position₀ before₀ threads kinds trace codes tails nexts statuses places ticket granted position before =
     length journal - position
 
 fresh-state-requires : tie.Need-fresh-state-requires Inv-loop μ-loop
@@ -35,14 +35,14 @@ run-piece-requires c κs =
     let few : read .result .count ≤ 1024 = omega (arith, read .ensures .threads-fit, read .kept .1 .1 .1 .1 .0, l .loop .inv .1, begin .pre .1) in
     (read .ensures .threads-fit, (l .loop .inv .0 .formed .typed, runs _ _ (begin .pre .0) _ _ _ (l .loop .inv .0) _ _ _ (read .ensures) _ (omega (arith, few, l .loop .inv .3, begin .pre .1)) (omega (arith, few))))
 
-as-told-requires : tie.Need-as-told-requires Inv-loop μ-loop
-as-told-requires c κs =
+first-other-kind-requires : tie.Need-first-other-kind-requires Inv-loop μ-loop
+first-other-kind-requires c κs =
     let f = c in
     let ran = f .before .before .before .before .before .before .run-piece in
     let read = f .before .before .before .before .before .before .before .before .before .before .before .before .before .before .before .before .before .before .before .read-piece in
     let l = f .before .before .before .before .before .before .before .before .before .before .before .before .before .before .before .before .before .before .before .before .before .before in
     let begin = l .before .before .before .before .before .before .before .before .before .before .before in
-    let room : read .result .count ≤ length (l .loop .told) = omega (arith, read .ensures .threads-fit, read .kept .1 .1 .1 .1 .0, l .loop .inv .1, l .loop .inv .4, begin .pre .1) in
+    let room : read .result .count ≤ length (l .loop .codes) = omega (arith, read .ensures .threads-fit, read .kept .1 .1 .1 .1 .0, l .loop .inv .1, l .loop .inv .4, begin .pre .1) in
     (read .ensures .kinds-fit, omega (arith, room, ran .kept .1 .1 .1 .1 .1 .1 .1 .1 .1 .1 .0))
 
 position-after-requires : tie.Need-position-after-requires Inv-loop μ-loop
@@ -70,8 +70,8 @@ returns c =
     let read = f .before .before .before .before .before .before .before .before .before .before .before .before .before .before .before .before .before .before .before .read-piece in
     let l = f .before .before .before .before .before .before .before .before .before .before .before .before .before .before .before .before .before .before .before .before .before .before in
     let begin = l .before .before .before .before .before .before .before .before .before .before .before in
-    let room : read .result .count ≤ length (l .loop .told) = omega (arith, read .ensures .threads-fit, read .kept .1 .1 .1 .1 .0, l .loop .inv .1, l .loop .inv .4, begin .pre .1) in
-    c .answer-at .ensures ∙ differs _ _ (begin .pre .0) _ _ _ (l .loop .inv .0) _ _ _ (read .ensures) _ _ (ran .ensures .1) room _ (c .before .before .before .as-told .ensures) (c .before .before .if1 .taken) _ (c .before .position-after .ensures)
+    let room : read .result .count ≤ length (l .loop .codes) = omega (arith, read .ensures .threads-fit, read .kept .1 .1 .1 .1 .0, l .loop .inv .1, l .loop .inv .4, begin .pre .1) in
+    c .answer-at .ensures ∙ differs _ _ (begin .pre .0) _ _ _ (l .loop .inv .0) _ _ _ (read .ensures) _ _ (ran .ensures .1) room _ (c .before .before .before .first-other-kind .ensures) (c .before .before .if1 .taken) _ (c .before .position-after .ensures)
 
 answer-at-requires-2 : tie.Need-answer-at-requires-2 Inv-loop μ-loop
 answer-at-requires-2 c κs = search needs
@@ -95,8 +95,8 @@ returns-2 c =
     let read = f .before .before .before .before .before .before .before .before .before .before .before .before .before .before .before .before .before .before .before .read-piece in
     let l = f .before .before .before .before .before .before .before .before .before .before .before .before .before .before .before .before .before .before .before .before .before .before in
     let begin = l .before .before .before .before .before .before .before .before .before .before .before in
-    let room : read .result .count ≤ length (l .loop .told) = omega (arith, read .ensures .threads-fit, read .kept .1 .1 .1 .1 .0, l .loop .inv .1, l .loop .inv .4, begin .pre .1) in
-    c .answer-at2 .ensures ∙ stops _ _ (begin .pre .0) _ _ _ (l .loop .inv .0) _ _ _ (read .ensures) _ _ (ran .ensures .1) room _ (c .before .before .before .before .as-told .ensures) (c .before .before .before .if1 .left) (c .before .if2 .taken)
+    let room : read .result .count ≤ length (l .loop .codes) = omega (arith, read .ensures .threads-fit, read .kept .1 .1 .1 .1 .0, l .loop .inv .1, l .loop .inv .4, begin .pre .1) in
+    c .answer-at2 .ensures ∙ stops _ _ (begin .pre .0) _ _ _ (l .loop .inv .0) _ _ _ (read .ensures) _ _ (ran .ensures .1) room _ (c .before .before .before .before .first-other-kind .ensures) (c .before .before .before .if1 .left) (c .before .if2 .taken)
 
 answer-at-requires-3 : tie.Need-answer-at-requires-3 Inv-loop μ-loop
 answer-at-requires-3 c κs = search needs
@@ -120,8 +120,8 @@ returns-3 c =
     let read = f .before .before .before .before .before .before .before .before .before .before .before .before .before .before .before .before .before .before .before .read-piece in
     let l = f .before .before .before .before .before .before .before .before .before .before .before .before .before .before .before .before .before .before .before .before .before .before in
     let begin = l .before .before .before .before .before .before .before .before .before .before .before in
-    let room : read .result .count ≤ length (l .loop .told) = omega (arith, read .ensures .threads-fit, read .kept .1 .1 .1 .1 .0, l .loop .inv .1, l .loop .inv .4, begin .pre .1) in
-    c .answer-at3 .ensures ∙ ends _ _ (begin .pre .0) _ _ _ (l .loop .inv .0) _ _ _ (read .ensures) _ _ (ran .ensures .1) room _ (c .before .before .before .before .before .before .as-told .ensures) (c .before .before .before .before .before .if1 .left) (c .before .if3 .taken)
+    let room : read .result .count ≤ length (l .loop .codes) = omega (arith, read .ensures .threads-fit, read .kept .1 .1 .1 .1 .0, l .loop .inv .1, l .loop .inv .4, begin .pre .1) in
+    c .answer-at3 .ensures ∙ ends _ _ (begin .pre .0) _ _ _ (l .loop .inv .0) _ _ _ (read .ensures) _ _ (ran .ensures .1) room _ (c .before .before .before .before .before .before .first-other-kind .ensures) (c .before .before .before .before .before .if1 .left) (c .before .if3 .taken)
 
 loop-less : tie.Need-loop-less Inv-loop μ-loop
 loop-less c =
@@ -140,8 +140,8 @@ loop-again c =
     let read = f .before .before .before .before .before .before .before .before .before .before .before .before .before .before .before .before .before .before .before .read-piece in
     let l = f .before .before .before .before .before .before .before .before .before .before .before .before .before .before .before .before .before .before .before .before .before .before in
     let begin = l .before .before .before .before .before .before .before .before .before .before .before in
-    let room : read .result .count ≤ length (l .loop .told) = omega (arith, read .ensures .threads-fit, read .kept .1 .1 .1 .1 .0, l .loop .inv .1, l .loop .inv .4, begin .pre .1) in (
-      turn _ _ (begin .pre .0) _ _ _ (l .loop .inv .0) _ _ _ (read .ensures) _ _ (ran .ensures .1) room _ (c .before .before .before .before .before .before .as-told .ensures) (c .before .before .before .before .before .if1 .left) _ (ran .ensures .0),
+    let room : read .result .count ≤ length (l .loop .codes) = omega (arith, read .ensures .threads-fit, read .kept .1 .1 .1 .1 .0, l .loop .inv .1, l .loop .inv .4, begin .pre .1) in (
+      turn _ _ (begin .pre .0) _ _ _ (l .loop .inv .0) _ _ _ (read .ensures) _ _ (ran .ensures .1) room _ (c .before .before .before .before .before .before .first-other-kind .ensures) (c .before .before .before .before .before .if1 .left) _ (ran .ensures .0),
       read .kept .1 .1 .1 .1 .0 ∙ l .loop .inv .1,
       read .kept .1 .1 .1 .1 .1 .0 ∙ l .loop .inv .2,
       ran .kept .1 .1 .1 .1 .1 .1 .1 .1 .1 .0 ∙ l .loop .inv .3,
@@ -158,7 +158,7 @@ check-entries-spec =
     loop-holds
     read-piece-requires
     run-piece-requires
-    as-told-requires
+    first-other-kind-requires
     position-after-requires
     answer-at-requires
     same-length

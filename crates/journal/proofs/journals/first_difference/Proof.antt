@@ -5,16 +5,16 @@ use Prim.Native.Nat.{ℕ, _≤_, _<_, _-_}
 use native.Mathlib.Omega.{arith}
 use borrow.Author.Tests.{eq-eqb, ne-eqb}
 use Rattle.refusals.proofs.Scanning.{one-more}
-use Rattle.journal.specs.Reading.{other-kind-told}
+use Rattle.journal.specs.Reading.{other-kind}
 use borrow.Author.Needs.{needs}
 use Rattle.journal.proofs.journals.first_difference.Statement.{statement}
 use Rattle.journal.proofs.journals.first_difference.Tie as tie
 
 abbrev Inv-loop : tie.InvT-loop
-Inv-loop kinds told count k₀ k = (k ≤ count) × ((j : ℕ) → j < k → other-kind-told kinds told j ≡ false)
+Inv-loop kinds codes count k₀ k = (k ≤ count) × ((j : ℕ) → j < k → other-kind kinds codes j ≡ false)
 
 abbrev μ-loop : tie.MeasureT-loop
-μ-loop kinds told count k₀ k = count - k
+μ-loop kinds codes count k₀ k = count - k
 
 loop-holds : tie.Need-loop-holds Inv-loop μ-loop
 loop-holds c = (omega arith, λ j l. absurd (omega arith))

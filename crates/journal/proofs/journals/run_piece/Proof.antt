@@ -8,7 +8,7 @@ use Rattle.model.specs.Runs.{steps, run}
 use Rattle.model.specs.Counters.{lock-state, fresh-counters}
 use Rattle.model.specs.Refusals.{first-refusal, run-tests-before-19}
 use Rattle.steps.specs.Rows.{state-in}
-use Rattle.steps.specs.Running.{told-front}
+use Rattle.steps.specs.Running.{codes-front}
 use borrow.Author.Needs.{needs}
 use Rattle.journal.proofs.journals.run_piece.Statement.{statement}
 use Rattle.journal.proofs.journals.run_piece.Tie as tie
@@ -44,7 +44,7 @@ returns c =
     let s = state-in (a .tails .now) (a .nexts .now) (a .statuses .now) (a .ticket .now) (a .granted .now) (a .places) in
     let whole : a .count - 0 ≡ a .count = omega arith in (
       ran .ensures .0 ∙ ap (λ n. run (tree-of (a .tree)) (take n (a .threads .now)) s .state) whole,
-      ran .ensures .1 .1 .1 .0 ∙ ap (λ n. told-front (a .told .now) (steps (tree-of (a .tree)) (take n (a .threads .now)) s)) whole,
+      ran .ensures .1 .1 .1 .0 ∙ ap (λ n. codes-front (a .codes .now) (steps (tree-of (a .tree)) (take n (a .threads .now)) s)) whole,
     )
 
 pub run-piece-spec : {M : Type 1} → statement M

@@ -10,7 +10,7 @@ use Rattle.model.proofs.Tests.{all-true}
 use Rattle.refusals.specs.Arrays.{tree-in}
 use Rattle.refusals.specs.Counts.{counters-in, count-in}
 use Rattle.refusals.proofs.Scanning.{one-more, all-fails, by-answer}
-use Rattle.refusals.proofs.Counts.{count-told}
+use Rattle.refusals.proofs.Counts.{count-refusal-words}
 use borrow.Author.Needs.{needs}
 use Rattle.refusals.proofs.counters.good_counts.Statement.{statement}
 use Rattle.refusals.proofs.counters.good_counts.Tie as tie
@@ -60,7 +60,7 @@ good-count-at-requires c κs = search needs
 returns : tie.Need-returns Inv-loop μ-loop
 unfolding good-counts
 returns c =
-    let f = count-told _ _ _ _ _ _ _ _ (c .before .before .before .before .before .«of-16-bits» .ensures .0) (c .before .before .before .before .before .«of-16-bits» .ensures .1) (c .before .good-count-at .ensures) in
+    let f = count-refusal-words _ _ _ _ _ _ _ _ (c .before .before .before .before .before .«of-16-bits» .ensures .0) (c .before .before .before .before .before .«of-16-bits» .ensures .1) (c .before .good-count-at .ensures) in
     sym (all-fails 64 _ _ (c .before .before .before .before .before .before .before .loop-test .taken) (by-answer _ false f (not-true _ (c .if1 .taken))))
 
 add-d : tie.Need-add-d Inv-loop μ-loop
@@ -71,7 +71,7 @@ loop-less c = omega arith
 
 loop-again : tie.Need-loop-again Inv-loop μ-loop
 loop-again c =
-    let f = count-told _ _ _ _ _ _ _ _ (c .before .before .before .before .before .«of-16-bits» .ensures .0) (c .before .before .before .before .before .«of-16-bits» .ensures .1) (c .before .good-count-at .ensures) in
+    let f = count-refusal-words _ _ _ _ _ _ _ _ (c .before .before .before .before .before .«of-16-bits» .ensures .0) (c .before .before .before .before .before .«of-16-bits» .ensures .1) (c .before .good-count-at .ensures) in
     (omega arith, one-more _ true _ (c .before .before .before .before .before .before .before .before .loop .inv .1) (by-answer _ true f (not-false _ (c .if1 .left))))
 
 returns-2 : tie.Need-returns-2 Inv-loop μ-loop

@@ -5,7 +5,7 @@ use lib.ListN.{getD}
 use borrow.Author.Tests.{not-true, not-false}
 use Rattle.refusals.specs.Arrays.{parents-in}
 use Rattle.refusals.proofs.Scanning.{by-answer}
-use Rattle.refusals.proofs.Resting.{rests-good}
+use Rattle.refusals.proofs.RestNumbers.{rests-good}
 use borrow.Author.Needs.{needs}
 use Rattle.refusals.proofs.states.good_thread_at.Statement.{statement}
 use Rattle.refusals.proofs.states.good_thread_at.Tie as tie

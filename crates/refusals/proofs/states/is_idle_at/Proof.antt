@@ -1,5 +1,5 @@
 -- `refusals::states::is_idle_at` meets its contract: with the word 0, the joined number is 0 exactly if all three numbers are. Assumes nothing.
-use Rattle.refusals.proofs.Resting.{no-word, idle-by}
+use Rattle.refusals.proofs.RestNumbers.{no-word, idle-by}
 use borrow.Author.Needs.{needs}
 use Rattle.refusals.proofs.states.is_idle_at.Statement.{statement}
 use Rattle.refusals.proofs.states.is_idle_at.Tie as tie

@@ -1,14 +1,14 @@
 -- `refusals::states::resting_numbers` meets its contract: the numbers of the threads passed are in the table. Assumes nothing.
 use Prim.Native.Nat.{_≤_, _-_}
 use native.Mathlib.Omega.{arith}
-use Rattle.refusals.specs.Tables.{Resting}
-use Rattle.refusals.proofs.Resting.{resting-first, resting-next, resting-all}
+use Rattle.refusals.specs.Tables.{Rest-numbers}
+use Rattle.refusals.proofs.RestNumbers.{resting-first, resting-next, resting-all}
 use borrow.Author.Needs.{needs}
 use Rattle.refusals.proofs.states.resting_numbers.Statement.{statement}
 use Rattle.refusals.proofs.states.resting_numbers.Tie as tie
 
 abbrev Inv-loop : tie.InvT-loop
-Inv-loop resting₀ homes threads row i₀ resting i = (i ≤ threads) × Resting row i homes resting
+Inv-loop resting₀ homes threads row i₀ resting i = (i ≤ threads) × Rest-numbers row i homes resting
 
 abbrev μ-loop : tie.MeasureT-loop
 μ-loop resting₀ homes threads row i₀ resting i = threads - i

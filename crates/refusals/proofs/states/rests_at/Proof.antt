@@ -1,7 +1,7 @@
 -- `refusals::states::rests_at` meets its contract: with the word 0, equal joined numbers are equal rows, domains and records, of the place given or of Idle. Assumes nothing.
 use mathlib.Core.Path.{sym, _∙_}
 use mathlib.Core.Bool.{false≢true}
-use Rattle.refusals.proofs.Resting.{idle-by, idle-rests, row-rests}
+use Rattle.refusals.proofs.RestNumbers.{idle-by, idle-rests, row-rests}
 use borrow.Author.Needs.{needs}
 use Rattle.refusals.proofs.states.rests_at.Statement.{statement}
 use Rattle.refusals.proofs.states.rests_at.Tie as tie

@@ -18,8 +18,8 @@ abbrev μ-loop : tie.MeasureT-loop
 marked-homes-requires : tie.Need-marked-homes-requires Inv-loop μ-loop
 marked-homes-requires c κs = search needs
 
-no-homes-requires : tie.Need-no-homes-requires Inv-loop μ-loop
-no-homes-requires c κs = search needs
+mark-unfit-homes-requires : tie.Need-mark-unfit-homes-requires Inv-loop μ-loop
+mark-unfit-homes-requires c κs = search needs
 
 loop-holds : tie.Need-loop-holds Inv-loop μ-loop
 unfolding all-below
@@ -55,7 +55,7 @@ returns c =
     let bad = l .before in
     let s = bad .before .before .before .before in
     let done : l .loop .x ≡ 256 = omega arith in
-    tables-differ _ _ _ _ _ _ _ (s .pre .1) (bad .before .before .marked-homes .ensures) (bad .no-homes .ensures) (rw done at (l .loop .inv .1))
+    tables-differ _ _ _ _ _ _ _ (s .pre .1) (bad .before .before .marked-homes .ensures) (bad .mark-unfit-homes .ensures) (rw done at (l .loop .inv .1))
 
 pub homes-are-leaves-spec : {M : Type 1} → statement M
 homes-are-leaves-spec =
@@ -64,7 +64,7 @@ homes-are-leaves-spec =
     Inv-loop
     μ-loop
     marked-homes-requires
-    no-homes-requires
+    mark-unfit-homes-requires
     loop-holds
     array-read-differs
     array-read-differs-2

@@ -24,7 +24,7 @@ moves-requires c κs = search needs
 
 returns : tie.Need-returns
 unfolding cas-row
-returns c = (record { does = λ t i s S. rw (c .moves .ensures, ← S .own-is, ne-eqb _ _ (c .before .if1 .taken)) (record { kind-told = refl; state-left = refl }) }, rw (c .moves .ensures) refl)
+returns c = (record { does = λ t i s S. rw (c .moves .ensures, ← S .own-is, ne-eqb _ _ (c .before .if1 .taken)) (record { kind-is = refl; state-left = refl }) }, rw (c .moves .ensures) refl)
 
 mul-tails : tie.Need-mul-tails
 mul-tails c = search needs
@@ -40,7 +40,7 @@ moves-requires-2 c κs = search needs
 
 returns-2 : tie.Need-returns-2
 unfolding cas-row
-returns-2 c = (record { does = λ t i s S. rw (c .moves2 .ensures, c .before .done-place-at .ensures, done-is t i _ S, ← S .own-is, eq-eqb _ _ (c .before .before .if1 .left)) (record { kind-told = refl; state-left = refl }) }, rw (c .moves2 .ensures) refl)
+returns-2 c = (record { does = λ t i s S. rw (c .moves2 .ensures, c .before .done-place-at .ensures, done-is t i _ S, ← S .own-is, eq-eqb _ _ (c .before .before .if1 .left)) (record { kind-is = refl; state-left = refl }) }, rw (c .moves2 .ensures) refl)
 
 pub cas-spec : {M : Type 1} → statement M
 cas-spec =

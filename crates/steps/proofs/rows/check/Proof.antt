@@ -16,7 +16,7 @@ moves-requires c κs = search needs
 
 returns : tie.Need-returns
 unfolding check-row
-returns c = (record { does = λ t i s S. rw (c .moves .ensures, c .before .release-place-at .ensures, release-is t _ (S .above .root-is) _, ← S .stands .own-is, ← S .status-is, ← S .threshold-is, mod-eq-of-lt (c .before .before .before .good .1 .1 .1 .0 .1), le-ltb _ _ (c .before .before .if1 .taken), ← S .above .parent-is (S .inner)) (record { kind-told = refl; state-left = refl }) }, (rw (c .moves .ensures) refl, rw (c .moves .ensures, c .before .release-place-at .ensures, release-no-grant _ _)))
+returns c = (record { does = λ t i s S. rw (c .moves .ensures, c .before .release-place-at .ensures, release-is t _ (S .above .root-is) _, ← S .stands .own-is, ← S .status-is, ← S .threshold-is, mod-eq-of-lt (c .before .before .before .good .1 .1 .1 .0 .1), le-ltb _ _ (c .before .before .if1 .taken), ← S .above .parent-is (S .inner)) (record { kind-is = refl; state-left = refl }) }, (rw (c .moves .ensures) refl, rw (c .moves .ensures, c .before .release-place-at .ensures, release-no-grant _ _)))
 
 release-place-at-requires-2 : tie.Need-release-place-at-requires-2
 release-place-at-requires-2 c κs = search needs
@@ -26,7 +26,7 @@ moves-requires-2 c κs = search needs
 
 returns-2 : tie.Need-returns-2
 unfolding check-row
-returns-2 c = (record { does = λ t i s S. rw (c .moves2 .ensures, c .before .release-place-at2 .ensures, release-is t _ (S .above .root-is) _, ← S .stands .own-is, ← S .status-is, ← S .next-is, ← S .threshold-is, mod-eq-of-lt (c .before .before .before .before .good .1 .1 .1 .0 .1), lt-ltb _ _ (c .before .before .before .if1 .left), eq-eqb _ _ (c .before .before .if2 .taken), ← S .above .parent-is (S .inner)) (record { kind-told = refl; state-left = refl }) }, (rw (c .moves2 .ensures) refl, rw (c .moves2 .ensures, c .before .release-place-at2 .ensures, release-no-grant _ _)))
+returns-2 c = (record { does = λ t i s S. rw (c .moves2 .ensures, c .before .release-place-at2 .ensures, release-is t _ (S .above .root-is) _, ← S .stands .own-is, ← S .status-is, ← S .next-is, ← S .threshold-is, mod-eq-of-lt (c .before .before .before .before .good .1 .1 .1 .0 .1), lt-ltb _ _ (c .before .before .before .if1 .left), eq-eqb _ _ (c .before .before .if2 .taken), ← S .above .parent-is (S .inner)) (record { kind-is = refl; state-left = refl }) }, (rw (c .moves2 .ensures) refl, rw (c .moves2 .ensures, c .before .release-place-at2 .ensures, release-no-grant _ _)))
 
 add-count-length : tie.Need-add-count-length
 add-count-length c = search needs
@@ -45,7 +45,7 @@ moves-requires-3 c κs = search needs
 
 returns-3 : tie.Need-returns-3
 unfolding check-row
-returns-3 c = (record { does = λ t i s S. rw (c .moves3 .ensures, ← S .stands .own-is, ← S .status-is, ← S .next-is, ← S .threshold-is, mod-eq-of-lt (c .before .before .before .before .before .good .1 .1 .1 .0 .1), lt-ltb _ _ (c .before .before .before .before .if1 .left), ne-eqb _ _ (c .before .before .before .if2 .left)) (record { kind-told = refl; state-left = refl }) }, (rw (c .moves3 .ensures) refl, rw (c .moves3 .ensures) (c .before .count-length .ensures)))
+returns-3 c = (record { does = λ t i s S. rw (c .moves3 .ensures, ← S .stands .own-is, ← S .status-is, ← S .next-is, ← S .threshold-is, mod-eq-of-lt (c .before .before .before .before .before .good .1 .1 .1 .0 .1), lt-ltb _ _ (c .before .before .before .before .if1 .left), ne-eqb _ _ (c .before .before .before .if2 .left)) (record { kind-is = refl; state-left = refl }) }, (rw (c .moves3 .ensures) refl, rw (c .moves3 .ensures) (c .before .count-length .ensures)))
 
 pub check-spec : {M : Type 1} → statement M
 check-spec =

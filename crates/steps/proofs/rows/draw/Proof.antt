@@ -25,7 +25,7 @@ moves-requires c κs = search needs
 
 returns : tie.Need-returns
 unfolding draw-row
-returns c = (record { does = λ t i s S. rw (c .moves .ensures, root-own t i _ (S .0) (c .before .before .before .before .before .pre .1 .1 .0 .1 .1), ← S .1, ne-eqb _ _ (c .before .if1 .taken), c .before .before .next-number .ensures) (record { kind-told = refl; state-left = refl }) }, (rw (c .moves .ensures) (not-entered _ 1 _ _ refl), rw (c .moves .ensures) (record { added = refl; raised = refl })))
+returns c = (record { does = λ t i s S. rw (c .moves .ensures, root-own t i _ (S .0) (c .before .before .before .before .before .pre .1 .1 .0 .1 .1), ← S .1, ne-eqb _ _ (c .before .if1 .taken), c .before .before .next-number .ensures) (record { kind-is = refl; state-left = refl }) }, (rw (c .moves .ensures) (not-entered _ 1 _ _ refl), rw (c .moves .ensures) (record { added = refl; raised = refl })))
 
 count-given-requires : tie.Need-count-given-requires
 count-given-requires c κs = search needs
@@ -38,7 +38,7 @@ moves-requires-2 c κs = search needs
 
 returns-2 : tie.Need-returns-2
 unfolding draw-row
-returns-2 c = (record { does = λ t i s S. rw (c .moves2 .ensures, root-own t i _ (S .0) (c .before .before .before .before .before .before .before .before .before .before .pre .1 .1 .0 .1 .1), ← S .1, eq-eqb _ _ (c .before .before .before .before .before .before .if1 .left), c .before .before .before .before .before .before .before .next-number .ensures) (record { kind-told = refl; state-left = refl }) }, (rw (c .moves2 .ensures) (entered _ 2 _ _ _ refl (c .before .count-entry .ensures)), rw (c .moves2 .ensures) (c .before .before .before .count-given .ensures)))
+returns-2 c = (record { does = λ t i s S. rw (c .moves2 .ensures, root-own t i _ (S .0) (c .before .before .before .before .before .before .before .before .before .before .pre .1 .1 .0 .1 .1), ← S .1, eq-eqb _ _ (c .before .before .before .before .before .before .if1 .left), c .before .before .before .before .before .before .before .next-number .ensures) (record { kind-is = refl; state-left = refl }) }, (rw (c .moves2 .ensures) (entered _ 2 _ _ _ refl (c .before .count-entry .ensures)), rw (c .moves2 .ensures) (c .before .before .before .count-given .ensures)))
 
 pub draw-spec : {M : Type 1} → statement M
 draw-spec =

@@ -23,7 +23,7 @@ moves-requires c κs = search needs
 
 returns : tie.Need-returns
 unfolding grant-row
-returns c = (record { does = λ t i s S. rw (c .moves .ensures, c .before .done-place-at .ensures, done-is t i _ S) (record { kind-told = refl; state-left = refl }) }, (rw (c .moves .ensures) refl, c .before .before .count-given .ensures))
+returns c = (record { does = λ t i s S. rw (c .moves .ensures, c .before .done-place-at .ensures, done-is t i _ S) (record { kind-is = refl; state-left = refl }) }, (rw (c .moves .ensures) refl, c .before .before .count-given .ensures))
 
 pub grant-spec : {M : Type 1} → statement M
 grant-spec =

@@ -11,7 +11,7 @@ moves-requires c κs = search needs
 
 returns : tie.Need-returns
 unfolding help-row
-returns c = (record { does = λ t i s S. rw (c .moves .ensures, ← S .0 .own-is, ← S .1, eq-eqb _ _ (c .before .if1 .taken)) (record { kind-told = refl; state-left = refl }) }, rw (c .moves .ensures) refl)
+returns c = (record { does = λ t i s S. rw (c .moves .ensures, ← S .0 .own-is, ← S .1, eq-eqb _ _ (c .before .if1 .taken)) (record { kind-is = refl; state-left = refl }) }, rw (c .moves .ensures) refl)
 
 root-word-at-requires : tie.Need-root-word-at-requires
 root-word-at-requires c κs = search needs
@@ -24,7 +24,7 @@ moves-requires-2 c κs = search needs
 
 returns-2 : tie.Need-returns-2
 unfolding help-row
-returns-2 c = (record { does = λ t i s S. rw (c .moves2 .ensures, c .before .root-word-at .ensures, ← S .0 .own-is, ← S .1, ne-eqb _ _ (c .before .before .if1 .left)) (record { kind-told = refl; state-left = refl }) }, rw (c .moves2 .ensures) refl)
+returns-2 c = (record { does = λ t i s S. rw (c .moves2 .ensures, c .before .root-word-at .ensures, ← S .0 .own-is, ← S .1, ne-eqb _ _ (c .before .before .if1 .left)) (record { kind-is = refl; state-left = refl }) }, rw (c .moves2 .ensures) refl)
 
 pub help-spec : {M : Type 1} → statement M
 help-spec =

@@ -14,7 +14,7 @@ moves-requires c κs = search needs
 
 returns : tie.Need-returns
 unfolding leave-row
-returns c = (record { does = λ t i s S. rw (c .moves .ensures, c .before .release-place-at .ensures, release-is t _ (S .1) _, ← S .0) (record { kind-told = refl; state-left = refl }) }, rw (c .moves .ensures) refl)
+returns c = (record { does = λ t i s S. rw (c .moves .ensures, c .before .release-place-at .ensures, release-is t _ (S .1) _, ← S .0) (record { kind-is = refl; state-left = refl }) }, rw (c .moves .ensures) refl)
 
 pub leave-spec : {M : Type 1} → statement M
 leave-spec = tie.close (tie.spec release-place-at-requires moves-requires returns)

@@ -12,7 +12,7 @@ at-place-requires c κs = search needs
 
 returns : tie.Need-returns
 unfolding linger-row
-returns c = (record { does = λ t i s S. rw (c .at-place .ensures, ← S .0 .own-is, ← S .1 .0, eq-eqb _ _ (c .before .if1 .taken)) (record { kind-told = refl; state-left = unmoved s i _ (S .1 .1) }) }, rw (c .at-place .ensures) refl)
+returns c = (record { does = λ t i s S. rw (c .at-place .ensures, ← S .0 .own-is, ← S .1 .0, eq-eqb _ _ (c .before .if1 .taken)) (record { kind-is = refl; state-left = unmoved s i _ (S .1 .1) }) }, rw (c .at-place .ensures) refl)
 
 root-word-at-requires : tie.Need-root-word-at-requires
 root-word-at-requires c κs = search needs
@@ -25,7 +25,7 @@ moves-requires c κs = search needs
 
 returns-2 : tie.Need-returns-2
 unfolding linger-row
-returns-2 c = (record { does = λ t i s S. rw (c .moves .ensures, c .before .root-word-at .ensures, ← S .0 .own-is, ← S .1 .0, ne-eqb _ _ (c .before .before .if1 .left)) (record { kind-told = refl; state-left = refl }) }, rw (c .moves .ensures) refl)
+returns-2 c = (record { does = λ t i s S. rw (c .moves .ensures, c .before .root-word-at .ensures, ← S .0 .own-is, ← S .1 .0, ne-eqb _ _ (c .before .before .if1 .left)) (record { kind-is = refl; state-left = refl }) }, rw (c .moves .ensures) refl)
 
 pub linger-spec : {M : Type 1} → statement M
 linger-spec =

@@ -19,7 +19,7 @@ moves-requires c κs = search needs
 
 returns : tie.Need-returns
 unfolding link-row
-returns c = (record { does = λ t i s S. rw (c .moves .ensures, ← S .own-is) (record { kind-told = refl; state-left = refl }) }, rw (c .moves .ensures) refl)
+returns c = (record { does = λ t i s S. rw (c .moves .ensures, ← S .own-is) (record { kind-is = refl; state-left = refl }) }, rw (c .moves .ensures) refl)
 
 pub link-spec : {M : Type 1} → statement M
 link-spec = tie.close (tie.spec add-nexts mul-nexts element-write-nexts moves-requires returns)

@@ -28,7 +28,7 @@ moves-requires c κs = search needs
 
 returns : tie.Need-returns
 unfolding prep-row
-returns c = (record { does = λ t i s S. rw (c .moves .ensures, c .before .root-word-at .ensures, ← S .own-is) (record { kind-told = refl; state-left = refl }) }, rw (c .moves .ensures) refl)
+returns c = (record { does = λ t i s S. rw (c .moves .ensures, c .before .root-word-at .ensures, ← S .own-is) (record { kind-is = refl; state-left = refl }) }, rw (c .moves .ensures) refl)
 
 pub prep-spec : {M : Type 1} → statement M
 prep-spec =

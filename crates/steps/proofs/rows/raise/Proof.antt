@@ -17,7 +17,7 @@ moves-requires c κs = search needs
 
 returns : tie.Need-returns
 unfolding raise-row
-returns c = (record { does = λ t i s S. rw (c .moves .ensures, c .before .done-place-at .ensures, root-done t i _ S (c .before .before .before .before .pre), c .before .before .next-number .ensures) (record { kind-told = refl; state-left = refl }) }, rw (c .moves .ensures) refl)
+returns c = (record { does = λ t i s S. rw (c .moves .ensures, c .before .done-place-at .ensures, root-done t i _ S (c .before .before .before .before .pre), c .before .before .next-number .ensures) (record { kind-is = refl; state-left = refl }) }, rw (c .moves .ensures) refl)
 
 pub raise-spec : {M : Type 1} → statement M
 raise-spec = tie.close (tie.spec next-number-requires done-place-at-requires moves-requires returns)

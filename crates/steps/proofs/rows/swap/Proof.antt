@@ -37,7 +37,7 @@ moves-requires c κs = search needs
 
 returns : tie.Need-returns
 unfolding swap-row
-returns c = (record { does = λ t i s S. rw (c .moves .ensures, ← S .0 .own-is, ne-eqb _ _ (c .before .if1 .taken)) (record { kind-told = refl; state-left = refl }) }, (rw (c .moves .ensures) (not-entered _ 1 _ _ refl), rw (c .moves .ensures) (record { added = refl; raised = refl })))
+returns c = (record { does = λ t i s S. rw (c .moves .ensures, ← S .0 .own-is, ne-eqb _ _ (c .before .if1 .taken)) (record { kind-is = refl; state-left = refl }) }, (rw (c .moves .ensures) (not-entered _ 1 _ _ refl), rw (c .moves .ensures) (record { added = refl; raised = refl })))
 
 count-given-requires : tie.Need-count-given-requires
 count-given-requires c κs = search needs
@@ -56,7 +56,7 @@ moves-requires-2 c κs = search needs
 
 returns-2 : tie.Need-returns-2
 unfolding swap-row
-returns-2 c = (record { does = λ t i s S. rw (c .moves2 .ensures, ← S .0 .own-is, eq-eqb _ _ (c .before .before .before .before .before .before .before .if1 .left), eq-eqb _ _ (c .before .before .before .if2 .taken)) (record { kind-told = refl; state-left = refl }) }, (rw (c .moves2 .ensures) (entered _ 2 _ _ _ refl (c .before .count-entry .ensures)), rw (c .moves2 .ensures) (c .before .before .before .before .count-given .ensures)))
+returns-2 c = (record { does = λ t i s S. rw (c .moves2 .ensures, ← S .0 .own-is, eq-eqb _ _ (c .before .before .before .before .before .before .before .if1 .left), eq-eqb _ _ (c .before .before .before .if2 .taken)) (record { kind-is = refl; state-left = refl }) }, (rw (c .moves2 .ensures) (entered _ 2 _ _ _ refl (c .before .count-entry .ensures)), rw (c .moves2 .ensures) (c .before .before .before .before .count-given .ensures)))
 
 mul-statuses-2 : tie.Need-mul-statuses-2
 mul-statuses-2 c = search needs
@@ -75,7 +75,7 @@ moves-requires-3 c κs = search needs
 
 returns-3 : tie.Need-returns-3
 unfolding swap-row
-returns-3 c = (record { does = λ t i s S. rw (c .moves3 .ensures, c .before .acquire-place-at .ensures, acquire-is t _ (S .1 .root-is) _, ← S .0 .own-is, eq-eqb _ _ (c .before .before .before .before .before .before .before .if1 .left), ne-eqb _ _ (c .before .before .before .if2 .left), ← S .1 .parent-is (c .before .before .before .if2 .left)) (record { kind-told = refl; state-left = refl }) }, (rw (c .moves3 .ensures) (not-entered _ 1 _ _ refl), rw (c .moves3 .ensures, c .before .acquire-place-at .ensures, acquire-no-link _ _) (c .before .before .before .before .count-given .ensures)))
+returns-3 c = (record { does = λ t i s S. rw (c .moves3 .ensures, c .before .acquire-place-at .ensures, acquire-is t _ (S .1 .root-is) _, ← S .0 .own-is, eq-eqb _ _ (c .before .before .before .before .before .before .before .if1 .left), ne-eqb _ _ (c .before .before .before .if2 .left), ← S .1 .parent-is (c .before .before .before .if2 .left)) (record { kind-is = refl; state-left = refl }) }, (rw (c .moves3 .ensures) (not-entered _ 1 _ _ refl), rw (c .moves3 .ensures, c .before .acquire-place-at .ensures, acquire-no-link _ _) (c .before .before .before .before .count-given .ensures)))
 
 pub swap-spec : {M : Type 1} → statement M
 swap-spec =

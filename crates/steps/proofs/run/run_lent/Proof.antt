@@ -13,7 +13,7 @@ use Rattle.refusals.proofs.Passing.{shape-of}
 use Rattle.steps.specs.Rows.{state-in}
 use Rattle.steps.specs.Counting.{Marked, Clear}
 use Rattle.steps.proofs.SoFar.{So-far, start, kind-room, stay-placed, turn, state-ends, trace-ends, kinds-end, thread-at}
-use Rattle.steps.proofs.Telling.{Told, told-start, told-turn, told-ends}
+use Rattle.steps.proofs.Telling.{Coded, codes-start, codes-turn, codes-end}
 use Rattle.steps.proofs.Tallying.{Tallied, tallied-start, tallied-turn, tallied-ends}
 use Rattle.steps.proofs.Turns.{thread-small, ready}
 use Rattle.steps.proofs.Shown.{clear-none}
@@ -24,23 +24,23 @@ use Rattle.steps.proofs.run.run_lent.Statement.{statement}
 use Rattle.steps.proofs.run.run_lent.Tie as tie
 
 abbrev Inv-loop2 : tie.InvT-loop2
-Inv-loop2 tails nexts statuses ticket granted schedule trace kinds told entries tenures longest tree standing drawn raised tally shown₀ entered k position i at before row domain looked j₀ shown j = (j ≤ looked) × Marked (tree .domains) (tree .parents) (tree .homes) statuses standing (wrap (raised + 1)) j shown
+Inv-loop2 tails nexts statuses ticket granted schedule trace kinds codes entries tenures longest tree standing drawn raised tally shown₀ entered k position i at before row domain looked j₀ shown j = (j ≤ looked) × Marked (tree .domains) (tree .parents) (tree .homes) statuses standing (wrap (raised + 1)) j shown
 
 abbrev μ-loop2 : tie.MeasureT-loop2
-μ-loop2 tails nexts statuses ticket granted schedule trace kinds told entries tenures longest tree standing drawn raised tally shown₀ entered k position i at before row domain looked j₀ shown j = looked - j
+μ-loop2 tails nexts statuses ticket granted schedule trace kinds codes entries tenures longest tree standing drawn raised tally shown₀ entered k position i at before row domain looked j₀ shown j = looked - j
 
 abbrev Inv-loop : tie.InvT-loop
-Inv-loop tails₀ nexts₀ statuses₀ ticket granted schedule trace₀ kinds told₀ entries₀ tenures₀ longest₀ tree standing₀ drawn₀ raised₀ tally₀ shown₀ entered₀ k₀ tails nexts statuses trace told entries tenures longest standing drawn raised tally shown entered k =
+Inv-loop tails₀ nexts₀ statuses₀ ticket granted schedule trace₀ kinds codes₀ entries₀ tenures₀ longest₀ tree standing₀ drawn₀ raised₀ tally₀ shown₀ entered₀ k₀ tails nexts statuses trace codes entries tenures longest standing drawn raised tally shown entered k =
     So-far (tree-of tree) schedule trace₀ (state-in tails₀ nexts₀ statuses₀ drawn₀ raised₀ standing₀) trace (state-in tails nexts statuses drawn raised standing) tally entered k
-    × Told (tree-of tree) schedule (state-in tails₀ nexts₀ statuses₀ drawn₀ raised₀ standing₀) told₀ told k
+    × Coded (tree-of tree) schedule (state-in tails₀ nexts₀ statuses₀ drawn₀ raised₀ standing₀) codes₀ codes k
     × Tallied (tree-of tree) schedule (state-in tails₀ nexts₀ statuses₀ drawn₀ raised₀ standing₀) (counters-in entries₀ tenures₀ longest₀) (counters-in entries tenures longest) k
     × Clear shown
 
 abbrev μ-loop : tie.MeasureT-loop
-μ-loop tails₀ nexts₀ statuses₀ ticket granted schedule trace₀ kinds told₀ entries₀ tenures₀ longest₀ tree standing₀ drawn₀ raised₀ tally₀ shown₀ entered₀ k₀ tails nexts statuses trace told entries tenures longest standing drawn raised tally shown entered k = length schedule - k
+μ-loop tails₀ nexts₀ statuses₀ ticket granted schedule trace₀ kinds codes₀ entries₀ tenures₀ longest₀ tree standing₀ drawn₀ raised₀ tally₀ shown₀ entered₀ k₀ tails nexts statuses trace codes entries tenures longest standing drawn raised tally shown entered k = length schedule - k
 
 loop-holds : tie.Need-loop-holds Inv-loop2 μ-loop2 Inv-loop μ-loop
-loop-holds c = (start _ _ _ _ (record { typed = c .before .before .before .before .before .pre .0; form = (early-facts _ _ _ _ (c .before .before .before .before .before .pre .1)) .form }), told-start _ _ _ _, tallied-start _ _ _ _, clear-none)
+loop-holds c = (start _ _ _ _ (record { typed = c .before .before .before .before .before .pre .0; form = (early-facts _ _ _ _ (c .before .before .before .before .before .pre .1)) .form }), codes-start _ _ _ _, tallied-start _ _ _ _, clear-none)
 
 cast-loop : tie.Need-cast-loop Inv-loop2 μ-loop2 Inv-loop μ-loop
 cast-loop c = omega arith
@@ -169,8 +169,8 @@ trace-at-requires c κs =
     let more = test .loop-test .taken in
     (omega (arith, more, g .entries-fit, g .long, r .fits), omega (arith, more, g .entries-fit, r .short))
 
-tell-requires : tie.Need-tell-requires Inv-loop2 μ-loop2 Inv-loop μ-loop
-tell-requires c κs = search needs
+put-code-requires : tie.Need-put-code-requires Inv-loop2 μ-loop2 Inv-loop μ-loop
+put-code-requires c κs = search needs
 
 add-k : tie.Need-add-k Inv-loop2 μ-loop2 Inv-loop μ-loop
 add-k c =
@@ -191,7 +191,7 @@ loop-again c =
     let took = c .before .before .before .before .before .before .before .before .before .before .before .before .take in
     let tallied = c .before .before .before .before .before .before .before .before .before .count-in .ensures in
     let traced = c .before .before .before .before .before .before .trace-at .ensures in
-    let told = c .before .before .tell .ensures in
+    let codes = c .before .before .put-code .ensures in
     let w = c .before .before .before .before .before .before .before .before .before .before .before .before .before .before .before .before .before .before .before .before .before .before .before .before .before .before .before .before .before .before .before .before .before .before .before .before .before .before .before .args .t1 in
     let r = early-facts _ _ _ _ (c .before .before .before .before .before .before .before .before .before .before .before .before .before .before .before .before .before .before .before .before .before .before .before .before .before .before .before .before .before .before .before .before .before .before .before .before .before .before .before .pre .1) in
     let n = state-in (l .tails) (l .nexts) (l .statuses) (l .drawn) (l .raised) (l .standing) in
@@ -201,20 +201,20 @@ loop-again c =
     let so-far = l .inv .0 in
     let placed = ⊎-elim (λ w. w .1) (λ w. w .1 ∙ stay-placed _ _ n _ m _ (r .tree) (r .threads) test (so-far .formed) does refl (w .0 .left)) (c .before .before .before .before .before .before .before .before .if1 .came) in
     let counts = step-counted w (r .tree) _ th n (so-far .formed) m _ refl does _ (home-is w (r .tree) _ th) _ _ _ _ _ (took .ensures .1 .1 .0) _ _ (took .ensures .1 .0) (λ z. raise-marked w (r .tree) _ th n (so-far .formed) _ _ _ look (marks .0) done z (marks .1)) in
-    (rw tallied (turn _ _ _ _ _ n _ _ _ m _ _ _ _ (r .tree) (sixteen-bit w) (r .threads) (r .fits) test so-far does (rw placed) (traced .0) (traced .1)), told-turn _ _ _ _ _ n _ m _ _ (r .threads) test (so-far .formed) (so-far .state-is) does (l .inv .1) told, tallied-turn _ _ _ _ _ _ n _ test (so-far .state-is) (l .inv .2) counts, marks-cleared w (r .tree) _ _ _ _ _ _ _ _ look (marks .0) (marks .1) (took .ensures .1 .1 .1))
+    (rw tallied (turn _ _ _ _ _ n _ _ _ m _ _ _ _ (r .tree) (sixteen-bit w) (r .threads) (r .fits) test so-far does (rw placed) (traced .0) (traced .1)), codes-turn _ _ _ _ _ n _ m _ _ (r .threads) test (so-far .formed) (so-far .state-is) does (l .inv .1) codes, tallied-turn _ _ _ _ _ _ n _ test (so-far .state-is) (l .inv .2) counts, marks-cleared w (r .tree) _ _ _ _ _ _ _ _ look (marks .0) (marks .1) (took .ensures .1 .1 .1))
 
 same-length : tie.Need-same-length Inv-loop2 μ-loop2 Inv-loop μ-loop
 same-length c = c .before .loop .inv .0 .long
 
 same-length-2 : tie.Need-same-length-2 Inv-loop2 μ-loop2 Inv-loop μ-loop
-same-length-2 c = c .before .loop .inv .1 .told-room
+same-length-2 c = c .before .loop .inv .1 .codes-room
 
 returns : tie.Need-returns Inv-loop2 μ-loop2 Inv-loop μ-loop
 returns c =
     let l = c .before .loop in
     let g = l .inv .0 in
     let e = c .loop-test .left in
-    (state-ends _ _ _ _ _ _ _ _ _ g e, (trace-ends _ _ _ _ _ _ _ _ _ g e, (kinds-end _ _ _ _ _ _ _ _ _ g e, (told-ends _ _ _ _ _ _ (l .inv .1) e, tallied-ends _ _ _ _ _ _ (l .inv .2) e))))
+    (state-ends _ _ _ _ _ _ _ _ _ g e, (trace-ends _ _ _ _ _ _ _ _ _ g e, (kinds-end _ _ _ _ _ _ _ _ _ g e, (codes-end _ _ _ _ _ _ (l .inv .1) e, tallied-ends _ _ _ _ _ _ (l .inv .2) e))))
 
 pub run-lent-spec : {M : Type 1} → statement M
 run-lent-spec =
@@ -247,7 +247,7 @@ run-lent-spec =
     mul-standing
     array-set-from-standing
     trace-at-requires
-    tell-requires
+    put-code-requires
     add-k
     loop-less
     loop-again

@@ -9,7 +9,7 @@ use Rattle.steps.specs.Rows.{state-in}
 use Rattle.model.specs.declared.Place.the-variants.{Idle, Prep, Swap, Link, Wait, Inside, Check, Help, Cas, Linger, Grant, Draw, Watch, Raise}
 use Rattle.steps.specs.Counting.{taken-in, started-in}
 use Rattle.steps.proofs.Counts.{not-entered, raise-counted, check-counted}
-use Rattle.steps.proofs.StepTaken.{turn-of, fits, home-is, words, valid, never, link-fits, grant-fits, counted, shown-kept, row-of, real, small, at, stands, above, own-taken, taken, inner, threshold-is, at-root, own-small}
+use Rattle.steps.proofs.StepTaken.{turn-of, fits, home-is, words, not-invalid, never, link-fits, grant-fits, counted, shown-kept, row-of, real, small, at, stands, above, own-taken, taken, inner, threshold-is, at-root, own-small}
 use borrow.Author.Needs.{needs}
 use Rattle.steps.proofs.taking.take.Statement.{statement}
 use Rattle.steps.proofs.taking.take.Tie as tie
@@ -18,7 +18,7 @@ element-copy-out-home : tie.Need-element-copy-out-home
 element-copy-out-home c = let r = turn-of _ _ _ _ _ _ _ _ (c .pre .0) in omega (arith, fits r .few-threads, fits r .real)
 
 place-by-row-requires : tie.Need-place-by-row-requires
-place-by-row-requires c κs = let r = turn-of _ _ _ _ _ _ _ _ (c .before .pre .0) in valid r
+place-by-row-requires c κs = let r = turn-of _ _ _ _ _ _ _ _ (c .before .pre .0) in not-invalid r
 
 domain-by-row-requires : tie.Need-domain-by-row-requires
 domain-by-row-requires c κs = search needs

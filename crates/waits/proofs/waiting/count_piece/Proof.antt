@@ -4,20 +4,20 @@ use Prim.Native.Nat.{_-_}
 use native.Mathlib.Omega.{arith}
 use lib.ListN.{length}
 use borrow.Author.Needs.{needs}
-use Rattle.waits.proofs.Counting.{Going, going-start, thread-small, told-long, entered-few, note-fits, going-read, going-ends}
+use Rattle.waits.proofs.Counting.{Counted-so-far, counted-start, thread-small, codes-long, entered-few, note-fits, counted-read, counted-ends}
 use Rattle.waits.proofs.waiting.count_piece.Statement.{statement}
 use Rattle.waits.proofs.waiting.count_piece.Tie as tie
 
 abbrev Inv-loop : tie.InvT-loop
-Inv-loop schedule told count marks₀ attempts₀ totals₀ longest₀ tree entered₀ k₀ marks attempts totals longest entered k =
-    Going tree schedule told marks₀ attempts₀ totals₀ longest₀ count marks attempts totals longest entered k
+Inv-loop schedule codes count marks₀ attempts₀ totals₀ longest₀ tree entered₀ k₀ marks attempts totals longest entered k =
+    Counted-so-far tree schedule codes marks₀ attempts₀ totals₀ longest₀ count marks attempts totals longest entered k
 
 abbrev μ-loop : tie.MeasureT-loop
-μ-loop schedule told count marks₀ attempts₀ totals₀ longest₀ tree entered₀ k₀ marks attempts totals longest entered k =
+μ-loop schedule codes count marks₀ attempts₀ totals₀ longest₀ tree entered₀ k₀ marks attempts totals longest entered k =
     length schedule - k
 
 loop-holds : tie.Need-loop-holds Inv-loop μ-loop
-loop-holds c = going-start _ _ _ _ _ _ _ _
+loop-holds c = counted-start _ _ _ _ _ _ _ _
 
 mul-wide : tie.Need-mul-wide Inv-loop μ-loop
 mul-wide c = omega arith
@@ -32,7 +32,7 @@ mul-code : tie.Need-mul-code Inv-loop μ-loop
 mul-code c = omega arith
 
 shared-slice-read-code : tie.Need-shared-slice-read-code Inv-loop μ-loop
-shared-slice-read-code c = told-long _ _ _ _ _ _ _ _ _ _ _ _ _ _ (c .before .before .before .before .loop .inv) (c .before .before .before .loop-test .taken) (c .before .before .before .before .before .before .before .pre)
+shared-slice-read-code c = codes-long _ _ _ _ _ _ _ _ _ _ _ _ _ _ (c .before .before .before .before .loop .inv) (c .before .before .before .loop-test .taken) (c .before .before .before .before .before .before .before .pre)
 
 element-copy-out-home : tie.Need-element-copy-out-home Inv-loop μ-loop
 element-copy-out-home c = rw (c .before .wide .ensures) (thread-small _ _ _ _ _ _ _ _ _ _ _ _ _ _ (c .before .before .before .before .loop .inv) (c .before .before .before .loop-test .taken) (c .before .before .before .before .before .before .before .pre))
@@ -77,12 +77,12 @@ loop-again c =
     let wide = home .before .before .before in
     let test = wide .before .before in
     let turn = test .before in
-    going-read _ _ _ _ _ _ _ _ _ _ _ _ _ _ (turn .loop .inv) (test .loop-test .taken) (turn .before .before .before .pre) _ (wide .wide .ensures) _ _ _
+    counted-read _ _ _ _ _ _ _ _ _ _ _ _ _ _ (turn .loop .inv) (test .loop-test .taken) (turn .before .before .before .pre) _ (wide .wide .ensures) _ _ _
     (home .is-ticket-home .ensures) (begun .begins-at .ensures) (entry .is-entry .ensures) _ _ _ _ _ (c .one-more .ensures)
     (noted-in .0) (noted-in .1 .0) (noted-in .1 .1 .0) (noted-in .1 .1 .1)
 
 returns : tie.Need-returns Inv-loop μ-loop
-returns c = going-ends _ _ _ _ _ _ _ _ _ _ _ _ _ _ (c .before .loop .inv) (c .loop-test .left)
+returns c = counted-ends _ _ _ _ _ _ _ _ _ _ _ _ _ _ (c .before .loop .inv) (c .loop-test .left)
 
 pub count-piece-spec : {M : Type 1} → statement M
 count-piece-spec =

@@ -30,7 +30,7 @@ use Rattle.claims.proofs.Words.Links.{final}
 use Rattle.claims.proofs.Words.View.{words-in}
 use Rattle.claims.proofs.Words.Represents.{Tickets}
 use Rattle.claims.proofs.Claims.Reached.{Queued, from-fresh}
-use Rattle.claims.proofs.Claims.Order.{begun-shown, ended-shown}
+use Rattle.claims.proofs.Claims.InOrder.{begun-shown, ended-shown}
 use Rattle.claims.proofs.Claims.Bounded.{same-count}
 use Rattle.claims.proofs.Claims.Acting.{acts-stage}
 
@@ -57,7 +57,7 @@ unfolding Tickets Consecutive
 tickets-there s v [] h = h
 tickets-there s v (m ∷ ms) h = (h .0, tickets-there s (wrap (v + 1)) ms (h .1))
 
-module _ (t : Tree) (𝓐 : Accepted t) (bits : Sixteen-bit t) (s : WordState) (q : Queued t s) where
+module _ (t : Tree) (valid : Accepted t) (bits : Sixteen-bit t) (s : WordState) (q : Queued t s) where
   abbrev pub g : State
   g = q .queues
 
@@ -75,26 +75,26 @@ module _ (t : Tree) (𝓐 : Accepted t) (bits : Sixteen-bit t) (s : WordState) (
   unfolding model.acts words-in
   acting-index d m i a =
       let both = and-both (on-path t i d) (acts-at t s i (place s i) d) (a .acting) in
-      let o = path-index t 𝓐 i (a .real) d (both .0) in
+      let o = path-index t valid i (a .real) d (both .0) in
       let k = o .index in
-      let z = acts-stage t 𝓐 i (a .real) k (o .within) bits s g inv refl (q .represents .fits i (a .real)) in
+      let z = acts-stage t valid i (a .real) k (o .within) bits s g inv refl (q .represents .fits i (a .real)) in
       let w : acts-at t s i (place s i) (ancestor t i k) ≡ true = rw (o .there) (both .1) in
       record {
         index = k;
         within = ltb-true k (acts (height t i) (g .stage i)) (sym z ∙ w);
         there = o .there;
-        mine = sym (own-record-at t 𝓐 i (a .real) k (o .within)) ∙ ap (own-record t i) (o .there) ∙ a .record-there;
+        mine = sym (own-record-at t valid i (a .real) k (o .within)) ∙ ap (own-record t i) (o .there) ∙ a .record-there;
       }
 
   pub index-acting : (i k : ℕ) → k < acts (height t i) (g .stage i) → Acts-for t s (ancestor t i k) (record-at t i k) i
   unfolding model.acts words-in
   index-acting i k b =
-      let r = acts-real t (laws t 𝓐) g inv i k b in
-      let z = acts-stage t 𝓐 i (r .0) k (r .2) bits s g inv refl (q .represents .fits i (r .0)) in
+      let r = acts-real t (laws t valid) g inv i k b in
+      let z = acts-stage t valid i (r .0) k (r .2) bits s g inv refl (q .represents .fits i (r .0)) in
       record {
         real = r .0;
-        acting = rw (on-path-at t 𝓐 i (r .0) k (r .2)) (z ∙ lt-ltb k (acts (height t i) (g .stage i)) b);
-        record-there = own-record-at t 𝓐 i (r .0) k (r .2);
+        acting = rw (on-path-at t valid i (r .0) k (r .2)) (z ∙ lt-ltb k (acts (height t i) (g .stage i)) b);
+        record-there = own-record-at t valid i (r .0) k (r .2);
       }
 
   acted-once : (d m : ℕ) → 1 ≤ count m (g .queue d) → Acted-once t s d m
@@ -105,7 +105,7 @@ module _ (t : Tree) (𝓐 : Accepted t) (bits : Sixteen-bit t) (s : WordState) (
         acting = rw (a .place, a .mine) at (index-acting (a .thread) (a .index) (a .acting));
         only = λ j f.
             let x = acting-index d m j f in
-            unique t (laws t 𝓐) g inv j (a .thread) (x .index) (a .index) (x .within) (a .acting) (x .mine ∙ sym (a .mine)) .0;
+            unique t (laws t valid) g inv j (a .thread) (x .index) (a .index) (x .within) (a .acting) (x .mine ∙ sym (a .mine)) .0;
       }
 
   -- a record for which a thread acts is in the queue: first, or standing
@@ -124,8 +124,8 @@ module _ (t : Tree) (𝓐 : Accepted t) (bits : Sixteen-bit t) (s : WordState) (
 pub queue-law : Queue-law
 unfolding Queue-law run run-of words-in
 queue-law t bits ok v is all =
-    let 𝓐 = accepted t ok in
-    let x = from-fresh t 𝓐 bits v is all in
+    let valid = accepted t ok in
+    let x = from-fresh t valid bits v is all in
     let q = x .there in
     let s = run t is (fresh-state t v) .state in
     let g = q .queues in
@@ -138,11 +138,11 @@ queue-law t bits ok v is all =
           rw (← begun-shown d (steps t is (fresh-state t v)), ← ended-shown d (steps t is (fresh-state t v)), ← rest-drop (g .queue d)) (in-order t d (x .follows));
       members = λ d m b.
           let a = inv .acted d m (rw (same-count m (g .queue d)) b) in
-          let r = acts-real t (laws t 𝓐) g inv (a .thread) (a .index) (a .acting) in
-          rw (a .place, a .mine) at (member-at t 𝓐 (a .thread) (r .0) (a .index) (r .2));
+          let r = acts-real t (laws t valid) g inv (a .thread) (a .index) (a .acting) in
+          rw (a .place, a .mine) at (member-at t valid (a .thread) (r .0) (a .index) (r .2));
       once = λ d m. rw (← same-count m (g .queue d)) (inv .once d m);
-      acted = λ d m b. acted-once t 𝓐 bits s q d m (rw (same-count m (g .queue d)) b);
+      acted = λ d m b. acted-once t valid bits s q d m (rw (same-count m (g .queue d)) b);
       acted-only = λ d m i a.
-          let y = acting-index t 𝓐 bits s q d m i a in
-          rw (← same-count m (g .queue d)) (rw (y .there, y .mine) at (in-queue t 𝓐 bits s q i (y .index) (y .within)));
+          let y = acting-index t valid bits s q d m i a in
+          rw (← same-count m (g .queue d)) (rw (y .there, y .mine) at (in-queue t valid bits s q i (y .index) (y .within)));
     }

@@ -13,7 +13,7 @@ use borrow.Author.Tests.{eq-eqb, ne-eqb, eqb-true}
 use Rattle.model.specs.declared.PlaceWords.{PlaceWords}
 use Rattle.model.specs.Trees.{Tree}
 use Rattle.model.proofs.Tests.{and-both, or-cases, or-right}
-use Rattle.refusals.specs.Tables.{barred-in, place-in, idle-in, Joined, rests-in, Resting, Rest-number, of-wait, of-idle}
+use Rattle.refusals.specs.Tables.{barred-in, place-in, idle-in, Joined, rests-in, Rest-numbers, Rest-number, of-wait, of-idle}
 use Rattle.refusals.proofs.Meeting.{meets-here}
 
 pub no-word : (q : PlaceWords) → (q .word ≡ 0 → ⊥) → false ≡ idle-in q
@@ -42,11 +42,11 @@ idle-by q n w J =
     ]
 
 -- the table, thread by thread
-pub resting-first : (r : ℕ) (hs : List ℕ) → Resting r 0 hs (replicate 256 0)
+pub resting-first : (r : ℕ) (hs : List ℕ) → Rest-numbers r 0 hs (replicate 256 0)
 resting-first r hs = record { room = refl; rests = λ i l. absurd (omega arith) }
 
 pub resting-next :
-    (r i : ℕ) (hs ns : List ℕ) (n : ℕ) → i < 256 → Joined r (getD hs i 0) 0 n → Resting r i hs ns → Resting r (i + 1) hs (set ns i n)
+    (r i : ℕ) (hs ns : List ℕ) (n : ℕ) → i < 256 → Joined r (getD hs i 0) 0 n → Rest-numbers r i hs ns → Rest-numbers r (i + 1) hs (set ns i n)
 resting-next r i hs ns n w J T =
     record {
       room = length-set ns i n ∙ T .room;
@@ -57,7 +57,7 @@ resting-next r i hs ns n w J T =
           ];
     }
 
-pub resting-all : (r i m : ℕ) (hs ns : List ℕ) → i ≡ m → Resting r i hs ns → Resting r m hs ns
+pub resting-all : (r i m : ℕ) (hs ns : List ℕ) → i ≡ m → Rest-numbers r i hs ns → Rest-numbers r m hs ns
 resting-all r i m hs ns e T = record { room = T .room; rests = λ j l. T .rests j (omega arith) }
 
 pub idle-rests : (r h : ℕ) (q : PlaceWords) → idle-in q ≡ true → rests-in r h q ≡ true

@@ -1,10 +1,10 @@
--- `refusals::trees::no_homes` meets its contract: the parents of the domains passed are marked. Assumes nothing.
+-- `refusals::trees::mark_unfit_homes` meets its contract: the parents of the domains passed are marked. Assumes nothing.
 use Prim.Native.Nat.{_≤_, _<_, _-_}
 use native.Mathlib.Omega.{arith}
 use Rattle.refusals.proofs.Homes.{Marked, marked-first, marked-next, marked-all}
 use borrow.Author.Needs.{needs}
-use Rattle.refusals.proofs.trees.no_homes.Statement.{statement}
-use Rattle.refusals.proofs.trees.no_homes.Tie as tie
+use Rattle.refusals.proofs.trees.mark_unfit_homes.Statement.{statement}
+use Rattle.refusals.proofs.trees.mark_unfit_homes.Tie as tie
 
 abbrev Inv-loop : tie.InvT-loop
 Inv-loop bad₀ parents domains d₀ bad d = (0 < d) × (d ≤ domains) × Marked domains parents bad d
@@ -45,8 +45,8 @@ loop-again c =
 returns : tie.Need-returns Inv-loop μ-loop
 returns c = marked-all _ _ _ _ (c .before .loop .inv .2) (omega arith)
 
-pub no-homes-spec : {M : Type 1} → statement M
-no-homes-spec =
+pub mark-unfit-homes-spec : {M : Type 1} → statement M
+mark-unfit-homes-spec =
     tie.close
     (tie.spec
     Inv-loop

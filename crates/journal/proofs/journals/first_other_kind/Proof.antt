@@ -1,8 +1,8 @@
--- `journal::journals::as_told` meets its contract: no entry differs, or the first that does is looked for. Assumes nothing.
+-- `journal::journals::first_other_kind` meets its contract: no entry differs, or the first that does is looked for. Assumes nothing.
 use native.Mathlib.Omega.{arith}
 use borrow.Author.Needs.{needs}
-use Rattle.journal.proofs.journals.as_told.Statement.{statement}
-use Rattle.journal.proofs.journals.as_told.Tie as tie
+use Rattle.journal.proofs.journals.first_other_kind.Statement.{statement}
+use Rattle.journal.proofs.journals.first_other_kind.Tie as tie
 
 any-difference-requires : tie.Need-any-difference-requires
 any-difference-requires c κs = search needs
@@ -16,5 +16,5 @@ first-difference-requires c κs = search needs
 returns-2 : tie.Need-returns-2
 returns-2 c = search needs
 
-pub as-told-spec : {M : Type 1} → statement M
-as-told-spec = tie.close (tie.spec any-difference-requires returns first-difference-requires returns-2)
+pub first-other-kind-spec : {M : Type 1} → statement M
+first-other-kind-spec = tie.close (tie.spec any-difference-requires returns first-difference-requires returns-2)

@@ -16,7 +16,7 @@ use Rattle.model.specs.Places.{place-words, words-of, place-domain}
 use Rattle.model.specs.States.{place}
 use Rattle.model.specs.Steps.{kind-number, Step, step}
 use Rattle.model.specs.WellFormed.{good-tail, good-next, good-status, good-place, good-watch, good-thread, good-counters, well-formed}
-use Rattle.model.proofs.Laws.Form.{valid}
+use Rattle.model.proofs.Laws.Form.{not-invalid}
 use Rattle.model.proofs.Tests.{and-both, all-each}
 use Rattle.model.proofs.Trees.Reading.{home-read, threads-read}
 use Rattle.steps.specs.Rows.{row-domain}
@@ -82,11 +82,11 @@ module _ (w : TreeWords) (s : State) (i : ℕ) (form : well-formed (tree-of w) s
       let second = and-both (all-below 320 (good-status t s)) (all-below 256 (good-thread t s) && good-counters t s) (halves .1) .1 in
       let threads = and-both (all-below 256 (good-thread t s)) (good-counters t s) second .0 in
       let good = rw (lt-ltb i (t .threads) h) at (all-each 256 (good-thread t s) threads i small) in
-      valid t i (place s i) (and-both (good-place t i (place s i)) (good-watch t s i) good .0)
+      not-invalid t i (place s i) (and-both (good-place t i (place s i)) (good-watch t s i) good .0)
 
-  pub domain-told : (let c = step-code (step (tree-of w) i s) in row-domain (getD (w .homes) i 0) ((c / 8) % 16) (c / 128) ≡ step (tree-of w) i s .domain)
+  pub domain-of-code : (let c = step-code (step (tree-of w) i s) in row-domain (getD (w .homes) i 0) ((c / 8) % 16) (c / 128) ≡ step (tree-of w) i s .domain)
   unfolding step
-  domain-told =
+  domain-of-code =
       let t = tree-of w in
       let x = step t i s in
       let p = place s i in

@@ -1,4 +1,4 @@
--- `refusals::trees::sound_domains` meets its contract: the domains passed fail none of 6 to 8. Assumes nothing.
+-- `refusals::trees::domains_pass` meets its contract: the domains passed fail none of 6 to 8. Assumes nothing.
 use mathlib.Core.Path.{_∙_}
 use mathlib.Core.Bool.{false≢true}
 use Prim.Native.Nat.{_≤_, _<_, _-_}
@@ -6,8 +6,8 @@ use native.Mathlib.Omega.{arith}
 use lib.ListN.{getD}
 use Rattle.refusals.proofs.Domains.{Passed, passed-first, passed-next, passed-all}
 use borrow.Author.Needs.{needs}
-use Rattle.refusals.proofs.trees.sound_domains.Statement.{statement}
-use Rattle.refusals.proofs.trees.sound_domains.Tie as tie
+use Rattle.refusals.proofs.trees.domains_pass.Statement.{statement}
+use Rattle.refusals.proofs.trees.domains_pass.Tie as tie
 
 abbrev Inv-loop : tie.InvT-loop
 Inv-loop parents thresholds domains levels₀ d₀ levels d = (0 < d) × (d ≤ domains) × Passed domains parents thresholds levels d
@@ -78,8 +78,8 @@ loop-again c =
 returns-4 : tie.Need-returns-4 Inv-loop μ-loop
 returns-4 c = record { sound = λ _. passed-all _ _ _ _ _ (c .before .loop .inv .2) (omega arith) }
 
-pub sound-domains-spec : {M : Type 1} → statement M
-sound-domains-spec =
+pub domains-pass-spec : {M : Type 1} → statement M
+domains-pass-spec =
     tie.close
     (tie.spec
     Inv-loop

@@ -1,8 +1,8 @@
 -- Both rows without a domain are compared in turn. Assumes nothing.
 use borrow.Author.Tests.{eq-eqb, ne-eqb}
 use borrow.Author.Needs.{needs}
-use Rattle.steps.proofs.run.domain_told.Statement.{statement}
-use Rattle.steps.proofs.run.domain_told.Tie as tie
+use Rattle.steps.proofs.run.domain_of_code.Statement.{statement}
+use Rattle.steps.proofs.run.domain_of_code.Tie as tie
 
 wide-requires : tie.Need-wide-requires
 wide-requires c κs = search needs
@@ -22,5 +22,5 @@ cast-result c = search needs
 returns-3 : tie.Need-returns-3
 returns-3 c = rw (ne-eqb _ _ (c .before .if1 .left), ne-eqb _ _ (c .if2 .left))
 
-pub domain-told-spec : {M : Type 1} → statement M
-domain-told-spec = tie.close (tie.spec wide-requires returns wide-requires-2 returns-2 cast-result returns-3)
+pub domain-of-code-spec : {M : Type 1} → statement M
+domain-of-code-spec = tie.close (tie.spec wide-requires returns wide-requires-2 returns-2 cast-result returns-3)
