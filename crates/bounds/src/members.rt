@@ -10,12 +10,6 @@ ghost use Rattle.refusals.specs.Arrays.{tree-in, parents-in};
 ghost use Rattle.starvation_freedom.specs.Bounds.{members};
 ghost use Rattle.bounds.specs.Arrays.{member-word};
 
-pub(crate) fn wide(x: u8) -> u32
-    ensures { λ r. ⌜ r ≡ x ⌝ }
-{
-    x as u32
-}
-
 fn is_child_at(parents: &[u8; 64], domains: u32, d: u32, c: u32) -> bool
     requires { ⌜ domains ≤ 64 ⌝ }
     requires { ⌜ c < domains ⌝ }
@@ -26,7 +20,7 @@ fn is_child_at(parents: &[u8; 64], domains: u32, d: u32, c: u32) -> bool
     }
     let at = c as usize;
     let p = parents[at];
-    wide(p) == d
+    model::numbers::byte_number(p) == d
 }
 
 fn has_child(parents: &[u8; 64], domains: u32, d: u32) -> bool
@@ -109,7 +103,7 @@ fn is_member_at<'a>(
         if m < threads {
             let at = m as usize;
             let h = homes[at];
-            return wide(h) == d;
+            return model::numbers::byte_number(h) == d;
         }
         return false;
     }

@@ -8,12 +8,6 @@ use crate::FileReply;
 use model::RunReply;
 use model::TreeWords;
 
-fn wide(x: u32) -> usize
-    ensures { λ r. ⌜ r ≡ x ⌝ }
-{
-    x as usize
-}
-
 // What a run replied, as the file call answers it.
 fn answer_run(reply: RunReply, trace: &[u16], output: &mut [u8]) -> FileReply
     requires { ⌜ reply .counts .entries ≤ length (now trace) ⌝ }
@@ -29,7 +23,7 @@ fn answer_run(reply: RunReply, trace: &[u16], output: &mut [u8]) -> FileReply
         };
     }
     let counts = reply.counts;
-    let n = wide(counts.entries);
+    let n = model::numbers::number_index(counts.entries);
     let length = printed_listing::write_listing(counts, &trace[..n], output);
     if length == 0 {
         return FileReply {

@@ -111,12 +111,6 @@ fn put_threads(buffer: &mut [u8], start: usize, homes: &[u8; 256], threads: usiz
     at
 }
 
-fn wide(x: u32) -> usize
-    ensures { λ r. ⌜ r ≡ x ⌝ }
-{
-    x as usize
-}
-
 // D in a byte, with 128 more for a ticket root.
 fn first_byte_of(tree: TreeWords) -> u8
     requires { ⌜ tree .domains ≤ 64 ⌝ }
@@ -142,10 +136,15 @@ pub(crate) fn put_tree(buffer: &mut [u8], tree: TreeWords) -> usize
         1,
         &tree.parents,
         &tree.thresholds,
-        wide(tree.domains),
+        model::numbers::number_index(tree.domains),
     );
     let behind_count = put_two_bytes(buffer, behind_domains, tree.threads as u16);
-    put_threads(buffer, behind_count, &tree.homes, wide(tree.threads))
+    put_threads(
+        buffer,
+        behind_count,
+        &tree.homes,
+        model::numbers::number_index(tree.threads),
+    )
 }
 
 // The schedule from a position on, two bytes an entry.

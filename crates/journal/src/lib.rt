@@ -62,12 +62,6 @@ fn size_of(bits: u8) -> usize
     }
 }
 
-fn wide(x: u8) -> usize
-    ensures { λ r. ⌜ r ≡ x ⌝ }
-{
-    x as usize
-}
-
 // A thread that is given, or that of the entry before; by a product and not by a branch, since nothing foretells which it is.
 fn thread_by(given: u16, there: u16, before: u16) -> u16
     requires { ⌜ given ≤ 1 ⌝ }
@@ -113,7 +107,7 @@ pub fn read_entry(journal: &[u8], position: usize, before: u16) -> Entry
         return Entry::Broken;
     }
     if 4 <= journal.len() - position {
-        return whole_entry(journal, position, before, wide(bits));
+        return whole_entry(journal, position, before, model::numbers::byte_index(bits));
     }
     if journal.len() - position < size_of(bits) {
         return Entry::Broken;

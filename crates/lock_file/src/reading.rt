@@ -10,18 +10,6 @@ use crate::ThreadsRead;
 use crate::TreeRead;
 use model::TreeWords;
 
-fn wide(x: u8) -> usize
-    ensures { λ r. ⌜ r ≡ x ⌝ }
-{
-    x as usize
-}
-
-fn wide_word(x: u8) -> u16
-    ensures { λ r. ⌜ r ≡ x ⌝ }
-{
-    x as u16
-}
-
 // The byte at a position; 0 behind the file.
 fn byte_at(file: &[u8], at: usize) -> u8
     ensures { λ r. ⌜ r ≡ byte (now (file .entry)) at ⌝ }
@@ -36,8 +24,8 @@ fn two_bytes_at(file: &[u8], at: usize) -> u16
     if file.len() <= at {
         return 0;
     }
-    let low = wide_word(byte_at(file, at));
-    let high = wide_word(byte_at(file, at + 1));
+    let low = model::numbers::byte_word(byte_at(file, at));
+    let high = model::numbers::byte_word(byte_at(file, at + 1));
     low + 256 * high
 }
 
@@ -72,7 +60,7 @@ fn entry_end_at(file: &[u8], largest: u8, at: usize, size: usize) -> Reached
 fn domain_size_of(map: u8) -> usize
     ensures { λ r. ⌜ r ≡ domain-size map ⌝ }
 {
-    1 + wide(map % 2) + 2 * wide(map / 2 % 2)
+    1 + model::numbers::byte_index(map % 2) + 2 * model::numbers::byte_index(map / 2 % 2)
 }
 
 fn domain_end_at(file: &[u8], at: usize) -> Reached
@@ -98,7 +86,7 @@ fn threshold_of(file: &[u8], at: usize) -> u16
 {
     let map = byte_at(file, at);
     if map / 2 % 2 == 1 {
-        two_bytes_at(file, at + 1 + wide(map % 2))
+        two_bytes_at(file, at + 1 + model::numbers::byte_index(map % 2))
     } else {
         16
     }
@@ -180,13 +168,18 @@ fn read_domains(file: &[u8]) -> DomainsRead
         };
     }
     let first = byte_at(file, 0);
-    read_domains_from(file, wide(first % 128))
+    read_domains_from(file, model::numbers::byte_index(first % 128))
 }
 
 fn thread_end_at(file: &[u8], at: usize) -> Reached
     ensures { λ r. ⌜ r ≡ thread-end (now (file .entry)) at ⌝ }
 {
-    entry_end_at(file, 1, at, 1 + wide(byte_at(file, at) % 2))
+    entry_end_at(
+        file,
+        1,
+        at,
+        1 + model::numbers::byte_index(byte_at(file, at) % 2),
+    )
 }
 
 fn home_of(file: &[u8], before: u8, at: usize) -> u8
@@ -236,18 +229,16 @@ fn read_threads_from(file: &[u8], threads: usize, start: usize) -> ThreadsRead
     }
 }
 
-fn wide_count(x: u16) -> usize
-    ensures { λ r. ⌜ r ≡ x ⌝ }
-{
-    x as usize
-}
-
 // T at a position, then the threads.
 fn read_threads_behind(file: &[u8], at: usize) -> ThreadsRead
     ensures { λ r. ⌜ r ≡ threads-behind (now (file .entry)) at (field-end (now (file .entry)) at 2) ⌝ }
 {
     match field_end_at(file, at, 2) {
-        Reached::At(next) => read_threads_from(file, wide_count(two_bytes_at(file, at)), next),
+        Reached::At(next) => read_threads_from(
+            file,
+            model::numbers::word_index(two_bytes_at(file, at)),
+            next,
+        ),
         Reached::Ended => ThreadsRead {
             reached: Reached::Ended,
             homes: [0u8; 256],
@@ -289,17 +280,11 @@ fn root_number_of(x: u8) -> u32
     (x / 128) as u32
 }
 
-fn word_count(x: u16) -> u32
-    ensures { λ r. ⌜ r ≡ x ⌝ }
-{
-    x as u32
-}
-
 fn thread_count_of(file: &[u8], reached: Reached) -> u32
     ensures { λ r. ⌜ r ≡ thread-count (now (file .entry)) reached ⌝ }
 {
     match reached {
-        Reached::At(at) => word_count(two_bytes_at(file, at)),
+        Reached::At(at) => model::numbers::word_number(two_bytes_at(file, at)),
         Reached::Ended => 0,
         Reached::BadMap(_) => 0,
     }

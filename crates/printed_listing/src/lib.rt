@@ -138,12 +138,6 @@ fn first_line_length(counts: Counts) -> usize
     2 + spaced_length(&numbers)
 }
 
-fn wide(x: u16) -> u32
-    ensures { λ r. ⌜ r ≡ x ⌝ }
-{
-    x as u32
-}
-
 // Writes a line for each trace element from a position on, and returns the position behind the last.
 fn put_trace(output: &mut [u8], start: usize, trace: &[u16]) -> usize
     requires { ⌜ start + length (trace-lines (now trace)) ≤ length (now output) ⌝ }
@@ -154,7 +148,7 @@ fn put_trace(output: &mut [u8], start: usize, trace: &[u16]) -> usize
     let mut at = start;
     let mut k = 0;
     while k < trace.len() {
-        let i = wide(trace[k]);
+        let i = model::numbers::word_number(trace[k]);
         at = put_number(output, at, i, 10);
         k += 1;
     }
@@ -168,7 +162,7 @@ fn trace_fits(trace: &[u16], room: usize) -> bool
     let mut left = room;
     let mut k = 0;
     while k < trace.len() {
-        let n = number_length(wide(trace[k]));
+        let n = number_length(model::numbers::word_number(trace[k]));
         if left < n {
             return false;
         }

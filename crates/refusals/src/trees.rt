@@ -8,12 +8,6 @@ ghost use Rattle.model.specs.Refusals.{bad-parent, too-deep, no-threshold, bad-
 ghost use Rattle.refusals.specs.Arrays.{tree-in, parents-in, Lower, Domains-pass, No-domains, Unfit-homes, Marked-homes, Real-homes, Home-domains, Occupied, Homes-are-leaves, differ};
 ghost use Rattle.refusals.specs.Lowest.{Lowest};
 
-fn wide(x: u8) -> u32
-    ensures { λ r. ⌜ r ≡ x ⌝ }
-{
-    x as u32
-}
-
 fn bad_parent_at(parents: &[u8; 64], domains: u32, d: u32) -> bool
     requires { ⌜ domains ≤ 64 ⌝ }
     requires { ⌜ d < domains ⌝ }
@@ -24,7 +18,7 @@ fn bad_parent_at(parents: &[u8; 64], domains: u32, d: u32) -> bool
     }
     let at = d as usize;
     let p = parents[at];
-    d <= wide(p)
+    d <= model::numbers::byte_number(p)
 }
 
 pub(crate) fn lowest_bad_parent(parents: &[u8; 64], domains: u32) -> u32
@@ -110,7 +104,7 @@ pub(crate) fn domains_pass<'a>(
     while d < domains {
         let at = d as usize;
         let q = parents[at];
-        if d <= wide(q) {
+        if d <= model::numbers::byte_number(q) {
             return false;
         }
         let p = q as usize;
@@ -126,13 +120,6 @@ pub(crate) fn domains_pass<'a>(
         d += 1;
     }
     true
-}
-
-// A byte as an index of a table of 256.
-pub(crate) fn byte_index(x: u8) -> usize
-    ensures { λ r. ⌜ (r ≡ x) × (r < 256) ⌝ }
-{
-    x as usize
 }
 
 // Of each byte, whether it is no domain of the tree.
@@ -158,7 +145,7 @@ pub(crate) fn mark_unfit_homes(bad: &mut [bool; 256], parents: &[u8; 64], domain
     let mut d: u32 = 1;
     while d < domains {
         let at = d as usize;
-        let p = byte_index(parents[at]);
+        let p = model::numbers::byte_index(parents[at]);
         bad[p] = true;
         d += 1;
     }
@@ -178,7 +165,7 @@ pub(crate) fn lowest_bad_home<'a>(
     let mut i: u32 = 0;
     while i < threads {
         let at = i as usize;
-        let h = byte_index(homes[at]);
+        let h = model::numbers::byte_index(homes[at]);
         if bad[h] {
             return i;
         }
@@ -196,7 +183,7 @@ fn marked_homes(marked: &mut [bool; 256], homes: &[u8; 256], threads: u32)
     let mut i: u32 = 0;
     while i < threads {
         let at = i as usize;
-        let h = byte_index(homes[at]);
+        let h = model::numbers::byte_index(homes[at]);
         marked[h] = true;
         i += 1;
     }
@@ -254,7 +241,7 @@ fn home_domains(homes: &[u8; 256], domains: u32, threads: u32) -> [bool; 64]
     let mut i: u32 = 0;
     while i < threads {
         let at = i as usize;
-        let h = byte_index(homes[at]);
+        let h = model::numbers::byte_index(homes[at]);
         occupied[h] = true;
         i += 1;
     }
@@ -277,7 +264,7 @@ pub(crate) fn occupied<'a>(
     let mut d = domains - 1;
     while 0 < d {
         let at = d as usize;
-        let p = byte_index(parents[at]);
+        let p = model::numbers::byte_index(parents[at]);
         if occupied[at] {
             occupied[p] = true;
         }

@@ -10,12 +10,6 @@ use model::Counts;
 use model::PlaceWords;
 use model::TreeWords;
 
-pub(crate) fn wide(x: u32) -> usize
-    ensures { λ r. ⌜ r ≡ x ⌝ }
-{
-    x as usize
-}
-
 // Writes a row's eight numbers from a position on.
 fn put_row(rows: &mut [u32], at: usize, number: u32, place: u32, counts: Counts)
     requires { ⌜ at + 8 ≤ length (now rows) ⌝ }
@@ -97,7 +91,7 @@ pub(crate) fn run_rows(
     let mut from: usize = 0;
     let mut at: usize = 0;
     while k < lengths.len() {
-        let end = from + wide(lengths[k]);
+        let end = from + model::numbers::number_index(lengths[k]);
         run_row(tree, &entries[from..end], trace, rows, at);
         from = end;
         at += 8;

@@ -116,9 +116,3 @@ pub(crate) fn domain_by_row(home: u8, row: u8, l: u8) -> u8
     }
     l
 }
-
-pub(crate) fn wide(x: u8) -> u32
-    ensures { λ r. ⌜ r ≡ x ⌝ }
-{
-    x as u32
-}

@@ -32,19 +32,13 @@ fn is_first_digit_byte(b: u8) -> bool
     b < 58
 }
 
-fn wide(b: u8) -> u32
-    ensures { λ r. ⌜ r ≡ b ⌝ }
-{
-    b as u32
-}
-
 // A number with one digit more.
 fn grow(number: u32, b: u8) -> u32
     requires { ⌜ number ≤ 65535 ⌝ }
     requires { ⌜ 48 ≤ b ⌝ }
     ensures { λ r. ⌜ r ≡ grown number b ⌝ }
 {
-    10 * number + wide(b - 48)
+    10 * number + model::numbers::byte_number(b - 48)
 }
 
 // A count with one digit more; more than 257 threads are as many as 257.
@@ -90,7 +84,7 @@ pub(crate) fn read_count(text: &[u8], at: usize) -> Number
     if !is_first_digit_byte(b) {
         return Number::Stopped(at);
     }
-    read_more_count(text, at + 1, wide(b - 48))
+    read_more_count(text, at + 1, model::numbers::byte_number(b - 48))
 }
 
 // The other digits of a threshold, as long as it is one.
@@ -115,5 +109,5 @@ pub(crate) fn read_threshold(text: &[u8], at: usize) -> Number
     if !is_first_digit_byte(b) {
         return Number::Stopped(at);
     }
-    read_more_threshold(text, at + 1, wide(b - 48))
+    read_more_threshold(text, at + 1, model::numbers::byte_number(b - 48))
 }

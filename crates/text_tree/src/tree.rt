@@ -4,12 +4,6 @@ ghost use Prim.Native.Nat.{_≤_};
 ghost use Rattle.text_tree.specs.Words.{no-words, root-words, least, filled-from, new-number, domain-added, threads-added};
 use model::TreeWords;
 
-fn wide(x: u32) -> usize
-    ensures { λ r. ⌜ r ≡ x ⌝ }
-{
-    x as usize
-}
-
 fn least_of(limit: u32, x: u32) -> u32
     ensures { λ r. ⌜ r ≡ least limit x ⌝ }
 {
@@ -69,8 +63,8 @@ pub(crate) fn add_domain(tree: TreeWords, parent: u8, threshold: u16) -> TreeWor
             ticket_root: 0,
         };
     }
-    parents[wide(domains)] = parent;
-    thresholds[wide(domains)] = threshold;
+    parents[model::numbers::number_index(domains)] = parent;
+    thresholds[model::numbers::number_index(domains)] = threshold;
     TreeWords {
         domains: domains + 1,
         threads,
@@ -101,12 +95,17 @@ pub(crate) fn add_threads(tree: TreeWords, home: u8, count: u32) -> TreeWords
 {
     let before = least_of(257, tree.threads);
     let threads = before + least_of(257 - before, count);
-    let end = wide(least_of(256, threads));
+    let end = model::numbers::number_index(least_of(256, threads));
     let domains = tree.domains;
     let parents = tree.parents;
     let thresholds = tree.thresholds;
     let homes_before = tree.homes;
-    let homes = fill_homes(homes_before, wide(before), end, home);
+    let homes = fill_homes(
+        homes_before,
+        model::numbers::number_index(before),
+        end,
+        home,
+    );
     TreeWords {
         domains,
         threads,

@@ -16,12 +16,6 @@ ghost use Rattle.waits.specs.Waiting.{kinds-added, ticket-home, mark-at,
 use model::State;
 use model::TreeWords;
 
-fn wide(x: u16) -> usize
-    ensures { λ r. ⌜ r ≡ x ⌝ }
-{
-    x as usize
-}
-
 fn larger(a: u64, b: u64) -> u64
     ensures { λ r. ⌜ r ≡ max a b ⌝ }
 {
@@ -122,7 +116,7 @@ fn count_piece(
     let mut entered = count;
     let mut k: usize = 0;
     while k < schedule.len() {
-        let at = wide(schedule[k]);
+        let at = model::numbers::word_index(schedule[k]);
         let code = codes[k];
         let home = tree.homes[at];
         let begins = begins_at(is_ticket_home(tree.ticket_root, home), home, code / 8);

@@ -27,8 +27,8 @@ cast-at c = omega arith
 element-copy-out-p : tie.Need-element-copy-out-p Inv-loop μ-loop
 element-copy-out-p c = omega arith
 
-wide-requires : tie.Need-wide-requires Inv-loop μ-loop
-wide-requires c κs = search needs
+byte-number-requires : tie.Need-byte-number-requires Inv-loop μ-loop
+byte-number-requires c κs = search needs
 
 add-n : tie.Need-add-n Inv-loop μ-loop
 add-n c = omega arith
@@ -37,13 +37,13 @@ loop-less : tie.Need-loop-less Inv-loop μ-loop
 loop-less c =
     let l = c .before .before .before in
     let v = l .loop .inv in
-    parent-below _ (v .0) _ _ (omega (arith, c .before .before .loop-test .taken)) (v .3) (c .wide .ensures)
+    parent-below _ (v .0) _ _ (omega (arith, c .before .before .loop-test .taken)) (v .3) (c .byte-number .ensures)
 
 loop-again : tie.Need-loop-again Inv-loop μ-loop
 loop-again c =
     let v = c .before .before .before .loop .inv in
-    let low = parent-below _ (v .0) _ _ (omega (arith, c .before .before .loop-test .taken)) (v .3) (c .wide .ensures) in
-    (v .0, v .1, v .2, omega arith, level-up _ (v .0) _ _ _ _ (omega (arith, c .before .before .loop-test .taken)) (v .3) (c .wide .ensures) (v .4))
+    let low = parent-below _ (v .0) _ _ (omega (arith, c .before .before .loop-test .taken)) (v .3) (c .byte-number .ensures) in
+    (v .0, v .1, v .2, omega arith, level-up _ (v .0) _ _ _ _ (omega (arith, c .before .before .loop-test .taken)) (v .3) (c .byte-number .ensures) (v .4))
 
 returns : tie.Need-returns Inv-loop μ-loop
 returns c =
@@ -52,4 +52,4 @@ returns c =
 
 pub level-of-spec : {M : Type 1} → statement M
 level-of-spec =
-    tie.close (tie.spec Inv-loop μ-loop loop-holds cast-at element-copy-out-p wide-requires add-n loop-less loop-again returns)
+    tie.close (tie.spec Inv-loop μ-loop loop-holds cast-at element-copy-out-p byte-number-requires add-n loop-less loop-again returns)

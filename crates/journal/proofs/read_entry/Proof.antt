@@ -27,19 +27,19 @@ returns-2 c = rw (lt-ltb _ _ (c .before .before .if1 .left), lt-ltb _ _ (c .if2 
 sub-if3 : tie.Need-sub-if3
 sub-if3 c = search needs
 
-wide-requires : tie.Need-wide-requires
-wide-requires c κs = search needs
+byte-index-requires : tie.Need-byte-index-requires
+byte-index-requires c κs = search needs
 
 whole-entry-requires : tie.Need-whole-entry-requires
 whole-entry-requires c κs =
     let bits = c .before .before .if2 .left in
-    (omega (arith, bits, c .wide .ensures), omega (arith, c .before .if3 .taken, c .before .before .before .before .if1 .left))
+    (omega (arith, bits, c .byte-index .ensures .0), omega (arith, c .before .if3 .taken, c .before .before .before .before .if1 .left))
 
 returns-3 : tie.Need-returns-3
 returns-3 c =
     let a = c .before .before .before .before .before .before .before .args in
-    let few : c .before .wide .result ≤ 3 = omega (arith, c .before .before .before .if2 .left, c .before .wide .ensures) in
-    c .whole-entry .ensures ∙ sym (whole-entry (a .journal .now) (a .position) (a .before) (c .before .wide .result) (c .before .before .before .before .before .if1 .left) (sym (c .before .wide .ensures)) few (omega (arith, few, c .before .before .if3 .taken)))
+    let few : c .before .byte-index .result ≤ 3 = omega (arith, c .before .before .before .if2 .left, c .before .byte-index .ensures .0) in
+    c .whole-entry .ensures ∙ sym (whole-entry (a .journal .now) (a .position) (a .before) (c .before .byte-index .result) (c .before .before .before .before .before .if1 .left) (sym (c .before .byte-index .ensures .0)) few (omega (arith, few, c .before .before .if3 .taken)))
 
 sub-if4 : tie.Need-sub-if4
 sub-if4 c = search needs
@@ -147,7 +147,7 @@ read-entry-spec =
     shared-slice-read-bits
     returns-2
     sub-if3
-    wide-requires
+    byte-index-requires
     whole-entry-requires
     returns-3
     sub-if4

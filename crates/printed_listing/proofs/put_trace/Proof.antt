@@ -23,19 +23,19 @@ abbrev μ-loop : tie.MeasureT-loop
 loop-holds : tie.Need-loop-holds Inv-loop μ-loop
 loop-holds c = (search needs, refl, refl, refl, omega arith)
 
-mul-wide : tie.Need-mul-wide Inv-loop μ-loop
-mul-wide c = search needs
+mul-word-number : tie.Need-mul-word-number Inv-loop μ-loop
+mul-word-number c = search needs
 
-shared-slice-read-wide : tie.Need-shared-slice-read-wide Inv-loop μ-loop
-shared-slice-read-wide c = search needs
+shared-slice-read-word-number : tie.Need-shared-slice-read-word-number Inv-loop μ-loop
+shared-slice-read-word-number c = search needs
 
-wide-requires : tie.Need-wide-requires Inv-loop μ-loop
-wide-requires c κs = search needs
+word-number-requires : tie.Need-word-number-requires Inv-loop μ-loop
+word-number-requires c κs = search needs
 
 put-number-requires : tie.Need-put-number-requires Inv-loop μ-loop
 put-number-requires c κs =
     let h = c .before .before .before .before .loop in
-    let element = c .before .wide in
+    let element = c .before .word-number in
     let next = trace-length-next (c .before .before .before .before .before .before .before .args .trace .now) (h .k) (c .before .before .before .loop-test .taken) in
     omega (arith, length-number (element .result) 10, ap (λ v. length (numeral v)) (element .ensures))
 
@@ -49,7 +49,7 @@ loop-again : tie.Need-loop-again Inv-loop μ-loop
 loop-again c =
     let h = c .before .before .before .before .before .before .before .loop in
     let a = c .before .before .before .before .before .before .before .before .before .before .args in
-    let element = c .before .before .before .before .wide in
+    let element = c .before .before .before .before .word-number in
     let n = c .before .before .put-number in
     let t = c .before .before .before .before .before .before .loop-test .taken in
     let next = trace-length-next (a .trace .now) (h .k) t in (
@@ -76,9 +76,9 @@ put-trace-spec =
     Inv-loop
     μ-loop
     loop-holds
-    mul-wide
-    shared-slice-read-wide
-    wide-requires
+    mul-word-number
+    shared-slice-read-word-number
+    word-number-requires
     put-number-requires
     add-k
     loop-less

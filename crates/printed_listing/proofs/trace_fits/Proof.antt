@@ -20,14 +20,14 @@ abbrev μ-loop : tie.MeasureT-loop
 loop-holds : tie.Need-loop-holds Inv-loop μ-loop
 loop-holds c = (omega arith, omega arith)
 
-mul-wide : tie.Need-mul-wide Inv-loop μ-loop
-mul-wide c = search needs
+mul-word-number : tie.Need-mul-word-number Inv-loop μ-loop
+mul-word-number c = search needs
 
-shared-slice-read-wide : tie.Need-shared-slice-read-wide Inv-loop μ-loop
-shared-slice-read-wide c = search needs
+shared-slice-read-word-number : tie.Need-shared-slice-read-word-number Inv-loop μ-loop
+shared-slice-read-word-number c = search needs
 
-wide-requires : tie.Need-wide-requires Inv-loop μ-loop
-wide-requires c κs = search needs
+word-number-requires : tie.Need-word-number-requires Inv-loop μ-loop
+word-number-requires c κs = search needs
 
 number-length-requires : tie.Need-number-length-requires Inv-loop μ-loop
 number-length-requires c κs = search needs
@@ -37,7 +37,7 @@ returns c =
     let h = c .before .before .before .before .before .loop in
     let is = c .before .before .before .before .before .before .before .args .trace .now in
     let next = trace-length-next is (h .k) (c .before .before .before .before .loop-test .taken) in
-    let long = ap (λ v. length (numeral v)) (c .before .before .wide .ensures) in
+    let long = ap (λ v. length (numeral v)) (c .before .before .word-number .ensures) in
     let more : c .before .before .before .before .before .before .before .args .room < length (trace-lines is) = omega arith in
     sym (lt-leb _ _ more)
 
@@ -51,7 +51,7 @@ loop-again : tie.Need-loop-again Inv-loop μ-loop
 loop-again c =
     let h = c .before .before .before .before .before .loop in
     let next = trace-length-next (c .before .before .before .before .before .before .before .args .trace .now) (h .k) (c .before .before .before .before .loop-test .taken) in
-    let long = ap (λ v. length (numeral v)) (c .before .before .wide .ensures) in
+    let long = ap (λ v. length (numeral v)) (c .before .before .word-number .ensures) in
     (omega arith, omega arith)
 
 returns-2 : tie.Need-returns-2 Inv-loop μ-loop
@@ -67,9 +67,9 @@ trace-fits-spec =
     Inv-loop
     μ-loop
     loop-holds
-    mul-wide
-    shared-slice-read-wide
-    wide-requires
+    mul-word-number
+    shared-slice-read-word-number
+    word-number-requires
     number-length-requires
     returns
     add-k

@@ -18,14 +18,14 @@ abbrev μ-loop : tie.MeasureT-loop
 loop-holds : tie.Need-loop-holds Inv-loop μ-loop
 loop-holds c = omega arith
 
-mul-wide : tie.Need-mul-wide Inv-loop μ-loop
-mul-wide c = omega arith
+mul-number-index : tie.Need-mul-number-index Inv-loop μ-loop
+mul-number-index c = omega arith
 
-shared-slice-read-wide : tie.Need-shared-slice-read-wide Inv-loop μ-loop
-shared-slice-read-wide c = omega arith
+shared-slice-read-number-index : tie.Need-shared-slice-read-number-index Inv-loop μ-loop
+shared-slice-read-number-index c = omega arith
 
-wide-requires : tie.Need-wide-requires Inv-loop μ-loop
-wide-requires c κs = search needs
+number-index-requires : tie.Need-number-index-requires Inv-loop μ-loop
+number-index-requires c κs = search needs
 
 returns : tie.Need-returns Inv-loop μ-loop
 returns c = too-long _ _ _ (c .before .before .before .before .loop .k) (c .before .before .before .before .loop .inv) (omega arith) (omega arith)
@@ -49,9 +49,9 @@ adds-up-spec =
     Inv-loop
     μ-loop
     loop-holds
-    mul-wide
-    shared-slice-read-wide
-    wide-requires
+    mul-number-index
+    shared-slice-read-number-index
+    number-index-requires
     returns
     add-k
     loop-less

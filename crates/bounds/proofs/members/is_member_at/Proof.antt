@@ -10,15 +10,15 @@ use Rattle.bounds.proofs.members.is_member_at.Tie as tie
 element-copy-out-h : tie.Need-element-copy-out-h
 element-copy-out-h c = search needs
 
-wide-requires : tie.Need-wide-requires
-wide-requires c κs = search needs
+byte-number-requires : tie.Need-byte-number-requires
+byte-number-requires c κs = search needs
 
 returns : tie.Need-returns
 unfolding is-member tree-of
 returns c =
     let a = c .before .before .before .before .args in
     let real = c .before .before .if2 .taken in
-    rw (c .wide .ensures, lt-ltb _ _ (c .before .before .before .if1 .taken), home-in (a .domains) (a .threads) (a .parents .now) [] (a .homes .now) (a .m) real, lt-ltb (a .m) (a .threads) real)
+    rw (c .byte-number .ensures, lt-ltb _ _ (c .before .before .before .if1 .taken), home-in (a .domains) (a .threads) (a .parents .now) [] (a .homes .now) (a .m) real, lt-ltb (a .m) (a .threads) real)
 
 returns-2 : tie.Need-returns-2
 unfolding is-member tree-of
@@ -37,4 +37,4 @@ returns-4 c = rw (le-ltb _ _ (c .before .if1 .left), le-ltb _ _ (c .if3 .left))
 
 pub is-member-at-spec : {M : Type 1} → statement M
 is-member-at-spec =
-    tie.close (tie.spec element-copy-out-h wide-requires returns returns-2 is-child-at-requires returns-3 returns-4)
+    tie.close (tie.spec element-copy-out-h byte-number-requires returns returns-2 is-child-at-requires returns-3 returns-4)

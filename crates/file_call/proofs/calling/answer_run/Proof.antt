@@ -18,12 +18,12 @@ returns : tie.Need-returns
 unfolding run-outcome outcome-reply outcome-output refusal
 returns c = (rw (ne-eqb _ _ (c .if1 .taken)), rw (ne-eqb _ _ (c .if1 .taken)))
 
-wide-requires : tie.Need-wide-requires
-wide-requires c κs = search needs
+number-index-requires : tie.Need-number-index-requires
+number-index-requires c κs = search needs
 
 slice-aggregate-write-listing : tie.Need-slice-aggregate-write-listing
 slice-aggregate-write-listing c =
-    let n = c .before .wide .result in
+    let n = c .before .number-index .result in
     let is = c .before .before .before .before .before .before .before .args .trace .now in
     let h : n ≤ length is = omega arith in
     sym (length-take-le n is h)
@@ -41,7 +41,7 @@ returns-2 c =
     let ls = listing (a .reply .counts) (take (a .reply .counts .entries) (a .trace .now)) in
     let room = length (a .output .now) in
     let zero = eq-eqb _ _ (c .before .before .before .before .before .before .before .before .if1 .left) in
-    let n = c .before .before .before .before .before .before .wide .ensures in
+    let n = c .before .before .before .before .before .before .number-index .ensures in
     let written = c .before .before .before .write-listing in
     let long : written .result ≡ printed-length ls room = written .ensures .0 ∙ rw n in
     let left : written .last .1 .1 .0 ≡ printed ls (a .output .now) = written .ensures .1 .1 ∙ rw n in
@@ -50,7 +50,7 @@ returns-2 c =
 
 cast-t12 : tie.Need-cast-t12
 cast-t12 c =
-    let n = c .before .before .before .before .before .before .wide .result in
+    let n = c .before .before .before .before .before .before .number-index .result in
     let is = c .before .before .before .before .before .before .before .before .before .before .before .before .args .trace .now in
     let h : n ≤ length is = omega arith in
     search (needs, length-take-le n is h, c .before .before .before .write-listing .ensures .1 .0)
@@ -65,7 +65,7 @@ returns-3 c =
     let ls = listing (a .reply .counts) (take (a .reply .counts .entries) (a .trace .now)) in
     let room = length (a .output .now) in
     let zero = eq-eqb _ _ (c .before .before .before .before .before .before .before .before .if1 .left) in
-    let n = c .before .before .before .before .before .before .wide .ensures in
+    let n = c .before .before .before .before .before .before .number-index .ensures in
     let written = c .before .before .before .write-listing in
     let long : written .result ≡ printed-length ls room = written .ensures .0 ∙ rw n in
     let left : written .last .1 .1 .0 ≡ printed ls (a .output .now) = written .ensures .1 .1 ∙ rw n in
@@ -77,7 +77,7 @@ answer-run-spec =
     tie.close
     (tie.spec
     returns
-    wide-requires
+    number-index-requires
     slice-aggregate-write-listing
     write-listing-requires
     same-length

@@ -13,14 +13,14 @@ first-byte-of-requires c κs = search needs
 slice-write-buffer : tie.Need-slice-write-buffer
 slice-write-buffer c = omega (arith, parts-length (c .before .before .args .t2))
 
-wide-requires : tie.Need-wide-requires
-wide-requires c κs = search needs
+number-index-requires : tie.Need-number-index-requires
+number-index-requires c κs = search needs
 
 put-domains-requires : tie.Need-put-domains-requires
 put-domains-requires c κs =
     let w = c .before .before .before .before .before .before .before .args .t2 in
     let pre = c .before .before .before .before .before .before .before .pre in
-    let long = ap length (domains-same w _ (c .wide .ensures)) in
+    let long = ap length (domains-same w _ (c .number-index .ensures)) in
     ((omega arith, omega arith), simp length-set (omega (arith, long, parts-length w, pre .1 .1)))
 
 cast-put-two-bytes : tie.Need-cast-put-two-bytes
@@ -32,12 +32,12 @@ put-two-bytes-requires c κs =
     let w = a .t2 in
     let pre = c .before .before .before .before .before .before .before .before .before .before .before .pre in
     let domains = c .before .before .before .put-domains in
-    let long = ap length (domains-same w _ (c .before .before .before .before .wide .ensures)) in
+    let long = ap length (domains-same w _ (c .before .before .before .before .number-index .ensures)) in
     let kept = domains .kept .0 ∙ length-set (a .buffer .now) 0 (c .before .before .before .before .before .before .before .before .before .first-byte-of .result) in
     omega (arith, long, domains .ensures .0, kept, parts-length w, pre .1 .1)
 
-wide-requires-2 : tie.Need-wide-requires-2
-wide-requires-2 c κs = search needs
+number-index-requires-2 : tie.Need-number-index-requires-2
+number-index-requires-2 c κs = search needs
 
 put-threads-requires : tie.Need-put-threads-requires
 put-threads-requires c κs =
@@ -46,8 +46,8 @@ put-threads-requires c κs =
     let pre = c .before .before .before .before .before .before .before .before .before .before .before .before .before .before .before .before .before .before .pre in
     let domains = c .before .before .before .before .before .before .before .before .before .before .put-domains in
     let count = c .before .before .before .before .before .before .put-two-bytes in
-    let d = domains-same w _ (c .before .before .before .before .before .before .before .before .before .before .before .wide .ensures) in
-    let t = threads-same w _ (c .wide2 .ensures) in
+    let d = domains-same w _ (c .before .before .before .before .before .before .before .before .before .before .before .number-index .ensures) in
+    let t = threads-same w _ (c .number-index2 .ensures) in
     let kept = count .kept .0 ∙ domains .kept .0 ∙ length-set (a .buffer .now) 0 (c .before .before .before .before .before .before .before .before .before .before .before .before .before .before .before .before .first-byte-of .result) in
     (omega arith, omega (arith, ap length d, ap length t, domains .ensures .0, count .ensures .0, kept, parts-length w, pre .1 .1))
 
@@ -58,8 +58,8 @@ same-length c =
     let pre = c .before .before .before .before .before .before .before .before .before .before .before .before .before .before .before .before .before .before .before .before .before .pre in
     let domains = c .before .before .before .before .before .before .before .before .before .before .before .before .before .put-domains in
     let count = c .before .before .before .before .before .before .before .before .before .put-two-bytes in
-    let d = domains-same w _ (c .before .before .before .before .before .before .before .before .before .before .before .before .before .before .wide .ensures) in
-    let t = threads-same w _ (c .before .before .before .wide2 .ensures) in
+    let d = domains-same w _ (c .before .before .before .before .before .before .before .before .before .before .before .before .before .before .number-index .ensures) in
+    let t = threads-same w _ (c .before .before .before .number-index2 .ensures) in
     let kept = count .kept .0 ∙ domains .kept .0 ∙ length-set (a .buffer .now) 0 (c .before .before .before .before .before .before .before .before .before .before .before .before .before .before .before .before .before .before .before .first-byte-of .result) in
     c .before .before .put-threads .kept .0 ∙ kept
 
@@ -70,8 +70,8 @@ returns c =
     let pre = c .before .before .before .before .before .before .before .before .before .before .before .before .before .before .before .before .before .before .before .before .before .pre in
     let domains = c .before .before .before .before .before .before .before .before .before .before .before .before .before .put-domains in
     let count = c .before .before .before .before .before .before .before .before .before .put-two-bytes in
-    let d = domains-same w _ (c .before .before .before .before .before .before .before .before .before .before .before .before .before .before .wide .ensures) in
-    let t = threads-same w _ (c .before .before .before .wide2 .ensures) in
+    let d = domains-same w _ (c .before .before .before .before .before .before .before .before .before .before .before .before .before .before .number-index .ensures) in
+    let t = threads-same w _ (c .before .before .before .number-index2 .ensures) in
     let kept = count .kept .0 ∙ domains .kept .0 ∙ length-set (a .buffer .now) 0 (c .before .before .before .before .before .before .before .before .before .before .before .before .before .before .before .before .before .before .before .first-byte-of .result) in
     let threads = c .before .before .put-threads in
     let first = c .before .before .before .before .before .before .before .before .before .before .before .before .before .before .before .before .before .before .before .first-byte-of .ensures in (
@@ -85,11 +85,11 @@ put-tree-spec =
     (tie.spec
     first-byte-of-requires
     slice-write-buffer
-    wide-requires
+    number-index-requires
     put-domains-requires
     cast-put-two-bytes
     put-two-bytes-requires
-    wide-requires-2
+    number-index-requires-2
     put-threads-requires
     same-length
     returns)

@@ -14,8 +14,8 @@ enum-known-next c = search needs
 two-bytes-at-requires : tie.Need-two-bytes-at-requires
 two-bytes-at-requires c κs = search needs
 
-wide-count-requires : tie.Need-wide-count-requires
-wide-count-requires c κs = search needs
+word-index-requires : tie.Need-word-index-requires
+word-index-requires c κs = search needs
 
 read-threads-from-requires : tie.Need-read-threads-from-requires
 read-threads-from-requires c κs = search needs
@@ -28,7 +28,7 @@ enum-known-p c = search needs
 
 returns : tie.Need-returns
 unfolding threads-behind
-returns c = rw (sym (c .before .before .before .before .before .before .field-end-at .ensures) ∙ c .before .before .before .before .next .given .1, c .read-threads-from .ensures, c .before .wide-count .ensures, c .before .before .two-bytes-at .ensures)
+returns c = rw (sym (c .before .before .before .before .before .before .field-end-at .ensures) ∙ c .before .before .before .before .next .given .1, c .read-threads-from .ensures, c .before .word-index .ensures, c .before .before .two-bytes-at .ensures)
 
 returns-2 : tie.Need-returns-2
 unfolding threads-behind
@@ -45,7 +45,7 @@ read-threads-behind-spec =
     field-end-at-requires
     enum-known-next
     two-bytes-at-requires
-    wide-count-requires
+    word-index-requires
     read-threads-from-requires
     enum-told
     enum-known-p

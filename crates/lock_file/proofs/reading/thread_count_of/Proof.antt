@@ -10,8 +10,8 @@ enum-known-reached c = search needs
 two-bytes-at-requires : tie.Need-two-bytes-at-requires
 two-bytes-at-requires c κs = search needs
 
-word-count-requires : tie.Need-word-count-requires
-word-count-requires c κs = search needs
+word-number-requires : tie.Need-word-number-requires
+word-number-requires c κs = search needs
 
 enum-told : tie.Need-enum-told
 enum-told c = search needs
@@ -21,7 +21,7 @@ enum-told-2 c = search needs
 
 returns : tie.Need-returns
 unfolding thread-count
-returns c = rw (c .before .before .before .reached .given .1, c .word-count .ensures, c .before .two-bytes-at .ensures)
+returns c = rw (c .before .before .before .reached .given .1, c .word-number .ensures, c .before .two-bytes-at .ensures)
 
 returns-2 : tie.Need-returns-2
 unfolding thread-count
@@ -37,7 +37,7 @@ thread-count-of-spec =
     (tie.spec
     enum-known-reached
     two-bytes-at-requires
-    word-count-requires
+    word-number-requires
     enum-told
     enum-told-2
     returns

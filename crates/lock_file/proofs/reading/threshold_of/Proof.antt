@@ -11,8 +11,8 @@ byte-at-requires c κs = search needs
 add-two-bytes-at : tie.Need-add-two-bytes-at
 add-two-bytes-at c = search needs
 
-wide-requires : tie.Need-wide-requires
-wide-requires c κs = search needs
+byte-index-requires : tie.Need-byte-index-requires
+byte-index-requires c κs = search needs
 
 add-two-bytes-at-2 : tie.Need-add-two-bytes-at-2
 add-two-bytes-at-2 c = search needs
@@ -22,7 +22,7 @@ two-bytes-at-requires c κs = search needs
 
 returns : tie.Need-returns
 unfolding threshold-at
-returns c = rw (c .two-bytes-at .ensures, c .before .wide .ensures, ← c .before .before .before .byte-at .ensures, eq-eqb _ _ (c .before .before .if1 .taken))
+returns c = rw (c .two-bytes-at .ensures, c .before .byte-index .ensures .0, ← c .before .before .before .byte-at .ensures, eq-eqb _ _ (c .before .before .if1 .taken))
 
 returns-2 : tie.Need-returns-2
 unfolding threshold-at
@@ -34,7 +34,7 @@ threshold-of-spec =
     (tie.spec
     byte-at-requires
     add-two-bytes-at
-    wide-requires
+    byte-index-requires
     add-two-bytes-at-2
     two-bytes-at-requires
     returns

@@ -16,8 +16,8 @@ returns c =
 byte-at-requires : tie.Need-byte-at-requires
 byte-at-requires c κs = search needs
 
-wide-word-requires : tie.Need-wide-word-requires
-wide-word-requires c κs = search needs
+byte-word-requires : tie.Need-byte-word-requires
+byte-word-requires c κs = search needs
 
 add-byte-at : tie.Need-add-byte-at
 add-byte-at c = search needs
@@ -25,8 +25,8 @@ add-byte-at c = search needs
 byte-at-requires-2 : tie.Need-byte-at-requires-2
 byte-at-requires-2 c κs = search needs
 
-wide-word-requires-2 : tie.Need-wide-word-requires-2
-wide-word-requires-2 c κs = search needs
+byte-word-requires-2 : tie.Need-byte-word-requires-2
+byte-word-requires-2 c κs = search needs
 
 mul-result : tie.Need-mul-result
 mul-result c = search needs
@@ -43,10 +43,10 @@ two-bytes-at-spec =
     (tie.spec
     returns
     byte-at-requires
-    wide-word-requires
+    byte-word-requires
     add-byte-at
     byte-at-requires-2
-    wide-word-requires-2
+    byte-word-requires-2
     mul-result
     add-result
     returns-2)

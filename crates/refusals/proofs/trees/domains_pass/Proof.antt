@@ -24,8 +24,8 @@ cast-at c = omega arith
 element-copy-out-q : tie.Need-element-copy-out-q Inv-loop μ-loop
 element-copy-out-q c = omega arith
 
-wide-requires : tie.Need-wide-requires Inv-loop μ-loop
-wide-requires c κs = search needs
+byte-number-requires : tie.Need-byte-number-requires Inv-loop μ-loop
+byte-number-requires c κs = search needs
 
 returns : tie.Need-returns Inv-loop μ-loop
 returns c = record { sound = λ e. absurd (false≢true e) }
@@ -41,7 +41,7 @@ add-level c =
     let l = c .before .before .before .before .loop in
     let s = c .before .before .before .before .before in
     let p = getD (s .args .parents .now) (l .d) 0 in
-    omega (arith, l .inv .2 .levels .few p (omega (arith, c .before .wide .ensures)))
+    omega (arith, l .inv .2 .levels .few p (omega (arith, c .before .byte-number .ensures)))
 
 returns-2 : tie.Need-returns-2 Inv-loop μ-loop
 returns-2 c = record { sound = λ e. absurd (false≢true e) }
@@ -73,7 +73,7 @@ loop-again c =
     let e = c .before .before .before .before in
     let l = e .before .before .before .before .loop in
     let s = e .before .before .before .before .before in
-    (omega arith, omega arith, passed-next _ _ _ _ _ (s .pre .1) (l .inv .2) (l .inv .0) (e .before .before .before .loop-test .taken) (omega (arith, e .before .wide .ensures)) (c .before .before .before .if2 .left) (fits .1) (λ z. c .if3 .left (fits .0 ∙ z)))
+    (omega arith, omega arith, passed-next _ _ _ _ _ (s .pre .1) (l .inv .2) (l .inv .0) (e .before .before .before .loop-test .taken) (omega (arith, e .before .byte-number .ensures)) (c .before .before .before .if2 .left) (fits .1) (λ z. c .if3 .left (fits .0 ∙ z)))
 
 returns-4 : tie.Need-returns-4 Inv-loop μ-loop
 returns-4 c = record { sound = λ _. passed-all _ _ _ _ _ (c .before .loop .inv .2) (omega arith) }
@@ -87,7 +87,7 @@ domains-pass-spec =
     loop-holds
     cast-at
     element-copy-out-q
-    wide-requires
+    byte-number-requires
     returns
     cast-p
     array-read-level

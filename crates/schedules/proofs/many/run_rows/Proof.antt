@@ -17,14 +17,14 @@ abbrev μ-loop : tie.MeasureT-loop
 loop-holds : tie.Need-loop-holds Inv-loop μ-loop
 loop-holds c = (start _ _ _ _ (c .before .before .before .before .pre .1 .0), refl)
 
-mul-wide : tie.Need-mul-wide Inv-loop μ-loop
-mul-wide c = omega arith
+mul-number-index : tie.Need-mul-number-index Inv-loop μ-loop
+mul-number-index c = omega arith
 
-shared-slice-read-wide : tie.Need-shared-slice-read-wide Inv-loop μ-loop
-shared-slice-read-wide c = omega arith
+shared-slice-read-number-index : tie.Need-shared-slice-read-number-index Inv-loop μ-loop
+shared-slice-read-number-index c = omega arith
 
-wide-requires : tie.Need-wide-requires Inv-loop μ-loop
-wide-requires c κs = search needs
+number-index-requires : tie.Need-number-index-requires Inv-loop μ-loop
+number-index-requires c κs = search needs
 
 add-end : tie.Need-add-end Inv-loop μ-loop
 add-end c = omega (arith, c .before .before .before .loop .inv .0 .ahead, next-fits _ _ _ _ _ _ _ _ (c .before .before .before .loop .inv .0) (omega arith))
@@ -69,8 +69,8 @@ loop-again c =
     let read = ran .before .before .before .before in
     let l = read .before .before .before in
     let begin = l .before .before .before .before .before in
-    let n : read .wide .result ≡ getD (begin .args .lengths .now) (l .loop .k) 0 = read .wide .ensures in
-    let part : l .loop .from + read .wide .result - l .loop .from ≡ getD (begin .args .lengths .now) (l .loop .k) 0 = omega arith in (
+    let n : read .number-index .result ≡ getD (begin .args .lengths .now) (l .loop .k) 0 = read .number-index .ensures in
+    let part : l .loop .from + read .number-index .result - l .loop .from ≡ getD (begin .args .lengths .now) (l .loop .k) 0 = omega arith in (
       rw n (turn _ _ _ _ _ _ _ _ (l .loop .inv .0) (read .before .before .loop-test .taken) _ _ (ap (λ m. take m (drop (l .loop .from) (begin .args .entries .now))) part) (ran .run-row .ensures)),
       ran .run-row .kept .1 .1 .0 ∙ l .loop .inv .1,
     )
@@ -91,9 +91,9 @@ run-rows-spec =
     Inv-loop
     μ-loop
     loop-holds
-    mul-wide
-    shared-slice-read-wide
-    wide-requires
+    mul-number-index
+    shared-slice-read-number-index
+    number-index-requires
     add-end
     mul-run-row
     sub-run-row

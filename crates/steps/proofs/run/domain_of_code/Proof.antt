@@ -4,17 +4,17 @@ use borrow.Author.Needs.{needs}
 use Rattle.steps.proofs.run.domain_of_code.Statement.{statement}
 use Rattle.steps.proofs.run.domain_of_code.Tie as tie
 
-wide-requires : tie.Need-wide-requires
-wide-requires c κs = search needs
+byte-number-requires : tie.Need-byte-number-requires
+byte-number-requires c κs = search needs
 
 returns : tie.Need-returns
-returns c = rw (eq-eqb _ _ (c .before .if1 .taken)) (c .wide .ensures)
+returns c = rw (eq-eqb _ _ (c .before .if1 .taken)) (c .byte-number .ensures)
 
-wide-requires-2 : tie.Need-wide-requires-2
-wide-requires-2 c κs = search needs
+byte-number-requires-2 : tie.Need-byte-number-requires-2
+byte-number-requires-2 c κs = search needs
 
 returns-2 : tie.Need-returns-2
-returns-2 c = rw (ne-eqb _ _ (c .before .before .if1 .left), eq-eqb _ _ (c .before .if2 .taken)) (c .wide2 .ensures)
+returns-2 c = rw (ne-eqb _ _ (c .before .before .if1 .left), eq-eqb _ _ (c .before .if2 .taken)) (c .byte-number2 .ensures)
 
 cast-result : tie.Need-cast-result
 cast-result c = search needs
@@ -23,4 +23,4 @@ returns-3 : tie.Need-returns-3
 returns-3 c = rw (ne-eqb _ _ (c .before .if1 .left), ne-eqb _ _ (c .if2 .left))
 
 pub domain-of-code-spec : {M : Type 1} → statement M
-domain-of-code-spec = tie.close (tie.spec wide-requires returns wide-requires-2 returns-2 cast-result returns-3)
+domain-of-code-spec = tie.close (tie.spec byte-number-requires returns byte-number-requires-2 returns-2 cast-result returns-3)

@@ -24,17 +24,17 @@ returns c = threshold-none _ _ (sym (ap is-first-digit (c .before .before .byte-
 add-read-more-threshold : tie.Need-add-read-more-threshold
 add-read-more-threshold c = omega (arith, first-digit-in-text (c .before .before .before .before .args .text .now) (c .before .before .before .before .args .at) (sym (ap is-first-digit (c .before .before .byte-at .ensures)) ∙ sym (c .before .is-first-digit-byte .ensures) ∙ not-false (c .before .is-first-digit-byte .result) (c .if1 .left)))
 
-sub-wide : tie.Need-sub-wide
-sub-wide c = rw (c .before .before .byte-at .ensures) (omega (arith, first-digit-bounds (getD (c .before .before .before .before .args .text .now) (c .before .before .before .before .args .at) 0) (sym (ap is-first-digit (c .before .before .byte-at .ensures)) ∙ sym (c .before .is-first-digit-byte .ensures) ∙ not-false (c .before .is-first-digit-byte .result) (c .if1 .left))))
+sub-byte-number : tie.Need-sub-byte-number
+sub-byte-number c = rw (c .before .before .byte-at .ensures) (omega (arith, first-digit-bounds (getD (c .before .before .before .before .args .text .now) (c .before .before .before .before .args .at) 0) (sym (ap is-first-digit (c .before .before .byte-at .ensures)) ∙ sym (c .before .is-first-digit-byte .ensures) ∙ not-false (c .before .is-first-digit-byte .result) (c .if1 .left))))
 
-wide-requires : tie.Need-wide-requires
-wide-requires c κs = search needs
+byte-number-requires : tie.Need-byte-number-requires
+byte-number-requires c κs = search needs
 
 read-more-threshold-requires : tie.Need-read-more-threshold-requires
 read-more-threshold-requires c κs = search needs
 
 returns-2 : tie.Need-returns-2
-returns-2 c = threshold-first _ _ _ _ (sym (ap is-first-digit (c .before .before .before .before .byte-at .ensures)) ∙ sym (c .before .before .before .is-first-digit-byte .ensures) ∙ not-false (c .before .before .before .is-first-digit-byte .result) (c .before .before .if1 .left)) (c .before .wide .ensures ∙ ap (λ b. b - 48) (c .before .before .before .before .byte-at .ensures)) (c .read-more-threshold .ensures)
+returns-2 c = threshold-first _ _ _ _ (sym (ap is-first-digit (c .before .before .before .before .byte-at .ensures)) ∙ sym (c .before .before .before .is-first-digit-byte .ensures) ∙ not-false (c .before .before .before .is-first-digit-byte .result) (c .before .before .if1 .left)) (c .before .byte-number .ensures ∙ ap (λ b. b - 48) (c .before .before .before .before .byte-at .ensures)) (c .read-more-threshold .ensures)
 
 pub read-threshold-spec : {M : Type 1} → statement M
 read-threshold-spec =
@@ -44,7 +44,7 @@ read-threshold-spec =
     is-first-digit-byte-requires
     returns
     add-read-more-threshold
-    sub-wide
-    wide-requires
+    sub-byte-number
+    byte-number-requires
     read-more-threshold-requires
     returns-2)

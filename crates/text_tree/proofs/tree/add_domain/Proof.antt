@@ -9,14 +9,14 @@ returns : tie.Need-returns
 unfolding domain-added
 returns c = rw (le-leb _ _ (c .if1 .taken))
 
-wide-requires : tie.Need-wide-requires
-wide-requires c κs = search needs
+number-index-requires : tie.Need-number-index-requires
+number-index-requires c κs = search needs
 
 array-write-parents : tie.Need-array-write-parents
 array-write-parents c = search needs
 
-wide-requires-2 : tie.Need-wide-requires-2
-wide-requires-2 c κs = search needs
+number-index-requires-2 : tie.Need-number-index-requires-2
+number-index-requires-2 c κs = search needs
 
 mul-thresholds : tie.Need-mul-thresholds
 mul-thresholds c = search needs
@@ -29,16 +29,16 @@ add-t18 c = search needs
 
 returns-2 : tie.Need-returns-2
 unfolding domain-added
-returns-2 c = rw (c .before .wide .ensures, c .wide2 .ensures, lt-leb _ _ (c .before .before .if1 .left))
+returns-2 c = rw (c .before .number-index .ensures, c .number-index2 .ensures, lt-leb _ _ (c .before .before .if1 .left))
 
 pub add-domain-spec : {M : Type 1} → statement M
 add-domain-spec =
     tie.close
     (tie.spec
     returns
-    wide-requires
+    number-index-requires
     array-write-parents
-    wide-requires-2
+    number-index-requires-2
     mul-thresholds
     array-write-thresholds
     add-t18

@@ -22,18 +22,18 @@ add-threads c = omega (arith, least-limit 257 (c .before .before .args .tree .th
 least-of-requires-3 : tie.Need-least-of-requires-3
 least-of-requires-3 c κs = search needs
 
-wide-requires : tie.Need-wide-requires
-wide-requires c κs = search needs
+number-index-requires : tie.Need-number-index-requires
+number-index-requires c κs = search needs
 
-wide-requires-2 : tie.Need-wide-requires-2
-wide-requires-2 c κs = search needs
+number-index-requires-2 : tie.Need-number-index-requires-2
+number-index-requires-2 c κs = search needs
 
 fill-homes-requires : tie.Need-fill-homes-requires
-fill-homes-requires c κs = rw (c .before .before .before .before .wide .ensures, c .before .before .before .before .before .least-of3 .ensures) (least-limit 256 _)
+fill-homes-requires c κs = rw (c .before .before .before .before .number-index .ensures, c .before .before .before .before .before .least-of3 .ensures) (least-limit 256 _)
 
 returns : tie.Need-returns
 unfolding threads-added threads-after
-returns c = rw (c .fill-homes .ensures, c .before .wide2 .ensures, c .before .before .before .before .before .wide .ensures, c .before .before .before .before .before .before .least-of3 .ensures, c .before .before .before .before .before .before .before .least-of2 .ensures, c .before .before .before .before .before .before .before .before .least-of .ensures)
+returns c = rw (c .fill-homes .ensures, c .before .number-index2 .ensures, c .before .before .before .before .before .number-index .ensures, c .before .before .before .before .before .before .least-of3 .ensures, c .before .before .before .before .before .before .before .least-of2 .ensures, c .before .before .before .before .before .before .before .before .least-of .ensures)
 
 pub add-threads-spec : {M : Type 1} → statement M
 add-threads-spec =
@@ -44,7 +44,7 @@ add-threads-spec =
     least-of-requires-2
     add-threads
     least-of-requires-3
-    wide-requires
-    wide-requires-2
+    number-index-requires
+    number-index-requires-2
     fill-homes-requires
     returns)

@@ -19,14 +19,14 @@ abbrev μ-loop : tie.MeasureT-loop
 loop-holds : tie.Need-loop-holds Inv-loop μ-loop
 loop-holds c = counted-start _ _ _ _ _ _ _ _
 
-mul-wide : tie.Need-mul-wide Inv-loop μ-loop
-mul-wide c = omega arith
+mul-word-index : tie.Need-mul-word-index Inv-loop μ-loop
+mul-word-index c = omega arith
 
-shared-slice-read-wide : tie.Need-shared-slice-read-wide Inv-loop μ-loop
-shared-slice-read-wide c = omega arith
+shared-slice-read-word-index : tie.Need-shared-slice-read-word-index Inv-loop μ-loop
+shared-slice-read-word-index c = omega arith
 
-wide-requires : tie.Need-wide-requires Inv-loop μ-loop
-wide-requires c κs = search needs
+word-index-requires : tie.Need-word-index-requires Inv-loop μ-loop
+word-index-requires c κs = search needs
 
 mul-code : tie.Need-mul-code Inv-loop μ-loop
 mul-code c = omega arith
@@ -35,7 +35,7 @@ shared-slice-read-code : tie.Need-shared-slice-read-code Inv-loop μ-loop
 shared-slice-read-code c = codes-long _ _ _ _ _ _ _ _ _ _ _ _ _ _ (c .before .before .before .before .loop .inv) (c .before .before .before .loop-test .taken) (c .before .before .before .before .before .before .before .pre)
 
 element-copy-out-home : tie.Need-element-copy-out-home Inv-loop μ-loop
-element-copy-out-home c = rw (c .before .wide .ensures) (thread-small _ _ _ _ _ _ _ _ _ _ _ _ _ _ (c .before .before .before .before .loop .inv) (c .before .before .before .loop-test .taken) (c .before .before .before .before .before .before .before .pre))
+element-copy-out-home c = rw (c .before .word-index .ensures) (thread-small _ _ _ _ _ _ _ _ _ _ _ _ _ _ (c .before .before .before .before .loop .inv) (c .before .before .before .loop-test .taken) (c .before .before .before .before .before .before .before .pre))
 
 is-ticket-home-requires : tie.Need-is-ticket-home-requires Inv-loop μ-loop
 is-ticket-home-requires c κs = search needs
@@ -51,10 +51,10 @@ is-entry-requires c κs = search needs
 
 note-requires : tie.Need-note-requires Inv-loop μ-loop
 note-requires c κs =
-    let wide = c .before .before .before .before .before .before .before .before .before in
-    let test = wide .before .before in
+    let word-index = c .before .before .before .before .before .before .before .before .before in
+    let test = word-index .before .before in
     let turn = test .before in
-    rw (wide .wide .ensures) (note-fits _ _ _ _ _ _ _ _ _ _ _ _ _ _ (turn .loop .inv) (test .loop-test .taken) (turn .before .before .before .pre))
+    rw (word-index .word-index .ensures) (note-fits _ _ _ _ _ _ _ _ _ _ _ _ _ _ (turn .loop .inv) (test .loop-test .taken) (turn .before .before .before .pre))
 
 one-more-requires : tie.Need-one-more-requires Inv-loop μ-loop
 one-more-requires c κs =
@@ -74,10 +74,10 @@ loop-again c =
     let entry = c .before .before .before .before .before .before in
     let begun = entry .before in
     let home = begun .before in
-    let wide = home .before .before .before in
-    let test = wide .before .before in
+    let word-index = home .before .before .before in
+    let test = word-index .before .before in
     let turn = test .before in
-    counted-read _ _ _ _ _ _ _ _ _ _ _ _ _ _ (turn .loop .inv) (test .loop-test .taken) (turn .before .before .before .pre) _ (wide .wide .ensures) _ _ _
+    counted-read _ _ _ _ _ _ _ _ _ _ _ _ _ _ (turn .loop .inv) (test .loop-test .taken) (turn .before .before .before .pre) _ (word-index .word-index .ensures) _ _ _
     (home .is-ticket-home .ensures) (begun .begins-at .ensures) (entry .is-entry .ensures) _ _ _ _ _ (c .one-more .ensures)
     (noted-in .0) (noted-in .1 .0) (noted-in .1 .1 .0) (noted-in .1 .1 .1)
 
@@ -91,9 +91,9 @@ count-piece-spec =
     Inv-loop
     μ-loop
     loop-holds
-    mul-wide
-    shared-slice-read-wide
-    wide-requires
+    mul-word-index
+    shared-slice-read-word-index
+    word-index-requires
     mul-code
     shared-slice-read-code
     element-copy-out-home
