@@ -1,13 +1,13 @@
 -- The cases of the calls hold, by computation. Assumes nothing.
 use mathlib.Core.Path.{_≡_, refl}
 use mathlib.Core.Bool.{true}
-use Rattle.model.specs.Scans.{any-below, all-below, largest-below, filter-below}
+use Rattle.model.specs.Scans.{all, any-below, all-below, largest-below, filter-below}
 use Rattle.model.specs.Trees.{read-word, tree-of, is-child, is-member, is-leaf, depth-from, depth, level, meets, on-path, under, domain-allowance, allowance}
 use Rattle.model.specs.Refusals.{refusal, accepted, lowest-bad, first-refusal, bad-domains, bad-threads, bad-parent, too-deep, no-threshold, bad-home, empty-domain, tree-tests, tree-refusal}
 use Rattle.starvation_freedom.specs.Bounds.{members, largest-allowance, levels, entry-rounds, tenure-rounds, acquire-from, acquire-rounds, acquire-bound, release-bound, everyone-bound}
 use Rattle.model.specs.Cases.{same-numbers}
 use Rattle.bounds.specs.Answers.{capped, allowance-word, words-from, allowances-answer, allowances-left, rounds-answer}
-use Rattle.bounds.specs.Cases.{all, cases, rounds-cases}
+use Rattle.bounds.specs.Cases.{cases, rounds-cases}
 
 pub cases-hold : all cases ≡ true
 unfolding same-numbers any-below all-below largest-below read-word tree-of is-child is-leaf depth-from depth level meets on-path under domain-allowance allowance refusal accepted lowest-bad first-refusal bad-domains bad-threads bad-parent too-deep no-threshold bad-home empty-domain tree-tests tree-refusal capped allowance-word words-from allowances-answer allowances-left cases

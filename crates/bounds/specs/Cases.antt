@@ -1,5 +1,5 @@
 -- Cases of the calls, each in one list. Of allowances: leaves, levels, the largest child, words that are cut, the root and room that the tree lacks. Of rounds: threads in the root, leaves, levels, numbers that are cut, a refused tree. Assumes nothing: these are definitions.
-use mathlib.Core.Bool.{Bool, true, _&&_}
+use mathlib.Core.Bool.{Bool, _&&_}
 use mathlib.Core.List.{List, [], _∷_}
 use Prim.Native.Nat.{ℕ}
 use lib.Dec.{eqb}
@@ -7,10 +7,6 @@ use lib.ListN.{replicate}
 use Rattle.model.specs.declared.TreeWords.{TreeWords}
 use Rattle.model.specs.Cases.{same-numbers}
 use Rattle.bounds.specs.Answers.{allowances-answer, allowances-left, rounds-answer}
-
-abbrev pub all : List Bool → Bool
-all [] = true
-all (b ∷ bs) = b && all bs
 
 abbrev pub tree : (domains threads : ℕ) → (parents thresholds homes : List ℕ) → TreeWords
 tree n m ps ts hs = record { domains = n; threads = m; parents = ps; thresholds = ts; homes = hs; «ticket_root» = 0 }

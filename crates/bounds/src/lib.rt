@@ -123,7 +123,7 @@ fn above_of(tree: TreeWords, acquired: &[u64; 64], d: u32) -> u64
         return 1;
     }
     let at = d as usize;
-    let p = model::numbers::byte_number(tree.parents[at]) as usize;
+    let p = model::numbers::byte_index(tree.parents[at]);
     acquired[p]
 }
 

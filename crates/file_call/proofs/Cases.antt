@@ -1,7 +1,7 @@
 -- The cases of the file call hold, by computation. Assumes nothing.
 use mathlib.Core.Path.{_≡_, refl}
 use mathlib.Core.Bool.{true}
-use Rattle.model.specs.Scans.{any-below, all-below, filter-below}
+use Rattle.model.specs.Scans.{all, any-below, all-below, filter-below}
 use Rattle.model.specs.Trees.{read-word, tree-of, is-ticket, is-child, is-leaf, depth-from, depth, level, meets, on-path, child-from, child, own-record, is-record, is-member, owner-domain, under}
 use Rattle.model.specs.Places.{place-of, is-idle, is-watch}
 use Rattle.model.specs.States.{fresh-words}
@@ -16,7 +16,6 @@ use Rattle.model.specs.Cases.{same-numbers}
 use Rattle.lock_file.specs.Reading.{reached-refusal, field-end, entry-end, domain-size, domain-end, parent-at, threshold-at, stored, domains-from, domains-read, thread-end, home-at, threads-from, threads-behind, threads-read, thread-count, schedule-start, tree-read, entries-from, entries-at, reading-of, file-read}
 use Rattle.printed_listing.specs.Listing.{digits, numeral, number-then, trace-lines, spaced, first-line, listing}
 use Rattle.file_call.specs.FileAnswers.{listing-outcome, run-outcome, file-run, file-trace, reading-outcome, file-outcome, outcome-reply, outcome-output, file-answer, output-answer}
-use Rattle.lock_file.specs.Cases.{all}
 use Rattle.file_call.specs.Cases.{cases}
 
 pub cases-hold : all cases ≡ true

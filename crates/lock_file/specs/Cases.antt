@@ -1,5 +1,5 @@
 -- Cases of reading, in one list: the printed example's bytes, kinds of root, defaults, and 2 and 3 at their places. Assumes nothing: these are definitions.
-use mathlib.Core.Bool.{Bool, true, false, _&&_}
+use mathlib.Core.Bool.{Bool, false, _&&_}
 use mathlib.Core.List.{List, [], _∷_, _++_}
 use Prim.Native.Nat.{ℕ, suc}
 use lib.Dec.{eqb}
@@ -8,10 +8,6 @@ use Rattle.model.specs.Cases.{same-numbers}
 use Rattle.lock_file.specs.declared.ReadReply.{ReadReply}
 use Rattle.lock_file.specs.Reading.{Reading, refused, described, file-read}
 use Rattle.lock_file.specs.Answers.{read-answer, schedule-answer}
-
-abbrev pub all : List Bool → Bool
-all [] = true
-all (b ∷ bs) = b && all bs
 
 abbrev pub refuses : (number place : ℕ) → Reading → Bool
 refuses n p (refused r) = eqb (r .number) n && eqb (r .place) p

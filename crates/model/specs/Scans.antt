@@ -1,4 +1,4 @@
--- Tests over all numbers below a bound. Assumes nothing: these are definitions.
+-- Tests over all numbers below a bound, and whether all tests of a list hold. Assumes nothing: these are definitions.
 use mathlib.Core.Bool.{Bool, true, false, _&&_, _||_, cond}
 use mathlib.Core.List.{List, [], _∷_, _++_}
 use Prim.Native.Nat.{ℕ, zero, suc, max}
@@ -22,3 +22,8 @@ largest-below (suc n) f = max (largest-below n f) (f n)
 unfoldable pub filter-below : ℕ → (ℕ → Bool) → List ℕ
 filter-below zero f = []
 filter-below (suc n) f = filter-below n f ++ cond (f n) (n ∷ []) []
+
+-- every test of a list holds
+abbrev pub all : List Bool → Bool
+all [] = true
+all (b ∷ bs) = b && all bs

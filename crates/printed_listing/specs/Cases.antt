@@ -1,5 +1,5 @@
 -- Cases of numerals, the listing and the line of a refusal, in one list. Assumes nothing: these are definitions.
-use mathlib.Core.Bool.{Bool, true, _&&_}
+use mathlib.Core.Bool.{Bool}
 use mathlib.Core.List.{List, [], _∷_, _++_}
 use Prim.Native.Nat.{ℕ}
 use lib.ListN.{replicate}
@@ -24,7 +24,3 @@ cases =
     -- "refused 8 1"
     ∷ same-numbers (refusal-line 8 1) (114 ∷ 101 ∷ 102 ∷ 117 ∷ 115 ∷ 101 ∷ 100 ∷ 32 ∷ 56 ∷ 32 ∷ 49 ∷ 10 ∷ [])
     ∷ same-numbers (numeral 65535) (54 ∷ 53 ∷ 53 ∷ 51 ∷ 53 ∷ []) ∷ same-numbers (numeral 10) (49 ∷ 48 ∷ []) ∷ []
-
-unfoldable pub all-hold : List Bool → Bool
-all-hold [] = true
-all-hold (b ∷ bs) = b && all-hold bs

@@ -1,16 +1,13 @@
 -- Cases of trees as text, in one list. Bytes: the space 32, # 35, ( 40, ) 41, the digits 48 to 57. Assumes nothing: these are definitions.
-use mathlib.Core.Bool.{Bool, true, _&&_}
+use mathlib.Core.Bool.{Bool, _&&_}
 use mathlib.Core.List.{List, [], _∷_, _++_}
 use Prim.Native.Nat.{ℕ, zero, suc}
 use lib.Dec.{eqb}
 use lib.ListN.{take, replicate}
+use Rattle.model.specs.Scans.{all}
 use Rattle.model.specs.Cases.{same-numbers}
 use Rattle.text_tree.specs.declared.TextReply.{TextReply}
 use Rattle.text_tree.specs.Answers.{text-answer}
-
-abbrev pub all : List Bool → Bool
-all [] = true
-all (b ∷ bs) = b && all bs
 
 abbrev pub answers : (number place domains threads : ℕ) → (parents thresholds homes : List ℕ) → TextReply → Bool
 answers n p d t ps hs ms r =
