@@ -1,4 +1,4 @@
--- `journal::smaller` meets its contract. Assumes nothing.
+-- `journal::smaller` meets its contract: each return is the smaller by the one test. Assumes nothing.
 use borrow.Author.Needs.{needs}
 use Rattle.journal.proofs.smaller.Statement.{statement}
 use Rattle.journal.proofs.smaller.Tie as tie

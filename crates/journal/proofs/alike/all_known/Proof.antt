@@ -1,4 +1,4 @@
--- `journal::alike::all_known` meets its contract. Assumes nothing.
+-- `journal::alike::all_known` meets its contract: true is returned only where each of the four is below. Assumes nothing.
 use mathlib.Core.Bool.{false≢true}
 use borrow.Author.Needs.{needs}
 use Rattle.journal.proofs.alike.all_known.Statement.{statement}

@@ -1,4 +1,4 @@
--- `journal::alike::fits_four` meets its contract. Assumes nothing.
+-- `journal::alike::fits_four` meets its contract: true is returned behind all six tests alone, and they bound the room. Assumes nothing.
 use mathlib.Core.Bool.{false≢true}
 use Prim.Native.Nat.{_-_}
 use native.Mathlib.Omega.{arith}

@@ -1,4 +1,4 @@
--- `journal::journals::answer_at` meets its contract. Assumes nothing.
+-- `journal::journals::answer_at` meets its contract: the two numbers are the refusal's fields. Assumes nothing.
 use mathlib.Core.Path.{refl}
 use Rattle.model.specs.Refusals.{refusal}
 use Rattle.journal.proofs.journals.answer_at.Statement.{statement}

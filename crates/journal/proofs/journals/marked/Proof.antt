@@ -1,4 +1,4 @@
--- `journal::journals::marked` meets its contract. Assumes nothing.
+-- `journal::journals::marked` meets its contract: the test is the definition's. Assumes nothing.
 use borrow.Author.Tests.{eq-eqb, ne-eqb}
 use Rattle.journal.proofs.journals.marked.Statement.{statement}
 use Rattle.journal.proofs.journals.marked.Tie as tie

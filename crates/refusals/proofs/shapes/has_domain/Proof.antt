@@ -1,4 +1,4 @@
--- `refusals::shapes::has_domain` meets its contract. Assumes nothing.
+-- `refusals::shapes::has_domain` meets its contract: by the table, the rows up to Grant have a domain but for Idle and Inside. Assumes nothing.
 use borrow.Author.Tests.{eq-eqb, ne-eqb}
 use Rattle.refusals.proofs.RowShapes.{domain-rows}
 use Rattle.refusals.proofs.shapes.has_domain.Statement.{statement}

@@ -1,4 +1,4 @@
--- `refusals::shapes::has_peer` meets its contract. Assumes nothing.
+-- `refusals::shapes::has_peer` meets its contract: by the table, Link and Grant have a record. Assumes nothing.
 use borrow.Author.Tests.{eq-eqb, ne-eqb}
 use Rattle.refusals.proofs.RowShapes.{peer-rows}
 use Rattle.refusals.proofs.shapes.has_peer.Statement.{statement}

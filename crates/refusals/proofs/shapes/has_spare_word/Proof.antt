@@ -1,4 +1,4 @@
--- `refusals::shapes::has_spare_word` meets its contract. Assumes nothing.
+-- `refusals::shapes::has_spare_word` meets its contract: a word that is not 0, and then the row's own. Assumes nothing.
 use borrow.Author.Needs.{needs}
 use borrow.Author.Tests.{eq-eqb, ne-eqb}
 use Rattle.refusals.proofs.shapes.has_spare_word.Statement.{statement}

@@ -1,4 +1,4 @@
--- `refusals::shapes::has_word` meets its contract. Assumes nothing.
+-- `refusals::shapes::has_word` meets its contract: by the table, Grant alone has a word. Assumes nothing.
 use Rattle.refusals.proofs.RowShapes.{word-rows}
 use Rattle.refusals.proofs.shapes.has_word.Statement.{statement}
 use Rattle.refusals.proofs.shapes.has_word.Tie as tie
