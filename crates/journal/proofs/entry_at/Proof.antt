@@ -1,4 +1,5 @@
 -- `journal::entry_at` meets its contract: a walk of its MIR, by hand. A reader is made by `reader_at` and passed to `next_entry`; each is known by its contract alone. Assumes nothing.
+-- The toolchain's letters stand for what `reader_at`'s proof says.
 use mathlib.Core.Path.{_≡_, refl, ap, _∙_}
 use Prim.Native.Nat.{ℕ, _<_, _^_}
 use mathlib.Core.List.{List, [], _∷_}
