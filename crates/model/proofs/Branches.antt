@@ -10,16 +10,12 @@ use Rattle.model.specs.declared.Place.{Place}
 use Rattle.model.specs.declared.Place.the-variants.{Idle, Prep, Swap, Link, Wait, Inside, Check, Help, Cas, Linger, Grant, Draw, Watch, Raise, Invalid}
 use Rattle.model.specs.declared.State.{State}
 use Rattle.model.specs.Trees.{Tree, is-ticket, own-record}
-use Rattle.model.specs.States.{cohort-start, acquire-parent, wait-word, unlocked, locked, root-word, none, tail, next, status, wrap, with-tail, with-next, with-status, with-place, with-ticket, with-grant}
-use Rattle.model.specs.Steps.{other, root-entry, passed-entry, crossed-entry, leaving, unchanged, begins, ends, Row-result, stays, moves, enters, acquired-place, release-place, done-place, release-word, shown-members, prep-row, swap-row, link-row, wait-row, leave-row, check-row, help-row, cas-row, linger-row, grant-row, draw-row, watch-row, raise-row, row}
+use Rattle.model.specs.States.{acquire-parent, wait-word, unlocked, locked, root-word, none, tail, next, status, wrap, with-tail, with-next, with-status, with-place, with-ticket, with-grant}
+use Rattle.model.specs.Steps.{other, root-entry, passed-entry, crossed-entry, leaving, unchanged, begins, ends, Row-result, stays, moves, enters, release-place, done-place, release-word, shown-members, prep-with, acquires-parent, swap-at-root, prep-row, swap-row, link-row, wait-row, leave-row, check-row, help-row, cas-row, linger-row, grant-row, draw-row, watch-row, raise-row, row}
 use Rattle.model.proofs.Tests.{by-test}
 
 module _ (t : Tree) (i : ℕ) (s : State) where
-  -- what rows come to. The own record of a domain is ready to be swapped in
-  abbrev pub prepared : (domain word : ℕ) → Row-result
-  prepared l v = moves (with-place i (Swap l) (with-next (own-record t i l) none (with-status (own-record t i l) v s)))
-
-  -- the tail is the own record
+  -- what rows come to. The tail is the own record
   abbrev pub swapped : (domain : ℕ) → State
   swapped l = with-tail l (own-record t i l + 1) s
 
@@ -34,10 +30,6 @@ module _ (t : Tree) (i : ℕ) (s : State) where
   -- the ticket is taken
   abbrev pub drawn : State
   drawn = with-ticket (wrap (s .ticket + 1)) (with-status (own-record t i 0) (s .ticket) s)
-
--- a domain below the root is acquired: the count starts, and its parent is next
-abbrev pub acquired : Tree → (thread domain : ℕ) → State → Row-result
-acquired t i l s = moves (with-place i (acquired-place t l) (with-status (own-record t i l) cohort-start s))
 
 -- the word that a row writes or grants, where it differs at the root
 pub data Word-at (l root inner : ℕ) : (word : ℕ) → Type 0 where
@@ -55,10 +47,10 @@ pub data Branch (t : Tree) (i : ℕ) (s : State) : Place → Row-result → Type
   -- Idle: what Draw does, or Prep at home
   idle-draws : {x : Row-result} → is-ticket t (t .home i) ≡ true → Branch t i s Draw x → Branch t i s Idle x
   idle-prepares : {x : Row-result} → is-ticket t (t .home i) ≡ false → Branch t i s (Prep (t .home i)) x → Branch t i s Idle x
-  prepares : (l v : ℕ) → Word-at l locked wait-word v → Branch t i s (Prep l) (prepared t i s l v)
+  prepares : (l v : ℕ) → Word-at l locked wait-word v → Branch t i s (Prep l) (prep-with t i l v s)
   -- Swap: alone at the root, alone below it, behind another
-  swap-root : (l : ℕ) → l ≡ 0 → tail s l ≡ none → Branch t i s (Swap l) (enters root-entry i (with-status (own-record t i l) unlocked (swapped t i s l)))
-  swap-inner : (l : ℕ) → l ≢ 0 → tail s l ≡ none → Branch t i s (Swap l) (acquired t i l (swapped t i s l))
+  swap-root : (l : ℕ) → l ≡ 0 → tail s l ≡ none → Branch t i s (Swap l) (swap-at-root t i l (swapped t i s l))
+  swap-inner : (l : ℕ) → l ≢ 0 → tail s l ≡ none → Branch t i s (Swap l) (acquires-parent t i l (swapped t i s l))
   swap-behind : (l : ℕ) → tail s l ≢ none → Branch t i s (Swap l) (stood-behind t i s l)
   link-writes : (l p : ℕ) → Branch t i s (Link l p) (moves (with-place i (Wait l) (with-next p (own-record t i l + 1) s)))
   -- Wait at the root: locked, or granted
@@ -66,7 +58,7 @@ pub data Branch (t : Tree) (i : ℕ) (s : State) : Place → Row-result → Type
   wait-root-granted : (l : ℕ) → l ≡ 0 → status s (own-record t i l) ≢ locked → Branch t i s (Wait l) (enters root-entry i s)
   -- Wait below the root: not granted, granted the domain and to acquire its parent, granted the lock at home or between home and root
   wait-ungranted : (l : ℕ) → l ≢ 0 → status s (own-record t i l) ≡ wait-word → Branch t i s (Wait l) (stays s)
-  wait-acquires : (l : ℕ) → l ≢ 0 → status s (own-record t i l) ≡ acquire-parent → Branch t i s (Wait l) (acquired t i l s)
+  wait-acquires : (l : ℕ) → l ≢ 0 → status s (own-record t i l) ≡ acquire-parent → Branch t i s (Wait l) (acquires-parent t i l s)
   wait-passed :
       (l : ℕ) → l ≢ 0 → status s (own-record t i l) ≢ wait-word → status s (own-record t i l) ≢ acquire-parent → l ≡ t .home i →
       Branch t i s (Wait l) (enters passed-entry i s)
@@ -105,7 +97,8 @@ module _ (t : Tree) (i : ℕ) (s : State) where
 
   pub prep-branch : (l : ℕ) → Of (Prep l) (prep-row t i l s)
   unfolding prep-row
-  prep-branch l = prepares l _ (word-at l locked wait-word)
+  prep-branch l =
+      by-test (Of (Prep l)) (eqb l 0) _ _ (λ z. prepares l locked (at-root (eqb-true l 0 z))) (λ z. prepares l wait-word (below-root (eqb-false l 0 z)))
 
   pub swap-branch : (l : ℕ) → Of (Swap l) (swap-row t i l s)
   unfolding swap-row

@@ -9,8 +9,8 @@ use Rattle.model.specs.declared.Place.the-variants.{Wait}
 use Rattle.model.specs.declared.State.{State}
 use Rattle.model.specs.Trees.{Tree, own-record}
 use Rattle.model.specs.States.{acquire-parent, wait-word, locked, root-word, status}
-use Rattle.model.specs.Steps.{Kind, root-entry, passed-entry, crossed-entry, is-entry, Row-result, stays, enters, wait-row}
-use Rattle.model.proofs.Branches.{acquired, Branch, wait-root-locked, wait-root-granted, wait-ungranted, wait-acquires, wait-passed, wait-crossed, wait-branch}
+use Rattle.model.specs.Steps.{Kind, root-entry, passed-entry, crossed-entry, is-entry, Row-result, stays, enters, acquires-parent, wait-row}
+use Rattle.model.proofs.Branches.{Branch, wait-root-locked, wait-root-granted, wait-ungranted, wait-acquires, wait-passed, wait-crossed, wait-branch}
 
 module _ (t : Tree) (i : ℕ) (s : State) where
   -- not granted: it stays
@@ -26,10 +26,10 @@ module _ (t : Tree) (i : ℕ) (s : State) where
       by (wait-crossed _ z e f a) = absurd (e (v ∙ rw (ne-eqb l 0 z)))
 
   -- granted the domain: its count starts, and the parent is acquired
-  pub acquiring-row : (l : ℕ) → l ≢ 0 → status s (own-record t i l) ≡ acquire-parent → wait-row t i l s ≡ acquired t i l s
+  pub acquiring-row : (l : ℕ) → l ≢ 0 → status s (own-record t i l) ≡ acquire-parent → wait-row t i l s ≡ acquires-parent t i l s
   acquiring-row l n v = by (wait-branch t i s l)
     where
-      by : {x : Row-result} → Branch t i s (Wait l) x → x ≡ acquired t i l s
+      by : {x : Row-result} → Branch t i s (Wait l) x → x ≡ acquires-parent t i l s
       by (wait-root-locked _ z e) = absurd (n z)
       by (wait-root-granted _ z e) = absurd (n z)
       by (wait-ungranted _ z e) = absurd (omega arith)

@@ -14,7 +14,7 @@ use Rattle.model.specs.declared.Counts.{Counts}
 use Rattle.model.specs.declared.StepReply.{StepReply}
 use Rattle.model.specs.declared.RunReply.{RunReply}
 use Rattle.model.specs.Trees.{tree-of, allowance}
-use Rattle.model.specs.States.{wait-word, locked, fresh-words, with-tail, with-next, with-status, with-place, with-ticket, with-grant}
+use Rattle.model.specs.States.{acquire-parent, wait-word, locked, fresh-words, with-tail, with-next, with-status, with-place, with-ticket, with-grant}
 use Rattle.model.specs.Runs.{steps, state-after, begun, ended, entries-under, occurrences}
 use Rattle.model.specs.Counters.{lock-state, fresh-counters}
 use Rattle.model.specs.Answers.{no-counts, fresh-answer, step-answer, run-answer, trace-answer}
@@ -162,12 +162,16 @@ cases =
     ∷ step-gives two-in-root (with-place 0 (Linger 0) (with-next 0 2 fresh-words)) 0 1 0 (with-place 0 (Grant 0 1 0) (with-next 0 2 fresh-words))
     -- Prep at home steps as Idle does
     ∷ step-gives one-home (with-place 0 (Prep 1) fresh-words) 0 1 1 (with-place 0 (Swap 1) (with-status 0 wait-word fresh-words))
+    -- Prep clears an old next
+    ∷ step-gives one-home (with-place 0 (Prep 1) (with-next 0 2 fresh-words)) 0 1 1 (with-place 0 (Swap 1) (with-status 0 wait-word fresh-words))
     -- Idle is at home, and so is leaving
     ∷ step-gives one-home fresh-words 0 1 1 (with-place 0 (Swap 1) (with-status 0 wait-word fresh-words))
     ∷ step-gives one-home (with-place 1 Inside fresh-words) 1 5 1 (with-place 1 (Check 1) fresh-words)
     -- Wait at home: WAIT stays, a count is a passed entry
     ∷ step-gives one-home (with-place 0 (Wait 1) (with-status 0 wait-word fresh-words)) 0 0 1 (with-place 0 (Wait 1) (with-status 0 wait-word fresh-words))
     ∷ step-gives one-home (with-place 0 (Wait 1) (with-status 0 2 fresh-words)) 0 3 1 (with-place 0 Inside (with-status 0 2 fresh-words))
+    -- Wait at home with ACQUIRE_PARENT: status 1, and the parent is acquired
+    ∷ step-gives one-home (with-place 0 (Wait 1) (with-status 0 acquire-parent fresh-words)) 0 1 1 (with-place 0 (Prep 0) (with-status 0 1 fresh-words))
     -- Wait between home and root: a crossed entry, at that domain
     ∷ step-gives three-levels (with-place 1 (Wait 1) (with-status 259 2 fresh-words)) 1 4 1 (with-place 1 Inside (with-status 259 2 fresh-words))
     -- three levels: 0 six times, 1 six times, 0 four times, 1 once

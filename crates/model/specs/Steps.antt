@@ -88,22 +88,38 @@ release-place t d = cond (is-ticket t d) Raise (cond (eqb d 0) (Help d) (Check d
 abbrev pub done-place : Tree → (thread domain : ℕ) → Place
 done-place t i l = cond (eqb l (t .home i)) Idle (Help (child t i l))
 
--- Idle and Prep(L): status of I becomes WAIT (LOCKED at the root), next of I none; to Swap(L)
-unfoldable pub prep-row : Tree → (thread domain : ℕ) → State → Row-result
-prep-row t i l s =
-    let I = own-record t i l in
-    moves (with-place i (Swap l) (with-next I none (with-status I (root-word l locked wait-word) s)))
+-- Prep(L) with a word, which status of I becomes; next of I becomes none; to Swap(L)
+abbrev pub prep-with : Tree → (thread domain word : ℕ) → State → Row-result
+prep-with t i l w s = let I = own-record t i l in moves (with-place i (Swap l) (with-next I none (with-status I w s)))
 
--- Swap(L): the old tail is read and I stored. Old tail p: to Link(L, p). None, at the root: status UNLOCKED, to Inside. None elsewhere: status 1, to Prep(parent)
+-- Prep at the root: the word is LOCKED
+abbrev pub prep-at-root : Tree → (thread domain : ℕ) → State → Row-result
+prep-at-root t i l s = prep-with t i l locked s
+
+-- Prep elsewhere: the word is WAIT
+abbrev pub prep-elsewhere : Tree → (thread domain : ℕ) → State → Row-result
+prep-elsewhere t i l s = prep-with t i l wait-word s
+
+-- Prep(L), and Idle at home
+unfoldable pub prep-row : Tree → (thread domain : ℕ) → State → Row-result
+prep-row t i l s = cond (eqb l 0) (prep-at-root t i l s) (prep-elsewhere t i l s)
+
+-- a domain other than the root is acquired: status of I becomes 1, and the parent is acquired next
+abbrev pub acquires-parent : Tree → (thread domain : ℕ) → State → Row-result
+acquires-parent t i l s = moves (with-place i (acquired-place t l) (with-status (own-record t i l) cohort-start s))
+
+-- Swap at the root where the old tail is none: status of I becomes UNLOCKED; Inside
+abbrev pub swap-at-root : Tree → (thread domain : ℕ) → State → Row-result
+swap-at-root t i l s = enters root-entry i (with-status (own-record t i l) unlocked s)
+
+-- Swap(L): the tail becomes I. Behind an old tail p: to Link(L, p). None: the root is entered, any other domain is acquired
 unfoldable pub swap-row : Tree → (thread domain : ℕ) → State → Row-result
 swap-row t i l s =
     let I = own-record t i l in
     let old = tail s l in
     let swapped = with-tail l (I + 1) s in
     cond (eqb old none)
-    (cond (eqb l 0)
-    (enters root-entry i (with-status I unlocked swapped))
-    (moves (with-place i (acquired-place t l) (with-status I cohort-start swapped))))
+    (cond (eqb l 0) (swap-at-root t i l swapped) (acquires-parent t i l swapped))
     (record { kind = other; standing = begins I; state = with-place i (Link l (old - 1)) swapped })
 
 -- Link(L, p): next of p becomes I; to Wait(L)
@@ -114,16 +130,19 @@ link-row t i l p s = moves (with-place i (Wait l) (with-next p (own-record t i l
 abbrev pub passing-kind : Tree → (thread domain : ℕ) → Kind
 passing-kind t i l = cond (eqb l (t .home i)) passed-entry crossed-entry
 
--- Wait(L) at the root: LOCKED stays, any other status goes Inside. Elsewhere: WAIT stays; ACQUIRE_PARENT sets status 1 and goes to Prep(parent); any lower status goes Inside
+-- Wait at the root: with LOCKED it stays; with any other status Inside
+abbrev pub wait-at-root : Tree → (thread domain : ℕ) → State → Row-result
+wait-at-root t i l s = cond (eqb (status s (own-record t i l)) locked) (stays s) (enters root-entry i s)
+
+-- Wait elsewhere: with WAIT it stays; with ACQUIRE_PARENT the domain is acquired; with any lower status Inside
+abbrev pub wait-elsewhere : Tree → (thread domain : ℕ) → State → Row-result
+wait-elsewhere t i l s =
+    let v = status s (own-record t i l) in
+    cond (eqb v wait-word) (stays s) (cond (eqb v acquire-parent) (acquires-parent t i l s) (enters (passing-kind t i l) i s))
+
+-- Wait(L), by the status of I
 unfoldable pub wait-row : Tree → (thread domain : ℕ) → State → Row-result
-wait-row t i l s =
-    let I = own-record t i l in
-    let v = status s I in
-    cond (eqb l 0) (cond (eqb v locked) (stays s) (enters root-entry i s))
-    (cond (eqb v wait-word) (stays s)
-    (cond (eqb v acquire-parent)
-    (moves (with-place i (acquired-place t l) (with-status I cohort-start s)))
-    (enters (passing-kind t i l) i s)))
+wait-row t i l s = cond (eqb l 0) (wait-at-root t i l s) (wait-elsewhere t i l s)
 
 -- Inside: the thread leaves; to Raise or Help(home) if home is the root, else Check(home)
 unfoldable pub leave-row : Tree → (thread : ℕ) → State → Row-result

@@ -14,12 +14,12 @@ use Rattle.model.specs.declared.State.{State}
 use Rattle.model.specs.Trees.{Tree, is-ticket, on-path, child, own-record, is-record, is-member, owner-domain}
 use Rattle.model.specs.Places.{place-words, words-of, place-of, is-watch}
 use Rattle.model.specs.States.{unlocked, cohort-start, none, tail, next, status, place, wrap, with-tail, with-status, with-place, with-ticket, with-grant, fresh-words, fresh-state}
-use Rattle.model.specs.Steps.{Row-result, acquired-place, release-place, done-place, step}
+use Rattle.model.specs.Steps.{Row-result, prep-with, acquired-place, release-place, done-place, step}
 use Rattle.model.specs.WellFormed.{queue-on-path, good-place, well-formed}
 use Rattle.model.specs.Laws.{Sixteen-bit, Formed, Form-law}
 use Rattle.model.proofs.Tests.{by-test, and-both}
 use Rattle.model.proofs.Places.{words-of-place}
-use Rattle.model.proofs.Branches.{prepared, about-to-grant, Branch, idle-draws, idle-prepares, prepares, swap-root, swap-inner, swap-behind, link-writes, wait-root-locked, wait-root-granted, wait-ungranted, wait-acquires, wait-passed, wait-crossed, inside-leaves, check-passes, check-releases, help-alone, help-linked, cas-last, cas-not-last, linger-alone, linger-linked, grant-writes, draw-shown, draw-unshown, watch-shown, watch-unshown, raise-counts, invalid-stays, branch, at-root, below-root}
+use Rattle.model.proofs.Branches.{about-to-grant, Branch, idle-draws, idle-prepares, prepares, swap-root, swap-inner, swap-behind, link-writes, wait-root-locked, wait-root-granted, wait-ungranted, wait-acquires, wait-passed, wait-crossed, inside-leaves, check-passes, check-releases, help-alone, help-linked, cas-last, cas-not-last, linger-alone, linger-linked, grant-writes, draw-shown, draw-unshown, watch-shown, watch-unshown, raise-counts, invalid-stays, branch, at-root, below-root}
 use Rattle.model.proofs.Trees.Accepted.{Accepted, accepted}
 use Rattle.model.proofs.Trees.Tickets.{ticket-facts, ticket-lower, queue-lower, queue-facts, queue-yes}
 use Rattle.model.proofs.Trees.Paths.{on-path-home, on-path-root, on-path-parent}
@@ -167,7 +167,7 @@ module _ (t : Tree) (b : Sixteen-bit t) (valid : Accepted t) (i : ℕ) (h : i < 
     grant-fits l w o q n f = (rw (queue-yes t i l o q, successor l o n), f, refl)
 
     -- the own record of a domain with a queue, prepared with a word
-    prepared-keeps : (l v : ℕ) → on-path t i l ≡ true → is-ticket t l ≡ false → Sixty-four-bit v → Kept t (prepared t i s l v)
+    prepared-keeps : (l v : ℕ) → on-path t i l ≡ true → is-ticket t l ≡ false → Sixty-four-bit v → Kept t (prep-with t i l v s)
     unfolding good-place is-watch
     prepared-keeps l v o q f =
         let I = own-record t i l in

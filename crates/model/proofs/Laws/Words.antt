@@ -12,13 +12,13 @@ use Rattle.model.specs.declared.State.{State}
 use Rattle.model.specs.Trees.{Tree, is-ticket, on-path, child, own-record, is-member}
 use Rattle.model.specs.Places.{place-words, words-of, place-of}
 use Rattle.model.specs.States.{acquire-parent, wait-word, unlocked, cohort-start, none, tail, next, status, place, with-tail, with-next, with-status, with-place, with-ticket, with-grant, wrap, fresh-words, fresh-state}
-use Rattle.model.specs.Steps.{Row-result, acquire-place, acquired-place, release-place, done-place, step}
+use Rattle.model.specs.Steps.{Row-result, prep-with, acquire-place, acquired-place, release-place, done-place, step}
 use Rattle.model.specs.Runs.{run}
 use Rattle.model.specs.WellFormed.{queue-on-path, good-place}
 use Rattle.model.specs.Laws.{Sixteen-bit, All-threads, Word-law}
 use Rattle.model.proofs.Tests.{by-test, and-both}
 use Rattle.model.proofs.Places.{place-of-words}
-use Rattle.model.proofs.Branches.{prepared, about-to-grant, drawn, Branch, idle-draws, idle-prepares, prepares, swap-root, swap-inner, swap-behind, link-writes, wait-root-locked, wait-root-granted, wait-ungranted, wait-acquires, wait-passed, wait-crossed, inside-leaves, check-passes, check-releases, help-alone, help-linked, cas-last, cas-not-last, linger-alone, linger-linked, grant-writes, draw-shown, draw-unshown, watch-shown, watch-unshown, raise-counts, invalid-stays, branch, at-root, below-root}
+use Rattle.model.proofs.Branches.{about-to-grant, drawn, Branch, idle-draws, idle-prepares, prepares, swap-root, swap-inner, swap-behind, link-writes, wait-root-locked, wait-root-granted, wait-ungranted, wait-acquires, wait-passed, wait-crossed, inside-leaves, check-passes, check-releases, help-alone, help-linked, cas-last, cas-not-last, linger-alone, linger-linked, grant-writes, draw-shown, draw-unshown, watch-shown, watch-unshown, raise-counts, invalid-stays, branch, at-root, below-root}
 use Rattle.model.proofs.Trees.Accepted.{Accepted, accepted}
 use Rattle.model.proofs.Trees.Tickets.{ticket-facts, queue-facts, queue-yes}
 use Rattle.model.proofs.Trees.Paths.{on-path-home, on-path-root, path-real}
@@ -128,7 +128,7 @@ module _ (t : Tree) (valid : Accepted t) (i : ℕ) (h : i < t .threads) where
 
   module _ (s : State) (k : Good-words t s) where
     -- the own record of a domain, prepared with a word
-    prepared-keeps : (l v : ℕ) → on-path t i l ≡ true → (l ≢ 0 → Good-word t l v) → Kept t (prepared t i s l v)
+    prepared-keeps : (l v : ℕ) → on-path t i l ≡ true → (l ≢ 0 → Good-word t l v) → Kept t (prep-with t i l v s)
     unfolding Good-grant
     prepared-keeps l v o f =
         let a = status-store t s k (own-record t i l) v (own-word l v o f) in

@@ -1,9 +1,24 @@
 -- `steps::rows::prep` does Prep. Assumes nothing.
-use mathlib.Core.Path.{refl}
-use Rattle.model.specs.Steps.{prep-row}
+use mathlib.Core.Path.{_≡_, refl}
+use mathlib.Core.Bool.{Bool, true, false, cond}
+use Prim.Native.Nat.{ℕ}
+use lib.Dec.{eqb}
+use Rattle.model.specs.declared.State.{State}
+use Rattle.model.specs.Trees.{Tree}
+use Rattle.model.specs.States.{wait-word, locked, root-word}
+use Rattle.model.specs.Steps.{prep-with, prep-row}
 use borrow.Author.Needs.{needs}
 use Rattle.steps.proofs.rows.prep.Statement.{statement}
 use Rattle.steps.proofs.rows.prep.Tie as tie
+
+-- one row for both: the word is chosen
+chosen : (t : Tree) (i l : ℕ) (s : State) → prep-row t i l s ≡ prep-with t i l (root-word l locked wait-word) s
+unfolding prep-row
+chosen t i l s = by (eqb l 0)
+  where
+    by : (b : Bool) → cond b (prep-with t i l locked s) (prep-with t i l wait-word s) ≡ prep-with t i l (cond b locked wait-word) s
+    by true = refl
+    by false = refl
 
 cast-r : tie.Need-cast-r
 cast-r c = search needs
@@ -27,8 +42,7 @@ moves-requires : tie.Need-moves-requires
 moves-requires c κs = search needs
 
 returns : tie.Need-returns
-unfolding prep-row
-returns c = (record { does = λ t i s S. rw (c .moves .ensures, c .before .root-word-at .ensures, ← S .own-is) (record { kind-is = refl; state-left = refl }) }, rw (c .moves .ensures) refl)
+returns c = (record { does = λ t i s S. rw (chosen t i _ _, c .moves .ensures, c .before .root-word-at .ensures, ← S .own-is) (record { kind-is = refl; state-left = refl }) }, rw (c .moves .ensures) refl)
 
 pub prep-spec : {M : Type 1} → statement M
 prep-spec =
