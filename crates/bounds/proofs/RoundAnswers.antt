@@ -16,7 +16,7 @@ use Rattle.bounds.specs.Answers.{capped, allowances-answer, allowances-l
 use Rattle.bounds.specs.Arrays.{Allowed}
 use Rattle.bounds.proofs.Capped.{capped-first}
 use Rattle.bounds.proofs.Law.{word-left}
-use Rattle.bounds.proofs.RoundWords.{few-domains}
+use Rattle.model.proofs.Trees.Reading.{few-domains}
 
 -- the words that the call of allowances leaves
 pub allowed-left : (w : TreeWords) (b ws : List ℕ) → tree-refusal (tree-of w) .number ≡ 0 → ws ≡ allowances-left w b → Allowed (tree-of w) ws

@@ -17,7 +17,7 @@ use Rattle.model.proofs.Trees.Accepted.{Accepted, accepted}
 use Rattle.model.proofs.Trees.Records.{Member, a-thread, a-domain, member-facts}
 use Rattle.model.proofs.Trees.Allowances.{thread-allowance}
 use Rattle.model.proofs.Trees.Paths.{depth-child, depth-zero}
-use Rattle.model.proofs.Trees.Reading.{home-read, parent-read}
+use Rattle.model.proofs.Trees.Reading.{home-read, parent-read, few-domains}
 use Rattle.refusals.specs.Arrays.{tree-in}
 use Rattle.starvation_freedom.specs.Bounds.{members, largest-allowance, levels, entry-rounds, tenure-rounds, acquire-rounds, acquire-bound, release-bound, everyone-bound}
 use Rattle.starvation_freedom.proofs.Bounds.{above-rounds, first-rounds, acquire-at}
@@ -62,14 +62,6 @@ module _ (w : TreeWords) (ok : tree-refusal (tree-of w) .number ≡ 0) where
 
   valid : Accepted t
   valid = accepted t ok
-
-  pub few-domains : w .domains ≤ 64
-  unfolding tree-of
-  few-domains = valid .few-domains
-
-  pub few-threads : w .threads ≤ 256
-  unfolding tree-of
-  few-threads = valid .few-threads
 
   pub parent-below : (d p : ℕ) → 0 < d → d < w .domains → p ≡ getD (w .parents) d 0 → p < d
   unfolding tree-of
@@ -144,7 +136,7 @@ module _ (w : TreeWords) (ok : tree-refusal (tree-of w) .number ≡ 0) where
   pub acquired-next : (d n x : ℕ) (ws : List ℕ) → n ≡ d + 1 → d < w .domains → Acquired t d ws → x ≡ capped (acquire-rounds t d) → Acquired t n (set ws d x)
   acquired-next d n x ws z s acquired-so-far e =
       let room = acquired-so-far .room in
-      let few = few-domains in
+      let few = few-domains w ok in
       record {
         acquired = λ c h. same-or c d _ (λ y. rw y (getD-set-same ws d x 0 (omega arith) ∙ e)) (λ y. getD-set-other ws d c x 0 y ∙ acquired-so-far .acquired c (omega arith));
         room = length-set ws d x ∙ room;

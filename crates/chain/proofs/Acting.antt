@@ -14,7 +14,7 @@ use Rattle.model.specs.Places.{place-words, words-of}
 use Rattle.model.specs.States.{acquire-parent, next, status, place}
 use Rattle.model.specs.Acts.{sends-inside, acts-at, acts}
 use Rattle.model.specs.WellFormed.{good-place}
-use Rattle.model.proofs.Tests.{and-both, any-one, any-found}
+use Rattle.model.proofs.Tests.{and-both, or-true, or-false, any-one, any-found}
 use Rattle.model.proofs.Places.{words-of-place}
 use Rattle.model.proofs.Trees.Index.{ancestor, height, record-at}
 use Rattle.model.proofs.Trees.Accepted.{Accepted}
@@ -35,15 +35,7 @@ next-test l d = less-or l d _ (λ h. lt-ltb l d h ∙ sym (le-leb (l + 1) d (ome
 
 everywhere-test : (b : Bool) (l d : ℕ) → leb l d || b ≡ leb (cond b 0 l) d
 everywhere-test true l d = or-true (leb l d) ∙ sym (le-leb 0 d (omega arith))
-  where
-    or-true : (b : Bool) → b || true ≡ true
-    or-true true = refl
-    or-true false = refl
 everywhere-test false l d = or-false (leb l d)
-  where
-    or-false : (b : Bool) → b || false ≡ b
-    or-false true = refl
-    or-false false = refl
 
 module _ (t : Tree) (s : State) (i : ℕ) where
   -- the status of the record with which a thread works at the domain of its place

@@ -19,6 +19,7 @@ use Rattle.model.specs.States.{wait-word, locked, next, status, place}
 use Rattle.model.specs.Steps.{Kind, stay, is-kind, Row-result, wait-row, linger-row, watch-row, row, step}
 use Rattle.model.specs.Acts.{acts}
 use Rattle.model.specs.WellFormed.{good-place, well-formed}
+use Rattle.model.proofs.Tests.{and-false}
 use Rattle.model.proofs.Places.{words-of-place}
 use Rattle.model.proofs.Branches.{Branch, wait-root-locked, wait-root-granted, wait-ungranted, wait-acquires, wait-passed, wait-crossed, linger-alone, linger-linked, watch-shown, watch-unshown, wait-branch, linger-branch, watch-branch, branch}
 use Rattle.model.proofs.Trees.Accepted.{Accepted}
@@ -102,11 +103,7 @@ ticket-test : (b : Bool) (v u : ℕ) → u < 65536 → eqb (cond (b && ltb v 655
 ticket-test true v u h =
     same-or v u _
     (λ e. rw (lt-ltb v 65536 (omega arith)) (key-test true v u))
-    (λ e. key-test (ltb v 65536) v u ∙ rw (ne-eqb v u e) (and-none (ltb v 65536)))
-  where
-    and-none : (c : Bool) → c && false ≡ false
-    and-none true = refl
-    and-none false = refl
+    (λ e. key-test (ltb v 65536) v u ∙ rw (ne-eqb v u e) (and-false (ltb v 65536)))
 ticket-test false v u h = ne-eqb 0 (u + 1) (λ z. omega arith)
 
 module _ (t : Tree) (valid : Accepted t) (s : State) (form : well-formed t s ≡ true) (xs ks vs : List ℕ) (tables : Tables t s (t .threads) xs ks vs) (i : ℕ) (h : i < t .threads) where

@@ -13,7 +13,7 @@ use Rattle.model.specs.declared.TreeWords.{TreeWords}
 use Rattle.model.specs.Scans.{any-below}
 use Rattle.model.specs.Trees.{Tree, tree-of, is-member}
 use Rattle.model.specs.Refusals.{tree-refusal}
-use Rattle.model.proofs.Tests.{and-both, any-one}
+use Rattle.model.proofs.Tests.{and-both, or-false, any-one}
 use Rattle.model.proofs.Trees.Index.{ancestor, height, record-at}
 use Rattle.model.proofs.Trees.Accepted.{Accepted, accepted}
 use Rattle.model.proofs.Trees.Paths.{ancestor-injective, ancestor-strict, ancestor-zero}
@@ -37,11 +37,7 @@ any-longer zero k f b h = let z : k ≡ 0 = omega arith in rw z refl
 any-longer (suc n) k f b h =
     same-or k (suc n) _
     (λ e. rw e refl)
-    (λ e. rw (h n (omega arith) (omega arith)) (or-none (any-below n f) ∙ any-longer n k f (omega arith) (λ m a c. h m a (omega arith))))
-  where
-    or-none : (b : Bool) → b || false ≡ b
-    or-none true = refl
-    or-none false = refl
+    (λ e. rw (h n (omega arith) (omega arith)) (or-false (any-below n f) ∙ any-longer n k f (omega arith) (λ m a c. h m a (omega arith))))
 
 pub any-next : (n : ℕ) (f : ℕ → Bool) → any-below (suc n) f ≡ any-below n f || f n
 unfolding any-below
@@ -91,12 +87,8 @@ module _ (w : TreeWords) (ok : tree-refusal (tree-of w) .number ≡ 0) (ns : Lis
     here : (q : ℕ) → names-below (suc k) t ns from j q ≡ names-below k t ns from j q || eqb n (q + 1)
     here q = any-next k _ ∙ rw (le-leb from (ancestor t j k) acting)
 
-    or-none : (b : Bool) → b || false ≡ b
-    or-none true = refl
-    or-none false = refl
-
     missed : (q : ℕ) → n ≢ q + 1 → names-below (suc k) t ns from j q ≡ names-below k t ns from j q
-    missed q e = here q ∙ rw (ne-eqb n (q + 1) e) (or-none (names-below k t ns from j q))
+    missed q e = here q ∙ rw (ne-eqb n (q + 1) e) (or-false (names-below k t ns from j q))
 
     hit : (q : ℕ) → n ≡ q + 1 → names-below (suc k) t ns from j q ≡ true
     hit q e = here q ∙ rw (named-once k q l e, eq-eqb n (q + 1) e)

@@ -29,12 +29,6 @@ module _ (w : TreeWords) (ok : tree-refusal (tree-of w) .number ≡ 0) where
   abbrev pub valid : Accepted t
   valid = accepted t ok
 
-  pub few-threads : w .threads ≤ 256
-  few-threads = rw (threads-read w) at (valid .few-threads)
-
-  pub few-domains : w .domains ≤ 64
-  few-domains = rw (domains-read w) at (valid .few-domains)
-
   module _ (i : ℕ) (h : i < w .threads) where
     pub real : i < t .threads
     real = rw (threads-read w) h

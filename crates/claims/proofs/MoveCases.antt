@@ -1,6 +1,6 @@
 -- The cases of "someone can move" hold, and it is false of states that a caller may hand in. Assumes nothing.
 use mathlib.Core.Path.{_≡_, refl, sym}
-use mathlib.Core.Bool.{Bool, true, false, _&&_, not, cond, false≢true, true≢false}
+use mathlib.Core.Bool.{Bool, true, false, _&&_, not, cond, true≢false}
 use mathlib.Core.List.{List, [], _∷_, _++_, nil≢cons}
 use Prim.Native.Nat.{ℕ, zero, suc, _<_}
 use native.Mathlib.Omega.{arith}
@@ -9,7 +9,7 @@ use Rattle.model.specs.Scans.{any-below, all-below, filter-below}
 use Rattle.model.specs.Trees.{Tree, read-word, tree-of, is-ticket, is-child, is-leaf, depth-from, depth, level, meets, on-path, child-from, child, own-record, is-record, is-member, owner-domain, under}
 use Rattle.model.specs.Places.{place-of, is-idle, is-watch}
 use Rattle.model.specs.States.{place, fresh-words, fresh-state}
-use Rattle.model.specs.Steps.{Kind, stay, other, root-entry, passed-entry, crossed-entry, leaving, is-kind, is-entry, prep-row, swap-row, link-row, wait-row, leave-row, check-row, help-row, cas-row, linger-row, grant-row, draw-row, watch-row, is-watched, shown-members, raise-row, row, step}
+use Rattle.model.specs.Steps.{stay, is-kind, is-entry, prep-row, swap-row, link-row, wait-row, leave-row, check-row, help-row, cas-row, linger-row, grant-row, draw-row, watch-row, is-watched, shown-members, raise-row, row, step}
 use Rattle.model.specs.Runs.{steps, state-after, run-of, run, ended-in, entries-under, occurrences}
 use Rattle.model.specs.Tenures.{finds-none, taken-from, given, starts, checks-at, word-to-grant, tenure-length, domain-entries, domain-tenures, longest-tenure}
 use Rattle.model.specs.Counters.{fresh-counters, each-with-index, counters-after, good-count, good-counts, count-above, any-above}
@@ -22,6 +22,7 @@ use Rattle.model.specs.TicketCases.{two-in-ticket, three-in-ticket}
 use Rattle.claims.specs.MoveCases.{busy-threads, moving-threads, three-in-root, until-lingering, until-woken, move-cases, move-holds, all-move, Nobody-moves, dead-queue, dead-ticket, Dead-states}
 use Rattle.model.proofs.Places.{not-idle, idle-facts}
 use Rattle.model.proofs.Lists.{same-or}
+use Rattle.model.proofs.Laws.Kinds.{stay-named}
 
 -- each line is computed
 pub move-cases-hold : all-move move-cases ≡ true
@@ -46,15 +47,6 @@ filter-empty (suc n) f e j h =
     by : (b : Bool) → cond b (n ∷ []) [] ≡ [] → b ≡ false
     by true z = absurd (nil≢cons (sym z))
     by false z = refl
-
-stay-named : (k : Kind) → is-kind stay k ≡ true → k ≡ stay
-unfolding is-kind
-stay-named stay e = refl
-stay-named other e = absurd (false≢true e)
-stay-named root-entry e = absurd (false≢true e)
-stay-named passed-entry e = absurd (false≢true e)
-stay-named crossed-entry e = absurd (false≢true e)
-stay-named leaving e = absurd (false≢true e)
 
 nobody : (t : Tree) (s : State) → moving-threads t s ≡ [] → ¬ Can-move t s
 unfolding moving-threads

@@ -2,7 +2,6 @@
 mod calling;
 
 ghost use mathlib.Core.Path.{_≡_};
-ghost use Prim.Native.Nat.{_≤_};
 ghost use Rattle.file_call.specs.FileAnswers.{file-answer, output-answer};
 use lock_file::Reached;
 
@@ -12,13 +11,6 @@ pub struct FileReply {
     pub number: u32,
     pub place: u32,
     pub length: u32,
-}
-
-fn place_word(place: usize) -> u32
-    requires { ⌜ place ≤ 65536 ⌝ }
-    ensures { λ r. ⌜ r ≡ place ⌝ }
-{
-    place as u32
 }
 
 // The file call: reads the lock file, runs its schedule from a fresh lock, and writes the listing.
@@ -40,12 +32,12 @@ pub fn run_file(file: &[u8], output: &mut [u8]) -> FileReply
         Reached::At(at) => calling::run_tree(file, at, tree, output),
         Reached::Ended => FileReply {
             number: 2,
-            place: place_word(file.len()),
+            place: model::numbers::index_number(file.len()),
             length: 0,
         },
         Reached::BadMap(p) => FileReply {
             number: 3,
-            place: place_word(p),
+            place: model::numbers::index_number(p),
             length: 0,
         },
     }

@@ -18,7 +18,7 @@ use Rattle.model.specs.Runs.{run}
 use Rattle.model.specs.Refusals.{refusal, accepted, first-refusal, schedule-tests, tree-refusal, run-refusal}
 use Rattle.model.specs.Answers.{counters-behind, run-reply, run-answer}
 use Rattle.model.proofs.Laws.Calls.{run-reply-number}
-use Rattle.model.proofs.Trees.Accepted as trees
+use Rattle.model.proofs.Trees.Reading.{few-domains, few-threads}
 use Rattle.lock_file.specs.ReadingLaws.{Format-law}
 use Rattle.lock_file.proofs.FormatLaw.{format-law}
 use Rattle.schedules.proofs.Alone.{answer-by-schedule}
@@ -90,25 +90,17 @@ module _ (w : TreeWords) (is b : List ℕ) (e : write-answer w is b .number ≡ 
       ∙ take-at (written-file (tree-of w) is) (drop (length (written-file (tree-of w) is)) b) _ refl
 
 module _ (w : TreeWords) (ok : tree-refusal (tree-of w) .number ≡ 0) where
-  few-domains : w .domains ≤ 64
-  unfolding tree-of
-  few-domains = trees.accepted (tree-of w) ok .few-domains
-
-  few-threads : w .threads ≤ 256
-  unfolding tree-of
-  few-threads = trees.accepted (tree-of w) ok .few-threads
-
   -- the written file is a lock file for the tree and the schedule, and none is shorter
   written : (is : List ℕ) → Lock-file-for (written-file (tree-of w) is) w is
   written is =
-      record { words = words-of (tree-of w); same-tree = same-tree w few-domains few-threads; describes = describes w few-domains few-threads is }
+      record { words = words-of (tree-of w); same-tree = same-tree w (few-domains w ok) (few-threads w ok); describes = describes w (few-domains w ok) (few-threads w ok) is }
 
   none-shorter : (is bytes : List ℕ) → Lock-file-for bytes w is → length (written-file (tree-of w) is) ≤ length bytes
   unfolding tree-of
   none-shorter is bytes x =
       let domains : x .words .domains ≡ w .domains = ap (λ t. t .domains) (x .same-tree) in
       let threads : x .words .threads ≡ w .threads = ap (λ t. t .threads) (x .same-tree) in
-      let l = least bytes (x .words) is (omega (arith, domains, few-domains)) (omega (arith, threads, few-threads)) (x .describes) in
+      let l = least bytes (x .words) is (omega (arith, domains, few-domains w ok)) (omega (arith, threads, few-threads w ok)) (x .describes) in
       rw (← x .same-tree) l
 
 pub read-back-law : Read-back-law

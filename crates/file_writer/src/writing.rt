@@ -47,13 +47,6 @@ fn put_domain(buffer: &mut [u8], at: usize, parent: u8, threshold: u16) -> usize
     put_two_bytes(buffer, at + 2, threshold)
 }
 
-// A word of 16 bits, and that it is one.
-fn of_16_bits(x: u16) -> u16
-    ensures { λ r. ⌜ (r ≡ x) × (x < 65536) ⌝ }
-{
-    x
-}
-
 // The entries of the domains 1 to D - 1 from a position on; returns the position behind them.
 fn put_domains<'a>(
     buffer: &mut [u8],
@@ -70,7 +63,7 @@ fn put_domains<'a>(
     let mut at = start;
     let mut d = 1;
     while d < domains {
-        let threshold = of_16_bits(thresholds[d]);
+        let threshold = model::numbers::of_16_bits(thresholds[d]);
         at = put_domain(buffer, at, parents[d], threshold);
         d += 1;
     }

@@ -9,13 +9,6 @@ use crate::Reached;
 use crate::ReadReply;
 use model::TreeWords;
 
-fn word(x: usize) -> u32
-    requires { ⌜ x ≤ 65536 ⌝ }
-    ensures { λ r. ⌜ r ≡ x ⌝ }
-{
-    x as u32
-}
-
 fn refused_by(number: u32, place: u32) -> ReadReply
     ensures { λ r. ⌜ r ≡ reading-reply (refused (refusal number place)) ⌝ }
 {
@@ -44,7 +37,7 @@ fn described_at(file: &[u8], at: usize, tree: TreeWords, schedule: &mut [u16]) -
 {
     let turns = (file.len() - at) / 2;
     crate::read_schedule(file, at, schedule);
-    let length = word(turns);
+    let length = model::numbers::index_number(turns);
     ReadReply {
         number: 0,
         place: 0,
@@ -65,7 +58,7 @@ pub(crate) fn answer_file(file: &[u8], schedule: &mut [u16]) -> ReadReply
     let tree = read.tree;
     match reached {
         Reached::At(at) => described_at(file, at, tree, schedule),
-        Reached::Ended => refused_by(2, word(file.len())),
-        Reached::BadMap(p) => refused_by(3, word(p)),
+        Reached::Ended => refused_by(2, model::numbers::index_number(file.len())),
+        Reached::BadMap(p) => refused_by(3, model::numbers::index_number(p)),
     }
 }

@@ -32,6 +32,18 @@ pub and-false : (a : Bool) → a && false ≡ false
 and-false true = refl
 and-false false = refl
 
+pub or-true : (a : Bool) → a || true ≡ true
+or-true true = refl
+or-true false = refl
+
+pub or-false : (a : Bool) → a || false ≡ a
+or-false true = refl
+or-false false = refl
+
+pub and-grouped : (a b c : Bool) → a && (b && c) ≡ (a && b) && c
+and-grouped true b c = refl
+and-grouped false b c = refl
+
 -- SCANS
 pub any-none : (n : ℕ) (f : ℕ → Bool) → any-below n f ≡ false → (j : ℕ) → j < n → f j ≡ false
 unfolding any-below

@@ -1,6 +1,6 @@
-// Numbers written in a wider type: a function for each, so that every caller knows the value of the cast by a contract and need not show it in each proof.
+// Numbers written in another type: a function for each, so that every caller knows the value of the cast by a contract and need not show it in each proof.
 ghost use mathlib.Core.Path.{_≡_};
-ghost use Prim.Native.Nat.{_<_};
+ghost use Prim.Native.Nat.{_<_, _≤_};
 
 pub fn byte_number(x: u8) -> u32
     ensures { λ r. ⌜ r ≡ x ⌝ }
@@ -37,4 +37,19 @@ pub fn number_index(x: u32) -> usize
     ensures { λ r. ⌜ r ≡ x ⌝ }
 {
     x as usize
+}
+
+// A length or a position in a lock file, which has at most 65,536 bytes.
+pub fn index_number(x: usize) -> u32
+    requires { ⌜ x ≤ 65536 ⌝ }
+    ensures { λ r. ⌜ r ≡ x ⌝ }
+{
+    x as u32
+}
+
+// A word of 16 bits, and that it is one.
+pub fn of_16_bits(x: u16) -> u16
+    ensures { λ r. ⌜ (r ≡ x) × (x < 65536) ⌝ }
+{
+    x
 }

@@ -20,7 +20,7 @@ use Rattle.model.specs.WellFormed.{good-tail, good-next, good-status, good-watc
 use Rattle.model.proofs.Places.{idle-numbers}
 use Rattle.model.proofs.Trees.Accepted.{Accepted}
 use Rattle.model.proofs.Trees.Tickets.{ticket-lower}
-use Rattle.model.proofs.Tests.{all-same}
+use Rattle.model.proofs.Tests.{and-true, and-grouped, all-same}
 use Rattle.model.proofs.Trees.Reading.{read-in}
 use Rattle.refusals.specs.Arrays.{tree-in, parents-in}
 use Rattle.refusals.specs.Tables.{Owners, next-in, record-in, domain-words-in, ticket-place-in, place-in, root-in, idle-in, thread-in}
@@ -43,25 +43,13 @@ all-both (suc n) f g = rw (all-both n f g) (regroup (all-below n f) (all-below n
 all-split : (n k : ℕ) (f : ℕ → Bool) → all-below (n + k) f ≡ all-below n f && all-below k (λ j. f (n + j))
 unfolding all-below
 all-split n zero f = rw (add-zero n) (sym (and-true (all-below n f)))
-  where
-    and-true : (a : Bool) → a && true ≡ a
-    and-true true = refl
-    and-true false = refl
-all-split n (suc k) f = rw (add-suc n k, all-split n k f) (sym (grouped (all-below n f) (all-below k (λ j. f (n + j))) (f (n + k))))
-  where
-    grouped : (a b c : Bool) → a && (b && c) ≡ (a && b) && c
-    grouped true b c = refl
-    grouped false b c = refl
+all-split n (suc k) f = rw (add-suc n k, all-split n k f) (sym (and-grouped (all-below n f) (all-below k (λ j. f (n + j))) (f (n + k))))
 
 -- where all but the first pass, the first decides
 root-alone : (n : ℕ) (f : ℕ → Bool) → ((j : ℕ) → f (suc j) ≡ true) → all-below (suc n) f ≡ f 0
 unfolding all-below
 root-alone zero f h = refl
 root-alone (suc n) f h = rw (root-alone n f h, h n) (and-true (f 0))
-  where
-    and-true : (a : Bool) → a && true ≡ a
-    and-true true = refl
-    and-true false = refl
 
 -- a place's test reads the parents alone
 place-same :

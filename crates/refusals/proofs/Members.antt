@@ -11,7 +11,7 @@ use Rattle.model.specs.declared.State.{State}
 use Rattle.model.specs.States.{tail, next, status}
 use Rattle.model.specs.Trees.{Tree, is-ticket, is-child, is-record, is-member, owner-domain}
 use Rattle.model.specs.WellFormed.{good-tail, good-next, good-status}
-use Rattle.model.proofs.Tests.{and-both}
+use Rattle.model.proofs.Tests.{and-both, and-grouped}
 use Rattle.model.proofs.Trees.Accepted.{Accepted}
 use Rattle.refusals.specs.Tables.{Owners, member-in, next-in, record-in}
 
@@ -20,16 +20,12 @@ member-owned : (t : Tree) (d r : ℕ) → is-member t d r ≡ is-record t r && e
 unfolding is-member is-record owner-domain is-child
 member-owned t d r = by (ltb r 256)
   where
-    joined : (a b c : Bool) → a && (b && c) ≡ (a && b) && c
-    joined true b c = refl
-    joined false b c = refl
-
     by :
         (s : Bool) →
         cond s (ltb r (t .threads) && eqb (t .home r) d) (ltb (r - 256) (t .domains) && (not (eqb (r - 256) 0) && eqb (t .parent (r - 256)) d))
         ≡ cond s (ltb r (t .threads)) (ltb (r - 256) (t .domains) && not (eqb (r - 256) 0)) && eqb (cond s (t .home r) (t .parent (r - 256))) d
     by true = refl
-    by false = joined (ltb (r - 256) (t .domains)) (not (eqb (r - 256) 0)) (eqb (t .parent (r - 256)) d)
+    by false = and-grouped (ltb (r - 256) (t .domains)) (not (eqb (r - 256) 0)) (eqb (t .parent (r - 256)) d)
 
 module _ (t : Tree) (valid : Accepted t) where
   -- owners are domains of the tree

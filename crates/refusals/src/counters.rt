@@ -4,7 +4,6 @@ ghost use mathlib.Core.List.{[]};
 ghost use Rattle.model.specs.Counters.{good-counts};
 ghost use Rattle.refusals.specs.Arrays.{tree-in};
 ghost use Rattle.refusals.specs.Counts.{counters-in, zeros-in, count-in};
-use crate::trees;
 
 // The most that a counter may be, 2^63.
 const MOST: u64 = 9223372036854775808;
@@ -60,7 +59,7 @@ pub(crate) fn good_counts<'c>(
     let mut d: u8 = 0;
     while d < 64 {
         let at = d as usize;
-        let threshold = trees::of_16_bits(thresholds[at]);
+        let threshold = model::numbers::of_16_bits(thresholds[at]);
         let e = entries[at];
         let n = tenures[at];
         let l = longest[at];

@@ -56,13 +56,6 @@ pub(crate) fn lowest_too_deep(parents: &[u8; 64], domains: u32) -> u32
     d
 }
 
-// A word of 16 bits, and that it is one.
-pub(crate) fn of_16_bits(x: u16) -> u16
-    ensures { λ r. ⌜ (r ≡ x) × (x < 65536) ⌝ }
-{
-    x
-}
-
 fn no_threshold_at(thresholds: &[u16; 64], domains: u32, d: u32) -> bool
     requires { ⌜ domains ≤ 64 ⌝ }
     requires { ⌜ d < domains ⌝ }
@@ -72,7 +65,7 @@ fn no_threshold_at(thresholds: &[u16; 64], domains: u32, d: u32) -> bool
         return false;
     }
     let at = d as usize;
-    let h = of_16_bits(thresholds[at]);
+    let h = model::numbers::of_16_bits(thresholds[at]);
     h == 0
 }
 
@@ -112,7 +105,7 @@ pub(crate) fn domains_pass<'a>(
         if 6 < level {
             return false;
         }
-        let h = of_16_bits(thresholds[at]);
+        let h = model::numbers::of_16_bits(thresholds[at]);
         if h == 0 {
             return false;
         }

@@ -18,6 +18,7 @@ use Rattle.model.proofs.Trees.Accepted.{Accepted, accepted, child-yes, child-fa
 use Rattle.model.proofs.Trees.Index.{ancestor, height}
 use Rattle.model.proofs.Trees.Paths.{ancestor-home, ancestor-parent-of, ancestor-real, ancestor-inner, ancestor-not-root, ancestor-injective, path-index, on-path-at, on-path-root, on-path-parent}
 use Rattle.model.proofs.Laws.Empty.{under-domain}
+use Rattle.claims.proofs.Claims.Reached.{All-real}
 use Rattle.tenures.specs.Laws.{sum-below, children-sum, Children-law}
 
 -- SUMS
@@ -105,12 +106,8 @@ module _ (t : Tree) (valid : Accepted t) (i : ℕ) (h : i < t .threads) (d : ℕ
       by false e = sym (sum-none (t .domains) _ (off e))
 
 -- A LIST OF STEPS. Every step is a thread's of the tree
-unfoldable Real-steps : Tree → List Step → Type 0
-Real-steps t [] = Unit {0}
-Real-steps t (x ∷ xs) = (x .thread < t .threads) × Real-steps t xs
-
-real-steps : (t : Tree) (is : List ℕ) (s : State) → All-threads t is → Real-steps t (steps t is s)
-unfolding Real-steps All-threads steps step
+real-steps : (t : Tree) (is : List ℕ) (s : State) → All-threads t is → All-real t (steps t is s)
+unfolding All-real All-threads steps step
 real-steps t [] s all = tt
 real-steps t (i ∷ is) s all = (all .0, real-steps t is (step t i s .state) (all .1))
 
@@ -147,8 +144,8 @@ unfolding children-sum
 children-none t d = sum-none (t .domains) _ (λ c h. either-none (is-child t d c))
 
 module _ (t : Tree) (valid : Accepted t) (d : ℕ) (inner : is-leaf t d ≡ false) where
-  along : (xs : List Step) → Real-steps t xs → path-entries t d xs ≡ children-sum t d (λ c. path-entries t c xs)
-  unfolding path-entries Real-steps
+  along : (xs : List Step) → All-real t xs → path-entries t d xs ≡ children-sum t d (λ c. path-entries t c xs)
+  unfolding path-entries All-real
   along [] r = sym (children-none t d)
   along (x ∷ xs) r =
       let one = one-step t d x (is-entry (x .kind)) (sym (one-child t valid (x .thread) (r .0) d inner)) in
@@ -165,8 +162,8 @@ child-entries t d xs = sum-same (t .domains) _ _ (λ c. by c (is-child t d c) re
     by c true e = let f = child-facts t d c e in rw (ne-eqb c 0 (omega (arith, f .no-root)), entries-by-paths t c xs)
 
 -- at the root every entry is counted
-root-entries : (t : Tree) (valid : Accepted t) (xs : List Step) → Real-steps t xs → how-many is-entry xs ≡ path-entries t 0 xs
-unfolding how-many path-entries Real-steps
+root-entries : (t : Tree) (valid : Accepted t) (xs : List Step) → All-real t xs → how-many is-entry xs ≡ path-entries t 0 xs
+unfolding how-many path-entries All-real
 root-entries t valid [] r = refl
 root-entries t valid (x ∷ xs) r = rw (on-path-root t valid (x .thread) (r .0), root-entries t valid xs (r .1))
 

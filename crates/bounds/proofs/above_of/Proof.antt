@@ -2,7 +2,8 @@
 use native.Mathlib.Omega.{arith}
 use borrow.Author.Tests.{eq-eqb, ne-eqb}
 use borrow.Author.Needs.{needs}
-use Rattle.bounds.proofs.RoundWords.{parent-below, few-domains}
+use Rattle.model.proofs.Trees.Reading.{few-domains}
+use Rattle.bounds.proofs.RoundWords.{parent-below}
 use Rattle.bounds.proofs.above_of.Statement.{statement}
 use Rattle.bounds.proofs.above_of.Tie as tie
 use Rattle.model.proofs.Trees.Reading.{parent-read}

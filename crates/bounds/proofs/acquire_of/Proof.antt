@@ -1,6 +1,7 @@
 -- `bounds::acquire_of` meets its contract: the definition's sums and products in order; cut one by one, they come to the whole, cut. Assumes nothing.
 use borrow.Author.Needs.{needs}
-use Rattle.bounds.proofs.RoundWords.{few-domains, few-threads, acquire-word}
+use Rattle.model.proofs.Trees.Reading.{few-domains, few-threads}
+use Rattle.bounds.proofs.RoundWords.{acquire-word}
 use Rattle.bounds.proofs.acquire_of.Statement.{statement}
 use Rattle.bounds.proofs.acquire_of.Tie as tie
 

@@ -7,7 +7,8 @@ use Rattle.model.specs.Trees.{tree-of}
 use Rattle.model.specs.Refusals.{tree-refusal}
 use Rattle.starvation_freedom.specs.Bounds.{levels}
 use Rattle.bounds.specs.Arrays.{Allowed, Acquired}
-use Rattle.bounds.proofs.RoundWords.{few-domains, acquired-next, acquired-all}
+use Rattle.model.proofs.Trees.Reading.{few-domains}
+use Rattle.bounds.proofs.RoundWords.{acquired-next, acquired-all}
 use Rattle.bounds.proofs.acquire_words.Statement.{statement}
 use Rattle.bounds.proofs.acquire_words.Tie as tie
 

@@ -10,7 +10,8 @@ use Rattle.starvation_freedom.specs.Bounds.{acquire-bound, release-bound}
 use Rattle.bounds.specs.Answers.{capped}
 use Rattle.bounds.specs.Arrays.{Acquired}
 use Rattle.bounds.proofs.Filling.{largest-next}
-use Rattle.bounds.proofs.RoundWords.{few-threads, everyone-word}
+use Rattle.model.proofs.Trees.Reading.{few-threads}
+use Rattle.bounds.proofs.RoundWords.{everyone-word}
 use Rattle.bounds.proofs.everyone.Statement.{statement}
 use Rattle.bounds.proofs.everyone.Tie as tie
 

@@ -5,7 +5,8 @@ use native.Mathlib.Omega.{arith}
 use borrow.Author.Needs.{needs}
 use Rattle.model.specs.Trees.{tree-of, depth, level}
 use Rattle.model.specs.Refusals.{tree-refusal}
-use Rattle.bounds.proofs.RoundWords.{few-domains, parent-below, level-few, level-up, level-done}
+use Rattle.model.proofs.Trees.Reading.{few-domains}
+use Rattle.bounds.proofs.RoundWords.{parent-below, level-few, level-up, level-done}
 use Rattle.bounds.proofs.level_of.Statement.{statement}
 use Rattle.bounds.proofs.level_of.Tie as tie
 

@@ -8,7 +8,7 @@ use Rattle.model.specs.Trees.{tree-of, level}
 use Rattle.model.specs.Refusals.{tree-refusal}
 use Rattle.starvation_freedom.specs.Bounds.{levels}
 use Rattle.bounds.proofs.Filling.{largest-next, largest-all}
-use Rattle.bounds.proofs.RoundWords.{few-domains}
+use Rattle.model.proofs.Trees.Reading.{few-domains}
 use Rattle.bounds.proofs.levels_of.Statement.{statement}
 use Rattle.bounds.proofs.levels_of.Tie as tie
 

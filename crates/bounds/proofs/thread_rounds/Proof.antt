@@ -2,7 +2,8 @@
 use mathlib.Core.Path.{refl}
 use native.Mathlib.Omega.{arith}
 use borrow.Author.Needs.{needs}
-use Rattle.bounds.proofs.RoundWords.{few-domains, few-threads, home-below, thread-word}
+use Rattle.model.proofs.Trees.Reading.{few-domains, few-threads}
+use Rattle.bounds.proofs.RoundWords.{home-below, thread-word}
 use Rattle.bounds.proofs.thread_rounds.Statement.{statement}
 use Rattle.bounds.proofs.thread_rounds.Tie as tie
 

@@ -12,7 +12,7 @@ use Rattle.model.specs.declared.State.{State as WordState}
 use Rattle.model.specs.Trees.{Tree, is-ticket, own-record}
 use Rattle.model.specs.Places.{place-domain}
 use Rattle.model.specs.States.{next, status, place}
-use Rattle.model.specs.Steps.{Kind, stay, other, root-entry, passed-entry, crossed-entry, leaving, is-kind, row, step}
+use Rattle.model.specs.Steps.{stay, is-kind, row, step}
 use Rattle.model.specs.Acts.{acts}
 use Rattle.model.specs.WellFormed.{good-place}
 use Rattle.model.specs.Laws.{Sixteen-bit}
@@ -31,24 +31,15 @@ use Rattle.claims.proofs.Words.View.{Words, words-in}
 use Rattle.claims.proofs.Words.Represents.{waiting-word, letting-go-low, Fits, at-idle, at-prep, at-swap, at-link, at-wait, at-woken, at-ready, at-inside, at-check, at-pass, at-help, at-cas, at-linger, at-grant, at-draw, at-watch, at-shown, at-raise}
 use Rattle.claims.proofs.Claims.Reached.{Queued}
 use Rattle.claims.proofs.Claims.QueueLaw.{Acting, acting-index, index-acting, in-queue}
-use Rattle.model.proofs.Laws.Kinds.{may-stay}
+use Rattle.model.proofs.Laws.Kinds.{may-stay, stay-named}
 use Rattle.claims.proofs.Claims.Moving.{woken-moves, ready-moves, shown-moves}
 use Rattle.chain.specs.Chain.{stays}
 use Rattle.chain.proofs.Linking.{stays-at, linger-stays, moves-on}
 
-kind-stays : (k : Kind) → is-kind stay k ≡ true → k ≡ stay
-unfolding is-kind
-kind-stays stay e = refl
-kind-stays other e = absurd (false≢true e)
-kind-stays root-entry e = absurd (false≢true e)
-kind-stays passed-entry e = absurd (false≢true e)
-kind-stays crossed-entry e = absurd (false≢true e)
-kind-stays leaving e = absurd (false≢true e)
-
 -- a thread whose next step is a stay, by the row of its place
 pub row-stays : (t : Tree) (s : WordState) (i : ℕ) → stays t s i ≡ true → row t i (place s i) s .kind ≡ stay
 unfolding stays step
-row-stays t s i e = kind-stays (row t i (place s i) s .kind) e
+row-stays t s i e = stay-named (row t i (place s i) s .kind) e
 
 pub stays-row : (t : Tree) (s : WordState) (i : ℕ) → row t i (place s i) s .kind ≡ stay → stays t s i ≡ true
 unfolding stays step is-kind

@@ -24,6 +24,7 @@ use Rattle.model.proofs.Trees.Tickets.{ticket-yes, queue-facts}
 use Rattle.model.proofs.Trees.Paths.{ancestor-root}
 use Rattle.model.proofs.Trees.Records.{own-record-at, root-record}
 use Rattle.model.proofs.Lists.{rest, count, first-rest, first-cons}
+use Rattle.model.proofs.Laws.Form.{wrap-fits}
 use Rattle.claims.proofs.Queues.Paths.{laws}
 use Rattle.claims.proofs.Queues.Moves.{Stage, queued, low, reach, State}
 use Rattle.claims.proofs.Queues.Moves as moves
@@ -32,7 +33,7 @@ use Rattle.claims.proofs.Queues.Order.{Second, second}
 use Rattle.claims.proofs.Words.Links.{after, after-in, after-here, before-second}
 use Rattle.claims.proofs.Words.View.{Words, words-in}
 use Rattle.claims.proofs.Words.Represents.{Tickets, Fits, at-idle, at-prep, at-swap, at-link, at-wait, at-woken, at-ready, at-inside, at-check, at-pass, at-help, at-cas, at-linger, at-grant, at-draw, at-watch, at-shown, at-raise}
-use Rattle.claims.proofs.Words.Tickets.{list-short, tickets-held, wrap-small}
+use Rattle.claims.proofs.Words.Tickets.{list-short, tickets-held}
 use Rattle.claims.proofs.Words.Outcome.{member-small}
 use Rattle.claims.proofs.Words.Releasing.{Ungranted, linking, waiting, watching, ungranted}
 use Rattle.claims.proofs.Claims.Reached.{Queued}
@@ -223,7 +224,7 @@ module _ (t : Tree) (valid : Accepted t) (bits : Sixteen-bit t) (s : WordState) 
       ticket-there =
           let p = predecessor .0 in
           let x = tickets-held (λ r. status s r) (s .grant) (s .ticket) p (g .queue 0) grant-small held predecessor-there in
-          let small : status s p < 65536 = rw (x .ticket) (wrap-small (s .grant + x .behind)) in
+          let small : status s p < 65536 = rw (x .ticket) (wrap-fits (s .grant + x .behind)) in
           let one : status s mine ≡ wrap (status s p + 1) = ticket-next (λ r. status s r) (s .grant) (s .ticket) p mine (g .queue 0) held (predecessor .1) in
           let before : ticket-before (status s mine) ≡ status s p = rw one (omega arith) in
           ap (λ r. ticket-before (status s r)) (root-record t valid i h) ∙ before

@@ -10,9 +10,10 @@ use lib.ListN.{length}
 use borrow.Author.Tests.{eq-eqb, ne-eqb}
 use Rattle.model.specs.States.{wrap}
 use Rattle.model.proofs.Lists.{same-or, first, rest, is-same, is-other, count, count-cons, count-nil, first-count, count-later, rest-cons, first-cons, first-nil}
+use Rattle.model.proofs.Laws.Form.{wrap-fits}
 use Rattle.claims.proofs.Words.Links.{after, after-nil, after-here, after-past, after-behind, after-in}
 use Rattle.claims.proofs.Words.Represents.{Tickets}
-use Rattle.claims.proofs.Words.Tickets.{wrap-small, tickets-first, tickets-rest}
+use Rattle.claims.proofs.Words.Tickets.{tickets-first, tickets-rest}
 
 abbrev pub Once : List ℕ → Type 0
 Once q = (a : ℕ) → count a q ≤ 1
@@ -99,4 +100,4 @@ ticket-same f v b a c (x ∷ xs) s l h m n e =
     same-or a x _
     (λ z. same-or c x _ (λ y. z ∙ sym y) (λ y. absurd (other c (in-rest c y n) (sym e ∙ ap f z ∙ h .0))))
     (λ z. same-or c x _ (λ y. absurd (other a (in-rest a z m) (e ∙ ap f y ∙ h .0)))
-    (λ y. ticket-same f (wrap (v + 1)) b a c xs (wrap-small (v + 1)) (omega arith) (h .1) (in-rest a z m) (in-rest c y n) e))
+    (λ y. ticket-same f (wrap (v + 1)) b a c xs (wrap-fits (v + 1)) (omega arith) (h .1) (in-rest a z m) (in-rest c y n) e))

@@ -1,6 +1,6 @@
 -- `chain::chain` meets its contract: refused, or the chain copied. Assumes nothing.
 use native.Mathlib.Omega.{arith}
-use Rattle.chain.proofs.Walking.{few-threads}
+use Rattle.model.proofs.Trees.Reading.{few-threads}
 use Rattle.chain.proofs.Answering.{early-answered, answered-20, tree-good, form-good, thread-good, answered-21, answered}
 use borrow.Author.Needs.{needs}
 use Rattle.chain.proofs.chain.Statement.{statement}

@@ -17,6 +17,7 @@ use Rattle.model.specs.Runs.{steps, state-after, run-of, run}
 use Rattle.model.specs.Refusals.{tree-refusal}
 use Rattle.model.specs.Laws.{All-threads, Sixteen-bit, then-run, waits-below, entries-from-below, Passed-law}
 use Rattle.claims.specs.Reached.{Passing-law, Threshold-one-law}
+use Rattle.model.proofs.Tests.{and-false}
 use Rattle.model.proofs.Waiting.{ungranted-row, acquiring-row}
 use Rattle.model.proofs.Trees.Index.{ancestor, height, record-at}
 use Rattle.model.proofs.Trees.Accepted.{Accepted, accepted}
@@ -91,10 +92,6 @@ passing-law t bits ok v is all i l h e n f =
     enough t valid (run t is (fresh-state t v) .state) q i l h n (waiting l e (q .represents .fits i h)) (rw e at f)
 
 -- ALL THRESHOLDS 1
-and-false : (b : Bool) → b && false ≡ false
-and-false true = refl
-and-false false = refl
-
 -- one entry behind others
 after-one : (t : Tree) (f : WordState) (pre : List ℕ) (i : ℕ) → run t (pre ++ (i ∷ [])) f .state ≡ step t i (run t pre f .state) .state
 unfolding then-run run run-of steps state-after

@@ -24,6 +24,7 @@ use Rattle.model.proofs.Trees.Tickets.{ticket-yes, queue-lower, queue-facts}
 use Rattle.model.proofs.Trees.Paths.{ancestor-root}
 use Rattle.model.proofs.Trees.Records.{root-record, record-small, record-injective}
 use Rattle.model.proofs.Lists.{same-or, put, put-same, put-other, first, first-rest, rest, rest-cons, is-other, count, count-cons, count-nil}
+use Rattle.model.proofs.Laws.Form.{wrap-fits}
 use Rattle.claims.proofs.Queues.Paths.{laws}
 use Rattle.claims.proofs.Queues.Moves as moves
 use Rattle.claims.proofs.Queues.Moves.{Stage, queued, ready, holding, down, low, acts, reach, State, Move, root, let-go, done, silent, more}
@@ -33,7 +34,7 @@ use Rattle.claims.proofs.Queues.Keeps.{keeps}
 use Rattle.claims.proofs.Queues.Order.{Second, second}
 use Rattle.claims.proofs.Words.View.{Words, words-in, Room, place-to, grant-to}
 use Rattle.claims.proofs.Words.Represents.{Linked, Tickets, Numbered, Counted, Fits, at-idle, at-prep, at-swap, at-link, at-wait, at-woken, at-ready, at-inside, at-check, at-pass, at-help, at-cas, at-linger, at-grant, at-draw, at-watch, at-shown, at-raise, Represents, Apart, left-alone}
-use Rattle.claims.proofs.Words.Tickets.{wrap-small, tickets-rest}
+use Rattle.claims.proofs.Words.Tickets.{tickets-rest}
 use Rattle.claims.proofs.Words.Frame.{Others, below-low, other-record, apart, assembled}
 use Rattle.claims.proofs.Words.Releasing.{done-at, done-place-at, done-fits, Ungranted, linking, waiting, watching, ungranted, firm}
 use Rattle.claims.proofs.Words.Drawing.{root-short}
@@ -155,7 +156,7 @@ module _ (t : Tree) (valid : Accepted t) (s : WordState) (room : Room s) (g : St
     emptied-numbered z =
         let old = o .numbered ticket in
         let all : Tickets (w .statuses) (w .grant) (w .ticket) (R ∷ []) = rw (ap (g .queue) (sym there) ∙ shape) at (old .held) in
-        rw (put-same (g .queue) L [] 0 (sym there)) (record { small = wrap-small (w .grant + 1); held = all .1 })
+        rw (put-same (g .queue) L [] 0 (sym there)) (record { small = wrap-fits (w .grant + 1); held = all .1 })
 
     pub emptied : Represents t raised-words empty-state
     emptied =
@@ -247,7 +248,7 @@ module _ (t : Tree) (valid : Accepted t) (s : WordState) (room : Room s) (g : St
         let shape-rest : rest (g .queue 0) ≡ r ∷ ys = ap (λ d. rest (g .queue d)) (sym there) ∙ ap rest shape ∙ rest-cons R (r ∷ ys) in
         let in-ys : 1 ≤ count x ys = omega (arith, ap (count x) shape-rest, count-cons x r ys, is-other x r n) in
         let long : length (R ∷ r ∷ ys) ≤ 320 = rw (ap (g .queue) (sym there) ∙ shape) at (root-short t valid g inv) in
-        absurd (tickets-rest (w .statuses) raised (w .ticket) x (r ∷ ys) (wrap-small (w .grant + 1)) (omega arith) (all-held .1)
+        absurd (tickets-rest (w .statuses) raised (w .ticket) x (r ∷ ys) (wrap-fits (w .grant + 1)) (omega arith) (all-held .1)
         (rw (rest-cons r ys) in-ys) same)
 
     pub r-shown : shown-members t s raised ≡ r ∷ []
@@ -272,7 +273,7 @@ module _ (t : Tree) (valid : Accepted t) (s : WordState) (room : Room s) (g : St
     handed-numbered : t .ticket-root ≡ true → Numbered raised-words (handed-state .queue 0)
     unfolding Tickets
     handed-numbered z =
-        rw (put-same (g .queue) L (r ∷ ys) 0 (sym there)) (record { small = wrap-small (w .grant + 1); held = all-held .1 })
+        rw (put-same (g .queue) L (r ∷ ys) 0 (sym there)) (record { small = wrap-fits (w .grant + 1); held = all-held .1 })
 
     tally-far : (q : ℕ) → q ≢ r → handed-state .tally q ≡ g .tally q
     tally-far q n = put-other (g .tally) r (suc (g .tally R)) q n

@@ -7,6 +7,7 @@ use native.Mathlib.Omega.{arith}
 use lib.ListN.{length}
 use Rattle.model.specs.States.{wrap}
 use Rattle.model.proofs.Lists.{same-or, first, rest, is, is-same, is-other, count, count-cons, count-nil, first-cons, first-nil, rest-cons, rest-nil}
+use Rattle.model.proofs.Laws.Form.{wrap-fits}
 use Rattle.claims.proofs.Words.Represents.{Tickets}
 
 -- HOW LONG A QUEUE IS. How often the numbers below n are in a list, all together
@@ -55,9 +56,6 @@ length-none (x ∷ q) e = absurd (omega arith)
 next-wrap : (v k : ℕ) → wrap (wrap (v + 1) + k) ≡ wrap (v + suc k)
 next-wrap v k = omega arith
 
-pub wrap-small : (v : ℕ) → wrap v < 65536
-wrap-small v = omega arith
-
 -- another number comes back only after 65,536
 pub wrap-other : (v k : ℕ) → v < 65536 → 0 < k → k < 65536 → wrap (v + k) ≢ v
 wrap-other v k a b c e = omega arith
@@ -71,7 +69,7 @@ tickets-snoc f v b m (x ∷ xs) e h = (h .0, tickets-snoc f _ b m xs e (h .1))
 pub tickets-behind : (f : ℕ → ℕ) (v b : ℕ) (q : List ℕ) → v < 65536 → Tickets f v b q → b ≡ wrap (v + length q)
 unfolding Tickets
 tickets-behind f v b [] s h = omega (arith, h)
-tickets-behind f v b (x ∷ xs) s h = tickets-behind f _ b xs (wrap-small (v + 1)) (h .1) ∙ next-wrap v (length xs)
+tickets-behind f v b (x ∷ xs) s h = tickets-behind f _ b xs (wrap-fits (v + 1)) (h .1) ∙ next-wrap v (length xs)
 
 -- a member holds a ticket as many behind the first as it stands behind it
 pub record Held (f : ℕ → ℕ) (v a : ℕ) (q : List ℕ) : Type 0 where
@@ -86,7 +84,7 @@ tickets-held f v b a (x ∷ xs) s h c =
     same-or a x _
     (λ e. record { behind = 0; within = omega arith; ticket = ap f e ∙ h .0 ∙ (let z : v ≡ wrap (v + 0) = omega arith in z) })
     (λ e.
-    let r = tickets-held f _ b a xs (wrap-small (v + 1)) (h .1) (omega (arith, count-cons a x xs, is-other a x e)) in
+    let r = tickets-held f _ b a xs (wrap-fits (v + 1)) (h .1) (omega (arith, count-cons a x xs, is-other a x e)) in
     record { behind = suc (r .behind); within = omega (arith, r .within); ticket = r .ticket ∙ next-wrap v (r .behind) })
 
 pub tickets-first : (f : ℕ → ℕ) (v b a : ℕ) (q : List ℕ) → Tickets f v b q → first q ≡ suc a → f a ≡ v
@@ -99,6 +97,6 @@ pub tickets-rest : (f : ℕ → ℕ) (v b a : ℕ) (q : List ℕ) → v < 65536 
 unfolding Tickets
 tickets-rest f v b a [] s l h c = absurd (omega (arith, ap (count a) rest-nil, count-nil a))
 tickets-rest f v b a (x ∷ xs) s l h c =
-    let r = tickets-held f (wrap (v + 1)) b a xs (wrap-small (v + 1)) (h .1) (rw (rest-cons x xs) at c) in
+    let r = tickets-held f (wrap (v + 1)) b a xs (wrap-fits (v + 1)) (h .1) (rw (rest-cons x xs) at c) in
     let few = r .within in
     λ e. wrap-other v (suc (r .behind)) s (omega arith) (omega arith) (sym (r .ticket ∙ next-wrap v (r .behind)) ∙ e)

@@ -26,14 +26,14 @@ run-tree-requires c κs = (start-within _ (omega arith) _ (c .before .before .be
 enum-told : tie.Need-enum-told
 enum-told c = search needs
 
-place-word-requires : tie.Need-place-word-requires
-place-word-requires c κs = search needs
+index-number-requires : tie.Need-index-number-requires
+index-number-requires c κs = search needs
 
 enum-known-reached-2 : tie.Need-enum-known-reached-2
 enum-known-reached-2 c = search needs
 
-place-word-requires-2 : tie.Need-place-word-requires-2
-place-word-requires-2 c κs =
+index-number-requires-2 : tie.Need-index-number-requires-2
+index-number-requires-2 c κs =
     let h = place-within _ (omega arith) _ (c .before .before .before .before .read-tree .ensures) _ (c .before .reached2 .given .1) in
     omega arith
 
@@ -55,7 +55,7 @@ returns-3 c =
     let a = c .before .before .before .before .before .before .before .before .args in
     let short : length (a .file .now) ≤ 65536 = omega arith in
     let e = file-ended (a .file .now) (length (a .output .now)) short _ (c .before .before .before .before .read-tree .ensures) (c .before .enum-told .given .1) in
-    (rw (e, c .place-word .ensures), rw e)
+    (rw (e, c .index-number .ensures), rw e)
 
 returns-4 : tie.Need-returns-4
 unfolding file-answer output-answer outcome-reply outcome-output refusal
@@ -63,7 +63,7 @@ returns-4 c =
     let a = c .before .before .before .before .before .before .before .before .before .args in
     let short : length (a .file .now) ≤ 65536 = omega arith in
     let e = file-bad (a .file .now) (length (a .output .now)) short _ (c .before .before .before .before .before .read-tree .ensures) _ (c .before .before .reached2 .given .1) in
-    (rw (e, c .place-word2 .ensures), rw e)
+    (rw (e, c .index-number2 .ensures), rw e)
 
 pub run-file-spec : {M : Type 1} → statement M
 run-file-spec =
@@ -74,9 +74,9 @@ run-file-spec =
     enum-known-reached
     run-tree-requires
     enum-told
-    place-word-requires
+    index-number-requires
     enum-known-reached-2
-    place-word-requires-2
+    index-number-requires-2
     same-length
     returns-2
     returns-3

@@ -175,6 +175,15 @@ goes-on f (watch-unshown e) = absurd (true≢false f)
 goes-on f raise-counts = refl
 goes-on f invalid-stays = absurd (true≢false f)
 
+pub stay-named : (k : Kind) → is-kind stay k ≡ true → k ≡ stay
+unfolding is-kind
+stay-named stay e = refl
+stay-named other e = absurd (false≢true e)
+stay-named root-entry e = absurd (false≢true e)
+stay-named passed-entry e = absurd (false≢true e)
+stay-named crossed-entry e = absurd (false≢true e)
+stay-named leaving e = absurd (false≢true e)
+
 pub no-stay : (k : Kind) → is-kind stay k ≡ false → k ≢ stay
 unfolding is-kind
 no-stay k f e = eqb-false 0 (kind-number k) f (sym (ap kind-number e))

@@ -7,6 +7,8 @@ use lib.ListN.{getD}
 use borrow.Author.Tests.{le-leb, lt-ltb}
 use Rattle.model.specs.declared.TreeWords.{TreeWords}
 use Rattle.model.specs.Trees.{read-word, tree-of}
+use Rattle.model.specs.Refusals.{tree-refusal}
+use Rattle.model.proofs.Trees.Accepted.{accepted}
 
 pub read-in : (first end : ℕ) (ws : List ℕ) (k : ℕ) → first ≤ k → k < end → read-word first end ws k ≡ getD ws k 0
 unfolding read-word
@@ -28,3 +30,13 @@ module _ (w : TreeWords) where
   pub threads-read : tree-of w .threads ≡ w .threads
   unfolding tree-of
   threads-read = refl
+
+-- an accepted tree is within the room
+module _ (w : TreeWords) (ok : tree-refusal (tree-of w) .number ≡ 0) where
+  pub few-domains : w .domains ≤ 64
+  unfolding tree-of
+  few-domains = accepted (tree-of w) ok .few-domains
+
+  pub few-threads : w .threads ≤ 256
+  unfolding tree-of
+  few-threads = accepted (tree-of w) ok .few-threads

@@ -2,7 +2,7 @@
 use Prim.Native.Nat.{_-_}
 use native.Mathlib.Omega.{arith}
 use Rattle.model.specs.Trees.{tree-of}
-use Rattle.chain.proofs.Walking.{few-threads}
+use Rattle.model.proofs.Trees.Reading.{few-threads}
 use Rattle.chain.proofs.Following.{Follows}
 use Rattle.chain.proofs.Turning.{turn-first, turn-real, turn-within, turn-sound, turn-ends, turn-nobody, turn-small, turn-full, turn-back, turn-next}
 use borrow.Author.Needs.{needs}

@@ -1,7 +1,7 @@
 -- `chain::links::link_of` meets its contract: the own record is below 320, so what is read at its index are the definition's words. Assumes nothing.
 use Rattle.model.specs.Trees.{tree-of}
 use native.Mathlib.Omega.{arith}
-use Rattle.chain.proofs.Walking.{few-threads}
+use Rattle.model.proofs.Trees.Reading.{few-threads}
 use Rattle.chain.proofs.links.link_of.Statement.{statement}
 use Rattle.chain.proofs.links.link_of.Tie as tie
 

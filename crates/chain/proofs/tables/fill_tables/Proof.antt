@@ -5,7 +5,7 @@ use native.Mathlib.Omega.{arith}
 use Rattle.model.specs.Trees.{tree-of}
 use Rattle.chain.specs.Tables.{Tables}
 use Rattle.model.proofs.Trees.Accepted.{accepted}
-use Rattle.chain.proofs.Walking.{few-threads}
+use Rattle.model.proofs.Trees.Reading.{few-threads}
 use Rattle.chain.proofs.Facts.{owned-nexts}
 use Rattle.chain.proofs.Filling.{fill-first, on-its-path, root-on-path, fill-turn}
 use borrow.Author.Needs.{needs}

@@ -1,7 +1,8 @@
 -- `chain::tables::note_path` meets its contract: the domains passed are noted. Assumes nothing.
 use native.Mathlib.Omega.{arith}
 use Rattle.chain.specs.Tables.{tree-at}
-use Rattle.chain.proofs.Walking.{few-threads, few-domains, at-real, at-record, at-falls}
+use Rattle.model.proofs.Trees.Reading.{few-threads, few-domains}
+use Rattle.chain.proofs.Walking.{at-real, at-record, at-falls}
 use Rattle.chain.proofs.Noting.{Noting, noting-first, next-small, noting-room, noting-root, noting-up, noting-rest}
 use Rattle.chain.proofs.tables.note_path.Statement.{statement}
 use Rattle.chain.proofs.tables.note_path.Tie as tie

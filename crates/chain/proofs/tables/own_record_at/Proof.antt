@@ -4,7 +4,8 @@ use Rattle.model.specs.Trees.{own-record}
 use Prim.Native.Nat.{_≤_}
 use native.Mathlib.Omega.{arith}
 use Rattle.chain.specs.Tables.{tree-at}
-use Rattle.chain.proofs.Walking.{At, few-threads, few-domains, at-home, home-below, at-real, at-record, at-own, at-next, at-falls, still-below}
+use Rattle.model.proofs.Trees.Reading.{few-threads, few-domains}
+use Rattle.chain.proofs.Walking.{At, at-home, home-below, at-real, at-record, at-own, at-next, at-falls, still-below}
 use Rattle.chain.proofs.tables.own_record_at.Statement.{statement}
 use Rattle.chain.proofs.tables.own_record_at.Tie as tie
 

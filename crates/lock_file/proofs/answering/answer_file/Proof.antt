@@ -27,8 +27,8 @@ described-at-requires c κs = (start-within _ (omega arith) _ (c .before .before
 enum-told : tie.Need-enum-told
 enum-told c = search needs
 
-word-requires : tie.Need-word-requires
-word-requires c κs = search needs
+index-number-requires : tie.Need-index-number-requires
+index-number-requires c κs = search needs
 
 refused-by-requires-2 : tie.Need-refused-by-requires-2
 refused-by-requires-2 c κs = search needs
@@ -36,8 +36,8 @@ refused-by-requires-2 c κs = search needs
 enum-known-reached-2 : tie.Need-enum-known-reached-2
 enum-known-reached-2 c = search needs
 
-word-requires-2 : tie.Need-word-requires-2
-word-requires-2 c κs =
+index-number-requires-2 : tie.Need-index-number-requires-2
+index-number-requires-2 c κs =
     let h = place-within _ (omega arith) _ (c .before .before .before .before .read-tree .ensures) _ (c .before .reached2 .given .1) in
     omega arith
 
@@ -62,7 +62,7 @@ returns-3 c =
     let a = c .before .before .before .before .before .before .before .before .before .args in
     let short : length (a .file .now) ≤ 65536 = omega arith in
     let e = read-ended (a .file .now) short _ (c .before .before .before .before .before .read-tree .ensures) (c .before .before .enum-told .given .1) in
-    (rw (e, ← c .before .word .ensures, c .refused-by2 .ensures), rw e)
+    (rw (e, ← c .before .index-number .ensures, c .refused-by2 .ensures), rw e)
 
 returns-4 : tie.Need-returns-4
 unfolding read-answer schedule-answer reading-buffer
@@ -70,7 +70,7 @@ returns-4 c =
     let a = c .before .before .before .before .before .before .before .before .before .before .args in
     let short : length (a .file .now) ≤ 65536 = omega arith in
     let e = read-bad (a .file .now) short _ (c .before .before .before .before .before .before .read-tree .ensures) _ (c .before .before .before .reached2 .given .1) in
-    (rw (e, ← c .before .word2 .ensures, c .refused-by3 .ensures), rw e)
+    (rw (e, ← c .before .index-number2 .ensures, c .refused-by3 .ensures), rw e)
 
 pub answer-file-spec : {M : Type 1} → statement M
 answer-file-spec =
@@ -82,10 +82,10 @@ answer-file-spec =
     enum-known-reached
     described-at-requires
     enum-told
-    word-requires
+    index-number-requires
     refused-by-requires-2
     enum-known-reached-2
-    word-requires-2
+    index-number-requires-2
     refused-by-requires-3
     same-length
     returns-2

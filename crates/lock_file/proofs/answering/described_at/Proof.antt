@@ -12,16 +12,16 @@ sub-turns c = search needs
 read-schedule-requires : tie.Need-read-schedule-requires
 read-schedule-requires c κs = search needs
 
-word-requires : tie.Need-word-requires
-word-requires c κs = search needs
+index-number-requires : tie.Need-index-number-requires
+index-number-requires c κs = search needs
 
 same-length : tie.Need-same-length
 same-length c = search needs
 
 returns : tie.Need-returns
 unfolding reading-reply entries-at
-returns c = (rw (c .word .ensures, entries-length _ _ _), c .before .before .before .read-schedule .ensures)
+returns c = (rw (c .index-number .ensures, entries-length _ _ _), c .before .before .before .read-schedule .ensures)
 
 pub described-at-spec : {M : Type 1} → statement M
 described-at-spec =
-    tie.close (tie.spec sub-turns read-schedule-requires word-requires same-length returns)
+    tie.close (tie.spec sub-turns read-schedule-requires index-number-requires same-length returns)
