@@ -1,6 +1,7 @@
 -- What several proofs use, and the proofs of the laws.
 pub mod Facts
 pub mod Pieces
+pub mod Sizes
 pub mod Fours
 pub mod Fronts
 pub mod Checking

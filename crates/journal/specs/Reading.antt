@@ -94,6 +94,11 @@ pub record Fits-four (bytes position threads kinds count : ℕ) : Type 0 where
 abbrev pub piece-of : (count position before number : ℕ) → Piece
 piece-of n p b m = record { count = n; position = p; before = b; number = m }
 
+-- the sizes of the entries that would begin at each of so many bytes from a position on, where the byte is a bit map
+pub record Sizes-from (bytes : List ℕ) (position count : ℕ) (sizes : List ℕ) : Type 0 where
+  pub room : length sizes ≡ 128
+  pub size : (k : ℕ) → k < count → getD bytes (position + k) 0 ≤ 3 → getD sizes k 0 ≡ entry-size (getD bytes (position + k) 0)
+
 -- a piece of the journal, its threads and kinds at the front of some room; it stops with no number where the room is full or the journal at its end
 pub record Piece-read (known : ℕ) (bytes : List ℕ) (position before : ℕ) (threads kinds : List ℕ) (piece : Piece) : Type 0 where
   pub threads-fit : piece .count ≤ length threads

@@ -4,10 +4,11 @@ ghost use mathlib.Core.Bool.{cond};
 ghost use Prim.Native.Nat.{_+_, _*_, _≤_, _<_};
 ghost use lib.Dec.{eqb};
 ghost use lib.ListN.{length};
-ghost use Rattle.journal.specs.Reading.{entry-size, entry-of, entry-at, position-after, piece-of, Read-on, Stopped-before, Smaller, Piece-read};
+ghost use Rattle.journal.specs.Reading.{entry-size, entry-thread, entry-kind, entry-of, entry-at, position-after, piece-of, Read-on, Stopped-before, Smaller, Piece-read};
 ghost use Rattle.journal.specs.Answers.{journal-answer};
 
 mod alike;
+mod blocks;
 mod journals;
 
 use model::TreeWords;
@@ -78,20 +79,36 @@ fn kind_by(given: u8, there: u8) -> u8
     given * there
 }
 
-// The entry of a bit map, where four bytes are left, which hold every entry: all that it may have is read, and what it has is taken.
+// The thread that an entry of a bit map names, where four bytes are left, which hold every entry: all that it may have is read, and what it has is taken.
+fn thread_at(journal: &[u8], position: usize, before: u16, bits: usize) -> u16
+    requires { ⌜ bits ≤ 3 ⌝ }
+    requires { ⌜ position + 4 ≤ length (now journal) ⌝ }
+    ensures { λ r. ⌜ r ≡ entry-thread (now (journal .entry)) position before bits ⌝ }
+{
+    let there = two_bytes(journal[position + 1], journal[position + 2]);
+    thread_by((bits % 2) as u16, there, before)
+}
+
+// The kind that it names.
+fn kind_at(journal: &[u8], position: usize, bits: usize) -> u8
+    requires { ⌜ bits ≤ 3 ⌝ }
+    requires { ⌜ position + 4 ≤ length (now journal) ⌝ }
+    ensures { λ r. ⌜ r ≡ entry-kind (now (journal .entry)) position bits ⌝ }
+{
+    let at = position + (1 + 2 * (bits % 2));
+    kind_by((bits / 2) as u8, journal[at])
+}
+
+// The entry of a bit map, where four bytes are left.
 fn whole_entry(journal: &[u8], position: usize, before: u16, bits: usize) -> Entry
     requires { ⌜ bits ≤ 3 ⌝ }
     requires { ⌜ position + 4 ≤ length (now journal) ⌝ }
     ensures { λ r. ⌜ r ≡ entry-of (now (journal .entry)) position before bits ⌝ }
 {
-    let thread_given = bits % 2;
-    let kind_given = bits / 2;
-    let kind_at = position + (1 + 2 * thread_given);
-    let there = two_bytes(journal[position + 1], journal[position + 2]);
     Entry::Named {
-        thread: thread_by(thread_given as u16, there, before),
-        kind: kind_by(kind_given as u8, journal[kind_at]),
-        behind: kind_at + kind_given,
+        thread: thread_at(journal, position, before, bits),
+        kind: kind_at(journal, position, bits),
+        behind: position + (1 + 2 * (bits % 2) + bits / 2),
     }
 }
 
@@ -221,19 +238,45 @@ fn smaller(a: usize, b: usize) -> usize
     b
 }
 
-// Four behind an index, or as many as there are.
-fn four_more(room: usize, count: usize) -> usize
+// Thirty-two behind an index, or as many as there are.
+fn block_end(room: usize, count: usize) -> usize
     requires { ⌜ count < room ⌝ }
-    ensures { λ r. ⌜ count < r ⌝ }
+    ensures { λ r. ⌜ (count < r) × (r ≤ count + 32) ⌝ }
     ensures { λ r. ⌜ r ≤ room ⌝ }
 {
-    if room - count < 4 {
+    if room - count < 32 {
         return room;
     }
-    count + 4
+    count + 32
 }
 
-// Reads entries from a position on, as many as there is room for, up to the journal's end or the first that 25 or 12 refuses; their threads and kinds at the front of the room. Where four alike follow each other they are read at once, else the next four one by one.
+// The same for up to thirty-two entries, with a table of sizes where the journal has bytes enough for it.
+fn read_next(
+    journal: &[u8],
+    position: usize,
+    before: u16,
+    known: u32,
+    threads: &mut [u16],
+    kinds: &mut [u8],
+    from: usize,
+    end: usize,
+) -> Piece
+    requires { ⌜ (from ≤ end) × (end ≤ from + 32) ⌝ }
+    requires { ⌜ end ≤ length (now threads) ⌝ }
+    requires { ⌜ end ≤ length (now kinds) ⌝ }
+    ensures { λ r. ⌜ Read-on known (now (journal .entry)) position before (now (threads .entry)) (now (kinds .entry)) from (now (threads .exit)) (now (kinds .exit)) (r .count) (r .position) (r .before) ⌝ }
+    ensures { λ r. ⌜ Stopped-before known (now (journal .entry)) end r ⌝ }
+{
+    if journal.len() < 128 {
+        return read_some(journal, position, before, known, threads, kinds, from, end);
+    }
+    if journal.len() - 128 < position {
+        return read_some(journal, position, before, known, threads, kinds, from, end);
+    }
+    blocks::read_block(journal, position, before, known, threads, kinds, from, end)
+}
+
+// Reads entries from a position on, as many as there is room for, up to the journal's end or the first that 25 or 12 refuses; their threads and kinds at the front of the room. Where four alike follow each other they are read at once, else up to thirty-two one by one.
 pub fn read_piece(
     journal: &[u8],
     position: usize,
@@ -256,8 +299,8 @@ pub fn read_piece(
             count = four.count;
             continue;
         }
-        let end = four_more(room, count);
-        let some = read_some(journal, at, last, known, threads, kinds, count, end);
+        let end = block_end(room, count);
+        let some = read_next(journal, at, last, known, threads, kinds, count, end);
         if some.number != 0 {
             return some;
         }

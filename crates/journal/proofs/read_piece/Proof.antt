@@ -1,4 +1,4 @@
--- `journal::read_piece` meets its contract: four entries at once or one by one, until the room is full or reading stops. Assumes nothing.
+-- `journal::read_piece` meets its contract: four entries at once or up to thirty-two one by one, until the room is full or reading stops. Assumes nothing.
 use mathlib.Core.Path.{_∙_}
 use Prim.Native.Nat.{_-_}
 use native.Mathlib.Omega.{arith}
@@ -32,54 +32,54 @@ loop-less c = omega (arith, c .if1 .taken, c .before .before .before .before .be
 loop-again : tie.Need-loop-again Inv-loop μ-loop
 loop-again c = more _ _ _ _ _ _ _ _ _ _ _ _ (c .before .before .before .before .before .before .before .before .before .before .loop .inv) _ _ _ _ _ (c .before .before .before .before .before .before .read-four .ensures)
 
-four-more-requires : tie.Need-four-more-requires Inv-loop μ-loop
-four-more-requires c κs = c .before .before .before .before .before .before .before .before .before .loop-test .taken
+block-end-requires : tie.Need-block-end-requires Inv-loop μ-loop
+block-end-requires c κs = c .before .before .before .before .before .before .before .before .before .loop-test .taken
 
-read-some-requires : tie.Need-read-some-requires Inv-loop μ-loop
-read-some-requires c κs =
+read-next-requires : tie.Need-read-next-requires Inv-loop μ-loop
+read-next-requires c κs =
     let inv = c .before .before .before .before .before .before .before .before .before .before .before .before .before .loop .inv in
     let four = c .before .before .before .before .before .before .before .before .before .read-four .kept in
-    let end = c .before .before .four-more .ensures in
+    let end = c .before .before .block-end .ensures in
     let room = c .before .before .before .before .before .before .before .before .before .before .before .before .before .before .smaller .ensures in
-    (omega (arith, end .0), (omega (arith, end .1, room .within-first, threads-long _ _ _ _ _ _ _ _ _ _ _ _ (inv), four .1 .1 .1 .1 .0), omega (arith, end .1, room .within-second, kinds-long _ _ _ _ _ _ _ _ _ _ _ _ (inv), four .1 .1 .1 .1 .1 .0)))
+    ((omega (arith, end .0 .0), omega (arith, end .0 .1)), (omega (arith, end .1, room .within-first, threads-long _ _ _ _ _ _ _ _ _ _ _ _ (inv), four .1 .1 .1 .1 .0), omega (arith, end .1, room .within-second, kinds-long _ _ _ _ _ _ _ _ _ _ _ _ (inv), four .1 .1 .1 .1 .1 .0)))
 
 same-length : tie.Need-same-length Inv-loop μ-loop
-same-length c = c .before .before .before .before .before .before .read-some .kept .1 .1 .1 .1 .0 ∙ c .before .before .before .before .before .before .before .before .before .before .before .before .before .before .before .before .read-four .kept .1 .1 .1 .1 .0 ∙ threads-long _ _ _ _ _ _ _ _ _ _ _ _ (c .before .before .before .before .before .before .before .before .before .before .before .before .before .before .before .before .before .before .before .before .loop .inv)
+same-length c = c .before .before .before .before .before .before .read-next .kept .1 .1 .1 .1 .0 ∙ c .before .before .before .before .before .before .before .before .before .before .before .before .before .before .before .before .read-four .kept .1 .1 .1 .1 .0 ∙ threads-long _ _ _ _ _ _ _ _ _ _ _ _ (c .before .before .before .before .before .before .before .before .before .before .before .before .before .before .before .before .before .before .before .before .loop .inv)
 
 same-length-2 : tie.Need-same-length-2 Inv-loop μ-loop
-same-length-2 c = c .before .before .before .before .before .before .read-some .kept .1 .1 .1 .1 .1 .0 ∙ c .before .before .before .before .before .before .before .before .before .before .before .before .before .before .before .before .read-four .kept .1 .1 .1 .1 .1 .0 ∙ kinds-long _ _ _ _ _ _ _ _ _ _ _ _ (c .before .before .before .before .before .before .before .before .before .before .before .before .before .before .before .before .before .before .before .before .loop .inv)
+same-length-2 c = c .before .before .before .before .before .before .read-next .kept .1 .1 .1 .1 .1 .0 ∙ c .before .before .before .before .before .before .before .before .before .before .before .before .before .before .before .before .read-four .kept .1 .1 .1 .1 .1 .0 ∙ kinds-long _ _ _ _ _ _ _ _ _ _ _ _ (c .before .before .before .before .before .before .before .before .before .before .before .before .before .before .before .before .before .before .before .before .loop .inv)
 
 returns : tie.Need-returns Inv-loop μ-loop
 returns c =
-    let some = c .before .before .before .before .before .before .read-some in
+    let some = c .before .before .before .before .before .before .read-next in
     piece _ _ _ _ _ _ _ _ (some .result)
     (more _ _ _ _ _ _ _ _ _ _ _ _ (c .before .before .before .before .before .before .before .before .before .before .before .before .before .before .before .before .before .before .before .before .loop .inv) _ _ _ _ _
-    (again _ _ _ _ _ _ _ _ _ _ _ _ (c .before .before .before .before .before .before .before .before .before .before .before .before .before .before .before .before .read-four .ensures) (c .before .before .before .before .before .before .before .before .before .before .if1 .left) _ _ _ _ _ (c .before .before .before .before .before .before .read-some .ensures .0)))
+    (again _ _ _ _ _ _ _ _ _ _ _ _ (c .before .before .before .before .before .before .before .before .before .before .before .before .before .before .before .before .read-four .ensures) (c .before .before .before .before .before .before .before .before .before .before .if1 .left) _ _ _ _ _ (c .before .before .before .before .before .before .read-next .ensures .0)))
     (some .ensures .1 .stops) (λ z. absurd (c .if2 .taken z))
 
 same-length-3 : tie.Need-same-length-3 Inv-loop μ-loop
-same-length-3 c = c .before .before .before .before .before .before .before .before .read-some .kept .1 .1 .1 .1 .0 ∙ c .before .before .before .before .before .before .before .before .before .before .before .before .before .before .before .before .before .before .read-four .kept .1 .1 .1 .1 .0 ∙ threads-long _ _ _ _ _ _ _ _ _ _ _ _ (c .before .before .before .before .before .before .before .before .before .before .before .before .before .before .before .before .before .before .before .before .before .before .loop .inv)
+same-length-3 c = c .before .before .before .before .before .before .before .before .read-next .kept .1 .1 .1 .1 .0 ∙ c .before .before .before .before .before .before .before .before .before .before .before .before .before .before .before .before .before .before .read-four .kept .1 .1 .1 .1 .0 ∙ threads-long _ _ _ _ _ _ _ _ _ _ _ _ (c .before .before .before .before .before .before .before .before .before .before .before .before .before .before .before .before .before .before .before .before .before .before .loop .inv)
 
 same-length-4 : tie.Need-same-length-4 Inv-loop μ-loop
-same-length-4 c = c .before .before .before .before .before .before .before .before .read-some .kept .1 .1 .1 .1 .1 .0 ∙ c .before .before .before .before .before .before .before .before .before .before .before .before .before .before .before .before .before .before .read-four .kept .1 .1 .1 .1 .1 .0 ∙ kinds-long _ _ _ _ _ _ _ _ _ _ _ _ (c .before .before .before .before .before .before .before .before .before .before .before .before .before .before .before .before .before .before .before .before .before .before .loop .inv)
+same-length-4 c = c .before .before .before .before .before .before .before .before .read-next .kept .1 .1 .1 .1 .1 .0 ∙ c .before .before .before .before .before .before .before .before .before .before .before .before .before .before .before .before .before .before .read-four .kept .1 .1 .1 .1 .1 .0 ∙ kinds-long _ _ _ _ _ _ _ _ _ _ _ _ (c .before .before .before .before .before .before .before .before .before .before .before .before .before .before .before .before .before .before .before .before .before .before .loop .inv)
 
 returns-2 : tie.Need-returns-2 Inv-loop μ-loop
 returns-2 c =
-    let some = c .before .before .before .before .before .before .before .before .read-some in
+    let some = c .before .before .before .before .before .before .before .before .read-next in
     piece _ _ _ _ _ _ _ _ (some .result)
     (more _ _ _ _ _ _ _ _ _ _ _ _ (c .before .before .before .before .before .before .before .before .before .before .before .before .before .before .before .before .before .before .before .before .before .before .loop .inv) _ _ _ _ _
-    (again _ _ _ _ _ _ _ _ _ _ _ _ (c .before .before .before .before .before .before .before .before .before .before .before .before .before .before .before .before .before .before .read-four .ensures) (c .before .before .before .before .before .before .before .before .before .before .before .before .if1 .left) _ _ _ _ _ (c .before .before .before .before .before .before .before .before .read-some .ensures .0)))
+    (again _ _ _ _ _ _ _ _ _ _ _ _ (c .before .before .before .before .before .before .before .before .before .before .before .before .before .before .before .before .before .before .read-four .ensures) (c .before .before .before .before .before .before .before .before .before .before .before .before .if1 .left) _ _ _ _ _ (c .before .before .before .before .before .before .before .before .read-next .ensures .0)))
     (some .ensures .1 .stops) (λ z l. absurd (omega (arith, l, c .if3 .taken)))
 
 loop-less-2 : tie.Need-loop-less-2 Inv-loop μ-loop
 loop-less-2 c =
-    let full = c .before .before .before .before .before .before .before .before .read-some .ensures .1 .full (c .before .before .if2 .left) (c .if3 .left) in
-    omega (arith, full, c .before .before .before .before .before .before .before .before .before .before .before .four-more .ensures .0, c .before .before .before .before .before .before .before .before .before .before .before .before .before .before .before .before .before .before .before .before .before .loop-test .taken)
+    let full = c .before .before .before .before .before .before .before .before .read-next .ensures .1 .full (c .before .before .if2 .left) (c .if3 .left) in
+    omega (arith, full, c .before .before .before .before .before .before .before .before .before .before .before .block-end .ensures .0 .0, c .before .before .before .before .before .before .before .before .before .before .before .before .before .before .before .before .before .before .before .before .before .loop-test .taken)
 
 loop-again-2 : tie.Need-loop-again-2 Inv-loop μ-loop
 loop-again-2 c =
     more _ _ _ _ _ _ _ _ _ _ _ _ (c .before .before .before .before .before .before .before .before .before .before .before .before .before .before .before .before .before .before .before .before .before .before .loop .inv) _ _ _ _ _
-    (again _ _ _ _ _ _ _ _ _ _ _ _ (c .before .before .before .before .before .before .before .before .before .before .before .before .before .before .before .before .before .before .read-four .ensures) (c .before .before .before .before .before .before .before .before .before .before .before .before .if1 .left) _ _ _ _ _ (c .before .before .before .before .before .before .before .before .read-some .ensures .0))
+    (again _ _ _ _ _ _ _ _ _ _ _ _ (c .before .before .before .before .before .before .before .before .before .before .before .before .before .before .before .before .before .before .read-four .ensures) (c .before .before .before .before .before .before .before .before .before .before .before .before .if1 .left) _ _ _ _ _ (c .before .before .before .before .before .before .before .before .read-next .ensures .0))
 
 stopped-requires : tie.Need-stopped-requires Inv-loop μ-loop
 stopped-requires c κs = search needs
@@ -108,8 +108,8 @@ read-piece-spec =
     read-four-requires
     loop-less
     loop-again
-    four-more-requires
-    read-some-requires
+    block-end-requires
+    read-next-requires
     same-length
     same-length-2
     returns
