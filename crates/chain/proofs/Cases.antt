@@ -18,7 +18,7 @@ use Rattle.model.specs.Refusals.{Refusal, refusal, accepted, Test, test, lowest
 use Rattle.model.specs.Cases.{padded, tree, at-ticket-root, uncounted, counters, two-homes, root-alone, two-in-root, same-numbers}
 use Rattle.chain.specs.Chain.{stays, acts-ahead, acts-holding, looked-to, looks-to, only, among, chain-from, chain}
 use Rattle.chain.specs.Answers.{bad-buffer, bad-chain, chain-tests, chain-refusal, chain-reply, chain-buffer, chain-answer, buffer-answer}
-use Rattle.chain.specs.Cases.{Case, gives, refuses, breaks, counted, sevens, roomy, gave, refused, holds, all-hold, three-in-root, three-in-ticket, cases}
+use Rattle.chain.specs.Cases.{Case, gives, refuses, refuses-at, breaks, counted, sevens, roomy, gave, refused-at, refused, holds, all-hold, three-in-root, three-in-ticket, cases}
 use Rattle.model.proofs.Tests.{and-both}
 use Rattle.model.proofs.Computing.{walked, Sized, formed-by-walks, same-formed, refusal-by, state-sized, sized}
 
@@ -43,6 +43,10 @@ holds-by-walks (refuses w s i room n) =
     let r = walked-refusal (tree-of w) (uncounted s) i (length (sevens room)) in
     let x = chain (tree-of w) s i in
     refused (chain-reply r x) (chain-buffer r x (sevens room)) (sevens room) n
+holds-by-walks (refuses-at w s i room n p) =
+    let r = walked-refusal (tree-of w) (uncounted s) i (length (sevens room)) in
+    let x = chain (tree-of w) s i in
+    refused-at (chain-reply r x) (chain-buffer r x (sevens room)) (sevens room) n p
 holds-by-walks (breaks w s i last c) =
     let r = walked-refusal (tree-of w) (uncounted s) i (length (sevens (w .threads))) in
     let x = chain (tree-of w) s i in
@@ -60,6 +64,7 @@ all-hold-by-walks (c ∷ cs) = holds-by-walks c && all-hold-by-walks cs
 unfoldable case-sized : Case → Bool
 case-sized (gives w s i c) = state-sized s
 case-sized (refuses w s i room n) = state-sized s
+case-sized (refuses-at w s i room n p) = state-sized s
 case-sized (breaks w s i last c) = state-sized s
 case-sized (counted w s k i n c) = state-sized s
 
@@ -71,6 +76,7 @@ same-case : (c : Case) → case-sized c ≡ true → holds c ≡ holds-by-walks 
 unfolding holds-by-walks case-sized holds chain-answer buffer-answer
 same-case (gives w s i c) e = rw (same-refusal (tree-of w) (uncounted s) i (length (roomy w)) (sized s e))
 same-case (refuses w s i room n) e = rw (same-refusal (tree-of w) (uncounted s) i (length (sevens room)) (sized s e))
+same-case (refuses-at w s i room n p) e = rw (same-refusal (tree-of w) (uncounted s) i (length (sevens room)) (sized s e))
 same-case (breaks w s i last c) e = rw (same-refusal (tree-of w) (uncounted s) i (length (sevens (w .threads))) (sized s e))
 same-case (counted w s k i n c) e = rw (same-refusal (tree-of w) (lock-state s k) i (length (roomy w)) (sized s e))
 

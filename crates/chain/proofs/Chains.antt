@@ -24,7 +24,6 @@ use Rattle.claims.proofs.Claims.Bounded.{same-count}
 use Rattle.chain.specs.Chain.{stays, looked-to, looks-to, only, among, chain-from, chain}
 use Rattle.chain.specs.Answers.{chain-tests}
 use Rattle.chain.specs.Laws.{Chain-on, ends, goes-on, Chain-law, Chain-refusal-law}
-use Rattle.chain.proofs.Following.{occurrences-snoc}
 
 -- LISTS
 pub only-one : (xs : List ℕ) → only xs ≢ 0 → xs ≡ (only xs - 1) ∷ []
@@ -48,6 +47,11 @@ none-among j c e = le-ltb 0 (occurrences j c) (omega arith)
 pub length-snoc : (c : List ℕ) (j : ℕ) → length (c ++ (j ∷ [])) ≡ suc (length c)
 length-snoc [] j = refl
 length-snoc (x ∷ c) j = ap suc (length-snoc c j)
+
+pub occurrences-snoc : (x j : ℕ) (c : List ℕ) → occurrences x (c ++ (j ∷ [])) ≡ occurrences x c + cond (eqb x j) 1 0
+unfolding occurrences
+occurrences-snoc x j [] = omega arith
+occurrences-snoc x j (y ∷ c) = omega (arith, occurrences-snoc x j c)
 
 occurrences-one : (a n : ℕ) → 1 ≤ occurrences a (n ∷ []) → a ≡ n
 unfolding occurrences

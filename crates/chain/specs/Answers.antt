@@ -31,10 +31,6 @@ chain-refusal t s i room = first-refusal (chain-tests t s i room)
 unfoldable pub chain-reply : Refusal → (chain : List ℕ) → ChainReply
 chain-reply r c = record { number = r .number; place = r .place; length = cond (eqb (r .number) 0) (length c) 0 }
 
--- the answer where it is refused
-abbrev pub chain-refused : Refusal → ChainReply
-chain-refused r = record { number = r .number; place = r .place; length = 0 }
-
 -- the buffer afterwards: the chain at its front and nothing behind; refused, as it came
 unfoldable pub chain-buffer : Refusal → (chain buffer : List ℕ) → List ℕ
 chain-buffer r c b = cond (eqb (r .number) 0) (c ++ drop (length c) b) b

@@ -27,20 +27,25 @@ pub data Case : Type 0 where
   gives : TreeWords → State → (thread : ℕ) → (chain : List ℕ) → Case
   -- refused, at place 0, with the buffer as it came
   refuses : TreeWords → State → (thread room number : ℕ) → Case
+  -- refused, at a place of the tree
+  refuses-at : TreeWords → State → (thread room number place : ℕ) → Case
   -- refused by 21, with room for every thread: the chain comes to this last thread, which looks to these
   breaks : TreeWords → State → (thread last : ℕ) → (looked : List ℕ) → Case
   -- with these counters, and room as for a chain that is given: the number, and the chain, none where it is refused
   counted : TreeWords → State → Counters → (thread number : ℕ) → (chain : List ℕ) → Case
 
 -- WHEN A LINE HOLDS, of a reply and of the buffer after it
-abbrev pub replies : (number length : ℕ) → ChainReply → Bool
-replies n k r = eqb (r .number) n && (eqb (r .place) 0 && eqb (r .length) k)
+abbrev pub replies : (number place length : ℕ) → ChainReply → Bool
+replies n p k r = eqb (r .number) n && (eqb (r .place) p && eqb (r .length) k)
 
 abbrev pub gave : ChainReply → (after before : List ℕ) → (number : ℕ) → (chain : List ℕ) → Bool
-gave r a b n c = replies n (length c) r && same-numbers a (c ++ drop (length c) b)
+gave r a b n c = replies n 0 (length c) r && same-numbers a (c ++ drop (length c) b)
+
+abbrev pub refused-at : ChainReply → (after before : List ℕ) → (number place : ℕ) → Bool
+refused-at r a b n p = replies n p 0 r && same-numbers a b
 
 abbrev pub refused : ChainReply → (after before : List ℕ) → (number : ℕ) → Bool
-refused r a b n = gave r a b n []
+refused r a b n = refused-at r a b n 0
 
 abbrev pub roomy : TreeWords → List ℕ
 roomy w = sevens (w .threads + 1)
@@ -49,6 +54,8 @@ unfoldable pub holds : Case → Bool
 holds (gives w s i c) = gave (chain-answer w (uncounted s) i (roomy w)) (buffer-answer w (uncounted s) i (roomy w)) (roomy w) 0 c
 holds (refuses w s i room n) =
     refused (chain-answer w (uncounted s) i (sevens room)) (buffer-answer w (uncounted s) i (sevens room)) (sevens room) n
+holds (refuses-at w s i room n p) =
+    refused-at (chain-answer w (uncounted s) i (sevens room)) (buffer-answer w (uncounted s) i (sevens room)) (sevens room) n p
 holds (breaks w s i last c) =
     refused (chain-answer w (uncounted s) i (sevens (w .threads))) (buffer-answer w (uncounted s) i (sevens (w .threads))) (sevens (w .threads)) 21
     && same-numbers (looks-to (tree-of w) s last) c
@@ -163,6 +170,8 @@ earlier =
     ∷ refuses two-in-root fresh-words 2 0 12
     ∷ refuses two-in-root (with-place 0 (Check 0) fresh-words) 2 0 10
     ∷ refuses (tree 0 1 [] [] (0 ∷ [])) (with-place 0 (Check 0) fresh-words) 2 0 4
+    -- the second leaf has no thread: its number is the place
+    ∷ refuses-at (tree 3 1 (0 ∷ 0 ∷ 0 ∷ []) (0 ∷ 2 ∷ 16 ∷ []) (1 ∷ [])) fresh-words 0 1 16 2
     ∷ []
 
 -- the entries of domain 1 are so many, all other counters 0

@@ -2,5 +2,4 @@
 pub mod Chain
 pub mod Answers
 pub mod Laws
-pub mod Tables
 pub mod Cases

@@ -193,7 +193,7 @@ pub extern "C" fn hmcs_run_many(
     ensures { λ r. ⌜ r ≡ answer-of (many-answer tree (now (lengths .entry)) (now (entries .entry)) (now (rows .entry))) ⌝ }
     ensures { λ r. ⌜ now (rows .exit) ≡ rows-answer tree (now (lengths .entry)) (now (entries .entry)) (now (rows .entry)) ⌝ }
 {
-    let r = schedules::run_many(tree, lengths, entries, rows);
+    let r = schedules_call::run_many(tree, lengths, entries, rows);
     Answer {
         number: r.number,
         place: r.place,
@@ -221,7 +221,7 @@ pub extern "C" fn hmcs_run_waits(
     ensures { λ r. ⌜ now (trace .exit) ≡ waits-trace tree state (now (schedule .entry)) (now (trace .entry)) (now (rows .entry)) ⌝ }
     ensures { λ r. ⌜ now (rows .exit) ≡ waits-rows tree state (now (schedule .entry)) (now (trace .entry)) (now (rows .entry)) ⌝ }
 {
-    waits::run_waits(tree, state, schedule, trace, rows)
+    waits_call::run_waits(tree, state, schedule, trace, rows)
 }
 
 // The chain of threads that a thread waits for, itself first, at the front of the chain buffer; refused, that buffer as it came. The number is returned; place and length go where the host says.
@@ -239,7 +239,7 @@ pub extern "C" fn hmcs_chain(
     ensures { λ r. ⌜ now (length .exit) ≡ chain-answer tree state thread (now (chain .entry)) .length ⌝ }
     ensures { λ r. ⌜ now (chain .exit) ≡ buffer-answer tree state thread (now (chain .entry)) ⌝ }
 {
-    let reply = chain::chain(tree, state, thread, chain);
+    let reply = chain_call::chain(tree, state, thread, chain);
     *place = reply.place;
     *length = reply.length;
     reply.number

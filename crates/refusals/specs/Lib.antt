@@ -1,5 +1,3 @@
 -- What the tests of the calls say of the arrays that they read.
 pub mod Arrays
 pub mod Lowest
-pub mod Tables
-pub mod Counts

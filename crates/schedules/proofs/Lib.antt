@@ -1,9 +1,6 @@
--- The proofs of the laws and the cases; each function's own stands in its folder.
-pub mod Adding
+-- The proofs of the laws and the cases.
 pub mod Cutting
 pub mod Refusing
 pub mod Alone
 pub mod Answering
-pub mod Storing
 pub mod Cases
-pub mod FreshRow

@@ -1,23 +1,18 @@
 -- What refuses the whole call, in plain numbers. Assumes nothing.
-use mathlib.Core.Path.{_≡_, refl, sym, ap, _∙_}
-use mathlib.Core.Bool.{true, false}
-use mathlib.Core.List.{List, [], _∷_, _++_}
+use mathlib.Core.Path.{_≡_, refl, _∙_}
+use mathlib.Core.List.{List, [], _++_}
 use mathlib.Core.Logic.{_≢_}
 use Prim.Native.Nat.{ℕ, _*_, _/_, _≤_, _<_}
 use native.Mathlib.Omega.{arith}
-use lib.Dec.{eqb}
 use lib.ListN.{length}
-use borrow.Author.Tests.{eq-eqb, ne-eqb, eqb-true, eqb-false, lt-ltb, le-ltb}
+use borrow.Author.Tests.{eq-eqb, ne-eqb, lt-ltb, le-ltb}
 use Rattle.model.specs.Trees.{Tree}
 use Rattle.model.specs.Refusals.{refusal, accepted, first-refusal, tree-tests, has-number, tree-refusal}
 use Rattle.model.specs.Laws.{Refusal-law, Refuses-exactly}
 use Rattle.model.proofs.Refusing.{numbered}
 use Rattle.model.proofs.Laws.Refusals.{refusal-law, tree-numbered}
-use Rattle.refusals.specs.declared.Refusal.{Refusal}
-use Rattle.refusals.specs.Arrays.{refusal-words}
 use Rattle.refusals.proofs.Joining.{first-decides, other-decides}
 use Rattle.refusals.proofs.Scanning.{single-hit, single-missed}
-use Rattle.refusals.proofs.RunTests.{refusal-words-not, refusal-words-zero}
 use Rattle.schedules.specs.Rows.{total}
 use Rattle.schedules.specs.Refusals.{bad-total, bad-row-room, total-tests, row-room-tests, many-tests, many-refusal}
 use Rattle.schedules.specs.Laws.{Many-refusal-law}
@@ -27,7 +22,7 @@ module _ (t : Tree) (ns : List ℕ) (n room : ℕ) where
   unfolding Refusal-law has-number tree-tests many-tests
   exactly = refusal-law (many-tests t ns n room) (numbered (many-tests t ns n room) refl)
 
-  tree-refused : tree-refusal t .number ≢ 0 → many-refusal t ns n room ≡ tree-refusal t
+  pub tree-refused : tree-refusal t .number ≢ 0 → many-refusal t ns n room ≡ tree-refusal t
   unfolding many-refusal many-tests tree-refusal
   tree-refused h = first-decides (tree-tests t) (total-tests ns n ++ row-room-tests ns room) h
 
@@ -36,7 +31,7 @@ module _ (t : Tree) (ns : List ℕ) (n room : ℕ) where
     unfolding many-refusal many-tests tree-refusal
     behind-tree = other-decides (tree-tests t) (total-tests ns n ++ row-room-tests ns room) (tree-numbered t) tree-passes
 
-    total-refused : total ns ≢ n → many-refusal t ns n room ≡ refusal 22 0
+    pub total-refused : total ns ≢ n → many-refusal t ns n room ≡ refusal 22 0
     unfolding bad-total
     total-refused h = behind-tree ∙ single-hit _ (row-room-tests ns room) refl (rw (ne-eqb (total ns) n h))
 
@@ -45,11 +40,11 @@ module _ (t : Tree) (ns : List ℕ) (n room : ℕ) where
       unfolding bad-total
       behind-total = behind-tree ∙ single-missed _ (row-room-tests ns room) refl (rw (eq-eqb (total ns) n adds-up))
 
-      room-refused : room < 8 * length ns → many-refusal t ns n room ≡ refusal 23 0
+      pub room-refused : room < 8 * length ns → many-refusal t ns n room ≡ refusal 23 0
       unfolding bad-row-room
       room-refused h = behind-total ∙ single-hit _ [] refl (lt-ltb (room / 8) (length ns) (omega arith))
 
-      accepts : 8 * length ns ≤ room → many-refusal t ns n room ≡ accepted
+      pub accepts : 8 * length ns ≤ room → many-refusal t ns n room ≡ accepted
       unfolding bad-row-room first-refusal
       accepts h = behind-total ∙ single-missed _ [] refl (le-ltb (room / 8) (length ns) (omega arith))
 
@@ -63,19 +58,3 @@ many-refusal-law t ns n room =
       room-refused = room-refused t ns n room;
       accepts = accepts t ns n room;
     }
-
--- what the code tells, by what it has tested
-module _ (t : Tree) (ns : List ℕ) (n room : ℕ) (r : Refusal) (e : r ≡ refusal-words (tree-refusal t)) where
-  pub tree-answered : (r .number ≡ 0 → ⊥) → r ≡ refusal-words (many-refusal t ns n room)
-  tree-answered h = e ∙ ap refusal-words (sym (tree-refused t ns n room (refusal-words-not r _ e h)))
-
-  module _ (z : r .number ≡ 0) where
-    pub total-answered : false ≡ eqb (total ns) n → refusal-words (refusal 22 0) ≡ refusal-words (many-refusal t ns n room)
-    total-answered h = ap refusal-words (sym (total-refused t ns n room (refusal-words-zero r _ e z) (eqb-false (total ns) n (sym h))))
-
-    module _ (h : true ≡ eqb (total ns) n) where
-      pub room-answered : room / 8 < length ns → refusal-words (refusal 23 0) ≡ refusal-words (many-refusal t ns n room)
-      room-answered l = ap refusal-words (sym (room-refused t ns n room (refusal-words-zero r _ e z) (eqb-true (total ns) n (sym h)) (omega arith)))
-
-      pub acceptance-answered : length ns ≤ room / 8 → refusal-words accepted ≡ refusal-words (many-refusal t ns n room)
-      acceptance-answered l = ap refusal-words (sym (accepts t ns n room (refusal-words-zero r _ e z) (eqb-true (total ns) n (sym h)) (omega arith)))

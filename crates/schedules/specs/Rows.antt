@@ -1,10 +1,9 @@
 -- Document 02, (xi): the schedules of a call, and the row of each. Assumes nothing: these are definitions.
 use mathlib.Core.List.{List, [], _∷_, _++_}
 use Prim.Native.Nat.{ℕ, _+_}
-use lib.ListN.{length, take, drop}
+use lib.ListN.{take, drop}
 use Rattle.model.specs.declared.TreeWords.{TreeWords}
 use Rattle.model.specs.declared.RunReply.{RunReply}
-use Rattle.model.specs.declared.Counts.{Counts}
 use Rattle.model.specs.Answers.{lone-answer}
 
 -- what the lengths add up to
@@ -40,7 +39,3 @@ behind-one-another (xs ∷ xss) = xs ++ behind-one-another xss
 -- the numbers of all rows
 abbrev pub all-rows : TreeWords → (schedules : List (List ℕ)) → List ℕ
 all-rows w iss = behind-one-another (rows-of w iss)
-
--- the numbers of a row, by number, place and counts
-abbrev pub row-numbers : (number place : ℕ) → Counts → List ℕ
-row-numbers n p c = n ∷ p ∷ c .steps ∷ c .entries ∷ c .stays ∷ c .root ∷ c .passed ∷ c .crossed ∷ []

@@ -22,7 +22,7 @@ use Rattle.claims.proofs.Queues.Moves.{low, holding}
 use Rattle.claims.proofs.Words.Represents.{letting-go-root, letting-go-low}
 use Rattle.claims.proofs.Words.Releasing.{done-at}
 use Rattle.chain.specs.Chain.{stays, links, looked-to}
-use Rattle.chain.proofs.Linking.{stays-at, linger-stays}
+use Rattle.chain.proofs.Stays.{stays-at, linger-stays}
 use Rattle.chain.proofs.Reached.Rows.{link-nexts, next-kept}
 use Rattle.chain.proofs.Reached.Ahead.{link-place, looked-one}
 use Rattle.chain.proofs.Reached.Holding.{far}

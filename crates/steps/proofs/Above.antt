@@ -10,7 +10,7 @@ use lib.ListN.{getD}
 use borrow.Author.Tests.{lt-ltb, le-ltb}
 use Rattle.model.specs.Counters.{most-counted, count-above, any-above}
 use Rattle.model.proofs.Tests.{any-found, or-right, any-nowhere}
-use Rattle.refusals.specs.Counts.{counters-in}
+use Rattle.run_refusals.specs.Counts.{counters-in}
 
 pub one-more-fits : (vs : List ℕ) (d : ℕ) → ((j : ℕ) → j < d → getD vs j 0 + 65536 ≤ most-counted) → getD vs d 0 ≤ 9223372036854710272 → (j : ℕ) → j < d + 1 → getD vs j 0 + 65536 ≤ most-counted
 one-more-fits vs d h l j b = elim (ℕ-discrete j d) [ yes z ↦ rw z (omega arith) | no z ↦ h j (omega arith) ]

@@ -19,7 +19,7 @@ use Rattle.model.proofs.Laws.Refusals.{accepted-number, run-numbered-before-19}
 use Rattle.model.proofs.Trees.Accepted.{sixteen-bit}
 use Rattle.refusals.specs.declared.Refusal.{Refusal}
 use Rattle.refusals.specs.Arrays.{refusal-words}
-use Rattle.refusals.specs.Counts.{counters-in}
+use Rattle.run_refusals.specs.Counts.{counters-in}
 use Rattle.refusals.specs.Lowest.{Lowest}
 use Rattle.refusals.proofs.Scanning.{test-hit}
 use Rattle.refusals.proofs.Joining.{first-decides, other-decides}

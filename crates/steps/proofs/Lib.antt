@@ -1,7 +1,4 @@
-pub mod Children
 pub mod Taken
-pub mod Leaving
-pub mod RowPlaces
 pub mod SoFar
 pub mod Typing
 pub mod Turns
@@ -9,8 +6,6 @@ pub mod StepCodes
 pub mod Telling
 pub mod Answering
 pub mod Starting
-pub mod Counts
-pub mod Shown
 pub mod Above
 pub mod StepEntries
 pub mod StepTenures
@@ -19,4 +14,5 @@ pub mod Tallying
 pub mod Looking
 pub mod Trying
 pub mod CounterLimits
+pub mod StepCounted
 pub mod StepTaken

@@ -20,9 +20,9 @@ use Rattle.model.proofs.Laws.Runs.{steps-join, steps-length, how-many-join, ent
 use Rattle.model.proofs.Laws.Form.{form-law}
 use Rattle.model.proofs.Laws.Kinds.{kind-law}
 use Rattle.model.proofs.Counted.{how-many-most}
-use Rattle.steps.specs.declared.rows.Moved.{Moved}
-use Rattle.steps.specs.Rows.{with-place-words, Done}
-use Rattle.steps.specs.Running.{kinds-of, counted, counts-by, is-entry-number, traced-at, trace-front}
+use Rattle.rows.specs.declared.Moved.{Moved}
+use Rattle.rows.specs.Rows.{with-place-words, Done, is-entry-number}
+use Rattle.steps.specs.Running.{kinds-of, counted, counts-by, traced-at, trace-front}
 
 -- KINDS by their numbers
 pub kind-small : (k : Kind) → kind-number k < 6

@@ -10,11 +10,10 @@ use Rattle.model.specs.declared.PlaceWords.{PlaceWords}
 use Rattle.model.specs.Places.{place-words}
 use Rattle.model.specs.Laws.{Typed}
 use Rattle.model.proofs.Laws.Form.{replicate-all}
-use Rattle.steps.specs.Rows.{state-in}
+use Rattle.steps.specs.Running.{state-in, fresh-from, first-number}
 use Rattle.model.specs.declared.TreeWords.{TreeWords}
 use Rattle.model.specs.Trees.{tree-of}
 use Rattle.model.specs.States.{wrap, fresh-words, fresh-state}
-use Rattle.steps.specs.Running.{fresh-from, first-number}
 
 first-is : (n k v : ℕ) → v < 65536 → first-number n k v ≡ cond (not (eqb k 0)) (wrap (cond (eqb n 0) v 0)) 0
 first-is n k v h = by (eqb n 0) (eqb k 0)

@@ -19,27 +19,10 @@ use Rattle.model.specs.WellFormed.{good-tail, good-next, good-status, good-plac
 use Rattle.model.proofs.Laws.Form.{not-invalid}
 use Rattle.model.proofs.Tests.{and-both, all-each}
 use Rattle.model.proofs.Trees.Reading.{home-read, threads-read}
-use Rattle.steps.specs.Rows.{row-domain}
+use Rattle.rows.specs.Rows.{row-domain}
 use Rattle.steps.specs.Running.{step-code}
+use Rattle.rows.proofs.RowPlaces.{place-by-row}
 use Rattle.steps.proofs.SoFar.{kind-small}
-
--- the domain of a place by the row and the domain of its words
-pub place-by-row : (h : ℕ) (p : Place) → p ≢ Invalid → row-domain h (words-of p .row) (words-of p .domain) ≡ place-domain h p
-place-by-row h Idle n = refl
-place-by-row h (Prep l) n = refl
-place-by-row h (Swap l) n = refl
-place-by-row h (Link l p) n = refl
-place-by-row h (Wait l) n = refl
-place-by-row h Inside n = refl
-place-by-row h (Check l) n = refl
-place-by-row h (Help l) n = refl
-place-by-row h (Cas l) n = refl
-place-by-row h (Linger l) n = refl
-place-by-row h (Grant l r w) n = refl
-place-by-row h Draw n = refl
-place-by-row h Watch n = refl
-place-by-row h Raise n = refl
-place-by-row h Invalid n = absurd (n refl)
 
 -- what is told of a step is its kind, its row and its domain, each in bits of its own
 row-small : (p : Place) → words-of p .row < 16

@@ -26,13 +26,14 @@ use Rattle.model.proofs.Trees.Reading.{read-in}
 use Rattle.refusals.specs.Arrays.{parents-in, Lower}
 use Rattle.refusals.proofs.Reading.{parent-in, home-in}
 use Rattle.refusals.proofs.Meeting.{child-same}
-use Rattle.steps.specs.declared.members.Member.{Member}
-use Rattle.steps.specs.declared.rows.Moved.{Moved}
-use Rattle.steps.specs.Counting.{taken-in, record-domain-in, started-in, Started, Shown-left, Counted-step}
-use Rattle.steps.specs.Rows.{Done, Stands, Above, Member-of, row-domain, start-row, tree-at, state-in}
-use Rattle.steps.specs.Running.{Ready, Taken}
-use Rattle.steps.proofs.Counts.{other-counted}
-use Rattle.steps.proofs.StepCodes.{place-by-row}
+use Rattle.rows.specs.declared.members.Member.{Member}
+use Rattle.rows.specs.declared.Moved.{Moved}
+use Rattle.rows.specs.Counting.{taken-in, record-domain-in, Started}
+use Rattle.steps.specs.Counting.{started-in, Shown-left, Counted-step}
+use Rattle.rows.specs.Rows.{Done, Stands, Above, Member-of, row-domain, start-row}
+use Rattle.steps.specs.Running.{tree-at, state-in, Ready, Taken}
+use Rattle.steps.proofs.StepCounted.{other-counted}
+use Rattle.rows.proofs.RowPlaces.{place-by-row}
 
 -- the row of a place at a domain
 abbrev pub row-at : Tree → (thread domain : ℕ) → Place → State → Row-result

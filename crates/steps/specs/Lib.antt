@@ -1,4 +1,3 @@
 -- What the functions behind the calls say of the words that they read and store.
-pub mod Rows
 pub mod Running
 pub mod Counting

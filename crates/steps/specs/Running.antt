@@ -1,6 +1,6 @@
 -- A run by its steps: what is done, counted and traced. Assumes nothing: these are definitions.
 use mathlib.Core.Path.{_≡_}
-use mathlib.Core.Bool.{Bool, true, _||_, cond}
+use mathlib.Core.Bool.{true, cond}
 use mathlib.Core.List.{List, [], _∷_, _++_}
 use Prim.Native.Nat.{ℕ, _+_, _*_, _<_}
 use lib.Dec.{eqb, ltb}
@@ -9,14 +9,21 @@ use Rattle.model.specs.declared.PlaceWords.{PlaceWords}
 use Rattle.model.specs.declared.State.{State}
 use Rattle.model.specs.Places.{place-words, words-of, place-of}
 use Rattle.model.specs.States.{fresh-words, with-ticket, with-grant}
-use Rattle.model.specs.Trees.{Tree}
+use Rattle.model.specs.Trees.{Tree, tree-of}
 use Rattle.model.specs.Refusals.{tree-refusal}
 use Rattle.model.specs.declared.Counts.{Counts}
 use Rattle.model.specs.Steps.{stay, other, root-entry, passed-entry, crossed-entry, leaving, kind-number, is-kind, Step, row, step}
 use Rattle.model.specs.Runs.{how-many, Run}
 use Rattle.model.specs.WellFormed.{good-place}
-use Rattle.steps.specs.declared.rows.Moved.{Moved}
-use Rattle.steps.specs.Rows.{Done, state-in}
+use Rattle.rows.specs.declared.Moved.{Moved}
+use Rattle.rows.specs.Rows.{Done, is-entry-number}
+
+-- a tree by its numbers and arrays
+abbrev pub tree-at : (kind domains threads : ℕ) → (parents thresholds homes : List ℕ) → Tree
+tree-at k n m ps ts hs = tree-of (record { domains = n; threads = m; parents = ps; thresholds = ts; homes = hs; «ticket_root» = k })
+
+abbrev pub state-in : (tails nexts statuses : List ℕ) → (ticket grant : ℕ) → List PlaceWords → State
+state-in ts ns vs v g ps = record { tails = ts; nexts = ns; statuses = vs; places = ps; ticket = v; grant = g }
 
 -- an accepted tree, a thread of it, and a good place of that thread
 pub record Ready (t : Tree) (i : ℕ) (q : PlaceWords) : Type 0 where
@@ -49,10 +56,6 @@ counts-by ks =
       passed = getD ks 3 0;
       crossed = getD ks 4 0;
     }
-
--- the kind of a number is an entry
-abbrev pub is-entry-number : (kind : ℕ) → Bool
-is-entry-number k = eqb k 2 || eqb k 3 || eqb k 4
 
 -- the buffer with an entering thread at an index
 abbrev pub traced-at : List ℕ → (at kind thread : ℕ) → List ℕ

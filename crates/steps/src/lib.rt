@@ -1,14 +1,10 @@
-// The step table in code: what each row stores, what it counts, and the run's loop. An inner crate: the calls on a lock stand on it, and have made the tests that it asks for.
+// The steps of a run: the row of a place, the run's loop, and 19. An inner crate: the calls on a lock stand on it, and have made the tests that it asks for.
 ghost use mathlib.Core.Path.{_≡_};
 ghost use Rattle.model.specs.Refusals.{refusal};
 ghost use Rattle.model.specs.Answers.{run-refused};
 ghost use Rattle.steps.specs.Running.{fresh-from};
 
-mod counting;
 pub mod limits;
-mod members;
-mod places;
-mod rows;
 pub mod run;
 mod taking;
 

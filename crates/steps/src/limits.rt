@@ -7,7 +7,7 @@ ghost use Rattle.model.specs.Trees.{tree-of};
 ghost use Rattle.model.specs.Counters.{lock-state, any-above};
 ghost use Rattle.model.specs.Refusals.{first-refusal, run-tests-before-19, bad-counter, counter-tests, run-refusal};
 ghost use Rattle.refusals.specs.Arrays.{refusal-words};
-ghost use Rattle.refusals.specs.Counts.{counters-in};
+ghost use Rattle.run_refusals.specs.Counts.{counters-in};
 ghost use Rattle.refusals.specs.Lowest.{Lowest};
 ghost use Rattle.steps.specs.Counting.{Room-answered};
 use crate::run;
@@ -142,7 +142,7 @@ pub fn refusal_of<'c>(
 ) -> Refusal
     ensures { λ r. ⌜ r ≡ refusal-words (run-refusal (tree-of tree) (lock-state state (counters-in (now (entries .entry)) (now (tenures .entry)) (now (longest .entry)))) (now (schedule .entry)) room) ⌝ }
 {
-    let r = refusals::run_refusal_of(tree, state, entries, tenures, longest, schedule, room);
+    let r = run_refusals::run_refusal_of(tree, state, entries, tenures, longest, schedule, room);
     if r.number != 0 {
         return r;
     }

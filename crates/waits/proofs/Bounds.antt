@@ -12,7 +12,7 @@ use Rattle.model.proofs.Laws.Runs.{steps-length}
 use Rattle.schedules.specs.Rows.{total}
 use Rattle.waits.specs.Attempts.{begins, enters, begun, counted, under-way-after, finished, finished-by, waits-from}
 use Rattle.waits.specs.Laws.{Bound-law}
-use Rattle.waits.proofs.Tallying.{total-join}
+use Rattle.waits.proofs.Sums.{total-join}
 
 counted-more : (x : Step) (p : ℕ) → counted x p ≤ p + 1
 unfolding counted

@@ -22,7 +22,7 @@ use Rattle.waits.specs.Rows.{largest, row-with, row-of, rows-below, all-
 use Rattle.waits.specs.Answers.{refused-by, waits-answer, waits-trace, waits-rows}
 use Rattle.waits.specs.Laws.{Waits-refusal-law, Runs-as, Waits-run-law, row-at, column, Says, Row-law, Keeps-rest, Row-buffer-law}
 use Rattle.waits.proofs.Refusing.{early-passes, early-zero, waits-refusal-law}
-use Rattle.waits.proofs.Tallying.{total-join, largest-join}
+use Rattle.waits.proofs.Sums.{total-join, largest-join}
 
 row-long : (n w m : ℕ) → length (row-with n w m) ≡ 5
 unfolding row-with

@@ -1,14 +1,10 @@
-pub mod Cases
+-- The proofs.
+pub mod Sums
 pub mod Divisors
 pub mod Refusing
-pub mod Tallying
-pub mod Tables
 pub mod Buffers
 pub mod Phases
 pub mod Entering
 pub mod Bounds
 pub mod Measuring
-pub mod Counting
-pub mod Writing
-pub mod Pieces
-pub mod Waited
+pub mod Cases

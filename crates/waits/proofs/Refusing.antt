@@ -14,22 +14,20 @@ use Rattle.model.specs.Laws.{Numbered, Refusal-law, Refuses-exactly}
 use Rattle.model.proofs.Refusing.{numbered}
 use Rattle.model.proofs.Laws.Refusals.{accepted-number, refusal-law, run-numbered-before-19}
 use Rattle.refusals.specs.declared.Refusal.{Refusal}
-use Rattle.refusals.specs.Arrays.{refusal-words}
 use Rattle.refusals.proofs.Joining.{first-decides, other-decides}
 use Rattle.refusals.proofs.Scanning.{single-hit, single-missed}
-use Rattle.refusals.proofs.RunTests.{refusal-words-not, refusal-words-zero}
 use Rattle.waits.specs.Refusals.{bad-row-room, row-room-tests, waits-tests-before-19, waits-tests, waits-refusal}
 use Rattle.waits.specs.Laws.{Waits-refusal-law}
 
 module _ (t : Tree) (s : LockState) (is : List ℕ) (room n : ℕ) where
-  abbrev ran : List Test
+  abbrev pub ran : List Test
   ran = run-tests-before-19 t s is room
 
   -- what is refused before 19 is tested, by the run and by the run with waits
-  abbrev run-early : model.Refusal
+  abbrev pub run-early : model.Refusal
   run-early = first-refusal ran
 
-  abbrev early : model.Refusal
+  abbrev pub early : model.Refusal
   early = first-refusal (waits-tests-before-19 t s is room n)
 
   early-numbered : Numbered (waits-tests-before-19 t s is room n)
@@ -41,18 +39,18 @@ module _ (t : Tree) (s : LockState) (is : List ℕ) (room n : ℕ) where
   exactly = refusal-law (waits-tests t s is room n) (numbered (waits-tests t s is room n) refl)
 
   -- BEFORE 19: the run's tests decide where one of them refuses, else the room for rows
-  run-decides : run-early .number ≢ 0 → early ≡ run-early
+  pub run-decides : run-early .number ≢ 0 → early ≡ run-early
   run-decides = first-decides ran (row-room-tests t n)
 
   module _ (passes : run-early .number ≡ 0) where
     rows-decide : early ≡ first-refusal (row-room-tests t n)
     rows-decide = other-decides ran (row-room-tests t n) (run-numbered-before-19 t s is room) passes
 
-    rows-refuse : n < 5 * (t .threads + 1) → early ≡ refusal 18 0
+    pub rows-refuse : n < 5 * (t .threads + 1) → early ≡ refusal 18 0
     unfolding bad-row-room
     rows-refuse h = rows-decide ∙ single-hit _ [] refl (lt-ltb (n / 5) (t .threads + 1) (omega arith))
 
-    rows-pass : 5 * (t .threads + 1) ≤ n → early ≡ accepted
+    pub rows-pass : 5 * (t .threads + 1) ≤ n → early ≡ accepted
     unfolding bad-row-room first-refusal
     rows-pass h = rows-decide ∙ single-missed _ [] refl (le-ltb (n / 5) (t .threads + 1) (omega arith))
 
@@ -109,32 +107,3 @@ waits-refusal-law t s is room n =
       room-refused = room-refused t s is room n;
       rows-fit = rows-fit t s is room n;
     }
-
--- what the code tells, by what it has tested
-module _ (t : Tree) (s : LockState) (is : List ℕ) (room n : ℕ) (r : Refusal) (e : r ≡ refusal-words (run-early t s is room n)) where
-  pub run-answered : (r .number ≡ 0 → ⊥) → r ≡ refusal-words (early t s is room n)
-  run-answered h = e ∙ ap refusal-words (sym (run-decides t s is room n (refusal-words-not r _ e h)))
-
-  module _ (z : r .number ≡ 0) where
-    pub room-answered : n / 5 ≤ t .threads → refusal-words (refusal 18 0) ≡ refusal-words (early t s is room n)
-    room-answered l = ap refusal-words (sym (rows-refuse t s is room n (refusal-words-zero r _ e z) (omega arith)))
-
-    pub acceptance-answered : t .threads < n / 5 → r ≡ refusal-words (early t s is room n)
-    unfolding Refusal-law
-    acceptance-answered l =
-        let passes = refusal-words-zero r _ e z in
-        e ∙ ap refusal-words (refusal-law (run-tests-before-19 t s is room) (run-numbered-before-19 t s is room) .zero-accepted passes ∙ sym (rows-pass t s is room n passes (omega arith)))
-
--- what a caller learns from what it is told
-module _ (t : Tree) (s : LockState) (is : List ℕ) (room n : ℕ) (r : Refusal) (e : r ≡ refusal-words (early t s is room n)) where
-  -- refused: what it is told is the answer
-  pub waits-answered : (r .number ≡ 0 → ⊥) → r ≡ refusal-words (waits-refusal t s is room n)
-  waits-answered h = e ∙ ap refusal-words (sym (early-decides t s is room n (refusal-words-not r _ e h)))
-
-  -- not refused: 19 is left, and the run and its rows may go on
-  module _ (z : r .number ≡ 0) where
-    pub counters-left : waits-refusal t s is room n ≡ first-refusal (counter-tests t s is)
-    counters-left = counters-decide t s is room n (refusal-words-zero r _ e z)
-
-    pub answered-passes : (first-refusal (run-tests-before-19 t s is room) .number ≡ 0) × (5 * (t .threads + 1) ≤ n)
-    answered-passes = early-passes t s is room n (refusal-words-zero r _ e z)

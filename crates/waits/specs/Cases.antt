@@ -89,6 +89,8 @@ cases =
     ∷ rows-given (at-ticket-root two-in-root) fresh-words (0 ∷ 1 ∷ 0 ∷ 0 ∷ 0 ∷ 1 ∷ 1 ∷ 1 ∷ 0 ∷ []) 10 ((2 ∷ 1 ∷ 1 ∷ 1 ∷ 2 ∷ []) ++ no-wait 1 ++ (3 ∷ 1 ∷ 1 ∷ 1 ∷ 3 ∷ []))
     -- a ticket root that is not home: it begins with the Swap at home, before the draw
     ∷ rows-given (at-ticket-root two-homes) fresh-words (0 ∷ 0 ∷ 2 ∷ 2 ∷ 2 ∷ 0 ∷ 2 ∷ 2 ∷ 2 ∷ 0 ∷ []) 15 ((1 ∷ 1 ∷ 1 ∷ 1 ∷ 1 ∷ []) ++ no-attempt ++ no-wait 1 ++ (2 ∷ 1 ∷ 1 ∷ 1 ∷ 2 ∷ []))
+    -- a queue root that is not home: the Swap there begins no attempt, so the entry before it is in the wait of the one that began at home
+    ∷ rows-given two-homes fresh-words (replicate 2 0 ++ replicate 8 2 ++ replicate 2 0) 15 ((1 ∷ 1 ∷ 1 ∷ 1 ∷ 1 ∷ []) ++ no-attempt ++ no-wait 1 ++ (2 ∷ 1 ∷ 1 ∷ 1 ∷ 2 ∷ []))
     -- three levels, a crossed entry: the Swap between home and root begins no attempt
     ∷ rows-given three-levels fresh-words (replicate 6 0 ++ replicate 6 1 ++ replicate 4 0 ++ 1 ∷ []) 10 (no-wait 1 ++ no-wait 1 ++ no-wait 2)
     -- no entries

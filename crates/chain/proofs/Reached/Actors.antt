@@ -34,7 +34,7 @@ use Rattle.claims.proofs.Claims.QueueLaw.{Acting, acting-index, index-acting, i
 use Rattle.model.proofs.Laws.Kinds.{may-stay, stay-named}
 use Rattle.claims.proofs.Claims.Moving.{woken-moves, ready-moves, shown-moves}
 use Rattle.chain.specs.Chain.{stays}
-use Rattle.chain.proofs.Linking.{stays-at, linger-stays, moves-on}
+use Rattle.chain.proofs.Stays.{stays-at, linger-stays, moves-on}
 
 -- a thread whose next step is a stay, by the row of its place
 pub row-stays : (t : Tree) (s : WordState) (i : ℕ) → stays t s i ≡ true → row t i (place s i) s .kind ≡ stay

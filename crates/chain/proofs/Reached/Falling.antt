@@ -26,9 +26,8 @@ use Rattle.claims.proofs.Words.Tickets.{list-short}
 use Rattle.claims.proofs.Words.Outcome.{member-small}
 use Rattle.claims.proofs.Claims.Reached.{Queued}
 use Rattle.chain.specs.Chain.{stays, acts-ahead, ticket-before, acts-holding, looked-to}
-use Rattle.chain.specs.Tables.{waits-in}
 use Rattle.model.proofs.Laws.Kinds.{may-stay}
-use Rattle.chain.proofs.Linking.{stays-at, wait-stays, moves-on}
+use Rattle.chain.proofs.Stays.{waits-in, stays-at, wait-stays, moves-on}
 use Rattle.chain.proofs.Reached.Orders.{position, position-small, position-next}
 use Rattle.chain.proofs.Reached.Actors.{Waits, waits, lingers, watches, stay-waits, stands-before}
 use Rattle.chain.proofs.Reached.Ahead.{link-place, watch-before}

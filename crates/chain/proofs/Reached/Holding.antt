@@ -35,8 +35,7 @@ use Rattle.claims.proofs.Words.Frame.{others-of, other-record}
 use Rattle.claims.proofs.Claims.Reached.{Queued}
 use Rattle.claims.proofs.Claims.QueueLaw.{Acting, in-queue}
 use Rattle.chain.specs.Chain.{stays, acts-ahead, links, ticket-before, acts-holding, looked-to}
-use Rattle.chain.specs.Tables.{waits-in}
-use Rattle.chain.proofs.Linking.{stays-at, wait-stays, linger-stays, watch-stays}
+use Rattle.chain.proofs.Stays.{waits-in, stays-at, wait-stays, linger-stays, watch-stays}
 use Rattle.chain.proofs.Reached.Orders.{after-same}
 use Rattle.chain.proofs.Reached.Rows.{raise-grant, place-kept, status-kept, next-kept, grant-kept}
 use Rattle.chain.proofs.Reached.Actors.{Placed, placed, Waits, waits, lingers, watches, stay-waits, same-thread, acting-there, queued-there, stands-before}

@@ -22,9 +22,8 @@ use Rattle.model.proofs.Laws.Calls.{early-accepted}
 use Rattle.claims.proofs.Claims.Reached.{Queued, from-fresh}
 use Rattle.chain.specs.Chain.{stays, looks-to, chain-from, chain}
 use Rattle.chain.specs.Laws.{Only-stays, Explains, Waiting-law}
-use Rattle.chain.proofs.Following.{occurrences-snoc}
-use Rattle.chain.proofs.Answering.{not-refused}
-use Rattle.chain.proofs.Chains.{length-snoc, Some-threads, threads-short, threads-one, threads-more, from-end, from-link}
+use Rattle.chain.proofs.Refusing.{not-refused}
+use Rattle.chain.proofs.Chains.{occurrences-snoc, length-snoc, Some-threads, threads-short, threads-one, threads-more, from-end, from-link}
 use Rattle.chain.proofs.Reached.Actors.{stays-row}
 use Rattle.chain.proofs.Reached.Ahead.{Looked, looked-one, looks-one}
 use Rattle.chain.proofs.Reached.Falling.{rank, falls}

@@ -5,7 +5,7 @@ use native.Mathlib.Omega.{arith}
 use borrow.Author.Tests.{eq-eqb, ne-eqb, lt-ltb, le-ltb, lt-leb, le-leb, not-true, not-false}
 use Prim.Native.Nat.{ℕ, _≤_, _<_, _-_}
 use Rattle.model.specs.Counters.{count-above, any-above}
-use Rattle.refusals.specs.Counts.{counters-in}
+use Rattle.run_refusals.specs.Counts.{counters-in}
 use Rattle.refusals.proofs.Scanning.{one-more}
 use Rattle.steps.proofs.Above.{entries-above, tenures-above, longest-above, not-above, none-above}
 use borrow.Author.Needs.{needs}

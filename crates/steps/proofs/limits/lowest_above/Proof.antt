@@ -9,7 +9,7 @@ use Rattle.model.specs.Trees.{tree-of}
 use Rattle.model.specs.Counters.{lock-state}
 use Rattle.model.proofs.Laws.Calls.{early-facts}
 use Rattle.model.proofs.Trees.Accepted.{sixteen-bit}
-use Rattle.refusals.specs.Counts.{counters-in}
+use Rattle.run_refusals.specs.Counts.{counters-in}
 use Rattle.steps.proofs.Typing.{typed}
 use Rattle.steps.proofs.Trying.{Tried, tried-start, tried-asks, tried-count, tried-next, Tries}
 use borrow.Author.Needs.{needs}

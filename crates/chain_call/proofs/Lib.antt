@@ -1,0 +1,12 @@
+-- The proofs.
+pub mod Walking
+pub mod Noting
+pub mod Facts
+pub mod Acting
+pub mod Filling
+pub mod Counting
+pub mod Linking
+pub mod Following
+pub mod Turning
+pub mod Answering
+pub mod Copying

@@ -1,0 +1,76 @@
+-- `chain::copy_front` meets its contract: so many are copied. Assumes nothing.
+use Prim.Native.Nat.{_≤_, _-_}
+use native.Mathlib.Omega.{arith}
+use Rattle.chain_call.proofs.Copying.{Copied, copied-first, copied-next, copied-all, copied-length}
+use borrow.Author.Needs.{needs}
+use Rattle.chain_call.proofs.copy_front.Statement.{statement}
+use Rattle.chain_call.proofs.copy_front.Tie as tie
+
+abbrev Inv-loop : tie.InvT-loop
+Inv-loop buffer₀ found n k₀ buffer k = (k ≤ n) × Copied found buffer₀ k buffer
+
+abbrev μ-loop : tie.MeasureT-loop
+μ-loop buffer₀ found n k₀ buffer k = n - k
+
+loop-holds : tie.Need-loop-holds Inv-loop μ-loop
+loop-holds c = (search needs, copied-first (c .args .found .now) (c .args .buffer .now))
+
+cast-at : tie.Need-cast-at Inv-loop μ-loop
+cast-at c = omega arith
+
+mul-j : tie.Need-mul-j Inv-loop μ-loop
+mul-j c = omega arith
+
+element-copy-out-j : tie.Need-element-copy-out-j Inv-loop μ-loop
+element-copy-out-j c = omega arith
+
+mul-buffer : tie.Need-mul-buffer Inv-loop μ-loop
+mul-buffer c = omega arith
+
+slice-write-buffer : tie.Need-slice-write-buffer Inv-loop μ-loop
+slice-write-buffer c =
+    let s = c .before .before .before in
+    let l = c .before .before .loop in
+    omega (arith, s .pre .0 .1, s .pre .1, copied-length (s .args .found .now) (s .args .buffer .now) (l .buffer) (l .k) (omega (arith, s .pre .1, l .inv .0)) (omega (arith, l .inv .0)) (l .inv .1))
+
+add-k : tie.Need-add-k Inv-loop μ-loop
+add-k c = omega arith
+
+loop-less : tie.Need-loop-less Inv-loop μ-loop
+loop-less c = omega arith
+
+loop-again : tie.Need-loop-again Inv-loop μ-loop
+loop-again c =
+    let s = c .before .before .before in
+    let l = c .before .before .loop in
+    let b = c .before .loop-test .taken in
+    (omega arith, copied-next (s .args .found .now) (s .args .buffer .now) (l .buffer) (l .k) (omega (arith, s .pre .1)) (omega (arith, s .pre .0 .1)) (l .inv .1))
+
+same-length : tie.Need-same-length Inv-loop μ-loop
+same-length c =
+    let s = c .before .before in
+    let l = c .before .loop in
+    copied-length (s .args .found .now) (s .args .buffer .now) (l .buffer) (l .k) (omega (arith, s .pre .1, l .inv .0)) (omega (arith, l .inv .0)) (l .inv .1)
+
+returns : tie.Need-returns Inv-loop μ-loop
+returns c =
+    let l = c .before .loop in
+    copied-all (c .before .before .args .found .now) (c .before .before .args .buffer .now) (l .buffer) (l .k) (c .before .before .args .n) (l .inv .0) (c .loop-test .left) (l .inv .1)
+
+pub copy-front-spec : {M : Type 1} → statement M
+copy-front-spec =
+    tie.close
+    (tie.spec
+    Inv-loop
+    μ-loop
+    loop-holds
+    cast-at
+    mul-j
+    element-copy-out-j
+    mul-buffer
+    slice-write-buffer
+    add-k
+    loop-less
+    loop-again
+    same-length
+    returns)

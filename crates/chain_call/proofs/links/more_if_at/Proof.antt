@@ -1,0 +1,21 @@
+-- `chain::links::more_if_at` meets its contract: a hit counts the thread, and without one the count stays. Assumes nothing.
+use borrow.Author.Needs.{needs}
+use Rattle.chain_call.proofs.links.more_if_at.Statement.{statement}
+use Rattle.chain_call.proofs.links.more_if_at.Tie as tie
+
+more-at-requires : tie.Need-more-at-requires
+more-at-requires c κs = search needs
+
+returns : tie.Need-returns
+returns c = rw (c .before .if1 .taken) (c .more-at .ensures)
+
+returns-2 : tie.Need-returns-2
+returns-2 c = rw (c .if1 .left)
+
+pub more-if-at-spec : {M : Type 1} → statement M
+more-if-at-spec =
+    tie.close
+    (tie.spec
+    more-at-requires
+    returns
+    returns-2)

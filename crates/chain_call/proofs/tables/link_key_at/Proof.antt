@@ -1,0 +1,26 @@
+-- `chain::tables::link_key_at` meets its contract: the row decides: in Link one more than the record, which fits 32 bits, else 0. Assumes nothing.
+use borrow.Author.Tests.{eq-eqb, ne-eqb}
+use borrow.Author.Needs.{needs}
+use Rattle.chain_call.proofs.tables.link_key_at.Statement.{statement}
+use Rattle.chain_call.proofs.tables.link_key_at.Tie as tie
+
+cast-result : tie.Need-cast-result
+cast-result c = search needs
+
+add-result : tie.Need-add-result
+add-result c = search needs
+
+returns : tie.Need-returns
+returns c = rw (eq-eqb _ _ (c .before .if1 .taken))
+
+returns-2 : tie.Need-returns-2
+returns-2 c = rw (ne-eqb _ _ (c .if1 .left))
+
+pub link-key-at-spec : {M : Type 1} → statement M
+link-key-at-spec =
+    tie.close
+    (tie.spec
+    cast-result
+    add-result
+    returns
+    returns-2)

@@ -1,0 +1,5 @@
+pub mod Children
+pub mod Leaving
+pub mod RowPlaces
+pub mod Counts
+pub mod Shown

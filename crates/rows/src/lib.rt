@@ -1,0 +1,375 @@
+// The rows of the step table in code: what each stores and counts, and what it says of its step. It writes into the arrays that the run lends. An inner crate: `steps` takes the row of a place, and has what the row asks for.
+ghost use mathlib.Core.Path.{_≡_};
+ghost use mathlib.Core.Bool.{false, cond};
+ghost use mathlib.Core.Logic.{_≢_};
+ghost use lib.Dec.{eqb};
+ghost use lib.ListN.{getD};
+ghost use Prim.Native.Nat.{_+_, _%_, _<_, _≤_};
+ghost use Rattle.model.specs.States.{root-word, wrap, next, status, with-ticket, with-grant};
+ghost use Rattle.model.specs.Places.{words-of};
+ghost use Rattle.model.specs.Steps.{prep-row, swap-row, link-row, wait-row, leave-row, check-row, help-row, cas-row, linger-row, grant-row, draw-row, watch-row, raise-row};
+ghost use Rattle.refusals.specs.Arrays.{Lower};
+ghost use Rattle.rows.specs.Counting.{parent-in, Room-above, record-domain-in, raised-at, Entered, Started};
+ghost use Rattle.rows.specs.Rows.{is-entry-number, moved, Row-done, with-tails, with-nexts, with-statuses, Stands, Within, start-row, place-at, Above, Root-is, Check-reads};
+
+pub mod counting;
+pub mod members;
+pub mod places;
+
+use crate::members::Member;
+use model::Place;
+use model::PlaceWords;
+
+// What a row says of its step: its kind, and the thread's place after it.
+pub struct Moved {
+    pub kind: u8,
+    pub place: PlaceWords,
+}
+
+pub fn at_place(kind: u8, place: PlaceWords) -> Moved
+    ensures { λ r. ⌜ r ≡ moved kind place ⌝ }
+{
+    Moved { kind, place }
+}
+
+fn moves(kind: u8, p: Place) -> Moved
+    ensures { λ r. ⌜ r ≡ moved kind (words-of p) ⌝ }
+{
+    at_place(kind, places::words_at(p))
+}
+
+// A word of the root's, or another.
+fn root_word_at(l: u8, at_root: u64, elsewhere: u64) -> u64
+    ensures { λ r. ⌜ r ≡ root-word l «at_root» elsewhere ⌝ }
+{
+    if l == 0 { at_root } else { elsewhere }
+}
+
+pub fn prep(w: Member, nexts: &mut [u16; 320], statuses: &mut [u64; 320]) -> Moved
+    requires { ⌜ Within w ⌝ }
+    ensures { λ r. ⌜ Row-done (λ t i s. Stands t i w) (λ t i s. prep-row t i (w .domain) s) r (λ s. with-nexts (now (nexts .entry)) (with-statuses (now (statuses .entry)) s)) (λ s. with-nexts (now (nexts .exit)) (with-statuses (now (statuses .exit)) s)) ⌝ }
+    ensures { λ r. ⌜ is-entry-number (r .kind) ≡ false ⌝ }
+{
+    let l = w.domain;
+    let r = w.own as usize;
+    nexts[r] = 0;
+    statuses[r] = root_word_at(l, model::LOCKED, model::WAIT);
+    moves(model::OTHER_MOVE, Place::Swap(l))
+}
+
+pub fn swap(
+    parents: &[u8; 64],
+    domains: u32,
+    ticket_root: u32,
+    w: Member,
+    tails: &mut [u16; 64],
+    statuses: &mut [u64; 320],
+    entries: &mut [u64; 64],
+    tenures: &mut [u64; 64],
+    longest: &mut [u64; 64],
+) -> Moved
+    requires { ⌜ domains ≤ 64 ⌝ }
+    requires { ⌜ Lower domains (now parents) ⌝ }
+    requires { ⌜ (w .home < domains) × Within w ⌝ }
+    requires { ⌜ Room-above (now entries) × Room-above (now tenures) ⌝ }
+    ensures { λ r. ⌜ Row-done (λ t i s. Stands t i w × Above t «ticket_root» (w .domain) (getD (now (parents .entry)) (w .domain) 0)) (λ t i s. swap-row t i (w .domain) s) r (λ s. with-tails (now (tails .entry)) (with-statuses (now (statuses .entry)) s)) (λ s. with-tails (now (tails .exit)) (with-statuses (now (statuses .exit)) s)) ⌝ }
+    ensures { λ r. ⌜ Entered (parent-in domains (now (parents .entry))) (r .kind) (w .home) (now (entries .entry)) (now (entries .exit)) ⌝ }
+    ensures { λ r. ⌜ Started (cond (eqb (r .place .row) 3) 0 (record-domain-in (w .own))) (now (tenures .entry)) (now (tenures .exit)) (now (longest .entry)) (now (longest .exit)) ⌝ }
+{
+    let l = w.domain;
+    let own = w.own;
+    let d = l as usize;
+    let r = own as usize;
+    let old = tails[d];
+    tails[d] = own + 1;
+    if old != 0 {
+        return moves(model::OTHER_MOVE, Place::Link(l, old - 1));
+    }
+    counting::count_given(own, tenures, longest);
+    if l == 0 {
+        statuses[r] = model::UNLOCKED;
+        counting::count_entry(parents, domains, w.home, entries);
+        return moves(model::ROOT_ENTRY, Place::Inside);
+    }
+    statuses[r] = model::COHORT_START;
+    let parent = parents[d];
+    moves(
+        model::OTHER_MOVE,
+        places::acquire_place_at(ticket_root, parent),
+    )
+}
+
+pub fn link(w: Member, before: u16, nexts: &mut [u16; 320]) -> Moved
+    requires { ⌜ Within w ⌝ }
+    requires { ⌜ before < 320 ⌝ }
+    ensures { λ r. ⌜ Row-done (λ t i s. Stands t i w) (λ t i s. link-row t i (w .domain) before s) r (λ s. with-nexts (now (nexts .entry)) s) (λ s. with-nexts (now (nexts .exit)) s) ⌝ }
+    ensures { λ r. ⌜ is-entry-number (r .kind) ≡ false ⌝ }
+{
+    let r = before as usize;
+    nexts[r] = w.own + 1;
+    moves(model::OTHER_MOVE, Place::Wait(w.domain))
+}
+
+pub fn wait(
+    parents: &[u8; 64],
+    domains: u32,
+    ticket_root: u32,
+    w: Member,
+    place: PlaceWords,
+    statuses: &mut [u64; 320],
+    entries: &mut [u64; 64],
+) -> Moved
+    requires { ⌜ domains ≤ 64 ⌝ }
+    requires { ⌜ Lower domains (now parents) ⌝ }
+    requires { ⌜ (w .home < domains) × Within w ⌝ }
+    requires { ⌜ Room-above (now entries) ⌝ }
+    ensures { λ r. ⌜ Row-done (λ t i s. Stands t i w × (Above t «ticket_root» (w .domain) (getD (now (parents .entry)) (w .domain) 0) × place ≡ place-at s i)) (λ t i s. wait-row t i (w .domain) s) r (λ s. with-statuses (now (statuses .entry)) s) (λ s. with-statuses (now (statuses .exit)) s) ⌝ }
+    ensures { λ r. ⌜ Entered (parent-in domains (now (parents .entry))) (r .kind) (w .home) (now (entries .entry)) (now (entries .exit)) ⌝ }
+{
+    let l = w.domain;
+    let r = w.own as usize;
+    let v = statuses[r];
+    if l == 0 {
+        if v == model::LOCKED {
+            return at_place(model::STAY, place);
+        }
+        counting::count_entry(parents, domains, w.home, entries);
+        return moves(model::ROOT_ENTRY, Place::Inside);
+    }
+    if v == model::WAIT {
+        return at_place(model::STAY, place);
+    }
+    if v == model::ACQUIRE_PARENT {
+        statuses[r] = model::COHORT_START;
+        let d = l as usize;
+        let parent = parents[d];
+        return moves(
+            model::OTHER_MOVE,
+            places::acquire_place_at(ticket_root, parent),
+        );
+    }
+    counting::count_entry(parents, domains, w.home, entries);
+    if l == w.home {
+        return moves(model::PASSED_ENTRY, Place::Inside);
+    }
+    moves(model::CROSSED_ENTRY, Place::Inside)
+}
+
+pub fn leave(ticket_root: u32, home: u8) -> Moved
+    ensures { λ r. ⌜ Row-done (λ t i s. (home ≡ t .home i) × Root-is t «ticket_root») leave-row r (λ s. s) (λ s. s) ⌝ }
+    ensures { λ r. ⌜ is-entry-number (r .kind) ≡ false ⌝ }
+{
+    moves(model::LEAVING, places::release_place_at(ticket_root, home))
+}
+
+// Never at the root. A Check that will grant tells the word as the length of the domain's tenure.
+pub fn check(
+    ticket_root: u32,
+    w: Member,
+    parent: u8,
+    threshold: u16,
+    n: u16,
+    v: u64,
+    longest: &mut [u64; 64],
+) -> Moved
+    requires { ⌜ Within w ⌝ }
+    ensures { λ r. ⌜ Row-done (λ t i s. Check-reads t i s w «ticket_root» parent threshold n v) (λ t i s. check-row t i (w .domain) s) r (λ s. s) (λ s. s) ⌝ }
+    ensures { λ r. ⌜ is-entry-number (r .kind) ≡ false ⌝ }
+    ensures { λ r. ⌜ now (longest .exit) ≡ raised-at (now (longest .entry)) (cond (eqb (r .place .row) 10) (w .domain) 0) (r .place .word) ⌝ }
+{
+    let l = w.domain;
+    let h = threshold as u64;
+    if h <= v {
+        return moves(
+            model::OTHER_MOVE,
+            places::release_place_at(ticket_root, parent),
+        );
+    }
+    if n == 0 {
+        return moves(
+            model::OTHER_MOVE,
+            places::release_place_at(ticket_root, parent),
+        );
+    }
+    counting::count_length(longest, l, v + 1);
+    moves(model::OTHER_MOVE, Place::Grant(l, n - 1, v + 1))
+}
+
+pub fn help(w: Member, n: u16) -> Moved
+    ensures { λ r. ⌜ Row-done (λ t i s. Stands t i w × (n ≡ next s (w .own))) (λ t i s. help-row t i (w .domain) s) r (λ s. s) (λ s. s) ⌝ }
+    ensures { λ r. ⌜ is-entry-number (r .kind) ≡ false ⌝ }
+{
+    let l = w.domain;
+    if n == 0 {
+        return moves(model::OTHER_MOVE, Place::Cas(l));
+    }
+    let v = root_word_at(l, model::UNLOCKED, model::ACQUIRE_PARENT);
+    moves(model::OTHER_MOVE, Place::Grant(l, n - 1, v))
+}
+
+pub fn cas(w: Member, tails: &mut [u16; 64]) -> Moved
+    requires { ⌜ Within w ⌝ }
+    ensures { λ r. ⌜ Row-done (λ t i s. Stands t i w) (λ t i s. cas-row t i (w .domain) s) r (λ s. with-tails (now (tails .entry)) s) (λ s. with-tails (now (tails .exit)) s) ⌝ }
+    ensures { λ r. ⌜ is-entry-number (r .kind) ≡ false ⌝ }
+{
+    let l = w.domain;
+    let d = l as usize;
+    let old = tails[d];
+    let mine = w.own + 1;
+    if old != mine {
+        return moves(model::OTHER_MOVE, Place::Linger(l));
+    }
+    tails[d] = 0;
+    moves(model::OTHER_MOVE, places::done_place_at(w.home, l, w.child))
+}
+
+pub fn linger(w: Member, n: u16, place: PlaceWords) -> Moved
+    ensures { λ r. ⌜ Row-done (λ t i s. Stands t i w × ((n ≡ next s (w .own)) × (place ≡ place-at s i))) (λ t i s. linger-row t i (w .domain) s) r (λ s. s) (λ s. s) ⌝ }
+    ensures { λ r. ⌜ is-entry-number (r .kind) ≡ false ⌝ }
+{
+    let l = w.domain;
+    if n == 0 {
+        return at_place(model::STAY, place);
+    }
+    let v = root_word_at(l, model::UNLOCKED, model::ACQUIRE_PARENT);
+    moves(model::OTHER_MOVE, Place::Grant(l, n - 1, v))
+}
+
+pub fn grant(
+    w: Member,
+    to: u16,
+    word: u64,
+    statuses: &mut [u64; 320],
+    tenures: &mut [u64; 64],
+    longest: &mut [u64; 64],
+) -> Moved
+    requires { ⌜ to < 320 ⌝ }
+    requires { ⌜ Room-above (now tenures) ⌝ }
+    ensures { λ r. ⌜ Row-done (λ t i s. Stands t i w) (λ t i s. grant-row t i (w .domain) to word s) r (λ s. with-statuses (now (statuses .entry)) s) (λ s. with-statuses (now (statuses .exit)) s) ⌝ }
+    ensures { λ r. ⌜ is-entry-number (r .kind) ≡ false ⌝ }
+    ensures { λ r. ⌜ Started (record-domain-in to) (now (tenures .entry)) (now (tenures .exit)) (now (longest .entry)) (now (longest .exit)) ⌝ }
+{
+    let r = to as usize;
+    statuses[r] = word;
+    counting::count_given(to, tenures, longest);
+    moves(
+        model::OTHER_MOVE,
+        places::done_place_at(w.home, w.domain, w.child),
+    )
+}
+
+// One more, from 65,535 to 0.
+pub(crate) fn next_number(v: u16) -> u16
+    ensures { λ r. ⌜ r ≡ wrap (v + 1) ⌝ }
+{
+    std::num::wrapping_add_u16(v, 1)
+}
+
+// The thread draws the root's ticket: Inside where it is the one shown, else it watches.
+pub fn draw(
+    parents: &[u8; 64],
+    domains: u32,
+    w: Member,
+    granted: u16,
+    ticket: &mut u16,
+    statuses: &mut [u64; 320],
+    entries: &mut [u64; 64],
+    tenures: &mut [u64; 64],
+    longest: &mut [u64; 64],
+) -> Moved
+    requires { ⌜ domains ≤ 64 ⌝ }
+    requires { ⌜ Lower domains (now parents) ⌝ }
+    requires { ⌜ (w .home < domains) × (Within w × (w .domain ≡ 0)) ⌝ }
+    requires { ⌜ Room-above (now entries) × Room-above (now tenures) ⌝ }
+    ensures { λ r. ⌜ Row-done (λ t i s. Stands t i w × (granted ≡ s .grant)) draw-row r (λ s. with-ticket (now (ticket .entry)) (with-statuses (now (statuses .entry)) s)) (λ s. with-ticket (now (ticket .exit)) (with-statuses (now (statuses .exit)) s)) ⌝ }
+    ensures { λ r. ⌜ Entered (parent-in domains (now (parents .entry))) (r .kind) (w .home) (now (entries .entry)) (now (entries .exit)) ⌝ }
+    ensures { λ r. ⌜ Started (cond (eqb (r .kind) 1) 0 (record-domain-in (w .own))) (now (tenures .entry)) (now (tenures .exit)) (now (longest .entry)) (now (longest .exit)) ⌝ }
+{
+    let v = *ticket;
+    let r = w.own as usize;
+    *ticket = next_number(v);
+    statuses[r] = v as u64;
+    if v != granted {
+        return moves(model::OTHER_MOVE, Place::Watch);
+    }
+    counting::count_given(w.own, tenures, longest);
+    counting::count_entry(parents, domains, w.home, entries);
+    moves(model::ROOT_ENTRY, Place::Inside)
+}
+
+pub fn watch(
+    parents: &[u8; 64],
+    domains: u32,
+    w: Member,
+    v: u64,
+    granted: u16,
+    place: PlaceWords,
+    entries: &mut [u64; 64],
+) -> Moved
+    requires { ⌜ domains ≤ 64 ⌝ }
+    requires { ⌜ Lower domains (now parents) ⌝ }
+    requires { ⌜ (w .home < domains) × (w .domain ≡ 0) ⌝ }
+    requires { ⌜ Room-above (now entries) ⌝ }
+    ensures { λ r. ⌜ Row-done (λ t i s. Stands t i w × ((v ≡ status s (w .own)) × ((granted ≡ s .grant) × (place ≡ place-at s i)))) watch-row r (λ s. s) (λ s. s) ⌝ }
+    ensures { λ r. ⌜ Entered (parent-in domains (now (parents .entry))) (r .kind) (w .home) (now (entries .entry)) (now (entries .exit)) ⌝ }
+{
+    if v != granted as u64 {
+        return at_place(model::STAY, place);
+    }
+    counting::count_entry(parents, domains, w.home, entries);
+    moves(model::ROOT_ENTRY, Place::Inside)
+}
+
+pub fn raise(w: Member, granted: &mut u16) -> Moved
+    requires { ⌜ w .domain ≡ 0 ⌝ }
+    ensures { λ r. ⌜ Row-done (λ t i s. Stands t i w) raise-row r (λ s. with-grant (now (granted .entry)) s) (λ s. with-grant (now (granted .exit)) s) ⌝ }
+    ensures { λ r. ⌜ is-entry-number (r .kind) ≡ false ⌝ }
+{
+    let v = *granted;
+    *granted = next_number(v);
+    moves(
+        model::OTHER_MOVE,
+        places::done_place_at(w.home, w.domain, w.child),
+    )
+}
+
+// A thread at home draws where its home is a ticket root, else it prepares. No tenure starts: the record is the thread's own.
+pub fn start(
+    parents: &[u8; 64],
+    domains: u32,
+    ticket_root: u32,
+    w: Member,
+    granted: u16,
+    ticket: &mut u16,
+    nexts: &mut [u16; 320],
+    statuses: &mut [u64; 320],
+    entries: &mut [u64; 64],
+    tenures: &mut [u64; 64],
+    longest: &mut [u64; 64],
+) -> Moved
+    requires { ⌜ domains ≤ 64 ⌝ }
+    requires { ⌜ Lower domains (now parents) ⌝ }
+    requires { ⌜ (w .home < domains) × (Within w × (w .own < 256)) ⌝ }
+    requires { ⌜ Room-above (now entries) × Room-above (now tenures) ⌝ }
+    ensures { λ r. ⌜ Row-done (λ t i s. Stands t i w × (Root-is t «ticket_root» × (granted ≡ s .grant))) (λ t i s. start-row t i (w .domain) s) r (λ s. with-ticket (now (ticket .entry)) (with-nexts (now (nexts .entry)) (with-statuses (now (statuses .entry)) s))) (λ s. with-ticket (now (ticket .exit)) (with-nexts (now (nexts .exit)) (with-statuses (now (statuses .exit)) s))) ⌝ }
+    ensures { λ r. ⌜ Entered (parent-in domains (now (parents .entry))) (r .kind) (w .home) (now (entries .entry)) (now (entries .exit)) ⌝ }
+    ensures { λ r. ⌜ Started 0 (now (tenures .entry)) (now (tenures .exit)) (now (longest .entry)) (now (longest .exit)) ⌝ }
+{
+    if w.domain != 0 {
+        return prep(w, nexts, statuses);
+    }
+    if ticket_root == 0 {
+        return prep(w, nexts, statuses);
+    }
+    draw(
+        parents,
+        domains,
+        w,
+        granted,
+        ticket,
+        statuses,
+        entries,
+        tenures,
+        longest,
+    )
+}

@@ -1,0 +1,9 @@
+pub mod Owning
+pub mod Members
+pub mod RowShapes
+pub mod PlaceTests
+pub mod RestNumbers
+pub mod Formed
+pub mod Counts
+pub mod StateTests
+pub mod Passing

@@ -1,0 +1,179 @@
+-- `waits::waiting::run_counted` meets its contract: the pieces so far are run and counted. Assumes nothing.
+use mathlib.Core.Path.{_≡_, refl, sym, ap, _∙_}
+use Prim.Native.Nat.{_-_}
+use native.Mathlib.Omega.{arith}
+use lib.ListN.{length}
+use borrow.Author.Needs.{needs}
+use mathlib.Core.List.{List}
+use Prim.Native.Nat.{ℕ}
+use Rattle.model.specs.Trees.{tree-of}
+use Rattle.model.proofs.Laws.Calls.{run-facts}
+use Rattle.waits_call.specs.Tallies.{rows-by}
+use Rattle.run_refusals.specs.Counts.{counters-in}
+use Rattle.steps.proofs.Typing.{typed}
+use Rattle.waits_call.proofs.Pieces.{In-pieces, pieces-start, trace-long, part-room, entered-small, tables-small, sets-long, state-ends, counters-end, kinds-end, trace-ends, rows-are, piece-runs, kinds-fit, countable, pieces-turn, threads-few}
+use Rattle.waits_call.proofs.waiting.run_counted.Statement.{statement}
+use Rattle.waits_call.proofs.waiting.run_counted.Tie as tie
+
+abbrev Inv-loop : tie.InvT-loop
+Inv-loop tree schedule trace₀ kinds rows entries₀ tenures₀ longest₀ marks₀ attempts₀ totals₀ largest₀ n₀ tally₀ entered₀ from₀ trace entries tenures longest marks attempts totals largest n tally entered from =
+    In-pieces tree schedule trace₀ n₀ (counters-in entries₀ tenures₀ longest₀) trace marks attempts totals largest n (counters-in entries tenures longest) tally entered from
+
+abbrev μ-loop : tie.MeasureT-loop
+μ-loop tree schedule trace₀ kinds rows entries₀ tenures₀ longest₀ marks₀ attempts₀ totals₀ largest₀ n₀ tally₀ entered₀ from₀ trace entries tenures longest marks attempts totals largest n tally entered from =
+    length schedule - from
+
+loop-holds : tie.Need-loop-holds Inv-loop μ-loop
+loop-holds c =
+    let first = c .before .before .before in
+    let g = first .good .1 .0 .1 .1 in
+    pieces-start _ _ _ _ _ (record { typed = typed (first .args .state) _ _ _ _ _ _ (g .0) (g .1 .0) (g .1 .1 .0) (g .1 .1 .1 .0) (g .1 .1 .1 .1 .0) (g .1 .1 .1 .1 .1 .0); form = run-facts _ _ _ _ (first .pre .0) .form })
+
+piece-end-requires : tie.Need-piece-end-requires Inv-loop μ-loop
+piece-end-requires c κs = omega arith
+
+mul-run-steps : tie.Need-mul-run-steps Inv-loop μ-loop
+mul-run-steps c = search needs
+
+sub-run-steps : tie.Need-sub-run-steps Inv-loop μ-loop
+sub-run-steps c = search needs
+
+part-run-steps-start : tie.Need-part-run-steps-start Inv-loop μ-loop
+part-run-steps-start c = search needs
+
+part-run-steps-end : tie.Need-part-run-steps-end Inv-loop μ-loop
+part-run-steps-end c = search needs
+
+mul-run-steps-2 : tie.Need-mul-run-steps-2 Inv-loop μ-loop
+mul-run-steps-2 c = omega (arith, entered-small _ _ _ _ _ _ _ _ _ _ _ _ _ _ _ (c .before .before .before .loop .inv) (c .before .before .before .before .before .before .before .pre .0))
+
+sub-run-steps-2 : tie.Need-sub-run-steps-2 Inv-loop μ-loop
+sub-run-steps-2 c = part-room _ _ _ _ _ _ _ _ _ _ _ _ _ _ _ (c .before .before .before .loop .inv) (c .before .before .before .before .before .before .before .pre .0)
+
+part-run-steps-start-2 : tie.Need-part-run-steps-start-2 Inv-loop μ-loop
+part-run-steps-start-2 c = part-room _ _ _ _ _ _ _ _ _ _ _ _ _ _ _ (c .before .before .before .loop .inv) (c .before .before .before .before .before .before .before .pre .0)
+
+part-run-steps-end-2 : tie.Need-part-run-steps-end-2 Inv-loop μ-loop
+part-run-steps-end-2 c = omega arith
+
+slice-aggregate-run-steps : tie.Need-slice-aggregate-run-steps Inv-loop μ-loop
+slice-aggregate-run-steps c = search needs
+
+run-steps-requires : tie.Need-run-steps-requires Inv-loop μ-loop
+run-steps-requires c κs =
+    let ended = c .before .before .before .before .before .before .before in
+    let turn = ended .before .before in
+    let e = ended .piece-end .ensures in
+    piece-runs _ _ _ _ _ _ _ _ _ _ _ _ _ _ _ (turn .loop .inv) (turn .before .before .before .before .pre .0) _ (e .0) (e .1 .0) (e .1 .1)
+
+add-kinds-requires : tie.Need-add-kinds-requires Inv-loop μ-loop
+add-kinds-requires c κs =
+    let ran = c .before .before .before .before .before in
+    let ended = ran .before .before .before .before .before .before .before .before in
+    let turn = ended .before .before in
+    let e = ended .piece-end .ensures in
+    kinds-fit _ _ _ _ _ _ _ _ _ _ _ _ _ _ _ (turn .loop .inv) (turn .before .before .before .before .pre .0) _ (e .0) (e .1 .0) (e .1 .1) _ (ran .run-steps .ensures .1 .1 .0)
+
+mul-count-piece : tie.Need-mul-count-piece Inv-loop μ-loop
+mul-count-piece c = omega (arith, c .before .before .before .before .before .before .before .before .before .before .before .before .before .before .before .loop-test .taken, run-facts _ _ _ _ (c .before .before .before .before .before .before .before .before .before .before .before .before .before .before .before .before .before .before .before .before .pre .0) .short)
+
+sub-count-piece : tie.Need-sub-count-piece Inv-loop μ-loop
+sub-count-piece c = search needs
+
+part-count-piece-start : tie.Need-part-count-piece-start Inv-loop μ-loop
+part-count-piece-start c = search needs
+
+part-count-piece-end : tie.Need-part-count-piece-end Inv-loop μ-loop
+part-count-piece-end c = search needs
+
+slice-aggregate-count-piece : tie.Need-slice-aggregate-count-piece Inv-loop μ-loop
+slice-aggregate-count-piece c = search needs
+
+count-piece-requires : tie.Need-count-piece-requires Inv-loop μ-loop
+count-piece-requires c κs =
+    let ran = c .before .before .before .before .before .before .before .before .before .before .before .before in
+    let ended = ran .before .before .before .before .before .before .before .before in
+    let turn = ended .before .before in
+    let e = ended .piece-end .ensures in
+    countable _ _ _ _ _ _ _ _ _ _ _ _ _ _ _ (turn .loop .inv) (turn .before .before .before .before .pre .0) _ (e .0) (e .1 .0) (e .1 .1) _ (ran .run-steps .ensures .1 .1 .1 .0)
+
+loop-less : tie.Need-loop-less Inv-loop μ-loop
+loop-less c = let e = c .before .before .before .before .before .before .before .before .before .before .before .before .before .before .before .before .before .before .before .before .before .piece-end .ensures in omega (arith, e .0, e .1 .0)
+
+loop-again : tie.Need-loop-again Inv-loop μ-loop
+loop-again c =
+    let added = c .before .before .before .before .before .before .before in
+    let after = added .before .before .before .before .before .before in
+    let ended = after .before .before .before .before .before .before .before .before in
+    let turn = ended .before .before in
+    let ran = after .run-steps .ensures in
+    let e = ended .piece-end .ensures in
+    pieces-turn _ _ _ _ _ _ _ _ _ _ _ _ _ _ _ (turn .loop .inv) (turn .before .before .before .before .pre .0) _ (e .0) (e .1 .0) (e .1 .1) _ (ran .1 .1 .1 .0) _ _ (ran .0) (ran .1 .1 .1 .1) _ (ran .1 .0) _ _ (ran .1 .1 .0)
+    (added .add-kinds .ensures) _ _ _ _ _ (c .count-piece .ensures)
+
+put-rows-requires : tie.Need-put-rows-requires Inv-loop μ-loop
+unfolding tree-of
+put-rows-requires c κs =
+    let first = c .before .before .before .before .before .before .before .before .before in
+    let small = tables-small _ _ _ _ _ _ _ _ _ _ _ _ _ _ _ (c .before .before .before .before .before .loop .inv) (c .before .before .before .before .before .before .before .before .before .pre .0) in
+    (threads-few (first .args .tree) (run-facts _ _ _ _ (first .pre .0) .tree), (first .pre .1, (small .0, small .1)))
+
+same-length : tie.Need-same-length Inv-loop μ-loop
+same-length c = trace-long _ _ _ _ _ _ _ _ _ _ _ _ _ _ _ (c .before .before .before .before .before .before .before .before .loop .inv) (c .before .before .before .before .before .before .before .before .before .before .before .before .pre .0)
+
+same-length-2 : tie.Need-same-length-2 Inv-loop μ-loop
+same-length-2 c =
+    let first = c .before .before .before .before .before .before .before .before .before .before .before .before .args in
+    let l = c .before .before .before .before .before .before .before .before .loop in
+    sets-long (first .rows .now) _ (rows-by (first .tree .threads) (l .attempts) (l .totals) (l .largest)) (c .before .before .put-rows .ensures)
+
+returns : tie.Need-returns Inv-loop μ-loop
+unfolding tree-of
+returns c =
+    let e = c .before .before .before .before .before .before .before .loop-test .left in
+    let first = c .before .before .before .before .before .before .before .before .before .before .before .before in
+    let g = c .before .before .before .before .before .before .before .before .loop .inv in (
+      state-ends _ _ _ _ _ _ _ _ _ _ _ _ _ _ _ g (first .pre .0) e,
+      (
+        trace-ends _ _ _ _ _ _ _ _ _ _ _ _ _ _ _ g (first .pre .0) e,
+        (
+          kinds-end _ _ _ _ _ _ _ _ _ _ _ _ _ _ _ g (first .pre .0) e,
+          (
+            rows-are _ _ _ _ _ _ _ _ _ _ _ _ _ _ _ g (first .pre .0) e (threads-few (first .args .tree) (run-facts _ _ _ _ (first .pre .0) .tree)) _ _ (c .before .before .put-rows .ensures),
+            counters-end _ _ _ _ _ _ _ _ _ _ _ _ _ _ _ g (first .pre .0) e,
+          ),
+        ),
+      ),
+    )
+
+pub run-counted-spec : {M : Type 1} → statement M
+run-counted-spec =
+    tie.close
+    (tie.spec
+    Inv-loop
+    μ-loop
+    loop-holds
+    piece-end-requires
+    mul-run-steps
+    sub-run-steps
+    part-run-steps-start
+    part-run-steps-end
+    mul-run-steps-2
+    sub-run-steps-2
+    part-run-steps-start-2
+    part-run-steps-end-2
+    slice-aggregate-run-steps
+    run-steps-requires
+    add-kinds-requires
+    mul-count-piece
+    sub-count-piece
+    part-count-piece-start
+    part-count-piece-end
+    slice-aggregate-count-piece
+    count-piece-requires
+    loop-less
+    loop-again
+    put-rows-requires
+    same-length
+    same-length-2
+    returns)

@@ -1,0 +1,166 @@
+// A run with waits: what refuses it, 4 to 9, 16 and 10 to 13, then 18 and 19, the mean of a row, and the run itself.
+ghost use mathlib.Core.Path.{_≡_};
+ghost use Rattle.model.specs.Trees.{tree-of};
+ghost use Rattle.model.specs.Counters.{lock-state};
+ghost use Rattle.model.specs.Refusals.{first-refusal};
+ghost use Rattle.refusals.specs.Arrays.{refusal-words};
+ghost use Rattle.run_refusals.specs.Counts.{counters-in};
+ghost use Rattle.waits.specs.Rows.{greatest-divisor, mean};
+ghost use Rattle.waits.specs.Refusals.{waits-tests-before-19, waits-refusal};
+ghost use Rattle.waits.specs.Answers.{waits-answer, waits-trace, waits-rows};
+
+mod waiting;
+
+use model::Counters;
+use model::LockState;
+use model::RunReply;
+use model::State;
+use model::TreeWords;
+use refusals::Refusal;
+use waits::Fraction;
+
+// The greatest common divisor, by Euclid's algorithm.
+fn greatest_divisor(a: u64, b: u64) -> u64
+    ensures { λ r. ⌜ r ≡ greatest-divisor a b ⌝ }
+{
+    let mut x = a;
+    let mut y = b;
+    while y != 0 {
+        let rest = x % y;
+        x = y;
+        y = rest;
+    }
+    x
+}
+
+// A total over a number of attempts in lowest terms; without attempts 0 over 0.
+pub fn mean_of(total: u64, attempts: u64) -> Fraction
+    ensures { λ r. ⌜ r ≡ mean total attempts ⌝ }
+{
+    if attempts == 0 {
+        return Fraction {
+            numerator: 0,
+            denominator: 0,
+        };
+    }
+    let d = greatest_divisor(total, attempts);
+    Fraction {
+        numerator: total / d,
+        denominator: attempts / d,
+    }
+}
+
+// A run with waits meets 4 to 9, 16 and 10 to 13, then 18; whoever takes its steps tests 19. The counters are lent, so that the words alone are copied.
+pub fn waits_refusal_of<'c>(
+    tree: TreeWords,
+    state: State,
+    entries: &'c [u64; 64],
+    tenures: &'c [u64; 64],
+    longest: &'c [u64; 64],
+    schedule: &[u16],
+    room: usize,
+    row_room: usize,
+) -> Refusal
+    ensures { λ r. ⌜ r ≡ refusal-words (first-refusal (waits-tests-before-19 (tree-of tree) (lock-state state (counters-in (now (entries .entry)) (now (tenures .entry)) (now (longest .entry)))) (now (schedule .entry)) room «row_room»)) ⌝ }
+{
+    let r = run_refusals::run_refusal_of(tree, state, entries, tenures, longest, schedule, room);
+    if r.number != 0 {
+        return r;
+    }
+    if row_room / 5 <= tree.threads as usize {
+        return Refusal {
+            number: 18,
+            place: 0,
+        };
+    }
+    r
+}
+
+// With 19 behind them.
+fn refusal_of<'c>(
+    tree: TreeWords,
+    state: State,
+    entries: &'c [u64; 64],
+    tenures: &'c [u64; 64],
+    longest: &'c [u64; 64],
+    schedule: &[u16],
+    room: usize,
+    row_room: usize,
+) -> Refusal
+    ensures { λ r. ⌜ r ≡ refusal-words (waits-refusal (tree-of tree) (lock-state state (counters-in (now (entries .entry)) (now (tenures .entry)) (now (longest .entry)))) (now (schedule .entry)) room «row_room») ⌝ }
+{
+    let r = waits_refusal_of(
+        tree,
+        state,
+        entries,
+        tenures,
+        longest,
+        schedule,
+        room,
+        row_room,
+    );
+    if r.number != 0 {
+        return r;
+    }
+    steps::limits::counter_refusal_of(tree, state, entries, tenures, longest, schedule)
+}
+
+// A run, and in a row buffer of its own the waits of each thread's attempts and of all together, five numbers a row. Refused, state, trace and rows as they came.
+pub fn run_waits(
+    tree: TreeWords,
+    state: LockState,
+    schedule: &[u16],
+    trace: &mut [u16],
+    rows: &mut [u64],
+) -> RunReply
+    ensures { λ r. ⌜ r ≡ waits-answer tree state (now (schedule .entry)) (now (trace .entry)) (now (rows .entry)) ⌝ }
+    ensures { λ r. ⌜ now (trace .exit) ≡ waits-trace tree state (now (schedule .entry)) (now (trace .entry)) (now (rows .entry)) ⌝ }
+    ensures { λ r. ⌜ now (rows .exit) ≡ waits-rows tree state (now (schedule .entry)) (now (trace .entry)) (now (rows .entry)) ⌝ }
+{
+    let words = state.words;
+    let counters = state.counters;
+    let mut entries = counters.entries;
+    let mut tenures = counters.tenures;
+    let mut longest = counters.longest;
+    let r = refusal_of(
+        tree,
+        words,
+        &entries,
+        &tenures,
+        &longest,
+        schedule,
+        trace.len(),
+        rows.len(),
+    );
+    if r.number != 0 {
+        return steps::refused(r.number, r.place, state);
+    }
+    let mut kinds = [0u32; 6];
+    let after = waiting::run_counted(
+        tree,
+        words,
+        schedule,
+        trace,
+        &mut kinds,
+        rows,
+        &mut entries,
+        &mut tenures,
+        &mut longest,
+    );
+    let counts = steps::run::counts_of(&kinds);
+    let counted = Counters {
+        entries,
+        tenures,
+        longest,
+    };
+    let left = LockState {
+        words: after,
+        counters: counted,
+    };
+    RunReply {
+        number: 0,
+        place: 0,
+        counts,
+        state: left,
+    }
+}

@@ -1,0 +1,271 @@
+// A run with waits: the steps are taken in pieces of the schedule, and after each piece its attempts are counted by what its steps were told to be.
+ghost use mathlib.Core.Path.{_≡_};
+ghost use mathlib.Core.Bool.{cond};
+ghost use Prim.Native.Nat.{_+_, _*_, _≤_, _<_, max};
+ghost use lib.ListN.{length, getD, set};
+ghost use lib.Seq.{sets};
+ghost use Rattle.model.specs.Trees.{tree-of};
+ghost use Rattle.model.specs.Runs.{steps, run};
+ghost use Rattle.model.specs.Counters.{lock-state, counters-after};
+ghost use Rattle.model.specs.Refusals.{run-refusal};
+ghost use Rattle.run_refusals.specs.Counts.{counters-in};
+ghost use Rattle.waits.specs.Rows.{row-with, all-rows};
+ghost use Rattle.waits_call.specs.Tallies.{begins-number, mark-with, finishes, wait-of, noted, rows-by};
+ghost use Rattle.steps.specs.Running.{kinds-of, counts-by, trace-front};
+ghost use Rattle.waits_call.specs.Waiting.{kinds-added, ticket-home, mark-at, Fits, Countable, Counted, Small};
+use model::State;
+use model::TreeWords;
+
+fn larger(a: u64, b: u64) -> u64
+    ensures { λ r. ⌜ r ≡ max a b ⌝ }
+{
+    if a < b {
+        return b;
+    }
+    a
+}
+
+fn is_ticket_home(ticket_root: u32, home: u8) -> bool
+    ensures { λ r. ⌜ r ≡ ticket-home «ticket_root» home ⌝ }
+{
+    if ticket_root == 0 {
+        return false;
+    }
+    home == 0
+}
+
+// Whether a step begins an attempt, by its thread's home and the number of its place.
+fn begins_at(ticket_home: bool, home: u8, place: u16) -> bool
+    ensures { λ r. ⌜ r ≡ begins-number «ticket_home» home place ⌝ }
+{
+    if ticket_home {
+        if place == 0 {
+            return true;
+        }
+        return place == 11;
+    }
+    place == 2 + 16 * (home as u16)
+}
+
+fn mark_with(begins: bool, entered: u64, mark: u64) -> u64
+    requires { ⌜ entered ≤ 65536 ⌝ }
+    ensures { λ r. ⌜ r ≡ mark-with begins entered mark ⌝ }
+{
+    if begins {
+        return entered + 1;
+    }
+    mark
+}
+
+fn one_more(enters: bool, entered: u64) -> u64
+    requires { ⌜ entered ≤ 65536 ⌝ }
+    ensures { λ r. ⌜ r ≡ entered + cond enters 1 0 ⌝ }
+{
+    if enters {
+        return entered + 1;
+    }
+    entered
+}
+
+// One step more in the tables of its thread, by whether it begins an attempt and whether it enters.
+fn note(
+    marks: &mut [u64; 256],
+    attempts: &mut [u64; 256],
+    totals: &mut [u64; 256],
+    longest: &mut [u64; 256],
+    at: usize,
+    entered: u64,
+    begins: bool,
+    enters: bool,
+)
+    requires { ⌜ Fits (now marks) (now attempts) (now totals) at entered ⌝ }
+    ensures { λ r. ⌜ now (marks .exit) ≡ set (now (marks .entry)) at (cond enters 0 (mark-at (now (marks .entry)) at entered begins)) ⌝ }
+    ensures { λ r. ⌜ now (attempts .exit) ≡ noted (finishes enters (mark-at (now (marks .entry)) at entered begins)) (now (attempts .entry)) at (getD (now (attempts .entry)) at 0 + 1) ⌝ }
+    ensures { λ r. ⌜ now (totals .exit) ≡ noted (finishes enters (mark-at (now (marks .entry)) at entered begins)) (now (totals .entry)) at (getD (now (totals .entry)) at 0 + wait-of entered (mark-at (now (marks .entry)) at entered begins)) ⌝ }
+    ensures { λ r. ⌜ now (longest .exit) ≡ noted (finishes enters (mark-at (now (marks .entry)) at entered begins)) (now (longest .entry)) at (max (getD (now (longest .entry)) at 0) (wait-of entered (mark-at (now (marks .entry)) at entered begins))) ⌝ }
+{
+    let mark = mark_with(begins, entered, marks[at]);
+    if !enters {
+        marks[at] = mark;
+        return;
+    }
+    marks[at] = 0;
+    if mark == 0 {
+        return;
+    }
+    let wait = entered + 1 - mark;
+    attempts[at] = attempts[at] + 1;
+    totals[at] = totals[at] + wait;
+    longest[at] = larger(longest[at], wait);
+}
+
+// The steps of a piece, counted one after another; how many entries there are then.
+fn count_piece(
+    tree: TreeWords,
+    schedule: &[u16],
+    codes: &[u16],
+    count: u64,
+    marks: &mut [u64; 256],
+    attempts: &mut [u64; 256],
+    totals: &mut [u64; 256],
+    longest: &mut [u64; 256],
+) -> u64
+    requires { ⌜ Countable (tree-of tree) (now schedule) (now codes) (now marks) (now attempts) (now totals) (now longest) count ⌝ }
+    ensures { λ r. ⌜ Counted (tree-of tree) (now (schedule .entry)) (now (codes .entry)) (now (marks .entry)) (now (attempts .entry)) (now (totals .entry)) (now (longest .entry)) count (now (marks .exit)) (now (attempts .exit)) (now (totals .exit)) (now (longest .exit)) r ⌝ }
+{
+    let mut entered = count;
+    let mut k: usize = 0;
+    while k < schedule.len() {
+        let at = model::numbers::word_index(schedule[k]);
+        let code = codes[k];
+        let home = tree.homes[at];
+        let begins = begins_at(is_ticket_home(tree.ticket_root, home), home, code / 8);
+        let enters = steps::run::is_entry((code % 8) as u8);
+        note(
+            marks,
+            attempts,
+            totals,
+            longest,
+            at,
+            entered,
+            begins,
+            enters,
+        );
+        entered = one_more(enters, entered);
+        k += 1;
+    }
+    entered
+}
+
+// Writes a row's five numbers from a position on.
+fn put_row(rows: &mut [u64], at: usize, attempts: u64, total: u64, most: u64)
+    requires { ⌜ at + 5 ≤ length (now rows) ⌝ }
+    ensures { λ r. ⌜ now (rows .exit) ≡ sets (now (rows .entry)) at (row-with attempts total most) ⌝ }
+{
+    let mean = crate::mean_of(total, attempts);
+    rows[at] = attempts;
+    rows[at + 1] = total;
+    rows[at + 2] = most;
+    rows[at + 3] = mean.numerator;
+    rows[at + 4] = mean.denominator;
+}
+
+// A row for each thread from its tables, and the last one for all of them.
+fn put_rows(
+    rows: &mut [u64],
+    threads: u32,
+    attempts: &[u64; 256],
+    totals: &[u64; 256],
+    longest: &[u64; 256],
+)
+    requires { ⌜ threads ≤ 256 ⌝ }
+    requires { ⌜ 5 * (threads + 1) ≤ length (now rows) ⌝ }
+    requires { ⌜ Small (now attempts) ⌝ }
+    requires { ⌜ Small (now totals) ⌝ }
+    ensures { λ r. ⌜ now (rows .exit) ≡ sets (now (rows .entry)) 0 (rows-by threads (now (attempts .entry)) (now (totals .entry)) (now (longest .entry))) ⌝ }
+{
+    let mut k: usize = 0;
+    let mut at: usize = 0;
+    let mut all_attempts: u64 = 0;
+    let mut all_totals: u64 = 0;
+    let mut most: u64 = 0;
+    while k < threads as usize {
+        let a = attempts[k];
+        let w = totals[k];
+        let m = longest[k];
+        put_row(rows, at, a, w, m);
+        all_attempts += a;
+        all_totals += w;
+        most = larger(most, m);
+        at += 5;
+        k += 1;
+    }
+    put_row(rows, at, all_attempts, all_totals, most);
+}
+
+// Of each kind, the steps of one piece and of those before it.
+fn add_kinds(kinds: &mut [u32; 6], more: &[u32; 6])
+    requires { ⌜ counts-by (now kinds) .steps + counts-by (now more) .steps ≤ 65536 ⌝ }
+    ensures { λ r. ⌜ now (kinds .exit) ≡ kinds-added (now (kinds .entry)) (now (more .entry)) ⌝ }
+{
+    let a = kinds[0] + more[0];
+    let b = kinds[1] + more[1];
+    let c = kinds[2] + more[2];
+    let d = kinds[3] + more[3];
+    let e = kinds[4] + more[4];
+    let f = kinds[5] + more[5];
+    *kinds = [a, b, c, d, e, f];
+}
+
+// Where a piece ends: at most 1,024 entries on.
+fn piece_end(from: usize, whole: usize) -> usize
+    requires { ⌜ from < whole ⌝ }
+    ensures { λ r. ⌜ (from < r) × ((r ≤ whole) × (r ≤ from + 1024)) ⌝ }
+{
+    if whole - from <= 1024 {
+        return whole;
+    }
+    from + 1024
+}
+
+// The run of a whole schedule in pieces, the rows of its waits, and the counters of the domains. Each piece copies the state once, and what its steps were has room for one piece.
+pub(crate) fn run_counted(
+    tree: TreeWords,
+    state: State,
+    schedule: &[u16],
+    trace: &mut [u16],
+    kinds: &mut [u32; 6],
+    rows: &mut [u64],
+    entries: &mut [u64; 64],
+    tenures: &mut [u64; 64],
+    longest: &mut [u64; 64],
+) -> State
+    requires { ⌜ run-refusal (tree-of tree) (lock-state state (counters-in (now entries) (now tenures) (now longest))) (now schedule) (length (now trace)) .number ≡ 0 ⌝ }
+    requires { ⌜ 5 * (tree-of tree .threads + 1) ≤ length (now rows) ⌝ }
+    ensures { λ r. ⌜ r ≡ run (tree-of tree) (now (schedule .entry)) state .state ⌝ }
+    ensures { λ r. ⌜ now (trace .exit) ≡ trace-front (now (trace .entry)) (run (tree-of tree) (now (schedule .entry)) state) ⌝ }
+    ensures { λ r. ⌜ now (kinds .exit) ≡ kinds-of (steps (tree-of tree) (now (schedule .entry)) state) ⌝ }
+    ensures { λ r. ⌜ now (rows .exit) ≡ sets (now (rows .entry)) 0 (all-rows (tree-of tree) (steps (tree-of tree) (now (schedule .entry)) state)) ⌝ }
+    ensures { λ r. ⌜ counters-in (now (entries .exit)) (now (tenures .exit)) (now (longest .exit)) ≡ counters-after (tree-of tree) (counters-in (now (entries .entry)) (now (tenures .entry)) (now (longest .entry))) (steps (tree-of tree) (now (schedule .entry)) state) ⌝ }
+{
+    let mut marks = [0u64; 256];
+    let mut attempts = [0u64; 256];
+    let mut totals = [0u64; 256];
+    let mut largest = [0u64; 256];
+    let mut n = state;
+    let mut tally = [0u32; 6];
+    let mut entered: u64 = 0;
+    let mut from: usize = 0;
+    while from < schedule.len() {
+        let end = piece_end(from, schedule.len());
+        let mut codes = [0u16; 1024];
+        let mut piece = [0u32; 6];
+        let written = entered as usize;
+        n = steps::run::run_steps(
+            tree,
+            n,
+            &schedule[from..end],
+            &mut trace[written..],
+            &mut piece,
+            &mut codes,
+            entries,
+            tenures,
+            longest,
+        );
+        add_kinds(&mut tally, &piece);
+        entered = count_piece(
+            tree,
+            &schedule[from..end],
+            &codes,
+            entered,
+            &mut marks,
+            &mut attempts,
+            &mut totals,
+            &mut largest,
+        );
+        from = end;
+    }
+    *kinds = tally;
+    put_rows(rows, tree.threads, &attempts, &totals, &largest);
+    n
+}
