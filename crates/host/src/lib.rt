@@ -205,7 +205,7 @@ pub extern "C" fn hmcs_run_many(
 pub extern "C" fn hmcs_check_journal(tree: TreeWords, journal: &[u8]) -> JournalReply
     ensures { λ r. ⌜ r ≡ journal-answer tree (now (journal .entry)) ⌝ }
 {
-    journal::check_journal(tree, journal)
+    journal_call::check_journal(tree, journal)
 }
 
 // A run, and in a row buffer of its own the waits of each thread's attempts and of all together; refused, trace and rows as they came.

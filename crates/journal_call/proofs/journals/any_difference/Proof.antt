@@ -1,0 +1,74 @@
+-- `journal_call::journals::any_difference` meets its contract: without a mark, all entries passed name the kinds that were told. Assumes nothing.
+use mathlib.Core.Path.{_≡_, refl, sym, _∙_}
+use mathlib.Core.Bool.{Bool, true, false, cond}
+use mathlib.Core.List.{List}
+use Prim.Native.Nat.{ℕ, _+_, _-_, _%_, _≤_}
+use native.Mathlib.Omega.{arith}
+use lib.Dec.{eqb}
+use lib.ListN.{getD}
+use Rattle.refusals.proofs.Scanning.{one-more}
+use Rattle.journal_call.specs.Stretches.{All-same-kinds}
+use borrow.Author.Needs.{needs}
+use Rattle.journal_call.proofs.journals.any_difference.Statement.{statement}
+use Rattle.journal_call.proofs.journals.any_difference.Tie as tie
+
+-- one entry more
+one-told :
+    (ks cs : List ℕ) (n mark next : ℕ) → (mark ≡ 0 → All-same-kinds ks cs n) → next ≡ cond (eqb (getD ks n 0) (getD cs n 0 % 8)) mark 1 → next ≡ 0 →
+    All-same-kinds ks cs (n + 1)
+one-told ks cs n mark next h e z = by (eqb (getD ks n 0) (getD cs n 0 % 8)) refl e
+  where
+    by : (b : Bool) → eqb (getD ks n 0) (getD cs n 0 % 8) ≡ b → next ≡ cond b mark 1 → All-same-kinds ks cs (n + 1)
+    by true f g = one-more _ false _ (h (sym g ∙ z)) (rw f)
+    by false f g = absurd (omega (arith, g, z))
+
+abbrev Inv-loop : tie.InvT-loop
+Inv-loop kinds codes count mark₀ k₀ mark k = (k ≤ count) × (mark ≡ 0 → All-same-kinds kinds codes k)
+
+abbrev μ-loop : tie.MeasureT-loop
+μ-loop kinds codes count mark₀ k₀ mark k = count - k
+
+loop-holds : tie.Need-loop-holds Inv-loop μ-loop
+loop-holds c = (omega arith, λ _ j l. absurd (omega arith))
+
+shared-slice-read-marked : tie.Need-shared-slice-read-marked Inv-loop μ-loop
+shared-slice-read-marked c = search needs
+
+mul-marked : tie.Need-mul-marked Inv-loop μ-loop
+mul-marked c = omega arith
+
+shared-slice-read-marked-2 : tie.Need-shared-slice-read-marked-2 Inv-loop μ-loop
+shared-slice-read-marked-2 c = search needs
+
+marked-requires : tie.Need-marked-requires Inv-loop μ-loop
+marked-requires c κs = search needs
+
+add-k : tie.Need-add-k Inv-loop μ-loop
+add-k c = omega arith
+
+loop-less : tie.Need-loop-less Inv-loop μ-loop
+loop-less c = omega arith
+
+loop-again : tie.Need-loop-again Inv-loop μ-loop
+loop-again c =
+    let a = c .before .before .before .before .before .before .before .args in
+    (omega arith, one-told (a .kinds .now) (a .codes .now) _ _ _ (c .before .before .before .before .loop .inv .1) (c .marked .ensures))
+
+returns : tie.Need-returns Inv-loop μ-loop
+returns c z j h = c .before .loop .inv .1 z j (omega arith)
+
+pub any-difference-spec : {M : Type 1} → statement M
+any-difference-spec =
+    tie.close
+    (tie.spec
+    Inv-loop
+    μ-loop
+    loop-holds
+    shared-slice-read-marked
+    mul-marked
+    shared-slice-read-marked-2
+    marked-requires
+    add-k
+    loop-less
+    loop-again
+    returns)

@@ -1,0 +1,64 @@
+-- `journal_call::journals::first_difference` meets its contract: all entries passed name the kinds that were told. Assumes nothing.
+use mathlib.Core.Path.{_≡_}
+use mathlib.Core.Bool.{false}
+use Prim.Native.Nat.{ℕ, _≤_, _<_, _-_}
+use native.Mathlib.Omega.{arith}
+use borrow.Author.Tests.{eq-eqb, ne-eqb}
+use Rattle.refusals.proofs.Scanning.{one-more}
+use Rattle.journal_call.specs.Stretches.{other-kind}
+use borrow.Author.Needs.{needs}
+use Rattle.journal_call.proofs.journals.first_difference.Statement.{statement}
+use Rattle.journal_call.proofs.journals.first_difference.Tie as tie
+
+abbrev Inv-loop : tie.InvT-loop
+Inv-loop kinds codes count k₀ k = (k ≤ count) × ((j : ℕ) → j < k → other-kind kinds codes j ≡ false)
+
+abbrev μ-loop : tie.MeasureT-loop
+μ-loop kinds codes count k₀ k = count - k
+
+loop-holds : tie.Need-loop-holds Inv-loop μ-loop
+loop-holds c = (omega arith, λ j l. absurd (omega arith))
+
+shared-slice-read-kind : tie.Need-shared-slice-read-kind Inv-loop μ-loop
+shared-slice-read-kind c = search needs
+
+cast-kind : tie.Need-cast-kind Inv-loop μ-loop
+cast-kind c = omega (arith, c .shared-slice-known .given (c .before .before .loop .k))
+
+mul-if1 : tie.Need-mul-if1 Inv-loop μ-loop
+mul-if1 c = omega arith
+
+shared-slice-read-if1 : tie.Need-shared-slice-read-if1 Inv-loop μ-loop
+shared-slice-read-if1 c = search needs
+
+returns : tie.Need-returns Inv-loop μ-loop
+returns c = record { within = omega arith; passed = c .before .before .before .before .loop .inv .1; fails = λ _. rw (ne-eqb _ _ (c .if1 .taken)) }
+
+add-k : tie.Need-add-k Inv-loop μ-loop
+add-k c = omega arith
+
+loop-less : tie.Need-loop-less Inv-loop μ-loop
+loop-less c = omega arith
+
+loop-again : tie.Need-loop-again Inv-loop μ-loop
+loop-again c = (omega arith, one-more _ false _ (c .before .before .before .before .loop .inv .1) (rw (eq-eqb _ _ (c .if1 .left))))
+
+returns-2 : tie.Need-returns-2 Inv-loop μ-loop
+returns-2 c = record { within = omega arith; passed = c .before .loop .inv .1; fails = λ h. absurd (omega arith) }
+
+pub first-difference-spec : {M : Type 1} → statement M
+first-difference-spec =
+    tie.close
+    (tie.spec
+    Inv-loop
+    μ-loop
+    loop-holds
+    shared-slice-read-kind
+    cast-kind
+    mul-if1
+    shared-slice-read-if1
+    returns
+    add-k
+    loop-less
+    loop-again
+    returns-2)

@@ -1,0 +1,59 @@
+-- `journal_call::journals::run_piece` meets its contract: the piece's threads are the first of those lent. Assumes nothing.
+use mathlib.Core.Path.{_≡_, ap, _∙_}
+use Prim.Native.Nat.{_-_}
+use native.Mathlib.Omega.{arith}
+use lib.ListN.{length, take}
+use Rattle.model.specs.Trees.{tree-of}
+use Rattle.model.specs.Runs.{steps, run}
+use Rattle.model.specs.Counters.{lock-state, fresh-counters}
+use Rattle.model.specs.Refusals.{first-refusal, run-tests-before-19}
+use Rattle.steps.specs.Running.{state-in, codes-front}
+use borrow.Author.Needs.{needs}
+use Rattle.journal_call.proofs.journals.run_piece.Statement.{statement}
+use Rattle.journal_call.proofs.journals.run_piece.Tie as tie
+
+sub-run-lent : tie.Need-sub-run-lent
+sub-run-lent c = search needs
+
+part-run-lent-start : tie.Need-part-run-lent-start
+part-run-lent-start c = search needs
+
+part-run-lent-end : tie.Need-part-run-lent-end
+part-run-lent-end c = search needs
+
+run-lent-requires : tie.Need-run-lent-requires
+unfolding fresh-counters
+run-lent-requires c κs =
+    let begin = c .before .before .before .before .before .before .before .before .before .before .before .before .before .before .before in
+    let a = begin .args in
+    let s = state-in (a .tails .now) (a .nexts .now) (a .statuses .now) (a .ticket .now) (a .granted .now) (a .places) in
+    let whole : a .count - 0 ≡ a .count = omega arith in
+    (begin .pre .1 .0, ap (λ n. first-refusal (run-tests-before-19 (tree-of (a .tree)) (lock-state s fresh-counters) (take n (a .threads .now)) (length (a .trace .now))) .number) whole ∙ begin .pre .1 .1)
+
+same-length : tie.Need-same-length
+same-length c = search needs
+
+same-length-2 : tie.Need-same-length-2
+same-length-2 c = search needs
+
+returns : tie.Need-returns
+returns c =
+    let ran = c .before .before .before .before .run-lent in
+    let a = c .before .before .before .before .before .before .before .before .before .before .before .before .before .before .before .before .before .before .before .before .args in
+    let s = state-in (a .tails .now) (a .nexts .now) (a .statuses .now) (a .ticket .now) (a .granted .now) (a .places) in
+    let whole : a .count - 0 ≡ a .count = omega arith in (
+      ran .ensures .0 ∙ ap (λ n. run (tree-of (a .tree)) (take n (a .threads .now)) s .state) whole,
+      ran .ensures .1 .1 .1 .0 ∙ ap (λ n. codes-front (a .codes .now) (steps (tree-of (a .tree)) (take n (a .threads .now)) s)) whole,
+    )
+
+pub run-piece-spec : {M : Type 1} → statement M
+run-piece-spec =
+    tie.close
+    (tie.spec
+    sub-run-lent
+    part-run-lent-start
+    part-run-lent-end
+    run-lent-requires
+    same-length
+    same-length-2
+    returns)

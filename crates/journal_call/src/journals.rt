@@ -1,0 +1,180 @@
+// The steps that a journal names, taken from a fresh lock, piece by piece: the entries of a piece are read, their threads stepped by the run's loop, and the kinds that it tells compared.
+ghost use mathlib.Core.Path.{_≡_};
+ghost use mathlib.Core.Bool.{cond};
+ghost use Prim.Native.Nat.{_%_, _≤_};
+ghost use lib.Dec.{eqb};
+ghost use lib.ListN.{length, take};
+ghost use Rattle.model.specs.Trees.{tree-of};
+ghost use Rattle.model.specs.Runs.{steps, run};
+ghost use Rattle.model.specs.Counters.{lock-state, fresh-counters};
+ghost use Rattle.model.specs.Refusals.{refusal, first-refusal, tree-refusal, run-tests-before-19};
+ghost use Rattle.refusals.specs.Lowest.{Lowest};
+ghost use Rattle.model.specs.Laws.{Typed};
+ghost use Rattle.steps.specs.Running.{state-in, codes-front};
+ghost use Rattle.journal_call.specs.Stretches.{other-kind, All-same-kinds};
+ghost use Rattle.journal.specs.Answers.{replied, journal-answer};
+use journal::JournalReply;
+use model::PlaceWords;
+use model::TreeWords;
+use steps::run::Places;
+
+// The mark 1 where a kind is not what the run's loop told of a step; else the mark as it was.
+fn marked(mark: u16, kind: u8, code: u16) -> u16
+    ensures { λ r. ⌜ r ≡ cond (eqb kind (code % 8)) mark 1 ⌝ }
+{
+    if (kind as u16) != code % 8 {
+        return 1;
+    }
+    mark
+}
+
+// 0 where all of some entries name the kinds that the run's loop told of their steps. It looks at all of them, so that many can be compared at once.
+fn any_difference(kinds: &[u8], codes: &[u16], count: usize) -> u16
+    requires { ⌜ count ≤ length (now kinds) ⌝ }
+    requires { ⌜ count ≤ length (now codes) ⌝ }
+    ensures { λ r. ⌜ (r ≡ 0 → All-same-kinds (now (kinds .entry)) (now (codes .entry)) count) ⌝ }
+{
+    let mut mark: u16 = 0;
+    let mut k: usize = 0;
+    while k < count {
+        mark = marked(mark, kinds[k], codes[k]);
+        k += 1;
+    }
+    mark
+}
+
+// The first of some entries whose kind is not what the run's loop told of its step; how many there are, where none is.
+fn first_difference(kinds: &[u8], codes: &[u16], count: usize) -> usize
+    requires { ⌜ count ≤ length (now kinds) ⌝ }
+    requires { ⌜ count ≤ length (now codes) ⌝ }
+    ensures { λ r. ⌜ Lowest count (other-kind (now (kinds .entry)) (now (codes .entry))) r ⌝ }
+{
+    let mut k: usize = 0;
+    while k < count {
+        let kind = kinds[k] as u16;
+        if kind != codes[k] % 8 {
+            return k;
+        }
+        k += 1;
+    }
+    k
+}
+
+// How many entries, from the first on, name the kinds that the run's loop told of their steps. The first that does not is looked for only where there is one.
+fn first_other_kind(kinds: &[u8], codes: &[u16], count: usize) -> usize
+    requires { ⌜ count ≤ length (now kinds) ⌝ }
+    requires { ⌜ count ≤ length (now codes) ⌝ }
+    ensures { λ r. ⌜ Lowest count (other-kind (now (kinds .entry)) (now (codes .entry))) r ⌝ }
+{
+    let mark = any_difference(kinds, codes, count);
+    if mark == 0 {
+        return count;
+    }
+    first_difference(kinds, codes, count)
+}
+
+fn answer_at(number: u32, place: usize) -> JournalReply
+    ensures { λ r. ⌜ r ≡ replied (refusal number place) ⌝ }
+{
+    JournalReply { number, place }
+}
+
+// The steps of a piece's threads, on the arrays that are lent; the places alone, which cannot be lent, are taken and returned. What each step was is told. The counters of the domains, which no step reads, start at 0 for each piece, so that no journal is too long for them.
+fn run_piece(
+    tree: TreeWords,
+    tails: &mut [u16; 64],
+    nexts: &mut [u16; 320],
+    statuses: &mut [u64; 320],
+    places: [PlaceWords; 256],
+    ticket: &mut u16,
+    granted: &mut u16,
+    threads: &[u16],
+    count: usize,
+    trace: &mut [u16],
+    codes: &mut [u16],
+) -> Places
+    requires { ⌜ count ≤ length (now threads) ⌝ }
+    requires { ⌜ Typed (state-in (now tails) (now nexts) (now statuses) (now ticket) (now granted) places) ⌝ }
+    requires { ⌜ first-refusal (run-tests-before-19 (tree-of tree) (lock-state (state-in (now tails) (now nexts) (now statuses) (now ticket) (now granted) places) fresh-counters) (take count (now threads)) (length (now trace))) .number ≡ 0 ⌝ }
+    ensures { λ r. ⌜ state-in (now (tails .exit)) (now (nexts .exit)) (now (statuses .exit)) (now (ticket .exit)) (now (granted .exit)) (r .places) ≡ run (tree-of tree) (take count (now (threads .entry))) (state-in (now (tails .entry)) (now (nexts .entry)) (now (statuses .entry)) (now (ticket .entry)) (now (granted .entry)) places) .state ⌝ }
+    ensures { λ r. ⌜ now (codes .exit) ≡ codes-front (now (codes .entry)) (steps (tree-of tree) (take count (now (threads .entry))) (state-in (now (tails .entry)) (now (nexts .entry)) (now (statuses .entry)) (now (ticket .entry)) (now (granted .entry)) places)) ⌝ }
+{
+    let mut counts = [0u32; 6];
+    let mut entries = [0u64; 64];
+    let mut tenures = [0u64; 64];
+    let mut longest = [0u64; 64];
+    steps::run::run_lent(
+        tree,
+        tails,
+        nexts,
+        statuses,
+        places,
+        ticket,
+        granted,
+        &threads[0..count],
+        trace,
+        &mut counts,
+        codes,
+        &mut entries,
+        &mut tenures,
+        &mut longest,
+    )
+}
+
+// The entries of a journal, with room for as many of them as the lent buffers hold at a time. Each piece goes on from the state that the one before it left, in arrays that are lent to all of them.
+pub(crate) fn check_entries(
+    tree: TreeWords,
+    journal: &[u8],
+    threads: &mut [u16],
+    kinds: &mut [u8],
+    trace: &mut [u16],
+    codes: &mut [u16],
+) -> JournalReply
+    requires { ⌜ tree-refusal (tree-of tree) .number ≡ 0 ⌝ }
+    requires { ⌜ length (now threads) ≡ 1024 ⌝ }
+    requires { ⌜ length (now kinds) ≡ 1024 ⌝ }
+    requires { ⌜ length (now trace) ≡ 1024 ⌝ }
+    requires { ⌜ length (now codes) ≡ 1024 ⌝ }
+    ensures { λ r. ⌜ r ≡ journal-answer tree (now (journal .entry)) ⌝ }
+{
+    let fresh = steps::fresh_state(0);
+    let mut tails = fresh.tails;
+    let mut nexts = fresh.nexts;
+    let mut statuses = fresh.statuses;
+    let mut places = fresh.places;
+    let mut ticket = fresh.ticket;
+    let mut granted = fresh.grant;
+    let mut position: usize = 0;
+    let mut before: u16 = 0;
+    loop {
+        let piece = crate::read_piece(journal, position, before, tree.threads, threads, kinds);
+        let count = piece.count;
+        let after = run_piece(
+            tree,
+            &mut tails,
+            &mut nexts,
+            &mut statuses,
+            places,
+            &mut ticket,
+            &mut granted,
+            threads,
+            count,
+            trace,
+            codes,
+        );
+        let same = first_other_kind(kinds, codes, count);
+        if same < count {
+            let place = crate::position_after(journal, position, before, same);
+            return answer_at(26, place);
+        }
+        if piece.number != 0 {
+            return answer_at(piece.number, piece.position);
+        }
+        if journal.len() <= piece.position {
+            return answer_at(0, 0);
+        }
+        places = after.places;
+        position = piece.position;
+        before = piece.before;
+    }
+}
