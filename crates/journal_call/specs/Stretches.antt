@@ -2,7 +2,7 @@
 use mathlib.Core.Path.{_≡_}
 use mathlib.Core.Bool.{Bool, false, not}
 use mathlib.Core.List.{List, [], _∷_}
-use Prim.Native.Nat.{ℕ, zero, suc, _+_, _%_, _≤_, _<_}
+use Prim.Native.Nat.{ℕ, zero, suc, _+_, _*_, _%_, _≤_, _<_}
 use lib.Dec.{eqb}
 use lib.ListN.{length, getD, take}
 use lib.Seq.{sets}
@@ -63,11 +63,15 @@ All-are n a b c d = (a ≡ n) × (b ≡ n) × (c ≡ n) × (d ≡ n)
 abbrev pub All-below : (number a b c d : ℕ) → Type 0
 All-below n a b c d = (a < n) × (b < n) × (c < n) × (d < n)
 
--- bytes enough for four entries of at most three, and room for them
-pub record Fits-four (bytes position threads kinds count : ℕ) : Type 0 where
-  pub bytes-left : position + 12 ≤ bytes
-  pub threads-left : count + 4 ≤ threads
-  pub kinds-left : count + 4 ≤ kinds
+-- so many bytes are left, and room for so many entries
+pub record Fits (size number bytes position threads kinds count : ℕ) : Type 0 where
+  pub bytes-left : position + size ≤ bytes
+  pub threads-left : count + number ≤ threads
+  pub kinds-left : count + number ≤ kinds
+
+-- so many entries of two bytes each, from a position on, begin with the bit map that gives a kind alone
+abbrev pub Kinds-given : (count : ℕ) → (bytes : List ℕ) → (position : ℕ) → Type 0
+Kinds-given n bs p = (k : ℕ) → k < n → getD bs (p + 2 * k) 0 ≡ 2
 
 abbrev pub piece-of : (count position before number : ℕ) → Piece
 piece-of n p b m = record { count = n; position = p; before = b; number = m }

@@ -5,7 +5,7 @@ ghost use mathlib.Core.List.{[], _∷_};
 ghost use Prim.Native.Nat.{_+_, _≤_, _<_};
 ghost use lib.ListN.{length};
 ghost use lib.Seq.{sets};
-ghost use Rattle.journal_call.specs.Stretches.{All-are, All-below, Fits-four, Read-on};
+ghost use Rattle.journal_call.specs.Stretches.{All-are, All-below, Fits, Kinds-given, Read-on};
 use crate::Piece;
 
 // Whether four bytes are one bit map, by a single comparison: byte by byte, each would be a branch that nothing foretells.
@@ -31,26 +31,34 @@ fn all_known(known: u32, a: u16, b: u16, c: u16, d: u16) -> bool
     (d as u32) < known
 }
 
-// Twelve bytes hold four entries of each bit map that is looked for.
-fn fits_four(bytes: usize, position: usize, threads: usize, kinds: usize, count: usize) -> bool
-    ensures { λ r. ⌜ (r ≡ true → Fits-four bytes position threads kinds count) ⌝ }
+// Whether so many bytes are left, and room for so many entries.
+fn fits(
+    bytes: usize,
+    position: usize,
+    threads: usize,
+    kinds: usize,
+    count: usize,
+    size: usize,
+    number: usize,
+) -> bool
+    ensures { λ r. ⌜ (r ≡ true → Fits size number bytes position threads kinds count) ⌝ }
 {
     if bytes <= position {
         return false;
     }
-    if bytes - position < 12 {
+    if bytes - position < size {
         return false;
     }
     if threads <= count {
         return false;
     }
-    if threads - count < 4 {
+    if threads - count < number {
         return false;
     }
     if kinds <= count {
         return false;
     }
-    4 <= kinds - count
+    number <= kinds - count
 }
 
 fn put_threads(threads: &mut [u16], count: usize, a: u16, b: u16, c: u16, d: u16)
@@ -83,7 +91,7 @@ fn read_same(
     kinds: &mut [u8],
     count: usize,
 ) -> Piece
-    requires { ⌜ Fits-four (length (now journal)) position (length (now threads)) (length (now kinds)) count ⌝ }
+    requires { ⌜ Fits 12 4 (length (now journal)) position (length (now threads)) (length (now kinds)) count ⌝ }
     requires { ⌜ before < known ⌝ }
     ensures { λ r. ⌜ Read-on known (now (journal .entry)) position before (now (threads .entry)) (now (kinds .entry)) count (now (threads .exit)) (now (kinds .exit)) (r .count) (r .position) (r .before) ⌝ }
 {
@@ -126,7 +134,7 @@ fn read_others(
     kinds: &mut [u8],
     count: usize,
 ) -> Piece
-    requires { ⌜ Fits-four (length (now journal)) position (length (now threads)) (length (now kinds)) count ⌝ }
+    requires { ⌜ Fits 12 4 (length (now journal)) position (length (now threads)) (length (now kinds)) count ⌝ }
     ensures { λ r. ⌜ Read-on known (now (journal .entry)) position before (now (threads .entry)) (now (kinds .entry)) count (now (threads .exit)) (now (kinds .exit)) (r .count) (r .position) (r .before) ⌝ }
 {
     if all_are(
@@ -150,8 +158,49 @@ fn read_others(
     crate::stopped(count, position, before, 0)
 }
 
+// Whether sixteen entries of two bytes each begin with the bit map that gives a kind alone.
+fn kinds_given(journal: &[u8], position: usize) -> bool
+    requires { ⌜ position + 34 ≤ length (now journal) ⌝ }
+    ensures { λ r. ⌜ (r ≡ true → Kinds-given 16 (now (journal .entry)) position) ⌝ }
+{
+    let mut k: usize = 0;
+    while k < 16 {
+        if journal[position + 2 * k] != 2 {
+            return false;
+        }
+        k += 1;
+    }
+    true
+}
+
+// Sixteen entries of the thread before that name a kind, where it moves on alone; else none.
+fn read_sixteen(
+    journal: &[u8],
+    position: usize,
+    before: u16,
+    known: u32,
+    threads: &mut [u16],
+    kinds: &mut [u8],
+    count: usize,
+) -> Piece
+    requires { ⌜ Fits 34 16 (length (now journal)) position (length (now threads)) (length (now kinds)) count ⌝ }
+    requires { ⌜ before < known ⌝ }
+    ensures { λ r. ⌜ Read-on known (now (journal .entry)) position before (now (threads .entry)) (now (kinds .entry)) count (now (threads .exit)) (now (kinds .exit)) (r .count) (r .position) (r .before) ⌝ }
+{
+    if !kinds_given(journal, position) {
+        return crate::stopped(count, position, before, 0);
+    }
+    let mut k: usize = 0;
+    while k < 16 {
+        threads[count + k] = before;
+        kinds[count + k] = journal[position + (2 * k + 1)];
+        k += 1;
+    }
+    crate::stopped(count + 16, position + 32, before, 0)
+}
+
 // Four such entries into the room from an index on, or none.
-pub(crate) fn read_four(
+fn read_four(
     journal: &[u8],
     position: usize,
     before: u16,
@@ -167,7 +216,16 @@ pub(crate) fn read_four(
     if known <= (before as u32) {
         return crate::stopped(count, position, before, 0);
     }
-    if fits_four(journal.len(), position, threads.len(), kinds.len(), count) {
+    // Twelve bytes hold four entries of each bit map that is looked for.
+    if fits(
+        journal.len(),
+        position,
+        threads.len(),
+        kinds.len(),
+        count,
+        12,
+        4,
+    ) {
         let same = read_same(journal, position, before, known, threads, kinds, count);
         if count < same.count {
             return same;
@@ -175,4 +233,40 @@ pub(crate) fn read_four(
         return read_others(journal, position, before, known, threads, kinds, count);
     }
     crate::stopped(count, position, before, 0)
+}
+
+// Entries with one bit map, sixteen or four of them, into the room from an index on, or none.
+pub(crate) fn read_alike(
+    journal: &[u8],
+    position: usize,
+    before: u16,
+    known: u32,
+    threads: &mut [u16],
+    kinds: &mut [u8],
+    count: usize,
+) -> Piece
+    requires { ⌜ count ≤ length (now threads) ⌝ }
+    requires { ⌜ count ≤ length (now kinds) ⌝ }
+    ensures { λ r. ⌜ Read-on known (now (journal .entry)) position before (now (threads .entry)) (now (kinds .entry)) count (now (threads .exit)) (now (kinds .exit)) (r .count) (r .position) (r .before) ⌝ }
+{
+    if known <= (before as u32) {
+        return crate::stopped(count, position, before, 0);
+    }
+    // Thirty-four bytes hold sixteen entries of two, and two more, so that the last can be read as any entry is.
+    if fits(
+        journal.len(),
+        position,
+        threads.len(),
+        kinds.len(),
+        count,
+        34,
+        16,
+    ) {
+        let many = read_sixteen(journal, position, before, known, threads, kinds, count);
+        if count < many.count {
+            return many;
+        }
+        return read_four(journal, position, before, known, threads, kinds, count);
+    }
+    read_four(journal, position, before, known, threads, kinds, count)
 }

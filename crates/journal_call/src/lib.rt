@@ -261,7 +261,7 @@ fn read_next(
     blocks::read_block(journal, position, before, known, threads, kinds, from, end)
 }
 
-// Reads entries from a position on, as many as there is room for, up to the journal's end or the first that 25 or 12 refuses; their threads and kinds at the front of the room. Where four alike follow each other they are read at once, else up to thirty-two one by one.
+// Reads entries from a position on, as many as there is room for, up to the journal's end or the first that 25 or 12 refuses; their threads and kinds at the front of the room. Where four or sixteen alike follow each other they are read at once, else up to thirty-two one by one.
 pub fn read_piece(
     journal: &[u8],
     position: usize,
@@ -277,7 +277,7 @@ pub fn read_piece(
     let mut at = position;
     let mut last = before;
     while count < room {
-        let four = alike::read_four(journal, at, last, known, threads, kinds, count);
+        let four = alike::read_alike(journal, at, last, known, threads, kinds, count);
         if count < four.count {
             at = four.position;
             last = four.before;

@@ -11,8 +11,9 @@ use Rattle.model.specs.declared.State.{State}
 use Rattle.model.specs.Places.{place-words, words-of}
 use Rattle.model.specs.Trees.{Tree, is-ticket, child, own-record}
 use Rattle.model.specs.Steps.{acquire-place, release-place, done-place}
-use Rattle.rows.specs.declared.members.Member.{Member}
-use Rattle.rows.specs.Rows.{with-place-words, place-at, Stands, Root-is, acquire-at, release-at, done-at}
+use Rattle.members.specs.declared.Member.{Member}
+use Rattle.rows.specs.Rows.{with-place-words, place-at, Stands, Root-is}
+use Rattle.members.specs.Standing.{acquire-at, release-at, done-at}
 
 -- a place stored where it was read changes nothing
 pub unmoved : (s : State) (i : ℕ) (q : PlaceWords) → q ≡ place-at s i → with-place-words i q s ≡ s

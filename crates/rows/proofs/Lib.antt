@@ -1,5 +1,1 @@
-pub mod Children
 pub mod Leaving
-pub mod RowPlaces
-pub mod Counts
-pub mod Shown

@@ -1,3 +1,2 @@
--- What the rows of the step table say of the words that they read, store and count.
+-- What the rows of the step table say of the words that they read and store.
 pub mod Rows
-pub mod Counting

@@ -9,14 +9,12 @@ ghost use Rattle.model.specs.States.{root-word, wrap, next, status, with-ticket
 ghost use Rattle.model.specs.Places.{words-of};
 ghost use Rattle.model.specs.Steps.{prep-row, swap-row, link-row, wait-row, leave-row, check-row, help-row, cas-row, linger-row, grant-row, draw-row, watch-row, raise-row};
 ghost use Rattle.refusals.specs.Arrays.{Lower};
-ghost use Rattle.rows.specs.Counting.{parent-in, Room-above, record-domain-in, raised-at, Entered, Started};
-ghost use Rattle.rows.specs.Rows.{is-entry-number, moved, Row-done, with-tails, with-nexts, with-statuses, Stands, Within, start-row, place-at, Above, Root-is, Check-reads};
-
-pub mod counting;
-pub mod members;
-pub mod places;
-
-use crate::members::Member;
+ghost use Rattle.members.specs.Counting.{parent-in, Room-above, record-domain-in, raised-at, Entered, Started};
+ghost use Rattle.members.specs.Standing.{is-entry-number, Within};
+ghost use Rattle.rows.specs.Rows.{moved, Row-done, with-tails, with-nexts, with-statuses, Stands, start-row, place-at, Above, Root-is, Check-reads};
+use members::Member;
+use members::counting;
+use members::places;
 use model::Place;
 use model::PlaceWords;
 
@@ -258,13 +256,6 @@ pub fn grant(
     )
 }
 
-// One more, from 65,535 to 0.
-pub(crate) fn next_number(v: u16) -> u16
-    ensures { λ r. ⌜ r ≡ wrap (v + 1) ⌝ }
-{
-    std::num::wrapping_add_u16(v, 1)
-}
-
 // The thread draws the root's ticket: Inside where it is the one shown, else it watches.
 pub fn draw(
     parents: &[u8; 64],
@@ -287,7 +278,7 @@ pub fn draw(
 {
     let v = *ticket;
     let r = w.own as usize;
-    *ticket = next_number(v);
+    *ticket = counting::next_number(v);
     statuses[r] = v as u64;
     if v != granted {
         return moves(model::OTHER_MOVE, Place::Watch);
@@ -326,7 +317,7 @@ pub fn raise(w: Member, granted: &mut u16) -> Moved
     ensures { λ r. ⌜ is-entry-number (r .kind) ≡ false ⌝ }
 {
     let v = *granted;
-    *granted = next_number(v);
+    *granted = counting::next_number(v);
     moves(
         model::OTHER_MOVE,
         places::done_place_at(w.home, w.domain, w.child),

@@ -32,7 +32,7 @@ use Rattle.refusals.proofs.Joining.{first-decides, other-decides, state-numbere
 use Rattle.refusals.proofs.RunTests.{refusal-words-not, refusal-words-zero}
 use Rattle.steps.proofs.SoFar.{counts-kinds, thread-at, below}
 use Rattle.steps.proofs.StepCodes.{code-kind, domain-of-code}
-use Rattle.rows.specs.Rows.{row-domain}
+use Rattle.members.specs.Standing.{row-domain}
 use Rattle.steps.specs.Running.{kinds-of, counts-by, trace-front, step-code, codes-front}
 
 -- a run that is not refused passes the tests before 19

@@ -37,7 +37,7 @@ use Rattle.model.proofs.Laws.Counters.{counts-most, entries-left, tenures-left}
 use Rattle.model.proofs.Tests.{any-nowhere, and-false}
 use Rattle.model.proofs.Trees.Reading.{home-read}
 use Rattle.refusals.proofs.Reading.{home-in}
-use Rattle.rows.specs.Counting.{Room-above, taken-in, is-watch-in, marked-in, Clear, Looked, Shown-for}
+use Rattle.members.specs.Counting.{Room-above, taken-in, is-watch-in, marked-in, Clear, Looked, Shown-for}
 use Rattle.steps.specs.Counting.{shows-in, Marked, Shown-left}
 use Rattle.steps.proofs.Taken.{taken-child}
 use Rattle.steps.proofs.Tallying.{Tallied}

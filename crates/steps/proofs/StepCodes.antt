@@ -19,9 +19,9 @@ use Rattle.model.specs.WellFormed.{good-tail, good-next, good-status, good-plac
 use Rattle.model.proofs.Laws.Form.{not-invalid}
 use Rattle.model.proofs.Tests.{and-both, all-each}
 use Rattle.model.proofs.Trees.Reading.{home-read, threads-read}
-use Rattle.rows.specs.Rows.{row-domain}
+use Rattle.members.specs.Standing.{row-domain}
 use Rattle.steps.specs.Running.{step-code}
-use Rattle.rows.proofs.RowPlaces.{place-by-row}
+use Rattle.members.proofs.RowPlaces.{place-by-row}
 use Rattle.steps.proofs.SoFar.{kind-small}
 
 -- what is told of a step is its kind, its row and its domain, each in bits of its own

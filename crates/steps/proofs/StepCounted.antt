@@ -6,7 +6,7 @@ use Prim.Native.Nat.{ℕ}
 use native.Mathlib.Omega.{arith}
 use lib.Dec.{eqb}
 use Rattle.model.specs.declared.PlaceWords.{PlaceWords}
-use Rattle.rows.specs.Counting.{added-at, raised-at, Counted-shown}
+use Rattle.members.specs.Counting.{added-at, raised-at, Counted-shown}
 use Rattle.steps.specs.Counting.{started-in, Counted-step}
 
 -- ONE STEP, by its row

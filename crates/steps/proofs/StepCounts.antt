@@ -40,7 +40,7 @@ use Rattle.refusals.specs.Arrays.{parents-in}
 use Rattle.run_refusals.specs.Counts.{counters-in}
 use Rattle.rows.specs.declared.Moved.{Moved}
 use Rattle.rows.specs.Rows.{Done}
-use Rattle.rows.specs.Counting.{parent-in, taken-in, record-domain-in, raised-at, is-watch-in, Entered}
+use Rattle.members.specs.Counting.{parent-in, taken-in, record-domain-in, raised-at, is-watch-in, Entered}
 use Rattle.steps.specs.Counting.{started-in, Marked, Counted-step}
 use Rattle.steps.proofs.Taken.{taken-child}
 use Rattle.steps.proofs.StepEntries.{entries-counted}

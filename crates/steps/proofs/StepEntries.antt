@@ -18,10 +18,10 @@ use Rattle.model.specs.Counters.{each-with-index}
 use Rattle.model.proofs.Trees.Accepted.{Accepted}
 use Rattle.model.proofs.Trees.Paths.{depth-child, depth-few}
 use Rattle.model.proofs.Counted.{indexed-same, indexed-kept, indexed-twice}
-use Rattle.rows.specs.Rows.{is-entry-number}
-use Rattle.rows.specs.Counting.{Climbed, at-root, one-up, Entered}
+use Rattle.members.specs.Standing.{is-entry-number}
+use Rattle.members.specs.Counting.{Climbed, at-root, one-up, Entered}
 use Rattle.steps.proofs.SoFar.{entry-number}
-use Rattle.rows.proofs.Counts.{set-indexed}
+use Rattle.members.proofs.Counts.{set-indexed}
 
 abbrev number : Bool → ℕ
 number b = cond b 1 0

@@ -26,14 +26,15 @@ use Rattle.model.proofs.Trees.Reading.{read-in}
 use Rattle.refusals.specs.Arrays.{parents-in, Lower}
 use Rattle.refusals.proofs.Reading.{parent-in, home-in}
 use Rattle.refusals.proofs.Meeting.{child-same}
-use Rattle.rows.specs.declared.members.Member.{Member}
+use Rattle.members.specs.declared.Member.{Member}
 use Rattle.rows.specs.declared.Moved.{Moved}
-use Rattle.rows.specs.Counting.{taken-in, record-domain-in, Started}
+use Rattle.members.specs.Counting.{taken-in, record-domain-in, Started}
 use Rattle.steps.specs.Counting.{started-in, Shown-left, Counted-step}
-use Rattle.rows.specs.Rows.{Done, Stands, Above, Member-of, row-domain, start-row}
+use Rattle.rows.specs.Rows.{Done, Stands, Above, start-row}
+use Rattle.members.specs.Standing.{Member-of, row-domain}
 use Rattle.steps.specs.Running.{tree-at, state-in, Ready, Taken}
 use Rattle.steps.proofs.StepCounted.{other-counted}
-use Rattle.rows.proofs.RowPlaces.{place-by-row}
+use Rattle.members.proofs.RowPlaces.{place-by-row}
 
 -- the row of a place at a domain
 abbrev pub row-at : Tree → (thread domain : ℕ) → Place → State → Row-result

@@ -28,8 +28,8 @@ use Rattle.model.proofs.Places.{by-row, no-place}
 use Rattle.model.proofs.Trees.Accepted.{Accepted}
 use Rattle.model.proofs.Counted.{indexed-same, indexed-kept, filter-occurs}
 use Rattle.model.proofs.Laws.Given.{given-from, swap-given, draw-given, checked-length}
-use Rattle.rows.specs.Counting.{added-at, raised-at, record-domain-in, is-watch-in, is-shown, Counted-shown}
-use Rattle.rows.proofs.Counts.{is-at, added-indexed, raised-indexed}
+use Rattle.members.specs.Counting.{added-at, raised-at, record-domain-in, is-watch-in, is-shown, Counted-shown}
+use Rattle.members.proofs.Counts.{is-at, added-indexed, raised-indexed}
 
 abbrev number : Bool → ℕ
 number b = cond b 1 0

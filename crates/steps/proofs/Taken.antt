@@ -7,7 +7,7 @@ use lib.Dec.{eqb}
 use Rattle.model.specs.Trees.{Tree, child}
 use Rattle.refusals.specs.Arrays.{parents-in}
 use Rattle.refusals.proofs.Meeting.{child-same}
-use Rattle.rows.specs.Counting.{taken-in}
+use Rattle.members.specs.Counting.{taken-in}
 
 module _ (t : Tree) (m : ℕ) (ps : List ℕ) (same : (e : ℕ) → parents-in m ps .parent e ≡ t .parent e) where
   pub taken-child : (i l h : ℕ) → h ≡ t .home i → taken-in m ps h l ≡ cond (eqb l (t .home i)) 0 (child t i l)

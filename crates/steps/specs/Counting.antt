@@ -10,7 +10,7 @@ use Rattle.model.specs.declared.PlaceWords.{PlaceWords}
 use Rattle.model.specs.Scans.{any-below}
 use Rattle.model.specs.Places.{place-words}
 use Rattle.model.specs.Counters.{most-counted}
-use Rattle.rows.specs.Counting.{taken-in, record-domain-in, added-at, raised-at, is-watch-in, Counted-shown, Clear}
+use Rattle.members.specs.Counting.{taken-in, record-domain-in, added-at, raised-at, is-watch-in, Counted-shown, Clear}
 
 -- the domain whose tenure a step starts that is no raise, by its place before, the row of its place after and its kind; 0 for none
 unfoldable pub started-in : (domains : ℕ) → (parents : List ℕ) → (home : ℕ) → (before : PlaceWords) → (after kind : ℕ) → ℕ

@@ -16,7 +16,8 @@ use Rattle.model.specs.Steps.{stay, other, root-entry, passed-entry, crossed-en
 use Rattle.model.specs.Runs.{how-many, Run}
 use Rattle.model.specs.WellFormed.{good-place}
 use Rattle.rows.specs.declared.Moved.{Moved}
-use Rattle.rows.specs.Rows.{Done, is-entry-number}
+use Rattle.rows.specs.Rows.{Done}
+use Rattle.members.specs.Standing.{is-entry-number}
 
 -- a tree by its numbers and arrays
 abbrev pub tree-at : (kind domains threads : ℕ) → (parents thresholds homes : List ℕ) → Tree

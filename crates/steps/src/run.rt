@@ -9,14 +9,14 @@ ghost use Rattle.model.specs.Refusals.{first-refusal, run-tests-before-19};
 ghost use Rattle.run_refusals.specs.Counts.{counters-in};
 ghost use Rattle.model.specs.Runs.{steps, run};
 ghost use Rattle.model.specs.Laws.{Typed};
-ghost use Rattle.rows.specs.Rows.{row-domain, is-entry-number};
+ghost use Rattle.members.specs.Standing.{row-domain, is-entry-number};
 ghost use Rattle.steps.specs.Running.{state-in, kinds-of, counted, counts-by, traced-at, trace-front, code-of, code-stored, codes-front};
 use crate::taking;
+use members::counting;
 use model::Counts;
 use model::PlaceWords;
 use model::State;
 use model::TreeWords;
-use rows::counting;
 
 // One step of a kind more, where the steps of each kind are counted.
 fn count_in(kinds: &mut [u32; 6], kind: u8)

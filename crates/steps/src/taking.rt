@@ -1,15 +1,14 @@
 // One step of a thread: the row of its place.
 ghost use mathlib.Core.Path.{_≡_};
 ghost use lib.ListN.{getD};
-ghost use Rattle.rows.specs.Counting.{parent-in, Room-above, Entered, Shown-for};
+ghost use Rattle.members.specs.Counting.{parent-in, Room-above, Entered, Shown-for};
 ghost use Rattle.steps.specs.Counting.{Counted-step, Shown-left};
 ghost use Rattle.steps.specs.Running.{tree-at, Ready, Taken};
+use members::counting;
+use members::places;
 use model::Place;
 use model::PlaceWords;
 use rows::Moved;
-use rows::counting;
-use rows::members;
-use rows::places;
 
 // The step that a thread takes from a place. The arrays and the counters are lent, and only what the row stores is written.
 pub(crate) fn take<'t>(

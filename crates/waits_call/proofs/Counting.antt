@@ -21,7 +21,7 @@ use Rattle.model.proofs.Trees.Accepted.{accepted}
 use Rattle.waits.specs.Attempts.{swaps-at, draws, begins-from}
 use Rattle.waits_call.specs.Tallies.{begins-number, mark-with, finishes, wait-of, noted, Tallies}
 use Rattle.waits_call.proofs.Tables.{turn, fits}
-use Rattle.rows.specs.Rows.{is-entry-number}
+use Rattle.members.specs.Standing.{is-entry-number}
 use Rattle.steps.specs.Running.{code-of, step-code}
 use Rattle.waits_call.specs.Waiting.{ticket-home, mark-at, Fits, Counting, Countable, Counted}
 use Rattle.steps.proofs.SoFar.{next-step, thread-at, below, kind-small, entry-number, at-most}

@@ -42,17 +42,17 @@ use Rattle.journal_call.specs.declared.Reader.{Reader}
 use Rattle.journal.specs.declared.Entry.{Entry}
 use Rattle.journal_call.proofs.Reader as T
 use Rattle.journal_call.proofs.Reader.Laws as T′
-use Rattle.journal_call.proofs.Entry as S
-use Rattle.journal_call.proofs.Entry.Laws as S′
+use Rattle.journal.proofs.Entry as S
+use Rattle.journal.proofs.Entry.Laws as S′
 use Rattle.journal_call.proofs.reader_at as new
 use Rattle.journal_call.proofs.reader_at.Symbol as new-def
-use Rattle.journal_call.proofs.reader_at.Symbol.{name as #journal·reader-at}
+use Rattle.journal_call.proofs.reader_at.Symbol.{name as #journal-call·reader-at}
 use Rattle.journal_call.proofs.reader_at.Met as new-thm
 use Rattle.journal_call.proofs.next_entry as next
 use Rattle.journal_call.proofs.next_entry.Symbol as next-def
-use Rattle.journal_call.proofs.next_entry.Symbol.{name as #journal·next-entry}
+use Rattle.journal_call.proofs.next_entry.Symbol.{name as #journal-call·next-entry}
 use Rattle.journal_call.proofs.next_entry.Met as next-thm
-use Rattle.journal_call.proofs.entry_at.Key.{name as #journal·entry-at}
+use Rattle.journal_call.proofs.entry_at.Key.{name as #journal-call·entry-at}
 use Rattle.journal_call.proofs.entry_at as first
 use Rattle.journal_call.proofs.entry_at.Statement as stated
 use Rattle.journal_call.proofs.entry_at.Code as code
@@ -125,7 +125,7 @@ module _ {M : Type 1} (𝓤 : URA M) (H : Heap 𝓤) (A : Atoms 𝓤) (W : Given
       suffices ! _ (ends-at 𝓤 H A first.ended stayed (first.clauses 𝓤 H A mem run) W (((κ, tt), (q, tt), tt, (s, (m, (n, tt))), at), tt) u t (tt, (tt, (tt, tt))) (tt, (tt, (tt, tt)))) $ says ! e $
       move ! (1 ∷ []) $ frame ! $ nothing ! $ owned ! u16 (Is u16) (uint-makes 𝓤 H A W w16) n _ (refl, okn) $ fjoin ! $ owned ! usize (Is usize) (uint-makes 𝓤 H A W w64) m _ (refl, okm) $ fjoin ! $ move ! (2 ∷ 0 ∷ []) $ fjoin ! $ frame ! $ done !
 
-  module _ (C : Calls 𝓤 H) (Λ : Loops 𝓤 H) (fm : FmC 𝓤 H (W .laws) C) (known-new : Triple 𝓤 (C #journal·reader-at) (New 𝓤 H A mem run)) (known-next : Triple 𝓤 (C #journal·next-entry) (Next 𝓤 H A mem run)) where
+  module _ (C : Calls 𝓤 H) (Λ : Loops 𝓤 H) (fm : FmC 𝓤 H (W .laws) C) (known-new : Triple 𝓤 (C #journal-call·reader-at) (New 𝓤 H A mem run)) (known-next : Triple 𝓤 (C #journal-call·next-entry) (Next 𝓤 H A mem run)) where
     walk : Is (ShrSlice (named 0) κ u8) s (v ∷ []) → ent 𝓤 (onEntry 𝓤 H A first.signature (κ, tt) (q, tt) (s, (m, (n, tt))) at) (WpFn 𝓤 H C Λ code.function (v ∷ vint w64 m ∷ vint w16 n ∷ []) Post)
     walk p =
         qed W (raw (onEntry 𝓤 H A first.signature (κ, tt) (q, tt) (s, (m, (n, tt))) at) ∷ []) ∵ enter ! C Λ code.function (v ∷ vint w64 m ∷ vint w16 n ∷ []) _ $
@@ -150,14 +150,14 @@ module _ {M : Type 1} (𝓤 : URA M) (H : Heap 𝓤) (A : Atoms 𝓤) (W : Given
         by ! (exits t u′ (e′ ∙ (ap (λ (x : RefT (List ℕ)). entry-at (now x) (r .position) n) (e .0) ∙ ap (λ (k : ℕ). entry-at (now s) k n) (e .1)))))))))))))))))
 
 module _ {M : Type 1} (𝓤 : URA M) (H : Heap 𝓤) (A : Atoms 𝓤) (W : Given 𝓤 H A) (mem : Memory → SProp 𝓤) (run : Routine → Fun 𝓤) where
-  entry-at-walks : (C : Calls 𝓤 H) (Λ : Loops 𝓤 H) → FmC 𝓤 H (W .laws) C → Triple 𝓤 (C #journal·reader-at) (New 𝓤 H A mem run) → Triple 𝓤 (C #journal·next-entry) (Next 𝓤 H A mem run)
+  entry-at-walks : (C : Calls 𝓤 H) (Λ : Loops 𝓤 H) → FmC 𝓤 H (W .laws) C → Triple 𝓤 (C #journal-call·reader-at) (New 𝓤 H A mem run) → Triple 𝓤 (C #journal-call·next-entry) (Next 𝓤 H A mem run)
       → Walks 𝓤 H A first.ended stayed (WpFn 𝓤 H C Λ code.function) (first.clauses 𝓤 H A mem run)
   entry-at-walks C Λ fm known-new known-next = walked 𝓤 H A first.ended stayed (first.clauses 𝓤 H A mem run) (WpFn 𝓤 H C Λ code.function)
       (λ κs. (slice-vals, (uint-vals w64, (uint-vals w16, tt)))) (λ κs. (shr-slice-tells (named 0) (κs .0) u8, (uint-tells w64, (uint-tells w16, tt))))
       (λ κs qs bounds a g are. via 𝓤 _ (fst∗ 𝓤 _ (emp 𝓤)) (walk 𝓤 H A W mem run (κs .0) (qs .0) (a .0) (a .1 .0) (are .1 .0 .1) (a .1 .1 .0) (are .1 .1 .0 .1) C Λ fm known-new known-next (are .0)))
 
 entry-at-meets : {M : Type 1} (𝓤 : URA M) (H : Heap 𝓤) (A : Atoms 𝓤) (W : Given 𝓤 H A) (mem : Memory → SProp 𝓤) (run : Routine → Fun 𝓤) (𝓣 : Tables 𝓤 H)
-    → Triple 𝓤 (𝓣 .C #journal·reader-at) (New 𝓤 H A mem run) → Triple 𝓤 (𝓣 .C #journal·next-entry) (Next 𝓤 H A mem run)
+    → Triple 𝓤 (𝓣 .C #journal-call·reader-at) (New 𝓤 H A mem run) → Triple 𝓤 (𝓣 .C #journal-call·next-entry) (Next 𝓤 H A mem run)
     → Meets 𝓤 H A first.signature (WpFn 𝓤 H (𝓣 .C) (𝓣 .Λ) code.function) (first.spec 𝓤 H A mem run)
 entry-at-meets 𝓤 H A W mem run 𝓣 known-new known-next = walk-meets 𝓤 H A first.ended stayed W (goes-none-slice 𝓤 H A W 1 (0 ∷ []) tt (plain (λ _. u8)) yes, (goes-none 𝓤 H A W 1 (λ _. usize) yes (λ κs x f. refl), (goes-none 𝓤 H A W 1 (λ _. u16) yes (λ κs x f. refl), tt))) (first.clauses 𝓤 H A mem run) (WpFn 𝓤 H (𝓣 .C) (𝓣 .Λ) code.function) (WpFn-mono 𝓤 H (W .laws) 𝓣 code.function)
     (entry-at-walks 𝓤 H A W mem run (𝓣 .C) (𝓣 .Λ) (fmOf 𝓤 H (W .laws) 𝓣) known-new known-next)
@@ -166,7 +166,7 @@ pub entry-at-spec : {M : Type 1} → stated.statement M
 unfolding code.routine tablesOf
 entry-at-spec 𝓤 H 𝓜 𝓖 𝓡 =
     entered 𝓤 H (tripleOf 𝓤 H (𝓖 .A) first.signature (first.spec 𝓤 H (𝓖 .A) (𝓜 .mem) (𝓡 .run)))
-    (tables 𝓤 H 𝓜 𝓡 code.env .C) (tables 𝓤 H 𝓜 𝓡 code.env .Λ) #journal·entry-at code.function (code.unfolded 𝓤 H 𝓜 𝓡)
+    (tables 𝓤 H 𝓜 𝓡 code.env .C) (tables 𝓤 H 𝓜 𝓡 code.env .Λ) #journal-call·entry-at code.function (code.unfolded 𝓤 H 𝓜 𝓡)
     (entry-at-meets 𝓤 H (𝓖 .A) (givenOf 𝓤 H 𝓜 𝓖) (𝓜 .mem) (𝓡 .run) (tablesOf 𝓤 H 𝓜 (tables 𝓤 H 𝓜 𝓡 code.env))
-    (cited 𝓤 H (New 𝓤 H (𝓖 .A) (𝓜 .mem) (𝓡 .run)) 𝓜 𝓡 code.env #journal·reader-at new-def.routine code.calls-journal·reader-at (new-thm.met 𝓤 H 𝓜 𝓖 𝓡))
-    (cited 𝓤 H (Next 𝓤 H (𝓖 .A) (𝓜 .mem) (𝓡 .run)) 𝓜 𝓡 code.env #journal·next-entry next-def.routine code.calls-journal·next-entry (next-thm.met 𝓤 H 𝓜 𝓖 𝓡)))
+    (cited 𝓤 H (New 𝓤 H (𝓖 .A) (𝓜 .mem) (𝓡 .run)) 𝓜 𝓡 code.env #journal-call·reader-at new-def.routine code.calls-journal-call·reader-at (new-thm.met 𝓤 H 𝓜 𝓖 𝓡))
+    (cited 𝓤 H (Next 𝓤 H (𝓖 .A) (𝓜 .mem) (𝓡 .run)) 𝓜 𝓡 code.env #journal-call·next-entry next-def.routine code.calls-journal-call·next-entry (next-thm.met 𝓤 H 𝓜 𝓖 𝓡)))

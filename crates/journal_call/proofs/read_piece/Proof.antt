@@ -21,8 +21,8 @@ smaller-requires c κs = search needs
 loop-holds : tie.Need-loop-holds Inv-loop μ-loop
 loop-holds c = nothing _ _ _ _ _ _ _ (omega arith) (omega arith)
 
-read-four-requires : tie.Need-read-four-requires Inv-loop μ-loop
-read-four-requires c κs =
+read-alike-requires : tie.Need-read-alike-requires Inv-loop μ-loop
+read-alike-requires c κs =
     let inv = c .before .before .before .loop .inv in
     (omega (arith, inv .threads-fit, threads-long _ _ _ _ _ _ _ _ _ _ _ _ (inv)), omega (arith, inv .kinds-fit, kinds-long _ _ _ _ _ _ _ _ _ _ _ _ (inv)))
 
@@ -30,7 +30,7 @@ loop-less : tie.Need-loop-less Inv-loop μ-loop
 loop-less c = omega (arith, c .if1 .taken, c .before .before .before .before .before .before .before .before .before .loop-test .taken)
 
 loop-again : tie.Need-loop-again Inv-loop μ-loop
-loop-again c = more _ _ _ _ _ _ _ _ _ _ _ _ (c .before .before .before .before .before .before .before .before .before .before .loop .inv) _ _ _ _ _ (c .before .before .before .before .before .before .read-four .ensures)
+loop-again c = more _ _ _ _ _ _ _ _ _ _ _ _ (c .before .before .before .before .before .before .before .before .before .before .loop .inv) _ _ _ _ _ (c .before .before .before .before .before .before .read-alike .ensures)
 
 block-end-requires : tie.Need-block-end-requires Inv-loop μ-loop
 block-end-requires c κs = c .before .before .before .before .before .before .before .before .before .loop-test .taken
@@ -38,37 +38,37 @@ block-end-requires c κs = c .before .before .before .before .before .before .be
 read-next-requires : tie.Need-read-next-requires Inv-loop μ-loop
 read-next-requires c κs =
     let inv = c .before .before .before .before .before .before .before .before .before .before .before .before .before .loop .inv in
-    let four = c .before .before .before .before .before .before .before .before .before .read-four .kept in
+    let four = c .before .before .before .before .before .before .before .before .before .read-alike .kept in
     let end = c .before .before .block-end .ensures in
     let room = c .before .before .before .before .before .before .before .before .before .before .before .before .before .before .smaller .ensures in
     ((omega (arith, end .0 .0), omega (arith, end .0 .1)), (omega (arith, end .1, room .within-first, threads-long _ _ _ _ _ _ _ _ _ _ _ _ (inv), four .1 .1 .1 .1 .0), omega (arith, end .1, room .within-second, kinds-long _ _ _ _ _ _ _ _ _ _ _ _ (inv), four .1 .1 .1 .1 .1 .0)))
 
 same-length : tie.Need-same-length Inv-loop μ-loop
-same-length c = c .before .before .before .before .before .before .read-next .kept .1 .1 .1 .1 .0 ∙ c .before .before .before .before .before .before .before .before .before .before .before .before .before .before .before .before .read-four .kept .1 .1 .1 .1 .0 ∙ threads-long _ _ _ _ _ _ _ _ _ _ _ _ (c .before .before .before .before .before .before .before .before .before .before .before .before .before .before .before .before .before .before .before .before .loop .inv)
+same-length c = c .before .before .before .before .before .before .read-next .kept .1 .1 .1 .1 .0 ∙ c .before .before .before .before .before .before .before .before .before .before .before .before .before .before .before .before .read-alike .kept .1 .1 .1 .1 .0 ∙ threads-long _ _ _ _ _ _ _ _ _ _ _ _ (c .before .before .before .before .before .before .before .before .before .before .before .before .before .before .before .before .before .before .before .before .loop .inv)
 
 same-length-2 : tie.Need-same-length-2 Inv-loop μ-loop
-same-length-2 c = c .before .before .before .before .before .before .read-next .kept .1 .1 .1 .1 .1 .0 ∙ c .before .before .before .before .before .before .before .before .before .before .before .before .before .before .before .before .read-four .kept .1 .1 .1 .1 .1 .0 ∙ kinds-long _ _ _ _ _ _ _ _ _ _ _ _ (c .before .before .before .before .before .before .before .before .before .before .before .before .before .before .before .before .before .before .before .before .loop .inv)
+same-length-2 c = c .before .before .before .before .before .before .read-next .kept .1 .1 .1 .1 .1 .0 ∙ c .before .before .before .before .before .before .before .before .before .before .before .before .before .before .before .before .read-alike .kept .1 .1 .1 .1 .1 .0 ∙ kinds-long _ _ _ _ _ _ _ _ _ _ _ _ (c .before .before .before .before .before .before .before .before .before .before .before .before .before .before .before .before .before .before .before .before .loop .inv)
 
 returns : tie.Need-returns Inv-loop μ-loop
 returns c =
     let some = c .before .before .before .before .before .before .read-next in
     piece _ _ _ _ _ _ _ _ (some .result)
     (more _ _ _ _ _ _ _ _ _ _ _ _ (c .before .before .before .before .before .before .before .before .before .before .before .before .before .before .before .before .before .before .before .before .loop .inv) _ _ _ _ _
-    (again _ _ _ _ _ _ _ _ _ _ _ _ (c .before .before .before .before .before .before .before .before .before .before .before .before .before .before .before .before .read-four .ensures) (c .before .before .before .before .before .before .before .before .before .before .if1 .left) _ _ _ _ _ (c .before .before .before .before .before .before .read-next .ensures .0)))
+    (again _ _ _ _ _ _ _ _ _ _ _ _ (c .before .before .before .before .before .before .before .before .before .before .before .before .before .before .before .before .read-alike .ensures) (c .before .before .before .before .before .before .before .before .before .before .if1 .left) _ _ _ _ _ (c .before .before .before .before .before .before .read-next .ensures .0)))
     (some .ensures .1 .stops) (λ z. absurd (c .if2 .taken z))
 
 same-length-3 : tie.Need-same-length-3 Inv-loop μ-loop
-same-length-3 c = c .before .before .before .before .before .before .before .before .read-next .kept .1 .1 .1 .1 .0 ∙ c .before .before .before .before .before .before .before .before .before .before .before .before .before .before .before .before .before .before .read-four .kept .1 .1 .1 .1 .0 ∙ threads-long _ _ _ _ _ _ _ _ _ _ _ _ (c .before .before .before .before .before .before .before .before .before .before .before .before .before .before .before .before .before .before .before .before .before .before .loop .inv)
+same-length-3 c = c .before .before .before .before .before .before .before .before .read-next .kept .1 .1 .1 .1 .0 ∙ c .before .before .before .before .before .before .before .before .before .before .before .before .before .before .before .before .before .before .read-alike .kept .1 .1 .1 .1 .0 ∙ threads-long _ _ _ _ _ _ _ _ _ _ _ _ (c .before .before .before .before .before .before .before .before .before .before .before .before .before .before .before .before .before .before .before .before .before .before .loop .inv)
 
 same-length-4 : tie.Need-same-length-4 Inv-loop μ-loop
-same-length-4 c = c .before .before .before .before .before .before .before .before .read-next .kept .1 .1 .1 .1 .1 .0 ∙ c .before .before .before .before .before .before .before .before .before .before .before .before .before .before .before .before .before .before .read-four .kept .1 .1 .1 .1 .1 .0 ∙ kinds-long _ _ _ _ _ _ _ _ _ _ _ _ (c .before .before .before .before .before .before .before .before .before .before .before .before .before .before .before .before .before .before .before .before .before .before .loop .inv)
+same-length-4 c = c .before .before .before .before .before .before .before .before .read-next .kept .1 .1 .1 .1 .1 .0 ∙ c .before .before .before .before .before .before .before .before .before .before .before .before .before .before .before .before .before .before .read-alike .kept .1 .1 .1 .1 .1 .0 ∙ kinds-long _ _ _ _ _ _ _ _ _ _ _ _ (c .before .before .before .before .before .before .before .before .before .before .before .before .before .before .before .before .before .before .before .before .before .before .loop .inv)
 
 returns-2 : tie.Need-returns-2 Inv-loop μ-loop
 returns-2 c =
     let some = c .before .before .before .before .before .before .before .before .read-next in
     piece _ _ _ _ _ _ _ _ (some .result)
     (more _ _ _ _ _ _ _ _ _ _ _ _ (c .before .before .before .before .before .before .before .before .before .before .before .before .before .before .before .before .before .before .before .before .before .before .loop .inv) _ _ _ _ _
-    (again _ _ _ _ _ _ _ _ _ _ _ _ (c .before .before .before .before .before .before .before .before .before .before .before .before .before .before .before .before .before .before .read-four .ensures) (c .before .before .before .before .before .before .before .before .before .before .before .before .if1 .left) _ _ _ _ _ (c .before .before .before .before .before .before .before .before .read-next .ensures .0)))
+    (again _ _ _ _ _ _ _ _ _ _ _ _ (c .before .before .before .before .before .before .before .before .before .before .before .before .before .before .before .before .before .before .read-alike .ensures) (c .before .before .before .before .before .before .before .before .before .before .before .before .if1 .left) _ _ _ _ _ (c .before .before .before .before .before .before .before .before .read-next .ensures .0)))
     (some .ensures .1 .stops) (λ z l. absurd (omega (arith, l, c .if3 .taken)))
 
 loop-less-2 : tie.Need-loop-less-2 Inv-loop μ-loop
@@ -79,7 +79,7 @@ loop-less-2 c =
 loop-again-2 : tie.Need-loop-again-2 Inv-loop μ-loop
 loop-again-2 c =
     more _ _ _ _ _ _ _ _ _ _ _ _ (c .before .before .before .before .before .before .before .before .before .before .before .before .before .before .before .before .before .before .before .before .before .before .loop .inv) _ _ _ _ _
-    (again _ _ _ _ _ _ _ _ _ _ _ _ (c .before .before .before .before .before .before .before .before .before .before .before .before .before .before .before .before .before .before .read-four .ensures) (c .before .before .before .before .before .before .before .before .before .before .before .before .if1 .left) _ _ _ _ _ (c .before .before .before .before .before .before .before .before .read-next .ensures .0))
+    (again _ _ _ _ _ _ _ _ _ _ _ _ (c .before .before .before .before .before .before .before .before .before .before .before .before .before .before .before .before .before .before .read-alike .ensures) (c .before .before .before .before .before .before .before .before .before .before .before .before .if1 .left) _ _ _ _ _ (c .before .before .before .before .before .before .before .before .read-next .ensures .0))
 
 stopped-requires : tie.Need-stopped-requires Inv-loop μ-loop
 stopped-requires c κs = search needs
@@ -105,7 +105,7 @@ read-piece-spec =
     μ-loop
     smaller-requires
     loop-holds
-    read-four-requires
+    read-alike-requires
     loop-less
     loop-again
     block-end-requires

@@ -5,7 +5,7 @@ use Rattle.model.specs.States.{with-ticket}
 use Rattle.rows.specs.Rows.{with-nexts}
 use borrow.Author.Tests.{eq-eqb, ne-eqb}
 use Rattle.model.proofs.Trees.Tickets.{ticket-yes, ticket-lower, ticket-none}
-use Rattle.rows.proofs.Counts.{not-entered, nothing-started}
+use Rattle.members.proofs.Counts.{not-entered, nothing-started}
 use borrow.Author.Needs.{needs}
 use Rattle.rows.proofs.start.Statement.{statement}
 use Rattle.rows.proofs.start.Tie as tie

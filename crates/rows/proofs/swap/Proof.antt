@@ -3,7 +3,7 @@ use mathlib.Core.Path.{refl}
 use borrow.Author.Tests.{eq-eqb, ne-eqb}
 use Rattle.model.specs.Steps.{swap-row}
 use Rattle.rows.proofs.Leaving.{acquire-is, acquire-no-link}
-use Rattle.rows.proofs.Counts.{entered, not-entered}
+use Rattle.members.proofs.Counts.{entered, not-entered}
 use borrow.Author.Needs.{needs}
 use Rattle.rows.proofs.swap.Statement.{statement}
 use Rattle.rows.proofs.swap.Tie as tie

@@ -7,7 +7,7 @@ use Rattle.model.specs.Trees.{own-record}
 use borrow.Author.Tests.{eq-eqb, ne-eqb}
 use Rattle.model.specs.Steps.{watch-row}
 use Rattle.rows.proofs.Leaving.{unmoved, root-own}
-use Rattle.rows.proofs.Counts.{entered, not-entered}
+use Rattle.members.proofs.Counts.{entered, not-entered}
 use borrow.Author.Needs.{needs}
 use Rattle.rows.proofs.watch.Statement.{statement}
 use Rattle.rows.proofs.watch.Tie as tie

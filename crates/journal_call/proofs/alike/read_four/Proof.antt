@@ -13,11 +13,11 @@ returns c =
     let begin = c .before .before .before .before .before in
     rw (c .stopped .ensures) (nothing _ _ _ _ _ _ _ (begin .pre .0) (begin .pre .1))
 
-fits-four-requires : tie.Need-fits-four-requires
-fits-four-requires c κs = search needs
+fits-requires : tie.Need-fits-requires
+fits-requires c κs = search needs
 
 read-same-requires : tie.Need-read-same-requires
-read-same-requires c κs = (c .before .before .before .fits-four .ensures (c .before .before .if2 .taken), omega (arith, c .before .before .before .before .if1 .left))
+read-same-requires c κs = (c .before .before .before .fits2 .ensures (c .before .before .if2 .taken), omega (arith, c .before .before .before .before .if1 .left))
 
 same-length : tie.Need-same-length
 same-length c = search needs
@@ -30,7 +30,7 @@ returns-2 c = search needs
 
 read-others-requires : tie.Need-read-others-requires
 read-others-requires c κs =
-    let fits = c .before .before .before .before .before .before .before .before .before .before .before .before .fits-four .ensures (c .before .before .before .before .before .before .before .before .before .before .before .if2 .taken) in
+    let fits = c .before .before .before .before .before .before .before .before .before .before .before .before .fits2 .ensures (c .before .before .before .before .before .before .before .before .before .before .before .if2 .taken) in
     let kept = c .before .before .before .before .before .before .before .before .read-same .kept in
     record { bytes-left = fits .bytes-left; threads-left = omega (arith, fits .threads-left, kept .1 .1 .1 .1 .0); kinds-left = omega (arith, fits .kinds-left, kept .1 .1 .1 .1 .1 .0) }
 
@@ -58,7 +58,7 @@ read-four-spec =
     (tie.spec
     stopped-requires
     returns
-    fits-four-requires
+    fits-requires
     read-same-requires
     same-length
     same-length-2

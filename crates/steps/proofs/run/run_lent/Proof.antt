@@ -12,12 +12,12 @@ use Rattle.run_refusals.specs.Counts.{counters-in}
 use Rattle.run_refusals.proofs.Passing.{shape-of}
 use Rattle.steps.specs.Running.{state-in}
 use Rattle.steps.specs.Counting.{Marked}
-use Rattle.rows.specs.Counting.{Clear}
+use Rattle.members.specs.Counting.{Clear}
 use Rattle.steps.proofs.SoFar.{So-far, start, kind-room, stay-placed, turn, state-ends, trace-ends, kinds-end, thread-at}
 use Rattle.steps.proofs.Telling.{Coded, codes-start, codes-turn, codes-end}
 use Rattle.steps.proofs.Tallying.{Tallied, tallied-start, tallied-turn, tallied-ends}
 use Rattle.steps.proofs.Turns.{thread-small, ready}
-use Rattle.rows.proofs.Shown.{clear-none}
+use Rattle.members.proofs.Shown.{clear-none}
 use Rattle.steps.proofs.StepCounts.{step-counted}
 use Rattle.steps.proofs.Looking.{entries-room, tenures-room, home-small, marked-start, marked-next, marks-cleared, shown-for, looked-real, home-is, raise-marked}
 use borrow.Author.Needs.{needs}

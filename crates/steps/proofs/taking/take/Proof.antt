@@ -7,9 +7,9 @@ use denote.Ref.{now}
 use Rattle.model.specs.declared.PlaceWords.{PlaceWords}
 use Rattle.steps.specs.Running.{state-in}
 use Rattle.model.specs.declared.Place.the-variants.{Idle, Prep, Swap, Link, Wait, Inside, Check, Help, Cas, Linger, Grant, Draw, Watch, Raise}
-use Rattle.rows.specs.Counting.{taken-in}
+use Rattle.members.specs.Counting.{taken-in}
 use Rattle.steps.specs.Counting.{started-in}
-use Rattle.rows.proofs.Counts.{not-entered}
+use Rattle.members.proofs.Counts.{not-entered}
 use Rattle.steps.proofs.StepCounted.{raise-counted, check-counted}
 use Rattle.steps.proofs.StepTaken.{turn-of, fits, home-is, words, not-invalid, never, link-fits, grant-fits, counted, shown-kept, row-of, real, small, at, stands, above, own-taken, taken, inner, threshold-is, at-root, own-small}
 use borrow.Author.Needs.{needs}

@@ -1,0 +1,4 @@
+pub mod Children
+pub mod RowPlaces
+pub mod Counts
+pub mod Shown
