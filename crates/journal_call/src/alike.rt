@@ -235,8 +235,8 @@ fn read_four(
     crate::stopped(count, position, before, 0)
 }
 
-// Entries with one bit map, sixteen or four of them, into the room from an index on, or none.
-pub(crate) fn read_alike(
+// Sixteen such entries where bytes and room are left for them, or none.
+fn read_many(
     journal: &[u8],
     position: usize,
     before: u16,
@@ -262,11 +262,28 @@ pub(crate) fn read_alike(
         34,
         16,
     ) {
-        let many = read_sixteen(journal, position, before, known, threads, kinds, count);
-        if count < many.count {
-            return many;
-        }
-        return read_four(journal, position, before, known, threads, kinds, count);
+        return read_sixteen(journal, position, before, known, threads, kinds, count);
+    }
+    crate::stopped(count, position, before, 0)
+}
+
+// Entries with one bit map, sixteen or four of them, into the room from an index on, or none. Four are read at one place alone, so that the compiler expands it there.
+pub(crate) fn read_alike(
+    journal: &[u8],
+    position: usize,
+    before: u16,
+    known: u32,
+    threads: &mut [u16],
+    kinds: &mut [u8],
+    count: usize,
+) -> Piece
+    requires { ⌜ count ≤ length (now threads) ⌝ }
+    requires { ⌜ count ≤ length (now kinds) ⌝ }
+    ensures { λ r. ⌜ Read-on known (now (journal .entry)) position before (now (threads .entry)) (now (kinds .entry)) count (now (threads .exit)) (now (kinds .exit)) (r .count) (r .position) (r .before) ⌝ }
+{
+    let many = read_many(journal, position, before, known, threads, kinds, count);
+    if count < many.count {
+        return many;
     }
     read_four(journal, position, before, known, threads, kinds, count)
 }
