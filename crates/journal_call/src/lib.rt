@@ -223,19 +223,32 @@ fn smaller(a: usize, b: usize) -> usize
     b
 }
 
-// Thirty-two behind an index, or as many as there are.
-fn block_end(room: usize, count: usize) -> usize
+// So many behind an index, or as many as there are.
+fn end_behind(room: usize, count: usize, wanted: usize) -> usize
+    requires { ⌜ count < room ⌝ }
+    requires { ⌜ (0 < wanted) × (wanted ≤ 32) ⌝ }
+    ensures { λ r. ⌜ (count < r) × (r ≤ count + 32) ⌝ }
+    ensures { λ r. ⌜ r ≤ room ⌝ }
+{
+    if room - count < wanted {
+        return room;
+    }
+    count + wanted
+}
+
+// Four behind an index, or thirty-two, or as many as there are.
+fn block_end(room: usize, count: usize, four: bool) -> usize
     requires { ⌜ count < room ⌝ }
     ensures { λ r. ⌜ (count < r) × (r ≤ count + 32) ⌝ }
     ensures { λ r. ⌜ r ≤ room ⌝ }
 {
-    if room - count < 32 {
-        return room;
+    if four {
+        return end_behind(room, count, 4);
     }
-    count + 32
+    end_behind(room, count, 32)
 }
 
-// The same for up to thirty-two entries, with a table of sizes where the journal has bytes enough for it.
+// The same for up to thirty-two entries, with a table of sizes where there are so many and the journal has bytes enough for it.
 fn read_next(
     journal: &[u8],
     position: usize,
@@ -252,6 +265,9 @@ fn read_next(
     ensures { λ r. ⌜ Read-on known (now (journal .entry)) position before (now (threads .entry)) (now (kinds .entry)) from (now (threads .exit)) (now (kinds .exit)) (r .count) (r .position) (r .before) ⌝ }
     ensures { λ r. ⌜ Stopped-before known (now (journal .entry)) end r ⌝ }
 {
+    if end < from + 32 {
+        return read_some(journal, position, before, known, threads, kinds, from, end);
+    }
     if journal.len() < 128 {
         return read_some(journal, position, before, known, threads, kinds, from, end);
     }
@@ -261,7 +277,7 @@ fn read_next(
     blocks::read_block(journal, position, before, known, threads, kinds, from, end)
 }
 
-// Reads entries from a position on, as many as there is room for, up to the journal's end or the first that 25 or 12 refuses; their threads and kinds at the front of the room. Where four or sixteen alike follow each other they are read at once, else up to thirty-two one by one.
+// Reads entries from a position on, as many as there is room for, up to the journal's end or the first that 25 or 12 refuses; their threads and kinds at the front of the room. Where four or sixteen alike follow each other they are read at once, else some one by one: four behind such ones, since others like them may follow where a thread moves on in bursts, and then thirty-two.
 pub fn read_piece(
     journal: &[u8],
     position: usize,
@@ -276,15 +292,18 @@ pub fn read_piece(
     let mut count: usize = 0;
     let mut at = position;
     let mut last = before;
+    let mut behind_alike = true;
     while count < room {
         let four = alike::read_alike(journal, at, last, known, threads, kinds, count);
         if count < four.count {
             at = four.position;
             last = four.before;
             count = four.count;
+            behind_alike = true;
             continue;
         }
-        let end = block_end(room, count);
+        let end = block_end(room, count, behind_alike);
+        behind_alike = false;
         let some = read_next(journal, at, last, known, threads, kinds, count, end);
         if some.number != 0 {
             return some;

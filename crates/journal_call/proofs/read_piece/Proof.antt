@@ -9,11 +9,11 @@ use Rattle.journal_call.proofs.read_piece.Statement.{statement}
 use Rattle.journal_call.proofs.read_piece.Tie as tie
 
 abbrev Inv-loop : tie.InvT-loop
-Inv-loop journal position before known threads₀ kinds₀ room count₀ at₀ last₀ threads kinds count at last =
+Inv-loop journal position before known threads₀ kinds₀ room count₀ at₀ last₀ behind-alike₀ threads kinds count at last behind-alike =
     Read-on known journal position before threads₀ kinds₀ 0 threads kinds count at last
 
 abbrev μ-loop : tie.MeasureT-loop
-μ-loop journal position before known threads₀ kinds₀ room count₀ at₀ last₀ threads kinds count at last = room - count
+μ-loop journal position before known threads₀ kinds₀ room count₀ at₀ last₀ behind-alike₀ threads kinds count at last behind-alike = room - count
 
 smaller-requires : tie.Need-smaller-requires Inv-loop μ-loop
 smaller-requires c κs = search needs
