@@ -30,13 +30,14 @@ use Rattle.refusals.specs.Lowest.{Lowest}
 use Rattle.refusals.specs.declared.Refusal.{Refusal as Refusal-words}
 use Rattle.refusals.specs.Arrays.{refusal-words}
 use Rattle.refusals.proofs.RunTests.{refusal-words-not, refusal-words-zero}
-use Rattle.journal_call.specs.declared.Piece.{Piece}
-use Rattle.journal_call.specs.Stretches.{position-after, Stretch, Piece-read}
+use Rattle.journal_reader.specs.declared.Piece.{Piece}
+use Rattle.journal_reader.specs.Stretches.{position-after, Stretch}
+use Rattle.journal_pieces.specs.Pieces.{Piece-read}
 use Rattle.journal.specs.Answers.{fresh-lock, checked, journal-refusal, replied, journal-answer}
 use Rattle.journal.specs.Laws.{kind-numbers}
 use Rattle.journal_call.proofs.Stepping.{stretch-threads, stretch-moves, Same-kinds, goes-on, stops-here, stopped-by, ended}
 use Rattle.steps.specs.Running.{step-code, codes-front, fresh-from}
-use Rattle.journal_call.specs.Stretches.{other-kind}
+use Rattle.journal_call.specs.Kinds.{other-kind}
 use Rattle.steps.proofs.Starting.{fresh-from-zero}
 use Rattle.steps.proofs.StepCodes.{code-kind}
 

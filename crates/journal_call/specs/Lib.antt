@@ -1,2 +1,2 @@
--- What the reader and the check read. The definitions that the check meets are in `journal`.
-pub mod Stretches
+-- What the check compares. The definitions that it meets are in `journal`.
+pub mod Kinds

@@ -11,7 +11,7 @@ ghost use Rattle.model.specs.Refusals.{refusal, first-refusal, tree-refusal, ru
 ghost use Rattle.refusals.specs.Lowest.{Lowest};
 ghost use Rattle.model.specs.Laws.{Typed};
 ghost use Rattle.steps.specs.Running.{state-in, codes-front};
-ghost use Rattle.journal_call.specs.Stretches.{other-kind, All-same-kinds};
+ghost use Rattle.journal_call.specs.Kinds.{other-kind, All-same-kinds};
 ghost use Rattle.journal.specs.Answers.{replied, journal-answer};
 use journal::JournalReply;
 use model::PlaceWords;
@@ -147,7 +147,14 @@ pub(crate) fn check_entries(
     let mut position: usize = 0;
     let mut before: u16 = 0;
     loop {
-        let piece = crate::read_piece(journal, position, before, tree.threads, threads, kinds);
+        let piece = journal_pieces::read_piece(
+            journal,
+            position,
+            before,
+            tree.threads,
+            threads,
+            kinds,
+        );
         let count = piece.count;
         let after = run_piece(
             tree,
@@ -164,7 +171,7 @@ pub(crate) fn check_entries(
         );
         let same = first_other_kind(kinds, codes, count);
         if same < count {
-            let place = crate::position_after(journal, position, before, same);
+            let place = journal_reader::position_after(journal, position, before, same);
             return answer_at(26, place);
         }
         if piece.number != 0 {

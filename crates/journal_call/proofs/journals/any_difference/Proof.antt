@@ -7,7 +7,7 @@ use native.Mathlib.Omega.{arith}
 use lib.Dec.{eqb}
 use lib.ListN.{getD}
 use Rattle.refusals.proofs.Scanning.{one-more}
-use Rattle.journal_call.specs.Stretches.{All-same-kinds}
+use Rattle.journal_call.specs.Kinds.{All-same-kinds}
 use borrow.Author.Needs.{needs}
 use Rattle.journal_call.proofs.journals.any_difference.Statement.{statement}
 use Rattle.journal_call.proofs.journals.any_difference.Tie as tie

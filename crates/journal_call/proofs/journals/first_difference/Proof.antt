@@ -5,7 +5,7 @@ use Prim.Native.Nat.{ℕ, _≤_, _<_, _-_}
 use native.Mathlib.Omega.{arith}
 use borrow.Author.Tests.{eq-eqb, ne-eqb}
 use Rattle.refusals.proofs.Scanning.{one-more}
-use Rattle.journal_call.specs.Stretches.{other-kind}
+use Rattle.journal_call.specs.Kinds.{other-kind}
 use borrow.Author.Needs.{needs}
 use Rattle.journal_call.proofs.journals.first_difference.Statement.{statement}
 use Rattle.journal_call.proofs.journals.first_difference.Tie as tie

@@ -1,0 +1,15 @@
+-- Kinds that entries name against those that the run's loop tells of their steps. Assumes nothing: these are definitions.
+use mathlib.Core.Path.{_≡_}
+use mathlib.Core.Bool.{Bool, false, not}
+use mathlib.Core.List.{List}
+use Prim.Native.Nat.{ℕ, _%_, _<_}
+use lib.Dec.{eqb}
+use lib.ListN.{getD}
+
+-- the kind that an entry names is not the one told of its step: a step's number has its kind in the lowest three bits
+abbrev pub other-kind : (kinds codes : List ℕ) → (entry : ℕ) → Bool
+other-kind ks cs j = not (eqb (getD ks j 0) (getD cs j 0 % 8))
+
+-- so many entries name the kinds that were told of their steps
+abbrev pub All-same-kinds : (kinds codes : List ℕ) → (count : ℕ) → Type 0
+All-same-kinds ks cs n = (j : ℕ) → j < n → other-kind ks cs j ≡ false

@@ -1,0 +1,4 @@
+-- What several proofs use.
+pub mod Fronts
+pub mod Sizes
+pub mod Fours
