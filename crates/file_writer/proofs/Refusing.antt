@@ -1,22 +1,17 @@
 -- What refuses the call, in plain numbers. Assumes nothing.
-use mathlib.Core.Path.{_≡_, refl, sym, ap, _∙_}
+use mathlib.Core.Path.{_≡_, refl, _∙_}
 use mathlib.Core.List.{List, [], _++_}
 use mathlib.Core.Logic.{_≢_}
 use Prim.Native.Nat.{ℕ, _≤_, _<_}
-use native.Mathlib.Omega.{arith}
 use lib.ListN.{length}
-use borrow.Author.Tests.{ltb-false, lt-ltb, le-ltb}
-use Rattle.model.specs.declared.TreeWords.{TreeWords}
-use Rattle.model.specs.Trees.{Tree, tree-of}
-use Rattle.model.specs.Refusals.{refusal, accepted, first-refusal, bad-length, bad-entry, schedule-tests, tree-tests, has-number, tree-refusal}
+use borrow.Author.Tests.{lt-ltb, le-ltb}
+use Rattle.model.specs.Trees.{Tree}
+use Rattle.model.specs.Refusals.{refusal, accepted, first-refusal, schedule-tests, tree-tests, has-number, tree-refusal}
 use Rattle.model.specs.Laws.{Numbered, Refusal-law, Refuses-exactly}
-use Rattle.model.proofs.Refusing.{numbered, tests-pass}
+use Rattle.model.proofs.Refusing.{numbered}
 use Rattle.model.proofs.Laws.Refusals.{refusal-law, tree-numbered}
-use Rattle.refusals.specs.declared.Refusal.{Refusal}
-use Rattle.refusals.specs.Arrays.{refusal-words, threads-in, schedule-room-tests}
 use Rattle.refusals.proofs.Joining.{first-decides, other-decides}
 use Rattle.refusals.proofs.Scanning.{single-hit, single-missed}
-use Rattle.schedules.proofs.Alone.{schedule-decides, alone-decides}
 use Rattle.file_writer.specs.Writing.{written-file}
 use Rattle.file_writer.specs.Refusals.{bad-file-length, bad-file-room, file-room-tests, file-tests, write-tests, write-refusal}
 use Rattle.file_writer.specs.Laws.{Write-refusal-law}
@@ -76,16 +71,3 @@ write-refusal-law t is room =
       room-refused = room-refused t is room;
       accepts = accepts t is room;
     }
-
--- the code tests a schedule with a trace buffer of its length, so that 13 refuses nothing
-pub schedule-refusal-words :
-    (w : TreeWords) (is : List ℕ) (s : Refusal) → tree-refusal (tree-of w) .number ≡ 0 →
-    s ≡ refusal-words (first-refusal (schedule-room-tests (threads-in (w .threads)) is (length is))) → s ≡ refusal-words (first-refusal (schedule-tests (tree-of w) is))
-unfolding bad-entry tree-of
-schedule-refusal-words w is s ok e =
-    e ∙ ap refusal-words (sym (schedule-decides w ok is (length is)) ∙ alone-decides w ok is (length is) (omega arith))
-
--- a schedule that passes 11 is short
-pub short-schedule : (t : Tree) (is : List ℕ) → first-refusal (schedule-tests t is) .number ≡ 0 → length is ≤ 65536
-unfolding bad-length
-short-schedule t is e = ltb-false 65536 (length is) (tests-pass _ _ (omega arith) e .0 0 (omega arith))

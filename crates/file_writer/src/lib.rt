@@ -1,9 +1,4 @@
-// The lock file of a tree and a schedule, written: as short as one can be.
-mod writing;
-
-ghost use mathlib.Core.Path.{_≡_};
-ghost use Rattle.file_writer.specs.Answers.{write-answer, file-buffer-answer};
-use model::TreeWords;
+// The words in which writing the lock file is answered. What they mean is in specs/.
 
 // What the call returns. Number 0 is accepted.
 #[repr(C)]
@@ -11,51 +6,4 @@ pub struct WriteReply {
     pub number: u32,
     pub place: u32,
     pub length: u32,
-}
-
-// Writes the lock file at the front of a buffer. Its length is known before the first byte is written, so that a shorter buffer stays as it came.
-pub fn write_file(tree: TreeWords, schedule: &[u16], file: &mut [u8]) -> WriteReply
-    ensures { λ r. ⌜ r ≡ write-answer tree (now (schedule .entry)) (now (file .entry)) ⌝ }
-    ensures { λ r. ⌜ now (file .exit) ≡ file-buffer-answer tree (now (schedule .entry)) (now (file .entry)) ⌝ }
-{
-    let r = refusals::tree_refusal_of(
-        &tree.parents,
-        &tree.thresholds,
-        &tree.homes,
-        tree.domains,
-        tree.threads,
-    );
-    if r.number != 0 {
-        return refused_by(r.number, r.place);
-    }
-    let s = refusals::schedule_refusal_of(tree.threads, schedule, schedule.len());
-    if s.number != 0 {
-        return refused_by(s.number, s.place);
-    }
-    // The tree takes at most 1 byte, 63 entries of 4, 2 bytes and 256 entries of 2.
-    let mut measured = [0u8; 767];
-    let length = writing::put_tree(&mut measured, tree) + 2 * schedule.len();
-    if 65536 < length {
-        return refused_by(1, 0);
-    }
-    if file.len() < length {
-        return refused_by(17, 0);
-    }
-    let behind_tree = writing::put_tree(file, tree);
-    writing::put_schedule(file, behind_tree, schedule);
-    WriteReply {
-        number: 0,
-        place: 0,
-        length: length as u32,
-    }
-}
-
-fn refused_by(number: u32, place: u32) -> WriteReply
-    ensures { λ r. ⌜ r ≡ record { number = number; place = place; length = 0 } ⌝ }
-{
-    WriteReply {
-        number,
-        place,
-        length: 0,
-    }
 }

@@ -160,7 +160,7 @@ pub extern "C" fn hmcs_write_file(
     ensures { λ r. ⌜ now (length .exit) ≡ write-answer tree (now (schedule .entry)) (now (file .entry)) .length ⌝ }
     ensures { λ r. ⌜ now (file .exit) ≡ file-buffer-answer tree (now (schedule .entry)) (now (file .entry)) ⌝ }
 {
-    let r = file_writer::write_file(tree, schedule, file);
+    let r = file_writer_call::write_file(tree, schedule, file);
     *place = r.place;
     *length = r.length;
     r.number
@@ -179,7 +179,7 @@ pub extern "C" fn hmcs_rate(h1: u16, h2: u16, times: PassingTimes) -> RateReply
 pub extern "C" fn hmcs_read_text(text: &[u8]) -> TextReply
     ensures { λ r. ⌜ r ≡ text-answer (now (text .entry)) ⌝ }
 {
-    text_tree::read_text(text)
+    text_tree_call::read_text(text)
 }
 
 // Many schedules on one tree, all entries behind one another, each run from its own fresh lock: of each a row of eight numbers at the front of the rows; refused as a whole, the rows as they came.

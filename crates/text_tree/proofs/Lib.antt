@@ -1,10 +1,6 @@
--- The functions meet their contracts by Digits to Answering; the laws follow from Complete on.
+-- The proofs of the laws, and what they use.
 pub mod Cases
 pub mod Digits
-pub mod Moving
-pub mod Homes
-pub mod Parts
-pub mod Answering
 pub mod Complete
 pub mod Laying
 pub mod Stored

@@ -11,7 +11,6 @@ use Rattle.model.specs.declared.TreeWords.{TreeWords}
 use Rattle.text_tree.specs.Words.{least, root-words, new-number, domain-added, threads-added}
 use Rattle.text_tree.specs.Grammar.{Some-text, Beginning}
 use Rattle.text_tree.specs.Reading.{Position, at-start, opened, count-due, in-count, domain-due, in-threshold, closed, Moved, stuck, to, is-digit, is-first-digit, grown, grows, threshold-begun, list-begun, move, Outcome, leaves, whole, ended, read-on, text-read}
-use Rattle.text_tree.proofs.Moving.{left-at}
 use Rattle.text_tree.proofs.Complete.{text-whole}
 use Rattle.text_tree.proofs.Sound.{at-end, Reaches, Moves-to, moves, beginning}
 
@@ -54,6 +53,12 @@ counts (closed [] p w) b = refl
 counts (closed (d ∷ ds) p w) b =
     counts-either p (eqb b 32) (to (domain-due d ds (p + 1) w)) (cond (eqb b 41) (to (closed ds (p + 1) w)) (stuck p)) refl
     (counts-either p (eqb b 41) (to (closed ds (p + 1) w)) (stuck p) refl refl)
+
+-- where reading is stuck, the bytes behind are no matter
+pub left-at : (bs : List ℕ) (p : ℕ) → read-on bs (stuck p) ≡ leaves p
+unfolding read-on
+left-at [] p = refl
+left-at (b ∷ bs) p = refl
 
 -- WHOLE, OR A BEGINNING
 pub record Left (u bs : List ℕ) (p : ℕ) : Type 0 where

@@ -1,0 +1,4 @@
+-- What several proofs use.
+pub mod Stored
+pub mod Trees
+pub mod Testing

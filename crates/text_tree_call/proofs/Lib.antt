@@ -1,0 +1,5 @@
+-- What several proofs use.
+pub mod Moving
+pub mod Homes
+pub mod Parts
+pub mod Answering
