@@ -2,3 +2,4 @@ pub mod Children
 pub mod RowPlaces
 pub mod Counts
 pub mod Shown
+pub mod Staying

@@ -7,6 +7,7 @@ ghost use Rattle.members.specs.Standing.{Member-of};
 
 pub mod counting;
 pub mod places;
+pub mod rows;
 
 use model::Found;
 

@@ -14,5 +14,3 @@ pub mod Tallying
 pub mod Looking
 pub mod Trying
 pub mod CounterLimits
-pub mod StepCounted
-pub mod StepTaken

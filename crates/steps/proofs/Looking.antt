@@ -38,7 +38,8 @@ use Rattle.model.proofs.Tests.{any-nowhere, and-false}
 use Rattle.model.proofs.Trees.Reading.{home-read}
 use Rattle.refusals.proofs.Reading.{home-in}
 use Rattle.members.specs.Counting.{Room-above, taken-in, is-watch-in, marked-in, Clear, Looked, Shown-for}
-use Rattle.steps.specs.Counting.{shows-in, Marked, Shown-left}
+use Rattle.taking.specs.Counting.{Shown-left}
+use Rattle.steps.specs.Counting.{shows-in, Marked}
 use Rattle.steps.proofs.Taken.{taken-child}
 use Rattle.steps.proofs.Tallying.{Tallied}
 

@@ -20,8 +20,8 @@ use Rattle.model.proofs.Laws.Runs.{steps-join, steps-length, how-many-join, ent
 use Rattle.model.proofs.Laws.Form.{form-law}
 use Rattle.model.proofs.Laws.Kinds.{kind-law}
 use Rattle.model.proofs.Counted.{how-many-most}
-use Rattle.rows.specs.declared.Moved.{Moved}
-use Rattle.rows.specs.Rows.{with-place-words, Done}
+use Rattle.members.specs.declared.rows.Moved.{Moved}
+use Rattle.members.specs.Rows.{with-place-words, Done}
 use Rattle.members.specs.Standing.{is-entry-number}
 use Rattle.steps.specs.Running.{kinds-of, counted, counts-by, traced-at, trace-front}
 

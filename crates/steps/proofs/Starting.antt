@@ -10,7 +10,8 @@ use Rattle.model.specs.declared.PlaceWords.{PlaceWords}
 use Rattle.model.specs.Places.{place-words}
 use Rattle.model.specs.Laws.{Typed}
 use Rattle.model.proofs.Laws.Form.{replicate-all}
-use Rattle.steps.specs.Running.{state-in, fresh-from, first-number}
+use Rattle.taking.specs.Taking.{state-in}
+use Rattle.steps.specs.Running.{fresh-from, first-number}
 use Rattle.model.specs.declared.TreeWords.{TreeWords}
 use Rattle.model.specs.Trees.{tree-of}
 use Rattle.model.specs.States.{wrap, fresh-words, fresh-state}

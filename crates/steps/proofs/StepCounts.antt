@@ -38,10 +38,11 @@ use Rattle.model.proofs.Laws.Given.{given-from, given-at, gives}
 use Rattle.model.proofs.Trees.Reading.{home-read}
 use Rattle.refusals.specs.Arrays.{parents-in}
 use Rattle.run_refusals.specs.Counts.{counters-in}
-use Rattle.rows.specs.declared.Moved.{Moved}
-use Rattle.rows.specs.Rows.{Done}
+use Rattle.members.specs.declared.rows.Moved.{Moved}
+use Rattle.members.specs.Rows.{Done}
 use Rattle.members.specs.Counting.{parent-in, taken-in, record-domain-in, raised-at, is-watch-in, Entered}
-use Rattle.steps.specs.Counting.{started-in, Marked, Counted-step}
+use Rattle.taking.specs.Counting.{started-in, Counted-step}
+use Rattle.steps.specs.Counting.{Marked}
 use Rattle.steps.proofs.Taken.{taken-child}
 use Rattle.steps.proofs.StepEntries.{entries-counted}
 use Rattle.steps.proofs.StepTenures.{Start-of, nobody, of-thread, of-domain, start-added, start-raised, check-added, check-raised, raise-added, raise-raised}

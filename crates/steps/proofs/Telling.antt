@@ -20,8 +20,8 @@ use Rattle.model.proofs.Laws.Facts.{well-formed-facts}
 use Rattle.model.proofs.Laws.Form.{not-invalid}
 use Rattle.model.proofs.Laws.Runs.{steps-length}
 use Rattle.model.proofs.Places.{words-of-place}
-use Rattle.rows.specs.declared.Moved.{Moved}
-use Rattle.rows.specs.Rows.{Done}
+use Rattle.members.specs.declared.rows.Moved.{Moved}
+use Rattle.members.specs.Rows.{Done}
 use Rattle.steps.specs.Running.{code-of, step-code, code-stored, codes-front}
 use Rattle.steps.proofs.SoFar.{next-step, thread-at}
 

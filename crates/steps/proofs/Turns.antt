@@ -10,7 +10,7 @@ use Rattle.model.specs.Trees.{Tree}
 use Rattle.model.specs.Laws.{Formed}
 use Rattle.model.proofs.Laws.Facts.{well-formed-facts}
 use Rattle.model.proofs.Laws.Calls.{Good-run}
-use Rattle.steps.specs.Running.{Ready}
+use Rattle.taking.specs.Taking.{Ready}
 use Rattle.steps.proofs.SoFar.{thread-at, below}
 
 -- an entry of an accepted schedule

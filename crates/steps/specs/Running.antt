@@ -1,40 +1,16 @@
--- A run by its steps: what is done, counted and traced. Assumes nothing: these are definitions.
-use mathlib.Core.Path.{_≡_}
-use mathlib.Core.Bool.{true, cond}
+-- A run by its steps: what is counted, traced and told. Assumes nothing: these are definitions.
+use mathlib.Core.Bool.{cond}
 use mathlib.Core.List.{List, [], _∷_, _++_}
-use Prim.Native.Nat.{ℕ, _+_, _*_, _<_}
+use Prim.Native.Nat.{ℕ, _+_, _*_}
 use lib.Dec.{eqb, ltb}
 use lib.ListN.{getD, set, length, drop}
-use Rattle.model.specs.declared.PlaceWords.{PlaceWords}
 use Rattle.model.specs.declared.State.{State}
-use Rattle.model.specs.Places.{place-words, words-of, place-of}
+use Rattle.model.specs.Places.{words-of}
 use Rattle.model.specs.States.{fresh-words, with-ticket, with-grant}
-use Rattle.model.specs.Trees.{Tree, tree-of}
-use Rattle.model.specs.Refusals.{tree-refusal}
 use Rattle.model.specs.declared.Counts.{Counts}
-use Rattle.model.specs.Steps.{stay, other, root-entry, passed-entry, crossed-entry, leaving, kind-number, is-kind, Step, row, step}
+use Rattle.model.specs.Steps.{stay, other, root-entry, passed-entry, crossed-entry, leaving, kind-number, is-kind, Step}
 use Rattle.model.specs.Runs.{how-many, Run}
-use Rattle.model.specs.WellFormed.{good-place}
-use Rattle.rows.specs.declared.Moved.{Moved}
-use Rattle.rows.specs.Rows.{Done}
 use Rattle.members.specs.Standing.{is-entry-number}
-
--- a tree by its numbers and arrays
-abbrev pub tree-at : (kind domains threads : ℕ) → (parents thresholds homes : List ℕ) → Tree
-tree-at k n m ps ts hs = tree-of (record { domains = n; threads = m; parents = ps; thresholds = ts; homes = hs; «ticket_root» = k })
-
-abbrev pub state-in : (tails nexts statuses : List ℕ) → (ticket grant : ℕ) → List PlaceWords → State
-state-in ts ns vs v g ps = record { tails = ts; nexts = ns; statuses = vs; places = ps; ticket = v; grant = g }
-
--- an accepted tree, a thread of it, and a good place of that thread
-pub record Ready (t : Tree) (i : ℕ) (q : PlaceWords) : Type 0 where
-  pub tree : tree-refusal t .number ≡ 0
-  pub thread : i < t .threads
-  pub place : good-place t i (place-of q) ≡ true
-
--- the row of a place is done, whatever the places of the other threads are
-pub record Taken (t : Tree) (i : ℕ) (q : PlaceWords) (tails tails-left nexts nexts-left statuses statuses-left : List ℕ) (ticket ticket-left grant grant-left : ℕ) (m : Moved) : Type 0 where
-  pub does : (ps : List PlaceWords) → getD ps i (place-words 0 0 0 0) ≡ q → Done (row t i (place-of q) (state-in tails nexts statuses ticket grant ps)) i m (state-in tails-left nexts-left statuses-left ticket-left grant-left ps)
 
 -- how many of some steps are of each kind, in the order of the kinds' numbers
 unfoldable pub kinds-of : List Step → List ℕ

@@ -1,4 +1,4 @@
-// The steps of a run: the row of a place, the run's loop, and 19. An inner crate: the calls on a lock stand on it, and have made the tests that it asks for.
+// The steps of a run: its loop, and 19. An inner crate: the calls on a lock stand on it, and have made the tests that it asks for.
 ghost use mathlib.Core.Path.{_≡_};
 ghost use Rattle.model.specs.Refusals.{refusal};
 ghost use Rattle.model.specs.Answers.{run-refused};
@@ -6,7 +6,6 @@ ghost use Rattle.steps.specs.Running.{fresh-from};
 
 pub mod limits;
 pub mod run;
-mod taking;
 
 use model::Counts;
 use model::LockState;

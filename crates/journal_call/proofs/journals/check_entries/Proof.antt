@@ -3,7 +3,7 @@ use mathlib.Core.Path.{_≡_, refl, _∙_}
 use Prim.Native.Nat.{_-_, _≤_}
 use native.Mathlib.Omega.{arith}
 use lib.ListN.{length}
-use Rattle.steps.specs.Running.{state-in}
+use Rattle.taking.specs.Taking.{state-in}
 use Rattle.journal_call.proofs.Journaling.{So-far, start, runs, moves, differs, stops, ends, turn}
 use borrow.Author.Needs.{needs}
 use Rattle.journal_call.proofs.journals.check_entries.Statement.{statement}

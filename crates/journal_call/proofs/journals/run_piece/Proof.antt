@@ -7,7 +7,8 @@ use Rattle.model.specs.Trees.{tree-of}
 use Rattle.model.specs.Runs.{steps, run}
 use Rattle.model.specs.Counters.{lock-state, fresh-counters}
 use Rattle.model.specs.Refusals.{first-refusal, run-tests-before-19}
-use Rattle.steps.specs.Running.{state-in, codes-front}
+use Rattle.taking.specs.Taking.{state-in}
+use Rattle.steps.specs.Running.{codes-front}
 use borrow.Author.Needs.{needs}
 use Rattle.journal_call.proofs.journals.run_piece.Statement.{statement}
 use Rattle.journal_call.proofs.journals.run_piece.Tie as tie

@@ -10,7 +10,7 @@ use Rattle.model.proofs.Laws.Calls.{early-facts}
 use Rattle.model.proofs.Trees.Accepted.{sixteen-bit}
 use Rattle.run_refusals.specs.Counts.{counters-in}
 use Rattle.run_refusals.proofs.Passing.{shape-of}
-use Rattle.steps.specs.Running.{state-in}
+use Rattle.taking.specs.Taking.{state-in}
 use Rattle.steps.specs.Counting.{Marked}
 use Rattle.members.specs.Counting.{Clear}
 use Rattle.steps.proofs.SoFar.{So-far, start, kind-room, stay-placed, turn, state-ends, trace-ends, kinds-end, thread-at}

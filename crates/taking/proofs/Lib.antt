@@ -1,0 +1,2 @@
+pub mod StepCounted
+pub mod StepTaken
