@@ -12,7 +12,8 @@ use Rattle.model.specs.Refusals.{refusal, accepted, lowest-bad, first-re
 use Rattle.model.specs.Counters.{fresh-counters}
 use Rattle.model.specs.Answers.{fresh-answer, first-kind, first-domain, step-reply, run-reply, run-buffer}
 use Rattle.model.specs.Cases.{padded, tree, count-up, ok, refused, passes, two-homes, first-entries, root-alone, two-in-root, one-home, three-levels, four-levels, cases, counters, same-numbers, place-numbers, same-state, same-counters, same-lock, gives, same-counts, kept, holds, all-hold, three-homes, until-standing, while-standing, allowance-reached}
-use Rattle.model.proofs.Computing.{walked, formed-by-walks, walked-step, walked-refusal, holds-by-walks, all-hold-by-walks, case-sized, all-sized, same-cases}
+use Rattle.model.proofs.Walks.{walked, zero-from, first-pass, formed-by-walks}
+use Rattle.model.proofs.Computing.{walked-step, walked-refusal, holds-by-walks, all-hold-by-walks, case-sized, all-sized, same-cases}
 
 -- the states that they hand in are whole
 cases-sized : all-sized cases ≡ true
@@ -27,7 +28,7 @@ unfolding any-below filter-below all-below read-word tree-of is-ticket is-child 
     entering counts-of run-of run good-tail queue-on-path good-place good-counters refusal accepted lowest-bad first-refusal bad-domains bad-threads bad-parent
     too-deep no-threshold bad-home empty-domain tree-tests bad-length bad-entry bad-room tree-refusal fresh-answer first-kind first-domain step-reply run-reply
     run-buffer padded tree count-up ok refused passes counters two-homes first-entries root-alone two-in-root one-home three-levels four-levels cases
-    same-numbers place-numbers same-state same-counters same-lock fresh-counters gives same-counts kept holds walked formed-by-walks walked-step walked-refusal
+    same-numbers place-numbers same-state same-counters same-lock fresh-counters gives same-counts kept holds walked zero-from first-pass formed-by-walks walked-step walked-refusal
     holds-by-walks all-hold-by-walks
 cases-hold = same-cases cases cases-sized ∙ refl
 

@@ -1,88 +1,75 @@
--- COMPUTED CASES, QUICKLY: whether a state is well formed asks for every word of an array by its index, which walks the array once for each word. Walked once it gives the same, so that a case is computed so. Assumes nothing.
+-- COMPUTED CASES, QUICKLY: whether a state is well formed is asked by walks, and 19 is left out where the counters have room. Each gives what the definition gives, so that a case is computed so. Assumes nothing.
 use mathlib.Core.Path.{_≡_, refl, sym, ap, _∙_}
-use mathlib.Core.Bool.{Bool, true, false, _&&_, not}
-use mathlib.Core.List.{List, [], _∷_, _++_}
+use mathlib.Core.Bool.{Bool, true, false, _&&_, not, cond}
+use mathlib.Core.List.{List, [], _∷_, _++_, append-nil}
 use Prim.Native.Nat.{ℕ, zero, suc, _+_, _≤_, _<_}
 use native.Mathlib.Omega.{arith}
 use lib.Dec.{eqb, leb}
-use lib.ListN.{length, getD}
+use lib.ListN.{length, getD, take}
 use borrow.Author.Tests.{eqb-true, leb-true}
 use Rattle.model.specs.declared.TreeWords.{TreeWords}
-use Rattle.model.specs.declared.PlaceWords.{PlaceWords}
 use Rattle.model.specs.declared.State.{State}
+use Rattle.model.specs.declared.Counters.{Counters}
+use Rattle.model.specs.declared.LockState.{LockState}
 use Rattle.model.specs.declared.StepReply.{StepReply}
-use Rattle.model.specs.Scans.{all-below}
 use Rattle.model.specs.Trees.{Tree, tree-of}
-use Rattle.model.specs.Places.{place-words, place-of}
 use Rattle.model.specs.Runs.{steps, run}
-use Rattle.model.specs.WellFormed.{good-tail, next-fits, good-next, status-fits, good-status, watch-fits, good-watch, thread-fits, good-thread, good-counters, well-formed}
-use Rattle.model.specs.Counters.{fresh-counters, good-counts}
-use Rattle.model.specs.CounterLaws.{Room-law}
-use Rattle.model.specs.Refusals.{Refusal, Test, test, lowest-bad, first-refusal, tree-tests, bad-state, bad-counter, entry-tests, schedule-tests, room-tests, step-tests-before-19, step-tests, run-tests-before-19, run-tests, step-refusal, run-refusal}
+use Rattle.model.specs.WellFormed.{well-formed}
+use Rattle.model.specs.Counters.{fresh-counters, counters-after, good-counts}
+use Rattle.model.specs.CounterLaws.{Room-left, Room-law}
+use Rattle.model.specs.Refusals.{Refusal, Test, test, lowest-bad, first-refusal, tree-tests, bad-state, bad-counter, entry-tests, schedule-tests, room-tests, counter-tests, step-tests-before-19, step-tests, run-tests-before-19, run-tests, step-refusal, run-refusal}
 use Rattle.model.specs.Answers.{counters-behind, step-reply, step-answer, run-reply, run-buffer, run-answer, trace-answer}
 use Rattle.model.specs.Cases.{Case, fresh-call, fresh-starts, step-call, step-gives, run-call, trace-room, uncounted, step-holds, step-gave, run-holds, holds, all-hold}
-use Rattle.model.proofs.Tests.{and-both, and-true, all-same}
+use Rattle.model.proofs.Tests.{and-both, and-true}
 use Rattle.model.proofs.Refusing.{test-skipped}
+use Rattle.model.proofs.Walks.{Sized, formed-by-walks, same-formed, counts-by-walks, same-counted, above-by-walks, same-above}
 use Rattle.model.proofs.Trees.Accepted.{sixteen-bit}
 use Rattle.model.proofs.Laws.Counters.{fresh-good, room-law, fresh-room}
 
--- every element passes, each with its index, from one on
-unfoldable pub walked : {A : Type 0} → (ℕ → A → Bool) → ℕ → List A → Bool
-walked f k [] = true
-walked f k (x ∷ xs) = f k x && walked f (suc k) xs
+-- counters so small that no schedule of 65,536 entries brings one to 2^63
+unfoldable pub far-below : List ℕ → Bool
+far-below [] = true
+far-below (v ∷ vs) = leb v 9223372036854710272 && far-below vs
 
-and-assoc : (a b c : Bool) → (a && b) && c ≡ a && (b && c)
-and-assoc true b c = refl
-and-assoc false b c = refl
+unfoldable pub have-room : Counters → Bool
+have-room c = far-below (c .entries) && (far-below (c .tenures) && far-below (c .longest))
 
--- the first number apart instead of the last
-first-apart : (n : ℕ) (f : ℕ → Bool) → all-below (suc n) f ≡ f 0 && all-below n (λ k. f (suc k))
-unfolding all-below
-first-apart zero f = sym (and-true (f 0))
-first-apart (suc n) f = ap (λ b. b && f (suc n)) (first-apart n f) ∙ and-assoc (f 0) (all-below n (λ k. f (suc k))) (f (suc n))
+far : (l : List ℕ) → far-below l ≡ true → (d : ℕ) → getD l d 0 ≤ 9223372036854710272
+unfolding far-below
+far [] e d = omega arith
+far (v ∷ vs) e zero = leb-true v 9223372036854710272 (and-both (leb v 9223372036854710272) (far-below vs) e .0)
+far (v ∷ vs) e (suc d) = far vs (and-both (leb v 9223372036854710272) (far-below vs) e .1) d
 
--- a test of every index of an array is a walk over it
-pub walk : {A : Type 0} (f : ℕ → A → Bool) (d : A) (k : ℕ) (xs : List A) → all-below (length xs) (λ n. f (k + n) (getD xs n d)) ≡ walked f k xs
-unfolding all-below walked
-walk f d k [] = refl
-walk f d k (x ∷ xs) =
-    let g : ℕ → Bool = λ n. f (k + n) (getD (x ∷ xs) n d) in
-    let here : k + 0 ≡ k = omega arith in
-    first-apart (length xs) g
-    ∙ ap (λ b. b && all-below (length xs) (λ n. g (suc n))) (ap (λ j. f j x) here)
-    ∙ ap (λ b. f k x && b)
-    (all-same (length xs) (λ n. g (suc n)) (λ n. f (suc k + n) (getD xs n d)) (λ n _. ap (λ j. f j (getD xs n d)) (omega arith)) ∙ walk f d (suc k) xs)
+pub room-left : (c : Counters) (n : ℕ) → have-room c ≡ true → n ≤ 65536 → Room-left c n
+unfolding have-room
+room-left c n e h =
+    let a = and-both (far-below (c .entries)) (far-below (c .tenures) && far-below (c .longest)) e in
+    let b = and-both (far-below (c .tenures)) (far-below (c .longest)) (a .1) in
+    record {
+      entries = λ d l. omega (arith, far (c .entries) (a .0) d);
+      tenures = λ d l. omega (arith, far (c .tenures) (b .0) d);
+      longest = λ d l. omega (arith, far (c .longest) (b .1) d);
+    }
 
--- the same of a whole array
-whole : {A : Type 0} (f : ℕ → A → Bool) (d : A) (n : ℕ) (xs : List A) → length xs ≡ n → all-below n (λ k. f k (getD xs k d)) ≡ walked f 0 xs
-whole f d n xs h =
-    all-same n (λ k. f k (getD xs k d)) (λ k. f (0 + k) (getD xs k d)) (λ k _. ap (λ j. f j (getD xs k d)) (omega arith))
-    ∙ rw (sym h) (walk f d 0 xs)
+-- ANSWERS, where 10 is tested by walks, and 19 only where counters have no room: the tests before 19 and what they refuse, by whether the state is well formed and by the tests behind it
+abbrev pub tests-by : Tree → (formed : Bool) → List Test → List Test
+tests-by t b xs = tree-tests t ++ ((test 10 1 (λ p. not b) ∷ []) ++ xs)
 
--- THE ROOM of a state: its long arrays are whole
-pub record Sized (s : State) : Type 0 where
-  pub nexts : length (s .nexts) ≡ 320
-  pub statuses : length (s .statuses) ≡ 320
-  pub places : length (s .places) ≡ 256
-
-abbrev pub thread-walked : Tree → State → (thread : ℕ) → PlaceWords → Bool
-thread-walked t s i q = thread-fits t i (place-of q) (watch-fits t s i (place-of q))
-
--- well formed, by walks
-unfoldable pub formed-by-walks : Tree → State → Bool
-formed-by-walks t s =
-    (all-below 64 (good-tail t s) && walked (next-fits t) 0 (s .nexts))
-    && (walked (status-fits t) 0 (s .statuses) && (walked (thread-walked t s) 0 (s .places) && good-counters t s))
-
-pub same-formed : (t : Tree) (s : State) → Sized s → well-formed t s ≡ formed-by-walks t s
-unfolding well-formed formed-by-walks good-next good-status good-thread good-watch
-same-formed t s h =
-    rw (whole (next-fits t) 0 320 (s .nexts) (h .nexts), whole (status-fits t) 0 320 (s .statuses) (h .statuses), whole (thread-walked t s) (place-words 0 0 0 0) 256 (s .places) (h .places))
-
--- ANSWERS, where 10 is tested by walks and 19 is not, since fresh counters have room: what is refused, by whether the state is well formed and by the tests behind it
 abbrev pub refusal-by : Tree → (formed : Bool) → List Test → Refusal
-refusal-by t b xs = first-refusal (tree-tests t ++ ((test 10 1 (λ p. not b) ∷ []) ++ xs))
+refusal-by t b xs = first-refusal (tests-by t b xs)
 
+-- 19, which counters with room pass, by walks
+unfoldable pub walked-counter : Tree → LockState → (schedule : List ℕ) → (position : ℕ) → Bool
+walked-counter t s is p = above-by-walks t (counters-after t (s .counters) (take (p + 1) (steps t is (s .words))))
+
+abbrev pub late-tests : Tree → LockState → (schedule : List ℕ) → List Test
+late-tests t s is = cond (have-room (s .counters)) [] (test 19 (length is) (walked-counter t s is) ∷ [])
+
+-- what is refused of a state with any counters, by whether its words are well formed, by the tests behind 10 and by the schedule
+unfoldable pub counted-refusal : Tree → (formed : Bool) → LockState → List Test → (schedule : List ℕ) → Refusal
+counted-refusal t b s xs is = first-refusal (tests-by t (b && counts-by-walks t (s .counters)) xs ++ late-tests t s is)
+
+-- of a state with fresh counters, which have room and are not walked
 unfoldable pub walked-step : TreeWords → State → (thread : ℕ) → StepReply
 walked-step w s i =
     let t = tree-of w in
@@ -96,6 +83,48 @@ last-passes : (xs : List Test) (y : Test) → ((p : ℕ) → p < y .places → y
 unfolding first-refusal
 last-passes [] y h = test-skipped y [] h
 last-passes (x ∷ xs) y h = ap (lowest-bad (x .number) (x .bad) (x .places) 0) (last-passes xs y h)
+
+-- a last test of the same places
+bad-same : (n : ℕ) (f g : ℕ → Bool) → ((p : ℕ) → f p ≡ g p) → (k p : ℕ) (r : Refusal) → lowest-bad n f k p r ≡ lowest-bad n g k p r
+unfolding lowest-bad
+bad-same n f g h zero p r = refl
+bad-same n f g h (suc k) p r = rw (h p, bad-same n f g h k (suc p) r)
+
+last-same : (xs : List Test) (n k : ℕ) (f g : ℕ → Bool) → ((p : ℕ) → f p ≡ g p) → first-refusal (xs ++ (test n k f ∷ [])) ≡ first-refusal (xs ++ (test n k g ∷ []))
+unfolding first-refusal
+last-same [] n k f g h = bad-same n f g h k 0 (first-refusal [])
+last-same (x ∷ xs) n k f g h = ap (lowest-bad (x .number) (x .bad) (x .places) 0) (last-same xs n k f g h)
+
+pub same-late : (w : TreeWords) (s : LockState) (is : List ℕ) (xs : List Test) → length is ≤ 65536 → first-refusal (xs ++ counter-tests (tree-of w) s is) ≡ first-refusal (xs ++ late-tests (tree-of w) s is)
+unfolding Room-law bad-counter walked-counter
+same-late w s is xs h = by (have-room (s .counters)) refl
+  where
+    by : (b : Bool) → have-room (s .counters) ≡ b → first-refusal (xs ++ counter-tests (tree-of w) s is) ≡ first-refusal (xs ++ cond b [] (test 19 (length is) (walked-counter (tree-of w) s is) ∷ []))
+    by true e =
+        last-passes xs (test 19 (length is) (bad-counter (tree-of w) s is)) (room-law (tree-of w) (sixteen-bit w) s is (room-left (s .counters) (length is) e h))
+        ∙ ap first-refusal (sym (append-nil xs))
+    by false e = last-same xs 19 (length is) (bad-counter (tree-of w) s is) (walked-counter (tree-of w) s is)
+        (λ p. same-above (tree-of w) (counters-after (tree-of w) (s .counters) (take (p + 1) (steps (tree-of w) is (s .words)))))
+
+-- of any counters
+module _ (w : TreeWords) (s : LockState) (formed : Bool) (f : well-formed (tree-of w) (s .words) ≡ formed) where
+  abbrev t : Tree
+  t = tree-of w
+
+  pub same-lock-formed : well-formed t (s .words) && good-counts t (s .counters) ≡ formed && counts-by-walks t (s .counters)
+  same-lock-formed = rw (f, same-counted t (s .counters))
+
+  pub same-counted-step : (i : ℕ) → step-refusal t s i ≡ counted-refusal t formed s (entry-tests t (i ∷ [])) (i ∷ [])
+  unfolding counted-refusal step-refusal step-tests bad-state
+  same-counted-step i =
+      same-late w s (i ∷ []) (step-tests-before-19 t s i) (omega arith)
+      ∙ ap (λ b. first-refusal (tests-by t b (entry-tests t (i ∷ [])) ++ late-tests t s (i ∷ []))) same-lock-formed
+
+  pub same-counted-run : (is : List ℕ) (room : ℕ) → length is ≤ 65536 → run-refusal t s is room ≡ counted-refusal t formed s (schedule-tests t is ++ room-tests is room) is
+  unfolding counted-refusal run-refusal run-tests bad-state
+  same-counted-run is room short =
+      same-late w s is (run-tests-before-19 t s is room) short
+      ∙ ap (λ b. first-refusal (tests-by t b (schedule-tests t is ++ room-tests is room) ++ late-tests t s is)) same-lock-formed
 
 -- fresh counters pass 10, and 19 where the schedule is short
 fresh-counts : (w : TreeWords) (s : State) → well-formed (tree-of w) s && good-counts (tree-of w) fresh-counters ≡ well-formed (tree-of w) s

@@ -7,7 +7,7 @@ use lib.Dec.{leb}
 use lib.ListN.{length}
 use borrow.Author.Tests.{leb-true}
 use Rattle.model.specs.declared.TreeWords.{TreeWords}
-use Rattle.model.specs.declared.State.{State}
+use Rattle.model.specs.declared.Counters.{Counters}
 use Rattle.model.specs.declared.LockState.{LockState}
 use Rattle.model.specs.Scans.{any-below, all-below, filter-below}
 use Rattle.model.specs.Trees.{read-word, Tree, tree-of, is-ticket, is-child, is-leaf, depth-from, depth, level, meets, on-path, child-from, child, own-record, is-record, is-member, owner-domain, under}
@@ -23,45 +23,27 @@ use Rattle.model.specs.Answers.{counters-behind, first-kind, first-domai
 use Rattle.model.specs.Cases.{padded, tree, at-ticket-root, two-homes, first-entries, same-numbers, place-numbers, same-state, same-counters, same-lock, uncounted}
 use Rattle.model.specs.CounterCases.{counters, Case, leaves, run-with, step-with, two-below, one-pass, two-leaves, cases, buffer, left-so, refused-so, step-so, holds, all-hold, Counter-cases-hold}
 use Rattle.model.proofs.Tests.{and-both}
-use Rattle.model.proofs.Computing.{walked, Sized, formed-by-walks, same-formed, walked-refusal, same-refusal, state-sized, sized}
+use Rattle.model.proofs.Laws.Form.{fresh-well-formed}
+use Rattle.model.proofs.Walks.{walked, zero-from, first-pass, first-meets, formed-by-walks, same-formed, counts-by-walks, above-by-walks}
+use Rattle.model.proofs.Computing.{far-below, have-room, walked-counter, counted-refusal, same-counted-step, same-counted-run, state-sized, sized}
 
--- what is refused, by walks, of a state with any counters
-unfoldable counted-refusal : TreeWords → LockState → List Test → (schedule : List ℕ) → Refusal
-counted-refusal w s xs is =
-    let t = tree-of w in
-    first-refusal ((tree-tests t ++ ((test 10 1 (λ p. not (formed-by-walks t (s .words) && good-counts t (s .counters))) ∷ []) ++ xs)) ++ counter-tests t s is)
-
-module _ (w : TreeWords) (s : LockState) (h : Sized (s .words)) where
-  abbrev t : Tree
-  t = tree-of w
-
-  same-run : (is : List ℕ) (room : ℕ) → run-refusal t s is room ≡ counted-refusal w s (schedule-tests t is ++ room-tests is room) is
-  unfolding counted-refusal run-refusal run-tests bad-state
-  same-run is room =
-      ap
-      (λ b. first-refusal ((tree-tests t ++ ((test 10 1 (λ p. not (b && good-counts t (s .counters))) ∷ []) ++ (schedule-tests t is ++ room-tests is room))) ++ counter-tests t s is))
-      (same-formed t (s .words) h)
-
-  same-step : (i : ℕ) → step-refusal t s i ≡ counted-refusal w s (entry-tests t (i ∷ [])) (i ∷ [])
-  unfolding counted-refusal step-refusal step-tests bad-state
-  same-step i =
-      ap
-      (λ b. first-refusal ((tree-tests t ++ ((test 10 1 (λ p. not (b && good-counts t (s .counters))) ∷ []) ++ entry-tests t (i ∷ []))) ++ counter-tests t s (i ∷ [])))
-      (same-formed t (s .words) h)
+-- the words of the cases are fresh, which are well formed for every tree, or are walked
+abbrev fresh-refusal : Tree → LockState → (schedule : List ℕ) → (room : ℕ) → Refusal
+fresh-refusal t s is n = counted-refusal t true s (schedule-tests t is ++ room-tests is (length (buffer n))) is
 
 unfoldable holds-by-walks : Case → Bool
 holds-by-walks (leaves w is c) =
     let t = tree-of w in
-    left-so (run-reply (walked-refusal w fresh-words is (length (buffer (length is)))) (uncounted fresh-words) (run t is fresh-words) (counters-behind t is (uncounted fresh-words))) c
+    left-so (run-reply (fresh-refusal t (uncounted fresh-words) is (length is)) (uncounted fresh-words) (run t is fresh-words) (counters-behind t is (uncounted fresh-words))) c
 holds-by-walks (run-with w c is n k p) =
     let t = tree-of w in
     let s = lock-state fresh-words c in
-    let r = counted-refusal w s (schedule-tests t is ++ room-tests is (length (buffer n))) is in
+    let r = fresh-refusal t s is n in
     refused-so k p (run-reply r s (run t is fresh-words) (counters-behind t is s)) (run-buffer r (buffer n) (run t is fresh-words)) s n
 holds-by-walks (step-with w is c i k p) =
     let t = tree-of w in
     let s = lock-state (run t is fresh-words .state) c in
-    step-so k p (step-reply (counted-refusal w s (entry-tests t (i ∷ [])) (i ∷ [])) s (steps t (i ∷ []) (s .words)) (counters-behind t (i ∷ []) s)) s
+    step-so k p (step-reply (counted-refusal t (formed-by-walks t (s .words)) s (entry-tests t (i ∷ [])) (i ∷ [])) s (steps t (i ∷ []) (s .words)) (counters-behind t (i ∷ []) s)) s
 
 unfoldable all-hold-by-walks : List Case → Bool
 all-hold-by-walks [] = true
@@ -70,22 +52,23 @@ all-hold-by-walks (c ∷ cs) = holds-by-walks c && all-hold-by-walks cs
 -- the words that the cases hand in are whole, and their schedules short
 unfoldable case-sized : Case → Bool
 case-sized (leaves w is c) = leb (length is) 65536
-case-sized (run-with w c is n k p) = true
+case-sized (run-with w c is n k p) = leb (length is) 65536
 case-sized (step-with w is c i k p) = state-sized (run (tree-of w) is fresh-words .state)
 
 unfoldable all-sized : List Case → Bool
 all-sized [] = true
 all-sized (c ∷ cs) = case-sized c && all-sized cs
 
-fresh-sized : state-sized fresh-words ≡ true
-unfolding fresh-words
-fresh-sized = refl
+same-fresh : (w : TreeWords) (c : Counters) (is : List ℕ) (n : ℕ) → leb (length is) 65536 ≡ true → run-refusal (tree-of w) (lock-state fresh-words c) is (length (buffer n)) ≡ fresh-refusal (tree-of w) (lock-state fresh-words c) is n
+same-fresh w c is n e = same-counted-run w (lock-state fresh-words c) true (fresh-well-formed (tree-of w)) is (length (buffer n)) (leb-true _ _ e)
 
 same-case : (c : Case) → case-sized c ≡ true → holds c ≡ holds-by-walks c
 unfolding holds-by-walks case-sized holds run-answer trace-answer step-answer
-same-case (leaves w is c) e = rw (same-refusal w fresh-words is (length (buffer (length is))) (leb-true _ _ e) (sized fresh-words fresh-sized))
-same-case (run-with w c is n k p) e = rw (same-run w (lock-state fresh-words c) (sized fresh-words fresh-sized) is (length (buffer n)))
-same-case (step-with w is c i k p) e = rw (same-step w (lock-state (run (tree-of w) is fresh-words .state) c) (sized (run (tree-of w) is fresh-words .state) e) i)
+same-case (leaves w is c) e = rw (same-fresh w fresh-counters is (length is) e)
+same-case (run-with w c is n k p) e = rw (same-fresh w c is n e)
+same-case (step-with w is c i k p) e =
+    let s = run (tree-of w) is fresh-words .state in
+    rw (same-counted-step w (lock-state s c) (formed-by-walks (tree-of w) s) (same-formed (tree-of w) s (sized s e)) i)
 
 same-cases : (cs : List Case) → all-sized cs ≡ true → all-hold cs ≡ all-hold-by-walks cs
 unfolding all-hold all-hold-by-walks all-sized
@@ -97,7 +80,7 @@ same-cases (c ∷ cs) e =
 cases-sized : all-sized cases ≡ true
 unfolding any-below filter-below read-word tree-of is-ticket is-child is-leaf meets on-path child-from child own-record under place-of is-watch fresh-words
     is-entry prep-row swap-row link-row wait-row leave-row check-row help-row cas-row linger-row grant-row draw-row watch-row is-watched shown-members
-    raise-row row step steps state-after run-of run counters cases first-entries two-below padded tree case-sized all-sized
+    raise-row row step steps state-after run-of run fresh-counters counters cases first-entries two-below padded tree case-sized all-sized
 cases-sized = refl
 
 pub counter-cases-hold : Counter-cases-hold
@@ -109,5 +92,5 @@ unfolding Counter-cases-hold any-below filter-below all-below read-word tree-of 
     good-count good-counts count-above any-above refusal accepted lowest-bad first-refusal bad-domains bad-threads bad-parent too-deep no-threshold bad-home
     empty-domain tree-tests bad-length bad-entry bad-room bad-counter counters-behind first-kind first-domain step-reply run-reply run-buffer padded tree
     at-ticket-root two-homes first-entries same-numbers place-numbers same-state same-counters same-lock counters two-below one-pass two-leaves cases
-    refused-so step-so walked formed-by-walks walked-refusal counted-refusal holds-by-walks all-hold-by-walks
+    refused-so step-so walked formed-by-walks counts-by-walks zero-from first-pass first-meets above-by-walks walked-counter far-below have-room counted-refusal holds-by-walks all-hold-by-walks
 counter-cases-hold = same-cases cases cases-sized ∙ refl

@@ -11,6 +11,7 @@ pub mod Laws
 pub mod Counted
 pub mod Meanings
 pub mod Counting
+pub mod Walks
 pub mod Computing
 pub mod Cases
 pub mod TicketCases

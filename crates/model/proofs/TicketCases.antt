@@ -13,7 +13,8 @@ use Rattle.model.specs.Counters.{fresh-counters}
 use Rattle.model.specs.Answers.{fresh-answer, first-kind, first-domain, step-reply, run-reply, run-buffer}
 use Rattle.model.specs.Cases.{padded, tree, at-ticket-root, count-up, counters, ok, refused, two-homes, root-alone, two-in-root, one-home, same-numbers, place-numbers, same-state, same-counters, same-lock, gives, same-counts, kept, holds, all-hold}
 use Rattle.model.specs.TicketCases.{ticket-alone, two-in-ticket, three-in-ticket, ticket-above, with-numbers, ticket-cases, Several-shown, Raises-in-order}
-use Rattle.model.proofs.Computing.{walked, formed-by-walks, walked-step, walked-refusal, holds-by-walks, all-hold-by-walks, case-sized, all-sized, same-cases}
+use Rattle.model.proofs.Walks.{walked, zero-from, first-pass, formed-by-walks}
+use Rattle.model.proofs.Computing.{walked-step, walked-refusal, holds-by-walks, all-hold-by-walks, case-sized, all-sized, same-cases}
 
 -- the states that they hand in are whole
 ticket-cases-sized : all-sized ticket-cases ≡ true
@@ -28,7 +29,7 @@ unfolding any-below filter-below all-below read-word tree-of is-ticket is-child 
     entering counts-of run-of run good-tail queue-on-path good-place good-counters refusal accepted lowest-bad first-refusal bad-domains bad-threads bad-parent
     too-deep no-threshold bad-home empty-domain tree-tests bad-length bad-entry bad-room tree-refusal fresh-answer first-kind first-domain step-reply run-reply
     run-buffer padded tree at-ticket-root count-up ok refused counters two-homes root-alone two-in-root one-home ticket-alone two-in-ticket three-in-ticket
-    ticket-above with-numbers ticket-cases same-numbers place-numbers same-state same-counters same-lock fresh-counters gives same-counts kept holds walked
+    ticket-above with-numbers ticket-cases same-numbers place-numbers same-state same-counters same-lock fresh-counters gives same-counts kept holds walked zero-from first-pass
     formed-by-walks walked-step walked-refusal holds-by-walks all-hold-by-walks
 ticket-cases-hold = same-cases ticket-cases ticket-cases-sized ∙ refl
 

@@ -1,14 +1,11 @@
 -- The cases hold: each is computed. Assumes nothing.
 use mathlib.Core.Path.{_≡_, refl, ap, _∙_}
-use mathlib.Core.Bool.{Bool, true, false, _&&_, not, cond}
+use mathlib.Core.Bool.{Bool, true, _&&_}
 use mathlib.Core.List.{List, [], _∷_, _++_}
-use Prim.Native.Nat.{ℕ, _≤_, _<_}
-use native.Mathlib.Omega.{arith}
+use Prim.Native.Nat.{ℕ, _≤_}
 use lib.Dec.{leb}
-use lib.ListN.{length, getD}
+use lib.ListN.{length}
 use borrow.Author.Tests.{leb-true}
-use Rattle.model.specs.declared.TreeWords.{TreeWords}
-use Rattle.model.specs.declared.Counters.{Counters}
 use Rattle.model.specs.declared.LockState.{LockState}
 use Rattle.model.specs.Scans.{any-below, filter-below, all-below}
 use Rattle.model.specs.Trees.{Tree, read-word, tree-of, is-ticket, is-child, is-leaf, depth-from, depth, level, meets, on-path, child-from, child, own-record, is-record, is-member, owner-domain, under}
@@ -19,8 +16,7 @@ use Rattle.model.specs.Runs.{steps, state-after, how-many, entering, counts-of,
 use Rattle.model.specs.WellFormed.{good-tail, queue-on-path, good-place, good-counters}
 use Rattle.model.specs.Tenures.{finds-none, taken-from, given, starts, checks-at, word-to-grant, tenure-length, domain-entries, domain-tenures, longest-tenure}
 use Rattle.model.specs.Counters.{fresh-counters, each-with-index, counters-after, good-count, good-counts, count-above, any-above}
-use Rattle.model.specs.CounterLaws.{Room-left, Room-law}
-use Rattle.model.specs.Refusals.{Refusal, Test, test, refusal, accepted, lowest-bad, first-refusal, bad-domains, bad-threads, bad-parent, too-deep, no-threshold, bad-home, empty-domain, tree-tests, bad-state, bad-length, bad-entry, bad-room, bad-counter, counter-tests, schedule-tests, room-tests}
+use Rattle.model.specs.Refusals.{Refusal, refusal, accepted, lowest-bad, first-refusal, bad-domains, bad-threads, bad-parent, too-deep, no-threshold, bad-home, empty-domain, tree-tests, bad-state, bad-length, bad-entry, bad-room, bad-counter, schedule-tests, room-tests}
 use Rattle.model.specs.Answers.{counters-behind, run-reply, run-buffer}
 use Rattle.model.specs.Cases.{padded, tree, at-ticket-root, two-homes, first-entries, two-in-root, three-levels, same-numbers, place-numbers, same-counts, same-state, same-counters, same-lock}
 use Rattle.schedules.specs.Rows.{total}
@@ -30,70 +26,28 @@ use Rattle.waits.specs.Rows.{largest, divisor-in, mean, row-with, row-of
 use Rattle.waits.specs.Refusals.{bad-row-room, row-room-tests, waits-tests-before-19, waits-tests, waits-refusal}
 use Rattle.waits.specs.Answers.{refused-by, waits-answer, waits-trace, waits-rows}
 use Rattle.waits.specs.Cases.{Case, rows-given, refused-from, refused-with, full-entries, reached, no-attempt, no-wait, taking-turns, cases, answered, holds, all-hold}
-use Rattle.model.proofs.Tests.{and-both, all-each}
-use Rattle.model.proofs.Refusing.{test-skipped}
-use Rattle.model.proofs.Trees.Accepted.{sixteen-bit}
-use Rattle.model.proofs.Laws.Counters.{room-law}
-use Rattle.model.proofs.Computing.{walked, Sized, formed-by-walks, same-formed, state-sized, sized}
+use Rattle.model.proofs.Tests.{and-both}
+use Rattle.model.proofs.Walks.{walked, Sized, zero-from, first-pass, first-meets, formed-by-walks, same-formed, counts-by-walks, above-by-walks}
+use Rattle.model.proofs.Computing.{far-below, have-room, walked-counter, tests-by, late-tests, same-late, same-lock-formed, state-sized, sized}
 
--- counters so small that no schedule of 65,536 entries brings one to 2^63
-unfoldable far-below : List ℕ → Bool
-far-below l = all-below 64 (λ d. leb (getD l d 0) 9223372036854710272)
-
-unfoldable have-room : Counters → Bool
-have-room k = far-below (k .entries) && (far-below (k .tenures) && far-below (k .longest))
-
--- 19, which such counters pass
-abbrev late-tests : (room-left : Bool) → Tree → LockState → (schedule : List ℕ) → List Test
-late-tests b t s is = cond b [] (counter-tests t s is)
-
--- what refuses a run with waits, by whether the words of the state are well formed and whether its counters have room; and where the one is tested by walks and the other leaves out 19
-abbrev refusal-by : Tree → (formed room-left : Bool) → LockState → (schedule : List ℕ) → (room row-room : ℕ) → Refusal
-refusal-by t b far s is room n =
-    first-refusal
-    (((tree-tests t ++ ((test 10 1 (λ p. not (b && good-counts t (s .counters))) ∷ []) ++ (schedule-tests t is ++ room-tests is room))) ++ row-room-tests t n)
-    ++ late-tests far t s is)
+-- what refuses a run with waits, by whether the state that it hands in is well formed; 19 is left out where the counters have room
+abbrev refused-with-waits : Tree → (formed : Bool) → LockState → (schedule : List ℕ) → (room row-room : ℕ) → Refusal
+refused-with-waits t b s is room n = first-refusal ((tests-by t b (schedule-tests t is ++ room-tests is room) ++ row-room-tests t n) ++ late-tests t s is)
 
 unfoldable walked-refusal : Case → Refusal
 walked-refusal c =
     let t = tree-of (c .words) in
-    refusal-by t (formed-by-walks t (c .state .words)) (have-room (c .state .counters)) (c .state) (c .schedule) (length (c .trace)) (length (c .rows))
-
--- a last test that passes changes no answer
-last-passes : (xs : List Test) (y : Test) → ((p : ℕ) → p < y .places → y .bad p ≡ false) → first-refusal (xs ++ (y ∷ [])) ≡ first-refusal (xs ++ [])
-unfolding first-refusal
-last-passes [] y h = test-skipped y [] h
-last-passes (x ∷ xs) y h = ap (lowest-bad (x .number) (x .bad) (x .places) 0) (last-passes xs y h)
-
-far : (l : List ℕ) → far-below l ≡ true → (d : ℕ) → d < 64 → getD l d 0 ≤ 9223372036854710272
-unfolding far-below
-far l e d h = leb-true (getD l d 0) 9223372036854710272 (all-each 64 (λ d. leb (getD l d 0) 9223372036854710272) e d h)
-
-room-left : (k : Counters) (n : ℕ) → have-room k ≡ true → n ≤ 65536 → Room-left k n
-unfolding have-room
-room-left k n e h =
-    let a = and-both (far-below (k .entries)) (far-below (k .tenures) && far-below (k .longest)) e in
-    let b = and-both (far-below (k .tenures)) (far-below (k .longest)) (a .1) in
-    record {
-      entries = λ d l. omega (arith, far (k .entries) (a .0) d l);
-      tenures = λ d l. omega (arith, far (k .tenures) (b .0) d l);
-      longest = λ d l. omega (arith, far (k .longest) (b .1) d l);
-    }
-
-same-late : (w : TreeWords) (s : LockState) (is : List ℕ) (xs : List Test) → length is ≤ 65536 → first-refusal (xs ++ counter-tests (tree-of w) s is) ≡ first-refusal (xs ++ late-tests (have-room (s .counters)) (tree-of w) s is)
-unfolding Room-law
-same-late w s is xs h = by (have-room (s .counters)) refl
-  where
-    by : (b : Bool) → have-room (s .counters) ≡ b → first-refusal (xs ++ counter-tests (tree-of w) s is) ≡ first-refusal (xs ++ late-tests b (tree-of w) s is)
-    by true e = last-passes xs (test 19 (length is) (bad-counter (tree-of w) s is)) (room-law (tree-of w) (sixteen-bit w) s is (room-left (s .counters) (length is) e h))
-    by false e = refl
+    let s = c .state in
+    refused-with-waits t (formed-by-walks t (s .words) && counts-by-walks t (s .counters)) s (c .schedule) (length (c .trace)) (length (c .rows))
 
 same-refusal : (c : Case) → length (c .schedule) ≤ 65536 → Sized (c .state .words) → refused-by (c .words) (c .state) (c .schedule) (c .trace) (c .rows) ≡ walked-refusal c
 unfolding walked-refusal refused-by waits-refusal waits-tests bad-state
 same-refusal c short h =
     let t = tree-of (c .words) in
-    same-late (c .words) (c .state) (c .schedule) (waits-tests-before-19 t (c .state) (c .schedule) (length (c .trace)) (length (c .rows))) short
-    ∙ ap (λ b. refusal-by t b (have-room (c .state .counters)) (c .state) (c .schedule) (length (c .trace)) (length (c .rows))) (same-formed t (c .state .words) h)
+    let s = c .state in
+    same-late (c .words) s (c .schedule) (waits-tests-before-19 t s (c .schedule) (length (c .trace)) (length (c .rows))) short
+    ∙ ap (λ b. refused-with-waits t b s (c .schedule) (length (c .trace)) (length (c .rows)))
+    (same-lock-formed (c .words) s (formed-by-walks t (s .words)) (same-formed t (s .words) h))
 
 unfoldable holds-by-walks : Case → Bool
 holds-by-walks c =
@@ -139,7 +93,7 @@ unfolding any-below filter-below all-below read-word tree-of is-ticket is-child 
 cases-sized = refl
 
 pub cases-hold : all-hold cases ≡ true
-unfolding far-below have-room occurrences ended-in entries-under finds-none taken-from given starts checks-at word-to-grant tenure-length domain-entries domain-tenures
+unfolding zero-from first-pass first-meets counts-by-walks above-by-walks walked-counter far-below have-room occurrences ended-in entries-under finds-none taken-from given starts checks-at word-to-grant tenure-length domain-entries domain-tenures
     longest-tenure fresh-counters each-with-index counters-after good-count good-counts count-above any-above bad-counter counters-behind any-below
     filter-below all-below read-word tree-of is-ticket is-child is-leaf depth-from depth level meets on-path child-from child own-record is-record is-member
     owner-domain under place-of is-watch is-idle is-inside fresh-words fresh-state is-kind is-entry prep-row swap-row link-row wait-row leave-row check-row

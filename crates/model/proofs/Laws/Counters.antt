@@ -85,6 +85,9 @@ fits-test t d v f = by (is-counted t d) refl
 zero-fits : (t : Tree) (d : ℕ) → Fits t d 0
 zero-fits t d = record { counted = λ y. omega arith; others = λ y. refl }
 
+pub zero-fits-test : (t : Tree) (d : ℕ) → count-fits t d 0 ≡ true
+zero-fits-test t d = fits-test t d 0 (zero-fits t d)
+
 -- all counters as facts
 pub record Good-counts (t : Tree) (c : Counters) : Type 0 where
   entries : (d : ℕ) → d < 64 → Fits t d (getD (c .entries) d 0)

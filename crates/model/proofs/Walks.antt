@@ -1,0 +1,180 @@
+-- WALKS: a test of every word of an array by its index walks the array once for each word. Walked once it gives the same; so whether a state is well formed is computed by walks. Assumes nothing.
+use mathlib.Core.Path.{_≡_, refl, sym, ap, _∙_}
+use mathlib.Core.Bool.{Bool, true, false, _&&_, cond}
+use mathlib.Core.List.{List, [], _∷_}
+use Prim.Native.Nat.{ℕ, zero, suc, _+_, _≤_}
+use native.Mathlib.Omega.{arith}
+use native.Mathlib.Decide.{ℕ-discrete}
+use lib.Dec.{eqb, leb, leb·zero}
+use lib.ListN.{length, getD}
+use borrow.Author.Tests.{eqb-true, leb-true}
+use Rattle.model.specs.declared.PlaceWords.{PlaceWords}
+use Rattle.model.specs.declared.State.{State}
+use Rattle.model.specs.declared.Counters.{Counters}
+use Rattle.model.specs.Scans.{any-below, all-below}
+use Rattle.model.specs.Trees.{Tree}
+use Rattle.model.specs.Places.{place-words, place-of}
+use Rattle.model.specs.States.{tail}
+use Rattle.model.specs.WellFormed.{good-tail, next-fits, good-next, status-fits, good-status, watch-fits, good-watch, thread-fits, good-thread, good-counters, well-formed}
+use Rattle.model.specs.Counters.{good-count, good-counts, count-above, any-above}
+use Rattle.model.proofs.Tests.{and-both, and-true, or-false, all-same}
+use Rattle.model.proofs.Laws.Counters.{zero-fits-test}
+
+-- every element passes, each with its index, from one on
+unfoldable pub walked : {A : Type 0} → (ℕ → A → Bool) → ℕ → List A → Bool
+walked f k [] = true
+walked f k (x ∷ xs) = f k x && walked f (suc k) xs
+
+and-assoc : (a b c : Bool) → (a && b) && c ≡ a && (b && c)
+and-assoc true b c = refl
+and-assoc false b c = refl
+
+-- the first number apart instead of the last
+first-apart : (n : ℕ) (f : ℕ → Bool) → all-below (suc n) f ≡ f 0 && all-below n (λ k. f (suc k))
+unfolding all-below
+first-apart zero f = sym (and-true (f 0))
+first-apart (suc n) f = ap (λ b. b && f (suc n)) (first-apart n f) ∙ and-assoc (f 0) (all-below n (λ k. f (suc k))) (f (suc n))
+
+-- a test of every index of an array is a walk over it
+pub walk : {A : Type 0} (f : ℕ → A → Bool) (d : A) (k : ℕ) (xs : List A) → all-below (length xs) (λ n. f (k + n) (getD xs n d)) ≡ walked f k xs
+unfolding all-below walked
+walk f d k [] = refl
+walk f d k (x ∷ xs) =
+    let g : ℕ → Bool = λ n. f (k + n) (getD (x ∷ xs) n d) in
+    let here : k + 0 ≡ k = omega arith in
+    first-apart (length xs) g
+    ∙ ap (λ b. b && all-below (length xs) (λ n. g (suc n))) (ap (λ j. f j x) here)
+    ∙ ap (λ b. f k x && b)
+    (all-same (length xs) (λ n. g (suc n)) (λ n. f (suc k + n) (getD xs n d)) (λ n _. ap (λ j. f j (getD xs n d)) (omega arith)) ∙ walk f d (suc k) xs)
+
+-- the same of a whole array
+whole : {A : Type 0} (f : ℕ → A → Bool) (d : A) (n : ℕ) (xs : List A) → length xs ≡ n → all-below n (λ k. f k (getD xs k d)) ≡ walked f 0 xs
+whole f d n xs h =
+    all-same n (λ k. f k (getD xs k d)) (λ k. f (0 + k) (getD xs k d)) (λ k _. ap (λ j. f j (getD xs k d)) (omega arith))
+    ∙ rw (sym h) (walk f d 0 xs)
+
+-- ROOM THAT IS ALL ZERO passes, so that what lies behind the first n numbers is not asked: every number there is 0
+unfoldable pub zero-from : (first : ℕ) → List ℕ → Bool
+zero-from n [] = true
+zero-from zero (v ∷ vs) = eqb v 0 && zero-from zero vs
+zero-from (suc n) (v ∷ vs) = zero-from n vs
+
+zero-at : (n : ℕ) (l : List ℕ) → zero-from n l ≡ true → (d : ℕ) → n ≤ d → getD l d 0 ≡ 0
+unfolding zero-from
+zero-at n [] e d h = refl
+zero-at zero (v ∷ vs) e zero h = eqb-true v 0 (and-both (eqb v 0) (zero-from zero vs) e .0)
+zero-at zero (v ∷ vs) e (suc d) h = zero-at zero vs (and-both (eqb v 0) (zero-from zero vs) e .1) d (omega arith)
+zero-at (suc n) (v ∷ vs) e zero h = absurd (omega arith)
+zero-at (suc n) (v ∷ vs) e (suc d) h = zero-at n vs e d (omega arith)
+
+-- a test of the 64 domains, of the first n where those behind them are known to pass
+unfoldable pub first-pass : (zeros : Bool) → (n : ℕ) → (ℕ → Bool) → Bool
+first-pass b n f = cond (b && leb n 64) (all-below n f) (all-below 64 f)
+
+fewer : (n m : ℕ) (f : ℕ → Bool) → n ≤ m → ((d : ℕ) → n ≤ d → f d ≡ true) → all-below m f ≡ all-below n f
+unfolding all-below
+fewer n zero f h p = let z : n ≡ 0 = omega arith in rw z
+fewer n (suc m) f h p =
+    elim (ℕ-discrete n (suc m)) [
+      | yes z ↦ rw z
+      | no z ↦ rw (p m (omega arith)) (and-true (all-below m f) ∙ fewer n m f (omega arith) p)
+    ]
+
+same-first : (b : Bool) (n : ℕ) (f : ℕ → Bool) → (b ≡ true → (d : ℕ) → n ≤ d → f d ≡ true) → all-below 64 f ≡ first-pass b n f
+unfolding first-pass
+same-first b n f p = by (b && leb n 64) refl
+  where
+    by : (c : Bool) → b && leb n 64 ≡ c → all-below 64 f ≡ cond c (all-below n f) (all-below 64 f)
+    by true e = let both = and-both b (leb n 64) e in fewer n 64 f (leb-true n 64 (both .1)) (p (both .0))
+    by false e = refl
+
+-- the same of a test that some domain is to meet
+unfoldable pub first-meets : (zeros : Bool) → (n : ℕ) → (ℕ → Bool) → Bool
+first-meets b n f = cond (b && leb n 64) (any-below n f) (any-below 64 f)
+
+fewer-met : (n m : ℕ) (f : ℕ → Bool) → n ≤ m → ((d : ℕ) → n ≤ d → f d ≡ false) → any-below m f ≡ any-below n f
+unfolding any-below
+fewer-met n zero f h p = let z : n ≡ 0 = omega arith in rw z
+fewer-met n (suc m) f h p =
+    elim (ℕ-discrete n (suc m)) [
+      | yes z ↦ rw z
+      | no z ↦ rw (p m (omega arith)) (or-false (any-below m f) ∙ fewer-met n m f (omega arith) p)
+    ]
+
+same-met : (b : Bool) (n : ℕ) (f : ℕ → Bool) → (b ≡ true → (d : ℕ) → n ≤ d → f d ≡ false) → any-below 64 f ≡ first-meets b n f
+unfolding first-meets
+same-met b n f p = by (b && leb n 64) refl
+  where
+    by : (c : Bool) → b && leb n 64 ≡ c → any-below 64 f ≡ cond c (any-below n f) (any-below 64 f)
+    by true e = let both = and-both b (leb n 64) e in fewer-met n 64 f (leb-true n 64 (both .1)) (p (both .0))
+    by false e = refl
+
+-- THE ROOM of a state: its long arrays are whole
+pub record Sized (s : State) : Type 0 where
+  pub nexts : length (s .nexts) ≡ 320
+  pub statuses : length (s .statuses) ≡ 320
+  pub places : length (s .places) ≡ 256
+
+-- a tail that is none is good
+none-good : (t : Tree) (s : State) (d : ℕ) → tail s d ≡ 0 → good-tail t s d ≡ true
+unfolding good-tail
+none-good t s d z = rw z
+
+abbrev pub tails-walked : Tree → State → Bool
+tails-walked t s = first-pass (zero-from (t .domains) (s .tails)) (t .domains) (good-tail t s)
+
+tails-same : (t : Tree) (s : State) → all-below 64 (good-tail t s) ≡ tails-walked t s
+tails-same t s =
+    same-first (zero-from (t .domains) (s .tails)) (t .domains) (good-tail t s) (λ z d h. none-good t s d (zero-at (t .domains) (s .tails) z d h))
+
+abbrev pub thread-walked : Tree → State → (thread : ℕ) → PlaceWords → Bool
+thread-walked t s i q = thread-fits t i (place-of q) (watch-fits t s i (place-of q))
+
+-- well formed, by walks
+unfoldable pub formed-by-walks : Tree → State → Bool
+formed-by-walks t s =
+    (tails-walked t s && walked (next-fits t) 0 (s .nexts))
+    && (walked (status-fits t) 0 (s .statuses) && (walked (thread-walked t s) 0 (s .places) && good-counters t s))
+
+pub same-formed : (t : Tree) (s : State) → Sized s → well-formed t s ≡ formed-by-walks t s
+unfolding well-formed formed-by-walks good-next good-status good-thread good-watch
+same-formed t s h =
+    rw (tails-same t s, whole (next-fits t) 0 320 (s .nexts) (h .nexts), whole (status-fits t) 0 320 (s .statuses) (h .statuses), whole (thread-walked t s) (place-words 0 0 0 0) 256 (s .places) (h .places))
+
+-- THE COUNTERS, whose room behind the domains of the tree is 0
+abbrev pub zeros-from : (first : ℕ) → Counters → Bool
+zeros-from n c = zero-from n (c .entries) && (zero-from n (c .tenures) && zero-from n (c .longest))
+
+record Zeros (c : Counters) (d : ℕ) : Type 0 where
+  entries : getD (c .entries) d 0 ≡ 0
+  tenures : getD (c .tenures) d 0 ≡ 0
+  longest : getD (c .longest) d 0 ≡ 0
+
+zeros-at : (n : ℕ) (c : Counters) → zeros-from n c ≡ true → (d : ℕ) → n ≤ d → Zeros c d
+zeros-at n c e d h =
+    let a = and-both (zero-from n (c .entries)) (zero-from n (c .tenures) && zero-from n (c .longest)) e in
+    let b = and-both (zero-from n (c .tenures)) (zero-from n (c .longest)) (a .1) in
+    record { entries = zero-at n (c .entries) (a .0) d h; tenures = zero-at n (c .tenures) (b .0) d h; longest = zero-at n (c .longest) (b .1) d h }
+
+-- they are good where they are 0, and none of them is above 2^63
+zeros-good : (t : Tree) (c : Counters) (d : ℕ) → Zeros c d → good-count t c d ≡ true
+unfolding good-count
+zeros-good t c d z = rw (z .entries, z .tenures, z .longest, zero-fits-test t d, leb·zero _)
+
+zeros-below : (c : Counters) (d : ℕ) → Zeros c d → count-above c d ≡ false
+unfolding count-above
+zeros-below c d z = rw (z .entries, z .tenures, z .longest)
+
+unfoldable pub counts-by-walks : Tree → Counters → Bool
+counts-by-walks t c = first-pass (zeros-from (t .domains) c) (t .domains) (good-count t c)
+
+pub same-counted : (t : Tree) (c : Counters) → good-counts t c ≡ counts-by-walks t c
+unfolding good-counts counts-by-walks
+same-counted t c = same-first (zeros-from (t .domains) c) (t .domains) (good-count t c) (λ z d h. zeros-good t c d (zeros-at (t .domains) c z d h))
+
+unfoldable pub above-by-walks : Tree → Counters → Bool
+above-by-walks t c = first-meets (zeros-from (t .domains) c) (t .domains) (count-above c)
+
+pub same-above : (t : Tree) (c : Counters) → any-above c ≡ above-by-walks t c
+unfolding any-above above-by-walks
+same-above t c = same-met (zeros-from (t .domains) c) (t .domains) (count-above c) (λ z d h. zeros-below c d (zeros-at (t .domains) c z d h))
