@@ -94,7 +94,7 @@ fn level_of(tree: TreeWords, d: u32) -> u64
     while x != 0 {
         let at = x as usize;
         let p = tree.parents[at];
-        x = model::numbers::byte_number(p);
+        x = casts::byte_number(p);
         n += 1;
     }
     n
@@ -123,7 +123,7 @@ fn above_of(tree: TreeWords, acquired: &[u64; 64], d: u32) -> u64
         return 1;
     }
     let at = d as usize;
-    let p = model::numbers::byte_index(tree.parents[at]);
+    let p = casts::byte_index(tree.parents[at]);
     acquired[p]
 }
 
@@ -197,7 +197,7 @@ fn thread_rounds(tree: TreeWords, acquired: &[u64; 64], i: u32) -> u64
     ensures { λ r. ⌜ r ≡ capped (acquire-bound (tree-of tree) i + release-bound (tree-of tree) i) ⌝ }
 {
     let at = i as usize;
-    let home = model::numbers::byte_number(tree.homes[at]);
+    let home = casts::byte_number(tree.homes[at]);
     let h = home as usize;
     let level = level_of(tree, home);
     capped_sum(acquired[h], 6 * level)

@@ -20,7 +20,7 @@ fn is_child_at(parents: &[u8; 64], domains: u32, d: u32, c: u32) -> bool
     }
     let at = c as usize;
     let p = parents[at];
-    model::numbers::byte_number(p) == d
+    casts::byte_number(p) == d
 }
 
 fn has_child(parents: &[u8; 64], domains: u32, d: u32) -> bool
@@ -103,7 +103,7 @@ fn is_member_at<'a>(
         if m < threads {
             let at = m as usize;
             let h = homes[at];
-            return model::numbers::byte_number(h) == d;
+            return casts::byte_number(h) == d;
         }
         return false;
     }

@@ -23,7 +23,7 @@ fn answer_run(reply: RunReply, trace: &[u16], output: &mut [u8]) -> FileReply
         };
     }
     let counts = reply.counts;
-    let n = model::numbers::number_index(counts.entries);
+    let n = casts::number_index(counts.entries);
     let length = printed_listing::write_listing(counts, &trace[..n], output);
     if length == 0 {
         return FileReply {

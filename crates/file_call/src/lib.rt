@@ -32,12 +32,12 @@ pub fn run_file(file: &[u8], output: &mut [u8]) -> FileReply
         Reached::At(at) => calling::run_tree(file, at, tree, output),
         Reached::Ended => FileReply {
             number: 2,
-            place: model::numbers::index_number(file.len()),
+            place: casts::index_number(file.len()),
             length: 0,
         },
         Reached::BadMap(p) => FileReply {
             number: 3,
-            place: model::numbers::index_number(p),
+            place: casts::index_number(p),
             length: 0,
         },
     }

@@ -63,7 +63,7 @@ fn put_domains<'a>(
     let mut at = start;
     let mut d = 1;
     while d < domains {
-        let threshold = model::numbers::of_16_bits(thresholds[d]);
+        let threshold = casts::of_16_bits(thresholds[d]);
         at = put_domain(buffer, at, parents[d], threshold);
         d += 1;
     }
@@ -129,14 +129,14 @@ pub(crate) fn put_tree(buffer: &mut [u8], tree: TreeWords) -> usize
         1,
         &tree.parents,
         &tree.thresholds,
-        model::numbers::number_index(tree.domains),
+        casts::number_index(tree.domains),
     );
     let behind_count = put_two_bytes(buffer, behind_domains, tree.threads as u16);
     put_threads(
         buffer,
         behind_count,
         &tree.homes,
-        model::numbers::number_index(tree.threads),
+        casts::number_index(tree.threads),
     )
 }
 

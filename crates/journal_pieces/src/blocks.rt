@@ -55,14 +55,14 @@ pub(crate) fn read_block(
         if 3 < bits {
             return journal_reader::stopped(count, at, last, 25);
         }
-        let map = model::numbers::byte_index(bits);
+        let map = casts::byte_index(bits);
         let thread = journal_reader::thread_at(journal, at, last, map);
         if known <= (thread as u32) {
             return journal_reader::stopped(count, at, last, 12);
         }
         threads[count] = thread;
         kinds[count] = journal_reader::kind_at(journal, at, map);
-        passed += model::numbers::byte_index(sizes[passed]);
+        passed += casts::byte_index(sizes[passed]);
         last = thread;
         count += 1;
     }

@@ -101,7 +101,7 @@ pub fn read_entry(journal: &[u8], position: usize, before: u16) -> Entry
         return Entry::Broken;
     }
     if 4 <= journal.len() - position {
-        return whole_entry(journal, position, before, model::numbers::byte_index(bits));
+        return whole_entry(journal, position, before, casts::byte_index(bits));
     }
     if journal.len() - position < size_of(bits) {
         return Entry::Broken;

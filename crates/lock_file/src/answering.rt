@@ -37,7 +37,7 @@ fn described_at(file: &[u8], at: usize, tree: TreeWords, schedule: &mut [u16]) -
 {
     let turns = (file.len() - at) / 2;
     crate::read_schedule(file, at, schedule);
-    let length = model::numbers::index_number(turns);
+    let length = casts::index_number(turns);
     ReadReply {
         number: 0,
         place: 0,
@@ -58,7 +58,7 @@ pub(crate) fn answer_file(file: &[u8], schedule: &mut [u16]) -> ReadReply
     let tree = read.tree;
     match reached {
         Reached::At(at) => described_at(file, at, tree, schedule),
-        Reached::Ended => refused_by(2, model::numbers::index_number(file.len())),
-        Reached::BadMap(p) => refused_by(3, model::numbers::index_number(p)),
+        Reached::Ended => refused_by(2, casts::index_number(file.len())),
+        Reached::BadMap(p) => refused_by(3, casts::index_number(p)),
     }
 }

@@ -24,8 +24,8 @@ fn two_bytes_at(file: &[u8], at: usize) -> u16
     if file.len() <= at {
         return 0;
     }
-    let low = model::numbers::byte_word(byte_at(file, at));
-    let high = model::numbers::byte_word(byte_at(file, at + 1));
+    let low = casts::byte_word(byte_at(file, at));
+    let high = casts::byte_word(byte_at(file, at + 1));
     low + 256 * high
 }
 
@@ -60,7 +60,7 @@ fn entry_end_at(file: &[u8], largest: u8, at: usize, size: usize) -> Reached
 fn domain_size_of(map: u8) -> usize
     ensures { λ r. ⌜ r ≡ domain-size map ⌝ }
 {
-    1 + model::numbers::byte_index(map % 2) + 2 * model::numbers::byte_index(map / 2 % 2)
+    1 + casts::byte_index(map % 2) + 2 * casts::byte_index(map / 2 % 2)
 }
 
 fn domain_end_at(file: &[u8], at: usize) -> Reached
@@ -86,7 +86,7 @@ fn threshold_of(file: &[u8], at: usize) -> u16
 {
     let map = byte_at(file, at);
     if map / 2 % 2 == 1 {
-        two_bytes_at(file, at + 1 + model::numbers::byte_index(map % 2))
+        two_bytes_at(file, at + 1 + casts::byte_index(map % 2))
     } else {
         16
     }
@@ -168,18 +168,13 @@ fn read_domains(file: &[u8]) -> DomainsRead
         };
     }
     let first = byte_at(file, 0);
-    read_domains_from(file, model::numbers::byte_index(first % 128))
+    read_domains_from(file, casts::byte_index(first % 128))
 }
 
 fn thread_end_at(file: &[u8], at: usize) -> Reached
     ensures { λ r. ⌜ r ≡ thread-end (now (file .entry)) at ⌝ }
 {
-    entry_end_at(
-        file,
-        1,
-        at,
-        1 + model::numbers::byte_index(byte_at(file, at) % 2),
-    )
+    entry_end_at(file, 1, at, 1 + casts::byte_index(byte_at(file, at) % 2))
 }
 
 fn home_of(file: &[u8], before: u8, at: usize) -> u8
@@ -236,7 +231,7 @@ fn read_threads_behind(file: &[u8], at: usize) -> ThreadsRead
     match field_end_at(file, at, 2) {
         Reached::At(next) => read_threads_from(
             file,
-            model::numbers::word_index(two_bytes_at(file, at)),
+            casts::word_index(two_bytes_at(file, at)),
             next,
         ),
         Reached::Ended => ThreadsRead {
@@ -284,7 +279,7 @@ fn thread_count_of(file: &[u8], reached: Reached) -> u32
     ensures { λ r. ⌜ r ≡ thread-count (now (file .entry)) reached ⌝ }
 {
     match reached {
-        Reached::At(at) => model::numbers::word_number(two_bytes_at(file, at)),
+        Reached::At(at) => casts::word_number(two_bytes_at(file, at)),
         Reached::Ended => 0,
         Reached::BadMap(_) => 0,
     }

@@ -1,5 +1,4 @@
 // The words that cross a call. Numbers only, laid out as C lays them out, so that a C++ host can hold them.
-pub mod numbers;
 
 // Status words: of a member's record below the root, and of one at the root.
 pub const COHORT_START: u64 = 1;

@@ -148,7 +148,7 @@ fn put_trace(output: &mut [u8], start: usize, trace: &[u16]) -> usize
     let mut at = start;
     let mut k = 0;
     while k < trace.len() {
-        let i = model::numbers::word_number(trace[k]);
+        let i = casts::word_number(trace[k]);
         at = put_number(output, at, i, 10);
         k += 1;
     }
@@ -162,7 +162,7 @@ fn trace_fits(trace: &[u16], room: usize) -> bool
     let mut left = room;
     let mut k = 0;
     while k < trace.len() {
-        let n = number_length(model::numbers::word_number(trace[k]));
+        let n = number_length(casts::word_number(trace[k]));
         if left < n {
             return false;
         }

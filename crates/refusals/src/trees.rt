@@ -18,7 +18,7 @@ fn bad_parent_at(parents: &[u8; 64], domains: u32, d: u32) -> bool
     }
     let at = d as usize;
     let p = parents[at];
-    d <= model::numbers::byte_number(p)
+    d <= casts::byte_number(p)
 }
 
 pub(crate) fn lowest_bad_parent(parents: &[u8; 64], domains: u32) -> u32
@@ -65,7 +65,7 @@ fn no_threshold_at(thresholds: &[u16; 64], domains: u32, d: u32) -> bool
         return false;
     }
     let at = d as usize;
-    let h = model::numbers::of_16_bits(thresholds[at]);
+    let h = casts::of_16_bits(thresholds[at]);
     h == 0
 }
 
@@ -97,7 +97,7 @@ pub(crate) fn domains_pass<'a>(
     while d < domains {
         let at = d as usize;
         let q = parents[at];
-        if d <= model::numbers::byte_number(q) {
+        if d <= casts::byte_number(q) {
             return false;
         }
         let p = q as usize;
@@ -105,7 +105,7 @@ pub(crate) fn domains_pass<'a>(
         if 6 < level {
             return false;
         }
-        let h = model::numbers::of_16_bits(thresholds[at]);
+        let h = casts::of_16_bits(thresholds[at]);
         if h == 0 {
             return false;
         }
@@ -138,7 +138,7 @@ pub(crate) fn mark_unfit_homes(bad: &mut [bool; 256], parents: &[u8; 64], domain
     let mut d: u32 = 1;
     while d < domains {
         let at = d as usize;
-        let p = model::numbers::byte_index(parents[at]);
+        let p = casts::byte_index(parents[at]);
         bad[p] = true;
         d += 1;
     }
@@ -158,7 +158,7 @@ pub(crate) fn lowest_bad_home<'a>(
     let mut i: u32 = 0;
     while i < threads {
         let at = i as usize;
-        let h = model::numbers::byte_index(homes[at]);
+        let h = casts::byte_index(homes[at]);
         if bad[h] {
             return i;
         }
@@ -176,7 +176,7 @@ fn marked_homes(marked: &mut [bool; 256], homes: &[u8; 256], threads: u32)
     let mut i: u32 = 0;
     while i < threads {
         let at = i as usize;
-        let h = model::numbers::byte_index(homes[at]);
+        let h = casts::byte_index(homes[at]);
         marked[h] = true;
         i += 1;
     }
@@ -234,7 +234,7 @@ fn home_domains(homes: &[u8; 256], domains: u32, threads: u32) -> [bool; 64]
     let mut i: u32 = 0;
     while i < threads {
         let at = i as usize;
-        let h = model::numbers::byte_index(homes[at]);
+        let h = casts::byte_index(homes[at]);
         occupied[h] = true;
         i += 1;
     }
@@ -257,7 +257,7 @@ pub(crate) fn occupied<'a>(
     let mut d = domains - 1;
     while 0 < d {
         let at = d as usize;
-        let p = model::numbers::byte_index(parents[at]);
+        let p = casts::byte_index(parents[at]);
         if occupied[at] {
             occupied[p] = true;
         }

@@ -59,7 +59,7 @@ pub(crate) fn good_counts<'c>(
     let mut d: u8 = 0;
     while d < 64 {
         let at = d as usize;
-        let threshold = model::numbers::of_16_bits(thresholds[at]);
+        let threshold = casts::of_16_bits(thresholds[at]);
         let e = entries[at];
         let n = tenures[at];
         let l = longest[at];

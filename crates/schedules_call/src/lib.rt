@@ -21,7 +21,7 @@ fn adds_up(lengths: &[u32], entries: usize) -> bool
     let mut left = entries;
     let mut k: usize = 0;
     while k < lengths.len() {
-        let n = model::numbers::number_index(lengths[k]);
+        let n = casts::number_index(lengths[k]);
         if left < n {
             return false;
         }

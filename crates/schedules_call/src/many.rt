@@ -92,7 +92,7 @@ pub(crate) fn run_rows(
     let mut from: usize = 0;
     let mut at: usize = 0;
     while k < lengths.len() {
-        let end = from + model::numbers::number_index(lengths[k]);
+        let end = from + casts::number_index(lengths[k]);
         run_row(tree, &entries[from..end], trace, rows, at);
         from = end;
         at += 8;

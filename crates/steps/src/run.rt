@@ -93,10 +93,10 @@ pub fn domain_of_code(home: u8, code: u16) -> u32
 {
     let row = (code / 8) % 16;
     if row == 0 {
-        return model::numbers::byte_number(home);
+        return casts::byte_number(home);
     }
     if row == 5 {
-        return model::numbers::byte_number(home);
+        return casts::byte_number(home);
     }
     (code / 128) as u32
 }

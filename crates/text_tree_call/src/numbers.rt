@@ -38,7 +38,7 @@ fn grow(number: u32, b: u8) -> u32
     requires { ⌜ 48 ≤ b ⌝ }
     ensures { λ r. ⌜ r ≡ grown number b ⌝ }
 {
-    10 * number + model::numbers::byte_number(b - 48)
+    10 * number + casts::byte_number(b - 48)
 }
 
 // A count with one digit more; more than 257 threads are as many as 257.
@@ -84,7 +84,7 @@ pub(crate) fn read_count(text: &[u8], at: usize) -> Number
     if !is_first_digit_byte(b) {
         return Number::Stopped(at);
     }
-    read_more_count(text, at + 1, model::numbers::byte_number(b - 48))
+    read_more_count(text, at + 1, casts::byte_number(b - 48))
 }
 
 // The other digits of a threshold, as long as it is one.
@@ -109,5 +109,5 @@ pub(crate) fn read_threshold(text: &[u8], at: usize) -> Number
     if !is_first_digit_byte(b) {
         return Number::Stopped(at);
     }
-    read_more_threshold(text, at + 1, model::numbers::byte_number(b - 48))
+    read_more_threshold(text, at + 1, casts::byte_number(b - 48))
 }

@@ -63,8 +63,8 @@ pub(crate) fn add_domain(tree: TreeWords, parent: u8, threshold: u16) -> TreeWor
             ticket_root: 0,
         };
     }
-    parents[model::numbers::number_index(domains)] = parent;
-    thresholds[model::numbers::number_index(domains)] = threshold;
+    parents[casts::number_index(domains)] = parent;
+    thresholds[casts::number_index(domains)] = threshold;
     TreeWords {
         domains: domains + 1,
         threads,
@@ -95,17 +95,12 @@ pub(crate) fn add_threads(tree: TreeWords, home: u8, count: u32) -> TreeWords
 {
     let before = least_of(257, tree.threads);
     let threads = before + least_of(257 - before, count);
-    let end = model::numbers::number_index(least_of(256, threads));
+    let end = casts::number_index(least_of(256, threads));
     let domains = tree.domains;
     let parents = tree.parents;
     let thresholds = tree.thresholds;
     let homes_before = tree.homes;
-    let homes = fill_homes(
-        homes_before,
-        model::numbers::number_index(before),
-        end,
-        home,
-    );
+    let homes = fill_homes(homes_before, casts::number_index(before), end, home);
     TreeWords {
         domains,
         threads,

@@ -116,7 +116,7 @@ fn count_piece(
     let mut entered = count;
     let mut k: usize = 0;
     while k < schedule.len() {
-        let at = model::numbers::word_index(schedule[k]);
+        let at = casts::word_index(schedule[k]);
         let code = codes[k];
         let home = tree.homes[at];
         let begins = begins_at(is_ticket_home(tree.ticket_root, home), home, code / 8);
