@@ -1,8 +1,4 @@
-pub mod Filling
-pub mod Words
-pub mod Capped
-pub mod RoundWords
+-- The proofs of the laws and of the computed cases.
 pub mod Law
-pub mod RoundAnswers
 pub mod RoundsLaw
 pub mod Cases

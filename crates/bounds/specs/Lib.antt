@@ -1,5 +1,4 @@
 -- What a reader must believe about the calls of allowances and rounds. Its proofs are in proofs/.
 pub mod Answers
-pub mod Arrays
 pub mod Laws
 pub mod Cases

@@ -1,7 +1,7 @@
 -- The file call's run in buffers that are longer than it needs: the same answer, and its trace at the front. Assumes nothing.
 use mathlib.Core.Path.{_≡_, refl, _∙_, ap}
-use mathlib.Core.Bool.{Bool, true, false, cond}
-use mathlib.Core.List.{List, []}
+use mathlib.Core.Bool.{Bool, true, false}
+use mathlib.Core.List.{List}
 use Prim.Native.Nat.{ℕ, _-_, _/_, _≤_}
 use native.Mathlib.Omega.{arith}
 use lib.Dec.{eqb}
@@ -12,23 +12,23 @@ use Rattle.model.specs.declared.TreeWords.{TreeWords}
 use Rattle.model.specs.declared.State.{State}
 use Rattle.model.specs.declared.Counters.{Counters}
 use Rattle.model.specs.declared.LockState.{LockState}
-use Rattle.model.specs.Counters.{lock-state, fresh-counters, fresh-lock}
+use Rattle.model.specs.Counters.{fresh-lock}
 use Rattle.model.specs.declared.FreshReply.{FreshReply}
 use Rattle.model.specs.declared.RunReply.{RunReply}
 use Rattle.model.specs.Trees.{Tree, tree-of}
-use Rattle.model.specs.States.{fresh-words, fresh-state}
+use Rattle.model.specs.States.{fresh-words}
 use Rattle.model.specs.Steps.{is-entry}
 use Rattle.model.specs.Runs.{Run, steps, counts-of, run-of, run}
-use Rattle.model.specs.Refusals.{tree-refusal, Refusal, lowest-bad, first-refusal, bad-room, tree-tests, run-tests, run-refusal}
+use Rattle.model.specs.Refusals.{Refusal, lowest-bad, first-refusal, bad-room, tree-tests, run-tests, run-refusal}
 use Rattle.model.specs.Answers.{counters-behind, fresh-answer, run-accepted, run-refused, run-reply, run-buffer, run-answer, trace-answer}
 use Rattle.model.specs.Laws.{Count-law}
 use Rattle.model.proofs.Tests.{by-test}
-use Rattle.model.proofs.Laws.Form.{fresh-at-zero}
 use Rattle.model.proofs.Laws.Runs.{steps-length, count-law}
 use Rattle.model.proofs.Counted.{how-many-most}
 use Rattle.lock_file.specs.Reading.{entries-from, entries-at, filled}
 use Rattle.lock_file.proofs.Positions.{entries-length}
-use Rattle.file_call.specs.FileAnswers.{tree-outcome, run-outcome, file-run, file-trace}
+use Rattle.file_answers.specs.FileAnswers.{tree-outcome, run-outcome, file-run, file-trace}
+use Rattle.file_answers.proofs.FileClaim.{zero-start}
 
 -- the schedule at the front of its buffer
 pub schedule-front :
@@ -90,15 +90,7 @@ replied-within w is buffer =
     (run-accepted (run (tree-of w) is fresh-words) (counters-behind (tree-of w) is fresh-lock)) (run-refused (run-refusal (tree-of w) fresh-lock is (length buffer)) fresh-lock)
     (λ e. entries-within (tree-of w) is fresh-words) (λ e. omega arith)
 
--- a fresh call that starts at 0 returns a state that is 0 throughout, accepted or refused
-pub zero-start : (w : TreeWords) → fresh-answer w 0 .state ≡ fresh-lock
-unfolding fresh-answer
-zero-start w = by (eqb (tree-refusal (tree-of w) .number) 0)
-  where
-    by : (a : Bool) → lock-state (fresh-state (tree-of w) (cond a 0 0)) fresh-counters ≡ fresh-lock
-    by true = ap (λ s. lock-state s fresh-counters) (fresh-at-zero (tree-of w))
-    by false = ap (λ s. lock-state s fresh-counters) (fresh-at-zero (tree-of w))
-
+-- the state that the code has of its fresh call
 pub fresh-zero : (w : TreeWords) (r : FreshReply) → r ≡ fresh-answer w 0 → r .state ≡ fresh-lock
 fresh-zero w r e = ap (λ x. x .state) e ∙ zero-start w
 

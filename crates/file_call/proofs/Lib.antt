@@ -1,7 +1,3 @@
-pub mod Cases
+-- What several proofs use.
 pub mod Outcomes
-pub mod FileRunLaw
-pub mod FileRefusalLaw
 pub mod FileRun
-pub mod FileClaim
-pub mod RoomLaw

@@ -10,13 +10,13 @@ use lib.ListN.{length}
 use borrow.Author.Tests.{ltb-true, ltb-false, lt-ltb, le-ltb}
 use Rattle.model.specs.declared.Counts.{Counts}
 use Rattle.model.specs.Refusals.{refusal}
-use Rattle.file_call.specs.FileAnswers.{tree-outcome, refused-by, lists, listing-outcome, reading-outcome, file-outcome}
+use Rattle.file_answers.specs.FileAnswers.{tree-outcome, refused-by, lists, listing-outcome, reading-outcome, file-outcome}
 use Rattle.lock_file.specs.declared.Reached.the-variants.{At, Ended, BadMap}
 use Rattle.lock_file.specs.declared.TreeRead.{TreeRead}
 use Rattle.lock_file.specs.Reading.{reached-refusal, tree-read, entries-at, reading-of, file-read}
 use Rattle.printed_listing.specs.Listing.{listing, printed-length}
 use Rattle.printed_listing.proofs.Numerals.{length-first-line}
-use Rattle.printed_listing.proofs.Printing.{length-listing}
+use Rattle.printed_listing.proofs.Lengths.{length-listing}
 
 pub listing-short : (ls : List ℕ) (room : ℕ) → room < length ls → listing-outcome ls room ≡ refused-by (refusal 14 0)
 unfolding listing-outcome

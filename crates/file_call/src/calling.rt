@@ -3,8 +3,8 @@ ghost use mathlib.Core.Path.{_≡_};
 ghost use Prim.Native.Nat.{_≤_};
 ghost use lib.ListN.{length, take};
 ghost use Rattle.lock_file.specs.Reading.{entries-at};
-ghost use Rattle.file_call.specs.FileAnswers.{run-outcome, tree-outcome, outcome-reply, outcome-output};
-use crate::FileReply;
+ghost use Rattle.file_answers.specs.FileAnswers.{run-outcome, tree-outcome, outcome-reply, outcome-output};
+use file_answers::FileReply;
 use model::RunReply;
 use model::TreeWords;
 
@@ -24,7 +24,7 @@ fn answer_run(reply: RunReply, trace: &[u16], output: &mut [u8]) -> FileReply
     }
     let counts = reply.counts;
     let n = casts::number_index(counts.entries);
-    let length = printed_listing::write_listing(counts, &trace[..n], output);
+    let length = printed_listing_call::write_listing(counts, &trace[..n], output);
     if length == 0 {
         return FileReply {
             number: 14,

@@ -2,16 +2,9 @@
 mod calling;
 
 ghost use mathlib.Core.Path.{_≡_};
-ghost use Rattle.file_call.specs.FileAnswers.{file-answer, output-answer};
+ghost use Rattle.file_answers.specs.FileAnswers.{file-answer, output-answer};
+use file_answers::FileReply;
 use lock_file::Reached;
-
-// What the file call returns. Number 0 is accepted.
-#[repr(C)]
-pub struct FileReply {
-    pub number: u32,
-    pub place: u32,
-    pub length: u32,
-}
 
 // The file call: reads the lock file, runs its schedule from a fresh lock, and writes the listing.
 pub fn run_file(file: &[u8], output: &mut [u8]) -> FileReply

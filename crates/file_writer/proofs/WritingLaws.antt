@@ -23,10 +23,9 @@ use Rattle.lock_file.specs.ReadingLaws.{Format-law}
 use Rattle.lock_file.proofs.FormatLaw.{format-law}
 use Rattle.schedules.proofs.Alone.{answer-by-schedule}
 use Rattle.printed_listing.specs.Listing.{listing}
-use Rattle.file_call.specs.FileAnswers.{run-outcome, file-run, file-trace, tree-outcome, listing-outcome}
-use Rattle.file_call.specs.FileLaws.{Described-law}
-use Rattle.file_call.proofs.FileRun.{zero-start}
-use Rattle.file_call.proofs.FileClaim.{described-law}
+use Rattle.file_answers.specs.FileAnswers.{run-outcome, file-run, file-trace, tree-outcome, listing-outcome}
+use Rattle.file_answers.specs.FileLaws.{Described-law}
+use Rattle.file_answers.proofs.FileClaim.{zero-start, described-law}
 use Rattle.file_writer.specs.Writing.{written-file}
 use Rattle.file_writer.specs.Refusals.{write-refusal}
 use Rattle.file_writer.specs.Answers.{answered-length, write-answer, write-reply, file-buffer-answer}

@@ -15,7 +15,7 @@ use Rattle.model.specs.Laws.{_⟺_, Refuses-exactly}
 use Rattle.lock_file.specs.Reading.{described, file-read}
 use Rattle.lock_file.specs.Format.{Describes}
 use Rattle.printed_listing.specs.Listing.{listing}
-use Rattle.file_call.specs.FileAnswers.{listing-outcome, file-outcome}
+use Rattle.file_answers.specs.FileAnswers.{listing-outcome, file-outcome}
 use Rattle.file_writer.specs.Writing.{written-file}
 use Rattle.file_writer.specs.Refusals.{write-tests, write-refusal}
 use Rattle.file_writer.specs.Answers.{write-answer, file-buffer-answer}

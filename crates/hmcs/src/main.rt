@@ -15,6 +15,6 @@ fn main() {
         print(&output, r.length as usize);
         return;
     }
-    let length = printed_listing::write_refusal(r.number, r.place, &mut output);
+    let length = printed_listing_call::write_refusal(r.number, r.place, &mut output);
     print(&output, length);
 }

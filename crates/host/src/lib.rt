@@ -5,7 +5,7 @@ ghost use Rattle.chain.specs.Answers.{chain-answer, buffer-answer};
 ghost use Rattle.model.specs.Answers.{fresh-answer, step-answer, run-answer, trace-answer};
 ghost use Rattle.host.specs.Answers.{answer-of};
 ghost use Rattle.host.specs.InPlace.{fresh-kept, fresh-left, fresh-without-state, step-without-state};
-ghost use Rattle.file_call.specs.FileAnswers.{file-answer, output-answer};
+ghost use Rattle.file_answers.specs.FileAnswers.{file-answer, output-answer};
 ghost use Rattle.file_writer.specs.Answers.{write-answer, file-buffer-answer};
 ghost use Rattle.journal.specs.Answers.{journal-answer};
 ghost use Rattle.lock_file.specs.Answers.{read-answer, schedule-answer};
@@ -251,7 +251,7 @@ pub extern "C" fn hmcs_allowances(tree: TreeWords, allowances: &mut [u64; 64]) -
     ensures { λ r. ⌜ r ≡ answer-of (allowances-answer tree) ⌝ }
     ensures { λ r. ⌜ now (allowances .exit) ≡ allowances-left tree (now (allowances .entry)) ⌝ }
 {
-    let r = bounds::allowances(tree, allowances);
+    let r = bounds_call::allowances(tree, allowances);
     Answer {
         number: r.number,
         place: r.place,
@@ -263,5 +263,5 @@ pub extern "C" fn hmcs_allowances(tree: TreeWords, allowances: &mut [u64; 64]) -
 pub extern "C" fn hmcs_rounds(tree: TreeWords) -> RoundsReply
     ensures { λ r. ⌜ r ≡ rounds-answer tree ⌝ }
 {
-    bounds::rounds(tree)
+    bounds_call::rounds(tree)
 }

@@ -1,4 +1,4 @@
--- How long a listing is at most. Assumes nothing.
+-- How long a listing is, and at most. Assumes nothing.
 use mathlib.Core.Path.{_≡_, _∙_}
 use mathlib.Core.List.{List, [], _∷_}
 use Prim.Native.Nat.{ℕ, suc, _+_, _*_, _≤_, _<_}
@@ -8,7 +8,11 @@ use Rattle.model.specs.declared.Counts.{Counts}
 use Rattle.printed_listing.specs.Listing.{numeral, space, number-then, trace-lines, spaced, first-line, listing}
 use Rattle.printed_listing.specs.ListingLaws.{Five-digits, Length-law}
 use Rattle.printed_listing.proofs.Numerals.{length-below, length-number, length-first-line}
-use Rattle.printed_listing.proofs.Printing.{length-listing}
+
+pub length-listing :
+    (x : Counts) (is : List ℕ) → length (listing x is) ≡ length (first-line x) + length (trace-lines is)
+unfolding listing
+length-listing x is = rw length-append
 
 -- one number more behind a space
 spaced-more : (n : ℕ) (ns : List ℕ) → length (spaced (n ∷ ns)) ≡ length (numeral n) + 1 + length (spaced ns)

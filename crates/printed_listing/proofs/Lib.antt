@@ -1,7 +1,6 @@
+-- The proofs of the laws and of the computed cases, and what they use.
 pub mod Cases
 pub mod Numerals
-pub mod Writing
-pub mod Printing
 pub mod NumeralLaw
 pub mod OneNumeral
 pub mod Lengths

@@ -4,7 +4,7 @@ use native.Mathlib.Omega.{arith}
 use lib.ListN.{length}
 use borrow.Author.Needs.{needs}
 use Rattle.model.specs.Refusals.{refusal}
-use Rattle.file_call.specs.FileAnswers.{outcome-reply, outcome-output, file-answer, output-answer}
+use Rattle.file_answers.specs.FileAnswers.{outcome-reply, outcome-output, file-answer, output-answer}
 use Rattle.file_call.proofs.Outcomes.{file-long, file-at, file-ended, file-bad}
 use Rattle.lock_file.proofs.Bounded.{place-within, start-within}
 use Rattle.file_call.proofs.run_file.Statement.{statement}

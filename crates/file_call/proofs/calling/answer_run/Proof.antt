@@ -8,8 +8,8 @@ use borrow.Author.Tests.{eq-eqb, ne-eqb}
 use borrow.Author.Needs.{needs}
 use Rattle.model.specs.Refusals.{refusal}
 use Rattle.printed_listing.specs.Listing.{listing, printed, printed-length}
-use Rattle.printed_listing.proofs.Printing.{length-fits, printed-short, printed-fits}
-use Rattle.file_call.specs.FileAnswers.{run-outcome, outcome-reply, outcome-output}
+use Rattle.printed_listing_call.proofs.Printing.{length-fits, printed-short, printed-fits}
+use Rattle.file_answers.specs.FileAnswers.{run-outcome, outcome-reply, outcome-output}
 use Rattle.file_call.proofs.Outcomes.{listing-short, listing-fits, listing-turned-down, listing-taken}
 use Rattle.file_call.proofs.calling.answer_run.Statement.{statement}
 use Rattle.file_call.proofs.calling.answer_run.Tie as tie

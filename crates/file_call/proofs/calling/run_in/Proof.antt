@@ -5,7 +5,7 @@ use native.Mathlib.Omega.{arith}
 use lib.ListN.{length}
 use lib.Seq.{length-take-le}
 use borrow.Author.Needs.{needs}
-use Rattle.file_call.specs.FileAnswers.{outcome-reply, outcome-output}
+use Rattle.file_answers.specs.FileAnswers.{outcome-reply, outcome-output}
 use Rattle.file_call.proofs.FileRun.{fresh-zero, run-in-buffers}
 use Rattle.file_call.proofs.calling.run_in.Statement.{statement}
 use Rattle.file_call.proofs.calling.run_in.Tie as tie

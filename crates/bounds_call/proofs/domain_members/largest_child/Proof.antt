@@ -1,0 +1,46 @@
+-- `domain_members::largest_child` meets its contract: the largest word of the children passed. Assumes nothing.
+use mathlib.Core.Path.{_≡_, refl}
+use mathlib.Core.Bool.{cond}
+use Prim.Native.Nat.{_≤_, _-_}
+use native.Mathlib.Omega.{arith}
+use lib.ListN.{getD}
+use borrow.Author.Needs.{needs}
+use Rattle.model.specs.Scans.{largest-below}
+use Rattle.model.specs.Trees.{is-child}
+use Rattle.refusals.specs.Arrays.{parents-in}
+use Rattle.bounds_call.proofs.Filling.{largest-next, largest-all}
+use Rattle.bounds_call.proofs.domain_members.largest_child.Statement.{statement}
+use Rattle.bounds_call.proofs.domain_members.largest_child.Tie as tie
+
+abbrev Inv-loop : tie.InvT-loop
+Inv-loop parents words domains d most₀ c₀ most c =
+    (c ≤ domains) × (most ≡ largest-below c (λ j. cond (is-child (parents-in domains parents) d j) (getD words j 0) 0))
+
+abbrev μ-loop : tie.MeasureT-loop
+μ-loop parents words domains d most₀ c₀ most c = domains - c
+
+loop-holds : tie.Need-loop-holds Inv-loop μ-loop
+unfolding largest-below
+loop-holds c = (search needs, refl)
+
+child-word-requires : tie.Need-child-word-requires Inv-loop μ-loop
+child-word-requires c κs = search needs
+
+larger-requires : tie.Need-larger-requires Inv-loop μ-loop
+larger-requires c κs = search needs
+
+add-c : tie.Need-add-c Inv-loop μ-loop
+add-c c = omega arith
+
+loop-less : tie.Need-loop-less Inv-loop μ-loop
+loop-less c = omega arith
+
+loop-again : tie.Need-loop-again Inv-loop μ-loop
+loop-again c = (omega arith, largest-next _ _ _ _ _ (c .before .before .before .loop .inv .1) (c .before .child-word .ensures) (c .larger .ensures))
+
+returns : tie.Need-returns Inv-loop μ-loop
+returns c = largest-all _ _ _ _ (omega arith) (c .before .loop .inv .1)
+
+pub largest-child-spec : {M : Type 1} → statement M
+largest-child-spec =
+    tie.close (tie.spec Inv-loop μ-loop loop-holds child-word-requires larger-requires add-c loop-less loop-again returns)
