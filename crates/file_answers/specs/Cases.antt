@@ -1,4 +1,4 @@
--- Cases of the file call, in one list: the printed example, 4 and 5, 9, 16, 12 and 14 at their places. Assumes nothing: these are definitions.
+-- Cases of the file call, in one list: the printed example, 1, 4 and 5, 9, 16, 12 and 14 at their places. Assumes nothing: these are definitions.
 use mathlib.Core.Bool.{Bool, _&&_}
 use mathlib.Core.List.{List, [], _∷_, _++_}
 use Prim.Native.Nat.{ℕ, _+_, _*_}
@@ -43,5 +43,7 @@ cases =
     ∷ replies 16 2 0 (file-answer (3 ∷ 0 ∷ 0 ∷ 1 ∷ 0 ∷ 1 ∷ 1 ∷ 9 ∷ 0 ∷ []) [])
     -- an empty schedule's listing "ok 0 0 0 0 0 0"
     ∷ same-numbers (output-answer (1 ∷ 1 ∷ 0 ∷ 0 ∷ []) (replicate 15 0)) (111 ∷ 107 ∷ 32 ∷ 48 ∷ 32 ∷ 48 ∷ 32 ∷ 48 ∷ 32 ∷ 48 ∷ 32 ∷ 48 ∷ 32 ∷ 48 ∷ 10 ∷ [])
+    -- a byte more than a lock file may have: 1 comes before 4
+    ∷ replies 1 0 0 (file-answer (replicate 65537 0) [])
     -- the room that always suffices, which hmcs.h names: 39 bytes for the first line and 4 for each of 32,768 entries
     ∷ eqb listing-room (39 + 4 * 32768) ∷ []
