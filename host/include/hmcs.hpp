@@ -461,13 +461,31 @@ inline std::string marked(std::string_view text, std::size_t place) {
     return line + "\n" + std::string(mark, ' ') + "^\n";
 }
 
+// What a text could have gone on with at the place where it was refused; up to there it is the beginning of a tree.
+inline std::string expected(std::string_view text, std::size_t place) {
+    const std::string_view read = text.substr(0, place);
+    const auto level = std::count(read.begin(), read.end(), '(') - std::count(read.begin(), read.end(), ')');
+    switch (read.empty() ? '\0' : read.back()) {
+    case '\0': return "expected (";
+    case '(': return level == 6 ? "expected # and a thread count: level 6 may only have threads" : "expected # and a thread count, or a threshold from 1 to 65,535";
+    case '#': return "expected a thread count, from 1";
+    case ' ': return "expected a threshold from 1 to 65,535 after one space";
+    case ')': return level == 0 ? "expected the end of the text" : "expected ), or one space and another domain";
+    default: break;
+    }
+    if (read[read.find_last_not_of("0123456789")] == '#') {
+        return "expected another digit or )";
+    }
+    return place < text.size() && text[place] >= '0' && text[place] <= '9' ? "a threshold is at most 65,535" : "expected ( after the threshold";
+}
+
 inline std::string text_message(const Refusal &refusal, std::string_view text) {
     std::string message = hmcs_refusal_text(refusal.number);
     if (refusal.number != HMCS_TEXT_WRONG) {
         return message + "\n";
     }
-    message += refusal.place < text.size() ? ": no tree goes on like this at byte " : ": it ends too soon, at byte ";
-    return message + std::to_string(refusal.place) + "\n" + marked(text, refusal.place);
+    message += refusal.place < text.size() ? ", at byte " : ": it ends too soon, at byte ";
+    return message + std::to_string(refusal.place) + ": " + expected(text, refusal.place) + "\n" + marked(text, refusal.place);
 }
 
 } // namespace detail

@@ -101,9 +101,9 @@ void wrong_texts() {
 // A refusal that a person can read: words, the text, and a mark below the byte.
 void messages() {
     CHECK(hmcs::read_tree("(2(#2)  1(#1))").message ==
-          "the text leaves the grammar of trees: no tree goes on like this at byte 7\n(2(#2)  1(#1))\n       ^\n");
-    CHECK(hmcs::read_tree("(2(#2)").message == "the text leaves the grammar of trees: it ends too soon, at byte 6\n(2(#2)\n      ^\n");
-    CHECK(hmcs::read_tree("(#1)\n").message == "the text leaves the grammar of trees: no tree goes on like this at byte 4\n(#1).\n    ^\n");
+          "the text leaves the grammar of trees, at byte 7: expected a threshold from 1 to 65,535 after one space\n(2(#2)  1(#1))\n       ^\n");
+    CHECK(hmcs::read_tree("(2(#2)").message == "the text leaves the grammar of trees: it ends too soon, at byte 6: expected ), or one space and another domain\n(2(#2)\n      ^\n");
+    CHECK(hmcs::read_tree("(#1)\n").message == "the text leaves the grammar of trees, at byte 4: expected the end of the text\n(#1).\n    ^\n");
     CHECK(hmcs::read_tree("(#257)").message == "there are no threads, or more than 256\n");
     const std::string far = hmcs::read_tree(children(1000) + "x").message;
     CHECK(far.size() < 200 && far.find("...") != std::string::npos && far.find("x") != std::string::npos);

@@ -31,6 +31,7 @@ pre { font: 13px/1.45 ui-monospace, monospace; columns: 20rem; column-rule: 1px 
 .waiting { background: var(--waiting); stroke: var(--waiting); } .inside { background: var(--inside); stroke: var(--inside); }
 .releasing { background: var(--releasing); stroke: var(--releasing); } .root { background: var(--root); stroke: var(--root); }
 .crossed { background: var(--crossed); stroke: var(--crossed); } .passed { background: var(--passed); stroke: var(--passed); }
+.hatched td { background: repeating-linear-gradient(135deg, transparent 0 6px, var(--line) 6px 8px); } .hatched .number i { opacity: .35; }
 @media (max-width: 40rem) { .shares, .number { min-width: 4rem; } th, td { padding-right: .6rem; } }
 )";
 

@@ -59,7 +59,13 @@ Input read_tree(const std::string &text_or_path, bool ticket) {
     if (text_or_path.find('(') != std::string::npos) {
         return Input{tree_of_text("the tree", text_or_path, ticket), {}, false};
     }
+    if (text_or_path.empty()) {
+        fail("expected a tree or a file with one, got an empty word");
+    }
     const std::string bytes = read_bytes(text_or_path, SIZE_MAX);
+    if (bytes.empty()) {
+        fail(text_or_path + ": the file is empty");
+    }
     if (is_text(bytes)) {
         return Input{tree_of_text(text_or_path, bytes, ticket), {}, false};
     }

@@ -2,7 +2,6 @@
 #include "tool.hpp"
 
 #include <cerrno>
-#include <csignal>
 #include <cstdio>
 #include <cstring>
 #include <exception>
@@ -22,14 +21,15 @@ std::string help() {
     }
     return text + "\n`hmcs COMMAND --help` says more, with an example. `hmcs --version` prints the version. Figures come\n"
                   "from the proved library.\n"
+                  "`-` in place of a file is standard input or, after -o, standard output; `--` ends the options.\n"
                   "Exit status: 0 accepted, 1 refused, 2 not done: wrong usage, or a file that cannot be read or written.\n";
 }
 
 std::string obey(const std::vector<std::string> &words) {
     if (words.empty()) {
-        tool::fail("no command is given; --help names them");
+        tool::fail("no command given; --help lists them");
     }
-    if (words[0] == "--help") {
+    if (words[0] == "--help" || words[0] == "-h" || words[0] == "help") {
         return help();
     }
     if (words[0] == "--version") {
@@ -39,22 +39,21 @@ std::string obey(const std::vector<std::string> &words) {
         if (words[0] != command.name) {
             continue;
         }
-        const std::vector<std::string> behind(words.begin() + 1, words.end());
-        if (std::find(behind.begin(), behind.end(), "--help") != behind.end()) {
+        const tool::Words read({words.begin() + 1, words.end()}, command.options);
+        if (read.asks_for_help()) {
             return command.help;
         }
-        const tool::Words read(behind, command.options);
         if (read.others().size() < command.least_words || read.others().size() > command.most_words) {
             const std::string or_more = command.least_words < command.most_words ? " or " + std::to_string(command.most_words) : "";
-            const std::string wanted = std::to_string(command.least_words) + or_more + ", given: " + std::to_string(read.others().size());
-            tool::fail(words[0] + ": words wanted: " + wanted + "; `hmcs " + words[0] + " --help` says which");
+            const std::string expected = std::to_string(command.least_words) + or_more + (command.most_words == 1 ? " argument" : " arguments");
+            tool::fail(words[0] + ": expected " + expected + ", got " + std::to_string(read.others().size()) + "; see `hmcs " + words[0] + " --help`");
         }
         return command.run(read);
     }
-    tool::fail("there is no command " + words[0] + "; --help names them");
+    tool::fail("unknown command " + words[0] + "; --help lists them");
 }
 
-// What cannot be written is an error, and so is a pipe that nobody reads any more.
+// What cannot be written is an error. A pipe that nobody reads any more ends the command without a word, as it ends other programs.
 void print(const std::string &text) {
     errno = 0;
     if (std::fwrite(text.data(), 1, text.size(), stdout) != text.size() || std::fflush(stdout) != 0) {
@@ -65,7 +64,6 @@ void print(const std::string &text) {
 } // namespace
 
 int main(int count, char **words) {
-    std::signal(SIGPIPE, SIG_IGN);
     try {
         print(obey(std::vector<std::string>(words + std::min(count, 1), words + count)));
         return tool::accepted;

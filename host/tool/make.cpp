@@ -1,4 +1,5 @@
 // `make`: writes a lock file.
+#include "schedules.hpp"
 #include "tool.hpp"
 
 namespace tool {
@@ -14,7 +15,7 @@ Input lock_of(const Words &words) {
         return read_shown(words.others()[0]);
     }
     Input input = read_tree(words.others()[0], words.has("--ticket"));
-    input.schedule = read_schedule(words.others()[1], input.tree.words().threads);
+    input.schedule = Schedule(words.others()[1]).turns(input.tree);
     return input;
 }
 
@@ -28,8 +29,7 @@ std::string make(const Words &words) {
     if (result.refused()) {
         refuse("make", result.refusal);
     }
-    write_bytes(path, std::string(result.file.begin(), result.file.end()));
-    return path + ": " + std::to_string(result.file.size()) + " bytes, " + std::to_string(input.schedule.size()) + " turns\n";
+    return write_bytes(path, std::string(result.file.begin(), result.file.end()), words.others(), ", " + std::to_string(input.schedule.size()) + " turns");
 }
 
 } // namespace
@@ -41,17 +41,15 @@ Command make_command() {
             "Writes the lock file of a tree and a schedule; no lock file for them is shorter. TREE is as for\n"
             "`hmcs tree`. A schedule is a list of turns, each a thread that takes one step: a file of thread\n"
             "numbers, or one that is made here, the same everywhere:\n"
-            "\n"
-            "  turns:COUNT               the threads in turn, 0, 1, 2 and so on\n"
-            "  random:COUNT:SEED         any thread for each turn\n"
-            "  bursts:COUNT:SEED:LENGTH  any thread, for 1 to LENGTH turns in a row\n"
-            "\n"
-            "SHOWN is a file with what `hmcs show` printed.\n"
-            "\n"
-            "  -o FILE   where the lock file goes\n"
-            "  --ticket  the root of a text is a ticket lock\n"
-            "\n"
-            "  hmcs make '(16(#4) 16(#4))' random:4000:1 -o two-sockets.lock\n",
+            "\n" +
+                std::string(schedule_help) +
+                "\n"
+                "SHOWN is a file with what `hmcs show` printed.\n"
+                "\n"
+                "  -o FILE   where the lock file goes\n"
+                "  --ticket  the root of a text is a ticket lock\n"
+                "\n"
+                "  hmcs make '(16(#4) 16(#4))' busy:4000:1 -o two-sockets.lock\n",
             {{"-o", true}, {"--ticket", false}},
             1,
             2,

@@ -55,7 +55,7 @@ std::string entries_section(const Recording &recording) {
     return folded("All " + std::to_string(recording.entries.size()) + " entries, one a line", "<pre>" + lines + "</pre>\n", false);
 }
 
-std::string waits_section(const hmcs::Tree &tree, const hmcs::WaitsResult &result) {
+std::string waits_section(const hmcs::Tree &tree, const Measured &result) {
     std::uint64_t largest = 1;
     for (const hmcs::Waits &waits : result.threads) {
         largest = std::max(largest, waits.largest);
@@ -74,21 +74,21 @@ std::string waits_section(const hmcs::Tree &tree, const hmcs::WaitsResult &resul
                    shown + folded("The waits as a table, the means as exact fractions", scrolled(waits_table(tree, result)), false));
 }
 
-std::string tenures_section(const hmcs::Tree &tree, const hmcs::Lock &lock) {
+std::string tenures_section(const hmcs::Tree &tree, const Measured &measured) {
     std::string rows;
     for (const Domain &domain : domains_in_order(tree)) {
         if (domain.number == 0) {
             continue; // the root has no tenures
         }
         const std::uint64_t threshold = tree.words().thresholds[domain.number];
-        const std::uint64_t longest = lock.tenures(domain.number).longest;
+        const std::uint64_t longest = measured.state.longest[domain.number];
         rows += "<tr><td class=left>" + std::string(2 * (domain.level - 2), ' ') + std::to_string(domain.number) + "<td class=\"left fill\">" +
                 number_bar(std::to_string(longest) + " of " + std::to_string(threshold), longest, threshold) + "</td></tr>\n";
     }
     const std::string head = "<thead><tr><th class=left>domain<th class=left>longest tenure, of the threshold</thead>";
     return section("Tenures", "How many members of a domain held the lock one after another at most, of as many as its threshold allows.",
                    "<table class=\"wide\">" + head + "<tbody>\n" + rows + "</tbody></table>\n" +
-                       folded("The tenures as a table", scrolled(tenures_table(tree, lock)), false));
+                       folded("The tenures as a table", scrolled(tenures_table(tree, measured)), false));
 }
 
 std::string page(const Words &words) {
@@ -102,17 +102,18 @@ std::string page(const Words &words) {
     if (input.schedule.empty()) {
         fail(words.others()[0] + ": its schedule has no turn, so there is nothing to show");
     }
-    hmcs::Lock lock(input.tree);
-    const hmcs::WaitsResult result = lock.run_waits(input.schedule);
+    const Measured measured = measure(input.tree, input.schedule);
+    if (measured.refusal.refused()) {
+        refuse(words.others()[0], measured.refusal);
+    }
     const Recording recording = record(input.tree, input.schedule);
-    const std::string name = std::filesystem::path(words.others()[0]).filename().string();
+    const std::string name = as_utf8(std::filesystem::path(words.others()[0]).filename().string());
     const std::string summary = std::to_string(input.tree.words().threads) + " threads, " + std::to_string(input.tree.words().domains) + " domains, " +
                                 std::to_string(input.schedule.size()) + " turns from a fresh lock. A turn lets one thread take one step; turns are not time.";
     const std::string html = page_of(name, summary,
-                                     tree_section(input.tree) + counts_section(result.run.counts) + timeline_section(input.tree, recording, from, count) +
-                                         entries_section(recording) + waits_section(input.tree, result) + tenures_section(input.tree, lock));
-    write_bytes(path, html);
-    return path + ": " + std::to_string(html.size()) + " bytes\n";
+                                     tree_section(input.tree) + counts_section(measured.counts) + timeline_section(input.tree, recording, from, count) +
+                                         entries_section(recording) + waits_section(input.tree, measured) + tenures_section(input.tree, measured));
+    return write_bytes(path, html, words.others());
 }
 
 } // namespace

@@ -1,33 +1,29 @@
-// Schedules: a file of thread numbers, or made here, the same from the same words on every machine.
+#include "schedules.hpp"
+
+#include "busy.hpp"
+#include "random.hpp"
 #include "tool.hpp"
 
 #include <charconv>
+#include <filesystem>
 
 namespace tool {
 
+const char *const usual_schedule = "busy:65536:1";
+
+const char *const schedule_help =
+    "  busy:COUNT:SEED           any thread that can move, so that no turn is lost\n"
+    "  busy:COUNT:SEED:WORK      the same, and a thread that has let the lock go pauses for 0 to 2*WORK turns\n"
+    "  random:COUNT:SEED         any thread, also one that can only wait\n"
+    "  bursts:COUNT:SEED:LENGTH  any thread, for 1 to LENGTH turns in a row\n"
+    "  turns:COUNT               the threads in turn, 0, 1, 2 and so on\n";
+
 namespace {
 
-constexpr std::uint64_t longest = 65537; // a longer schedule is refused (11) as this one is
+constexpr std::uint64_t most_turns = 65537; // a longer schedule is refused (11) as this one is
+constexpr std::uint64_t most_work = 1000000000;
 
-// splitmix64, of Steele, Lea and Flood, "Fast Splittable Pseudorandom Number Generators", 2014.
-class Random {
-public:
-    explicit Random(std::uint64_t seed) : word_(seed) {}
-
-    // A number below a bound of at most 2^32, from the upper half of the next word.
-    std::uint64_t below(std::uint64_t bound) { return ((next() >> 32) * bound) >> 32; }
-
-private:
-    std::uint64_t next() {
-        word_ += 0x9E3779B97F4A7C15;
-        std::uint64_t z = word_;
-        z = (z ^ (z >> 30)) * 0xBF58476D1CE4E5B9;
-        z = (z ^ (z >> 27)) * 0x94D049BB133111EB;
-        return z ^ (z >> 31);
-    }
-
-    std::uint64_t word_;
-};
+const char *const forms = "busy:COUNT:SEED[:WORK], random:COUNT:SEED, bursts:COUNT:SEED:LENGTH or turns:COUNT";
 
 std::vector<std::uint16_t> bursts(std::uint64_t count, std::uint64_t seed, std::uint64_t length, std::uint32_t threads) {
     Random random(seed);
@@ -40,24 +36,68 @@ std::vector<std::uint16_t> bursts(std::uint64_t count, std::uint64_t seed, std::
     return schedule;
 }
 
-std::vector<std::uint16_t> made(const std::vector<std::string> &parts, std::uint32_t threads) {
-    const std::uint64_t count = std::min(number("the count of a schedule", parts[1], UINT64_MAX), longest);
-    if (parts[0] == "turns") {
-        std::vector<std::uint16_t> schedule;
-        for (std::uint64_t k = 0; k < count; ++k) {
-            schedule.push_back(static_cast<std::uint16_t>(k % threads));
-        }
-        return schedule;
+std::vector<std::uint16_t> in_turn(std::uint64_t count, std::uint32_t threads) {
+    std::vector<std::uint16_t> schedule;
+    for (std::uint64_t k = 0; k < count; ++k) {
+        schedule.push_back(static_cast<std::uint16_t>(k % threads));
     }
-    const std::uint64_t seed = number("the seed of a schedule", parts[2], UINT64_MAX);
-    const std::uint64_t length = parts[0] == "random" ? 1 : number("the length of a burst", parts[3], UINT32_MAX);
-    if (length == 0) {
-        fail("the length of a burst must be at least 1");
-    }
-    return bursts(count, seed, length, threads);
+    return schedule;
 }
 
 } // namespace
+
+Schedule::Schedule(const std::string &word) : name_(word), kind_(Kind::given) {
+    const std::vector<std::string> parts = split(word, ':');
+    const std::pair<const char *, Kind> names[] = {{"turns", Kind::turns}, {"random", Kind::random}, {"bursts", Kind::bursts}, {"busy", Kind::busy}};
+    for (const auto &[name, kind] : names) {
+        kind_ = parts.size() > 1 && parts[0] == name ? kind : kind_;
+    }
+    if (kind_ == Kind::given) {
+        std::error_code ignored;
+        if (word.find(':') != std::string::npos && !std::filesystem::exists(word, ignored)) {
+            fail("the schedule " + word + " is neither a file nor " + forms);
+        }
+        given_ = turns_of(word, read_bytes(word, SIZE_MAX));
+        return;
+    }
+    const std::size_t least = kind_ == Kind::turns ? 2 : kind_ == Kind::bursts ? 4 : 3;
+    const std::size_t most = kind_ == Kind::busy ? 4 : least;
+    if (parts.size() < least || parts.size() > most) {
+        fail("the schedule " + word + " must be " + forms);
+    }
+    count_ = std::min(number("the count of a schedule", parts[1], UINT64_MAX), most_turns);
+    seed_ = parts.size() > 2 ? number("the seed of a schedule", parts[2], UINT64_MAX) : 0;
+    if (kind_ == Kind::bursts) {
+        extra_ = number("the length of a burst", parts[3], UINT32_MAX);
+        if (extra_ == 0) {
+            fail("the length of a burst must be at least 1");
+        }
+    } else if (parts.size() > 3) {
+        extra_ = number("the work of a schedule", parts[3], most_work);
+    }
+}
+
+std::vector<std::uint16_t> Schedule::tested(std::uint32_t threads) const {
+    for (std::size_t turn = 0; turn < given_.size() && turn < most_turns; ++turn) {
+        if (given_[turn] >= threads) {
+            const std::string thread = std::to_string(given_[turn]) + (given_[turn] == 65535 ? " or more" : "");
+            throw Stop{refused, name_ + ": refused by 12 at " + std::to_string(turn) + ": turn " + std::to_string(turn) + " names thread " + thread +
+                                    ", but the tree's threads are 0 to " + std::to_string(threads - 1) + "\n"};
+        }
+    }
+    return given_;
+}
+
+std::vector<std::uint16_t> Schedule::turns(const hmcs::Tree &tree) const {
+    const std::uint32_t threads = tree.words().threads;
+    switch (kind_) {
+    case Kind::given: return tested(threads);
+    case Kind::turns: return in_turn(count_, threads);
+    case Kind::random: return bursts(count_, seed_, 1, threads);
+    case Kind::bursts: return bursts(count_, seed_, extra_, threads);
+    default: return busy_turns(tree, count_, seed_, extra_);
+    }
+}
 
 std::vector<std::uint16_t> turns_of(const std::string &path, const std::string &bytes) {
     std::vector<std::uint16_t> schedule;
@@ -75,18 +115,6 @@ std::vector<std::uint16_t> turns_of(const std::string &path, const std::string &
         at = end;
     }
     return schedule;
-}
-
-std::vector<std::uint16_t> read_schedule(const std::string &word, std::uint32_t threads) {
-    const std::vector<std::string> parts = split(word, ':');
-    const std::size_t wanted = parts[0] == "turns" ? 2 : parts[0] == "random" ? 3 : parts[0] == "bursts" ? 4 : 0;
-    if (wanted == 0 || parts.size() == 1) {
-        return turns_of(word, read_bytes(word, SIZE_MAX));
-    }
-    if (parts.size() != wanted) {
-        fail("the schedule " + word + " must be turns:COUNT, random:COUNT:SEED or bursts:COUNT:SEED:LENGTH");
-    }
-    return made(parts, threads);
 }
 
 } // namespace tool

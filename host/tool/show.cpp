@@ -35,8 +35,8 @@ std::string show(const Words &words) {
         }
         return *text + "\n";
     }
-    return "tree: " + text.value_or("no text, since domains or threads are numbered in another order") +
-           (input.tree.root() == hmcs::RootKind::ticket ? " --ticket" : "") + "\n\n" + tree_table(input.tree).text() + "\nschedule: " +
+    const std::string ticket = input.tree.root() == hmcs::RootKind::ticket ? " --ticket" : "";
+    return (text ? "tree: " + *text + ticket : std::string("this tree has no text: its domains or threads are numbered in another order")) + "\n\n" + tree_table(input.tree).text() + "\nschedule: " +
            std::to_string(input.schedule.size()) + " turns\n" + numbers(input.schedule);
 }
 

@@ -11,6 +11,9 @@ std::string steps(const Words &words) {
     const Input input = read_lock_file(words.others()[0]);
     const std::size_t from = number("--from", words.value("--from", "0"), UINT32_MAX);
     const std::size_t count = number("--count", words.value("--count", "4294967295"), UINT32_MAX);
+    if (from > 0 && from >= input.schedule.size()) {
+        fail("--from: the schedule has " + std::to_string(input.schedule.size()) + " turns, numbered from 0");
+    }
     hmcs::Lock lock(input.tree);
     Table table;
     table.column("turn");
@@ -37,24 +40,24 @@ std::string steps(const Words &words) {
         table.cell(hmcs::text(step.kind));
         table.cell(holder ? "thread " + std::to_string(*holder) : "nobody");
     }
-    return words.has("--csv") ? table.csv() : table.text();
+    return printed(words, table);
 }
 
 } // namespace
 
 Command steps_command() {
     return {"steps", "one line for each step of a lock file's run",
-            "usage: hmcs steps FILE [--from K] [--count N] [--csv]\n"
+            "usage: hmcs steps FILE [--from K] [--count N] [--csv | --json]\n"
             "Steps through a lock file's schedule from a fresh lock and prints a line for each step: the turn,\n"
             "the thread, the domain it is at, the row of the step table and what that does, the step's kind,\n"
             "and who is inside after it.\n"
             "\n"
-            "  --from K   the first turn to print, from 0\n"
-            "  --count N  how many to print\n"
-            "  --csv      for a spreadsheet\n"
+            "  --from K       the first turn to print, from 0\n"
+            "  --count N      how many to print\n"
+            "  --csv, --json  for programs\n"
             "\n"
             "  hmcs steps two-sockets.lock --from 100 --count 20\n",
-            {{"--from", true}, {"--count", true}, {"--csv", false}},
+            with_table_options({{"--from", true}, {"--count", true}}),
             1,
             1,
             steps};

@@ -1,6 +1,7 @@
 // `sweep`: which threshold? One row for each that is tried.
 #include "sweep.hpp"
 #include "tool.hpp"
+#include "trees.hpp"
 
 namespace tool {
 
@@ -8,6 +9,7 @@ namespace {
 
 constexpr std::uint64_t most_rows = 100000;
 
+// The domains that --domain names, by their numbers.
 std::vector<std::uint32_t> domains_of(const std::string &word, const hmcs::Tree &tree) {
     std::vector<std::uint32_t> domains;
     for (const std::string &part : split(word, ',')) {
@@ -20,30 +22,77 @@ std::vector<std::uint32_t> domains_of(const std::string &word, const hmcs::Tree 
     return domains;
 }
 
+// All domains of a level; the root is level 1 and has no threshold.
+std::vector<std::uint32_t> domains_of_level(const std::string &word, const hmcs::Tree &tree) {
+    const std::uint64_t level = number("--level", word, UINT32_MAX);
+    std::vector<std::uint32_t> domains;
+    std::uint32_t deepest = 1;
+    for (const Domain &domain : domains_in_order(tree)) {
+        deepest = std::max(deepest, domain.level);
+        if (domain.level == level && level > 1) {
+            domains.push_back(domain.number);
+        }
+    }
+    if (domains.empty()) {
+        fail("--level: " + word + (level == 1 ? " is the root, which has no threshold" : " is not a level of the tree, which has " + std::to_string(deepest)));
+    }
+    return domains;
+}
+
+std::uint16_t threshold_of(const std::string &word) {
+    const std::uint64_t threshold = number("--thresholds", word, 65535);
+    if (threshold == 0) {
+        fail("--thresholds: 0 is not a threshold; the smallest is 1");
+    }
+    return static_cast<std::uint16_t>(threshold);
+}
+
+// One threshold, "1..64" for all from the first to the last, or "1..64x2" for the first, twice that, and so on.
+void add_thresholds(const std::string &part, std::vector<std::uint16_t> &thresholds) {
+    const std::size_t dots = part.find("..");
+    if (dots == std::string::npos) {
+        thresholds.push_back(threshold_of(part));
+        return;
+    }
+    const std::size_t times = part.find('x', dots);
+    const std::uint64_t first = threshold_of(part.substr(0, dots));
+    const std::uint64_t last = threshold_of(part.substr(dots + 2, times == std::string::npos ? times : times - dots - 2));
+    const std::uint64_t factor = times == std::string::npos ? 1 : number("--thresholds", part.substr(times + 1), 65535);
+    if (first > last || (times != std::string::npos && factor < 2)) {
+        fail("--thresholds: " + part + " must go up, as 1..8 or 1..64x2 does");
+    }
+    for (std::uint64_t threshold = first; threshold <= last; threshold = factor == 1 ? threshold + 1 : threshold * factor) {
+        thresholds.push_back(static_cast<std::uint16_t>(threshold));
+    }
+}
+
 std::vector<std::uint16_t> thresholds_of(const std::string &word) {
     std::vector<std::uint16_t> thresholds;
     for (const std::string &part : split(word, ',')) {
-        thresholds.push_back(static_cast<std::uint16_t>(number("--thresholds", part, 65535)));
+        add_thresholds(part, thresholds);
     }
     return thresholds;
 }
 
 std::vector<Axis> axes_of(const Words &words, const hmcs::Tree &tree) {
-    const std::vector<std::string> domains = words.values("--domain");
+    const std::vector<std::pair<std::string, std::string>> groups = words.given({"--domain", "--level"});
     const std::vector<std::string> thresholds = words.values("--thresholds");
-    if (domains.empty() || thresholds.empty()) {
-        fail("sweep: --domain and --thresholds say what is tried; --help has an example");
+    if (groups.empty() || thresholds.empty()) {
+        fail("sweep: --level (or --domain) and --thresholds say what is tried; --help has an example");
     }
-    if (thresholds.size() != 1 && thresholds.size() != domains.size()) {
-        fail("sweep: --thresholds must be given once for all --domain, or once for each");
+    if (thresholds.size() != 1 && thresholds.size() != groups.size()) {
+        fail("sweep: --thresholds must be given once for all groups of domains, or once for each");
     }
     std::vector<Axis> axes;
     std::vector<bool> named(tree.words().domains);
-    for (std::size_t a = 0; a < domains.size(); ++a) {
-        axes.push_back({domains_of(domains[a], tree), thresholds_of(thresholds[thresholds.size() == 1 ? 0 : a])});
+    for (std::size_t a = 0; a < groups.size(); ++a) {
+        const auto &[option, word] = groups[a];
+        const bool is_level = option == "--level";
+        const std::string name = is_level ? "level " + word : (word.find(',') == std::string::npos ? "domain " : "domains ") + word;
+        axes.push_back({name, is_level ? domains_of_level(word, tree) : domains_of(word, tree), thresholds_of(thresholds[thresholds.size() == 1 ? 0 : a])});
         for (const std::uint32_t domain : axes.back().domains) {
             if (named[domain]) {
-                fail("--domain: " + std::to_string(domain) + " is named twice");
+                fail(option + ": domain " + std::to_string(domain) + " is named twice");
             }
             named[domain] = true;
         }
@@ -54,13 +103,12 @@ std::vector<Axis> axes_of(const Words &words, const hmcs::Tree &tree) {
 std::vector<Schedule> schedules_of(const Words &words, const Input &input) {
     std::vector<Schedule> schedules;
     for (const std::string &name : words.values("--schedule")) {
-        schedules.push_back({name, read_schedule(name, input.tree.words().threads)});
+        schedules.emplace_back(name);
     }
-    if (schedules.empty()) {
-        if (!input.from_file) {
-            fail("sweep: --schedule says what is run; only a lock file has a schedule of its own");
-        }
-        schedules.push_back({words.others()[0], input.schedule});
+    if (schedules.empty() && input.from_file) {
+        schedules.emplace_back(words.others()[0], input.schedule);
+    } else if (schedules.empty()) {
+        schedules.emplace_back(usual_schedule);
     }
     return schedules;
 }
@@ -86,16 +134,6 @@ std::vector<SweepRow> rows_of(const Sweep &sweep) {
     return rows;
 }
 
-std::vector<std::uint32_t> members_of_root(const hmcs::Tree &tree) {
-    std::vector<std::uint32_t> members;
-    for (std::uint32_t domain = 1; domain < tree.words().domains; ++domain) {
-        if (tree.words().parents[domain] == 0) {
-            members.push_back(domain);
-        }
-    }
-    return members;
-}
-
 std::string sweep(const Words &words) {
     const Input input = read_tree(words.others()[0], words.has("--ticket"));
     Sweep sweep;
@@ -110,50 +148,84 @@ std::string sweep(const Words &words) {
     run_rows(sweep, jobs);
     for (const SweepRow &row : sweep.rows) {
         if (row.refusal.refused()) {
-            refuse(sweep.schedules[row.schedule].name, row.refusal);
+            refuse(name_of(sweep, row), row.refusal);
+        }
+    }
+    for (const SweepRow &row : sweep.rows) {
+        if (!row.missing.comparable()) {
+            warn(name_of(sweep, row) + ": " + row.missing.why_not() + "; its waits cannot be compared");
         }
     }
     if (words.has("--page")) {
-        write_bytes(words.value("--page", ""), sweep_page(sweep));
+        std::vector<std::string> inputs = words.values("--schedule");
+        inputs.push_back(words.others()[0]);
+        if (words.value("--page", "") == "-") {
+            return sweep_page(sweep);
+        }
+        write_bytes(words.value("--page", ""), sweep_page(sweep), inputs);
     }
-    const Table table = sweep_table(sweep);
-    return words.has("--csv") ? table.csv() : table.text();
+    return printed(words, sweep_table(sweep));
 }
 
 } // namespace
 
-std::string Axis::name() const {
-    std::string text;
-    for (const std::uint32_t domain : domains) {
-        text += (text.empty() ? "" : ",") + std::to_string(domain);
+std::string name_of(const Sweep &sweep, const SweepRow &row) {
+    std::string name = sweep.schedules.size() > 1 ? sweep.schedules[row.schedule].name() + ", " : "";
+    for (std::size_t a = 0; a < row.thresholds.size(); ++a) {
+        name += (a == 0 ? "threshold " : ", ") + std::to_string(row.thresholds[a]) + (sweep.axes.size() > 1 ? " of " + sweep.axes[a].name : "");
     }
-    return text;
+    return name;
 }
+
+namespace {
+
+// Waits, and which threads and attempts they leave out. Waits that cannot be compared are not shown as if they could.
+void add_waits(Table &table, const SweepRow &row) {
+    const Missing &missing = row.missing;
+    const bool comparable = missing.comparable();
+    table.cell(comparable ? std::to_string(row.waits.largest) : "at least " + std::to_string(missing.at_least()), Value(row.waits.largest));
+    if (comparable) {
+        table.mean(row.waits.numerator, row.waits.denominator);
+    } else {
+        table.mean(row.waits.numerator, row.waits.denominator, "not comparable");
+    }
+    table.cell(missing.never_entered == 0 ? "0" : std::to_string(missing.never_entered) + " of " + std::to_string(missing.threads), Value(missing.never_entered));
+    table.cell(missing.fewest_entries);
+    table.cell(missing.under_way);
+    if (missing.under_way == 0) {
+        table.cell("-", Value());
+    } else {
+        table.cell("at least " + std::to_string(missing.longest_under_way), Value(missing.longest_under_way));
+    }
+}
+
+} // namespace
 
 Table sweep_table(const Sweep &sweep) {
     Table table;
+    const bool several = sweep.axes.size() > 1;
     if (sweep.schedules.size() > 1) {
         table.column("schedule", Side::left);
     }
     for (const Axis &axis : sweep.axes) {
-        table.column(sweep.axes.size() > 1 ? "threshold of " + axis.name() : "threshold");
+        table.column(several ? "threshold of " + axis.name : "threshold");
     }
-    for (const char *name : {"entries", "root", "crossed", "passed", "stays"}) {
+    for (const char *name : {"entries", "root", "crossed", "passed", "stays", "largest wait"}) {
         table.column(name);
     }
-    table.column("largest wait");
     table.mean_column("mean wait");
+    for (const char *name : {"never entered", "fewest entries", "under way", "longest under way"}) {
+        table.column(name);
+    }
     for (const Axis &axis : sweep.axes) {
-        table.column(sweep.axes.size() > 1 ? "longest tenure of " + axis.name() : "longest tenure");
+        table.column(several ? "longest tenure of " + axis.name : "longest tenure");
     }
-    const std::vector<std::uint32_t> members = members_of_root(sweep.tree);
-    for (const std::uint32_t domain : members) {
-        table.column("allowance of " + std::to_string(domain));
-    }
+    table.column("allowance");
+    table.column("comparable", Side::left);
     for (const SweepRow &row : sweep.rows) {
         table.row();
         if (sweep.schedules.size() > 1) {
-            table.cell(sweep.schedules[row.schedule].name);
+            table.cell(sweep.schedules[row.schedule].name());
         }
         for (const std::uint16_t threshold : row.thresholds) {
             table.cell(threshold);
@@ -161,13 +233,14 @@ Table sweep_table(const Sweep &sweep) {
         for (const std::uint32_t count : {row.counts.entries, row.counts.root, row.counts.crossed, row.counts.passed, row.counts.stays}) {
             table.cell(count);
         }
-        table.cell(row.waits.largest);
-        table.mean(row.waits.numerator, row.waits.denominator);
+        add_waits(table, row);
         for (const std::uint64_t longest : row.longest) {
             table.cell(longest);
         }
-        for (const std::uint32_t domain : members) {
-            table.cell(row.allowances.at(domain));
+        table.cell(row.allowance);
+        table.cell(row.missing.comparable() ? "yes" : "NO", Value::of_truth(row.missing.comparable()));
+        if (!row.missing.comparable()) {
+            table.mark();
         }
     }
     return table;
@@ -175,34 +248,37 @@ Table sweep_table(const Sweep &sweep) {
 
 Command sweep_command() {
     return {"sweep", "which threshold? one row for each that is tried",
-            "usage: hmcs sweep TREE --domain D[,D..] --thresholds N,N.. --schedule S [--schedule S ..]\n"
-            "                       [--jobs N] [--csv] [--page OUT.html] [--ticket]\n"
+            "usage: hmcs sweep TREE (--level L | --domain D[,D..]).. --thresholds T [--schedule S ..]\n"
+            "                       [--jobs N] [--csv | --json] [--page OUT.html] [--ticket]\n"
             "Runs schedules on a tree with one threshold after another, each from a fresh lock, and prints a\n"
             "row for each: entries and how they split (root, crossed, passed), stays, the largest and the mean\n"
-            "wait of all threads, in other threads' entries, the longest tenure of the domains, and the\n"
-            "allowances of the root's members, which say how many entries the threads under each may make while\n"
-            "another waits. TREE and S are as for `hmcs make`; a lock file's own schedule is run if none is\n"
-            "named.\n"
+            "wait of all threads, in other threads' entries, the longest tenure of the domains, and the largest\n"
+            "allowance of the root's members: how many entries the threads under one may make while another\n"
+            "waits. TREE and S are as for `hmcs make`; if none is named, a lock file's own schedule is run, or\n"
+            "busy:65536:1.\n"
             "\n"
-            "  --domain D[,D..]   domains that all get the threshold; if given again, every combination is tried\n"
-            "  --thresholds N,N.. which thresholds; once for all --domain, or once for each, in their order\n"
+            "Waits are those of attempts that ended. So each row also says how many threads never entered, the\n"
+            "entries of the thread that entered least, and how many attempts were still under way, with the\n"
+            "longest of them so far. A row in which a thread never entered, or in which an attempt under way has\n"
+            "waited longer than all that ended, is marked NO: its waits cannot be compared with other rows.\n"
+            "\n"
+            "  --level L          all domains of a level get the threshold; the root is level 1\n"
+            "  --domain D[,D..]   these domains get it. If --level or --domain is given again, every\n"
+            "                     combination is tried\n"
+            "  --thresholds T     which thresholds: 1,2,5 or 1..8 or 1..64x2 (1, 2, 4, .. 64); once for all\n"
+            "                     groups of domains, or once for each, in their order\n"
             "  --schedule S       what is run; if given again, each threshold has a row for each\n"
             "  --jobs N           how many runs at a time\n"
-            "  --csv              for a spreadsheet\n"
+            "  --csv, --json      for programs\n"
             "  --page OUT.html    writes a page with charts as well\n"
             "  --ticket           the root of a text is a ticket lock\n"
             "\n"
-            "The sockets of a two-socket machine are domains 1 and 4 here; with a larger threshold the lock goes\n"
-            "from socket to socket less often, and a thread may wait longer:\n"
+            "The sockets of a two-socket machine are level 2 here; with a larger threshold the lock goes from\n"
+            "socket to socket less often, and a thread may wait longer:\n"
             "\n"
-            "  hmcs sweep '(16(4(#4) 4(#4)) 16(4(#4) 4(#4)))' --domain 1,4 --thresholds 1,2,4,8,16 --schedule random:65536:1\n",
-            {{"--domain", true},
-             {"--thresholds", true},
-             {"--schedule", true},
-             {"--jobs", true},
-             {"--csv", false},
-             {"--page", true},
-             {"--ticket", false}},
+            "  hmcs sweep '(16(4(#4) 4(#4)) 16(4(#4) 4(#4)))' --level 2 --thresholds 1..64x2\n",
+            with_table_options(
+                {{"--domain", true}, {"--level", true}, {"--thresholds", true}, {"--schedule", true}, {"--jobs", true}, {"--page", true}, {"--ticket", false}}),
             1,
             1,
             sweep};

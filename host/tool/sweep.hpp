@@ -2,21 +2,17 @@
 #ifndef HMCS_SWEEP_HPP
 #define HMCS_SWEEP_HPP
 
+#include "measured.hpp"
+#include "schedules.hpp"
 #include "table.hpp"
 
 namespace tool {
 
 // Domains that get one threshold together, and which ones are tried.
 struct Axis {
+    std::string name; // "domains 1,4", "level 2"
     std::vector<std::uint32_t> domains;
     std::vector<std::uint16_t> thresholds;
-
-    std::string name() const; // "1,4"
-};
-
-struct Schedule {
-    std::string name;
-    std::vector<std::uint16_t> turns;
 };
 
 // One run: a threshold for each axis, and one schedule.
@@ -26,8 +22,9 @@ struct SweepRow {
     hmcs::Refusal refusal;
     hmcs::Counts counts;
     hmcs::Waits waits; // of all threads together
+    Missing missing;
     std::vector<std::uint64_t> longest; // for each axis, the longest tenure of its domains
-    std::vector<std::uint64_t> allowances; // of every domain
+    std::uint64_t allowance = 0;        // the largest of the root's members
 };
 
 struct Sweep {
@@ -37,6 +34,8 @@ struct Sweep {
     std::vector<SweepRow> rows; // schedule by schedule, the last axis fastest
 };
 
+// "threshold 16", or with the schedule where there are several.
+std::string name_of(const Sweep &sweep, const SweepRow &row);
 // Runs every row, several at a time; on a terminal it says how far it is where it takes long.
 void run_rows(Sweep &sweep, std::size_t jobs);
 Table sweep_table(const Sweep &sweep);

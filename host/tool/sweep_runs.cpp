@@ -16,6 +16,15 @@ namespace tool {
 
 namespace {
 
+std::uint64_t largest_allowance(const hmcs::Tree &tree) {
+    const std::vector<std::uint64_t> allowances = hmcs::allowances(tree).domains;
+    std::uint64_t largest = 0;
+    for (std::size_t domain = 1; domain < allowances.size(); ++domain) {
+        largest = tree.words().parents[domain] == 0 ? std::max(largest, allowances[domain]) : largest;
+    }
+    return largest;
+}
+
 void run_row(const Sweep &sweep, SweepRow &row) {
     hmcs_tree words = sweep.tree.words();
     for (std::size_t a = 0; a < sweep.axes.size(); ++a) {
@@ -24,18 +33,22 @@ void run_row(const Sweep &sweep, SweepRow &row) {
         }
     }
     const hmcs::Tree tree = hmcs::Tree::of(words);
-    hmcs::Lock lock(tree);
-    const hmcs::WaitsResult result = lock.run_waits(sweep.schedules[row.schedule].turns);
-    row.refusal = result.run.refusal;
-    row.counts = result.run.counts;
-    row.waits = result.all;
+    row.refusal = hmcs::Lock(tree).refusal();
+    if (row.refusal.refused()) {
+        return;
+    }
+    const Measured measured = measure(tree, sweep.schedules[row.schedule].turns(tree));
+    row.refusal = measured.refusal;
+    row.counts = measured.counts;
+    row.waits = measured.all;
+    row.missing = measured.missing();
     row.longest.assign(sweep.axes.size(), 0);
     for (std::size_t a = 0; a < sweep.axes.size(); ++a) {
         for (const std::uint32_t domain : sweep.axes[a].domains) {
-            row.longest[a] = std::max(row.longest[a], lock.tenures(domain).longest);
+            row.longest[a] = std::max(row.longest[a], measured.state.longest[domain]);
         }
     }
-    row.allowances = hmcs::allowances(tree).domains;
+    row.allowance = largest_allowance(tree);
 }
 
 // Rows that wait to be run, and how many are done. The first exception of a job ends them all.

@@ -2,11 +2,12 @@
 #ifndef HMCS_TENURES_HPP
 #define HMCS_TENURES_HPP
 
+#include "measured.hpp"
 #include "table.hpp"
 
 namespace tool {
 
-Table tenures_table(const hmcs::Tree &tree, const hmcs::Lock &lock);
+Table tenures_table(const hmcs::Tree &tree, const Measured &measured);
 
 } // namespace tool
 

@@ -4,6 +4,7 @@
 #define HMCS_TOOL_HPP
 
 #include "hmcs.hpp"
+#include "table.hpp"
 
 #include <string>
 #include <string_view>
@@ -22,6 +23,8 @@ struct Stop {
 
 [[noreturn]] void fail(const std::string &said);
 [[noreturn]] void refuse(const std::string &where, const hmcs::Refusal &refusal);
+// A line on standard error; the command goes on.
+void warn(const std::string &said);
 
 // An option that a command knows; one without a value is there or not.
 struct Option {
@@ -34,21 +37,25 @@ class Words {
 public:
     Words(const std::vector<std::string> &words, const std::vector<Option> &known);
 
+    bool asks_for_help() const { return help_; }
     bool has(const std::string &name) const { return !values(name).empty(); }
     std::vector<std::string> values(const std::string &name) const;
+    // The options of these names with their values, in the order in which they were given.
+    std::vector<std::pair<std::string, std::string>> given(const std::vector<std::string> &names) const;
     std::string value(const std::string &name, const std::string &otherwise) const; // refuses one that is given twice
     const std::vector<std::string> &others() const { return others_; }
 
 private:
     std::vector<std::pair<std::string, std::string>> options_;
     std::vector<std::string> others_;
+    bool help_ = false;
 };
 
 // A command: its name, a line on it, its whole help, the options it knows, how many other words it wants, and what it does.
 struct Command {
     const char *name;
     const char *line;
-    const char *help;
+    std::string help;
     std::vector<Option> options;
     std::size_t least_words, most_words;
     std::string (*run)(const Words &); // what standard output gets
@@ -67,13 +74,18 @@ Command page_command();
 Command rate_command();
 Command journal_command();
 
+// The options with which a table is printed for a program, and the table as they ask for it.
+std::vector<Option> with_table_options(std::vector<Option> options);
+std::string printed(const Words &words, const Table &table);
+
 // Numbers in decimal without a sign; what is not one, or is too large, is wrong usage, and is reported with its name.
 std::uint64_t number(const std::string &name, const std::string &word, std::uint64_t largest);
 std::vector<std::string> split(const std::string &text, char at);
 
-// All bytes of a file, or its first ones.
+// All bytes of a file, or its first ones; of standard input where the path is "-".
 std::string read_bytes(const std::string &path, std::size_t most);
-void write_bytes(const std::string &path, const std::string &bytes);
+// Writes a file and gives the line that says so; for "-" it gives the bytes themselves, for standard output. Refuses to overwrite an input.
+std::string write_bytes(const std::string &path, const std::string &bytes, const std::vector<std::string> &inputs, const std::string &more = "");
 
 // A lock: its tree and, where it came from a lock file, its schedule.
 struct Input {
@@ -86,8 +98,6 @@ struct Input {
 Input read_lock_file(const std::string &path);
 // A tree as text, or a file with one, or the tree of a lock file; with a ticket root where the text is to have one.
 Input read_tree(const std::string &text_or_path, bool ticket);
-// A schedule from a file of thread numbers, or made here.
-std::vector<std::uint16_t> read_schedule(const std::string &word, std::uint32_t threads);
 // Thread numbers with white space between them.
 std::vector<std::uint16_t> turns_of(const std::string &path, const std::string &text);
 // What `show` printed of a lock file; a domain or a thread that it leaves out is refused by the calls.

@@ -69,6 +69,8 @@ std::optional<std::string> text_of(const hmcs::Tree &tree) {
     return read.accepted() && same_words(words, tree.words()) ? std::optional<std::string>(text) : std::nullopt;
 }
 
+std::string capped(std::uint64_t number) { return number == UINT64_MAX ? ">=2^64-1" : std::to_string(number); }
+
 Table tree_table(const hmcs::Tree &tree) {
     Table table;
     table.column("domain", Side::left);
@@ -81,10 +83,15 @@ Table tree_table(const hmcs::Tree &tree) {
         const bool is_root = domain.number == 0;
         const std::string root_name = tree.root() == hmcs::RootKind::ticket ? "0, the root, a ticket lock" : "0, the root, a queue";
         table.row();
-        table.cell(std::string(2 * (domain.level - 1), ' ') + (is_root ? root_name : std::to_string(domain.number)));
+        table.cell(std::string(2 * (domain.level - 1), ' ') + (is_root ? root_name : std::to_string(domain.number)), Value(domain.number));
         table.cell(domain.level);
-        table.cell(is_root ? "-" : std::to_string(tree.words().thresholds[domain.number]));
-        table.cell(is_root ? "-" : std::to_string(allowances.at(domain.number)));
+        if (is_root) {
+            table.cell("-", Value());
+            table.cell("-", Value());
+        } else {
+            table.cell(tree.words().thresholds[domain.number]);
+            table.cell(capped(allowances.at(domain.number)), Value(allowances.at(domain.number)));
+        }
         table.cell(ranges(threads_at_home(tree, domain.number)));
     }
     return table;

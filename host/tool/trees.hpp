@@ -20,6 +20,8 @@ std::vector<std::uint32_t> threads_at_home(const hmcs::Tree &tree, std::uint32_t
 std::string ranges(const std::vector<std::uint32_t> &numbers);
 // The text that reads as this tree, where there is one: a queue root, domains in the order of their opening parentheses, threads leaf by leaf.
 std::optional<std::string> text_of(const hmcs::Tree &tree);
+// A number that the library cuts at 2^64 - 1, for people.
+std::string capped(std::uint64_t number);
 // The domains of an accepted tree, indented by level.
 Table tree_table(const hmcs::Tree &tree);
 

@@ -1,35 +1,43 @@
 // `waits`: how long threads waited, in other threads' entries.
-#include "tool.hpp"
 #include "waits.hpp"
+
+#include "tool.hpp"
 
 namespace tool {
 
 namespace {
 
-void add(Table &table, const std::string &thread, const std::string &home, const hmcs::Waits &waits) {
-    table.row();
-    table.cell(thread);
-    table.cell(home);
+void add(Table &table, const hmcs::Waits &waits) {
     table.cell(waits.attempts);
     table.cell(waits.total);
     table.cell(waits.largest);
     table.mean(waits.numerator, waits.denominator);
 }
 
+// An attempt under way, by the entries of others since it began.
+void add_under_way(Table &table, bool is_under_way, std::uint64_t entries) {
+    if (is_under_way) {
+        table.cell("at least " + std::to_string(entries), Value(entries));
+    } else {
+        table.cell("-", Value());
+    }
+}
+
 std::string waits(const Words &words) {
     const Input input = read_lock_file(words.others()[0]);
-    hmcs::Lock lock(input.tree);
-    const hmcs::WaitsResult result = lock.run_waits(input.schedule);
-    if (result.refused()) {
-        refuse(words.others()[0], result.run.refusal);
+    const Measured measured = measure(input.tree, input.schedule);
+    if (measured.refusal.refused()) {
+        refuse(words.others()[0], measured.refusal);
     }
-    const Table table = waits_table(input.tree, result);
-    return words.has("--csv") ? table.csv() : table.text();
+    if (const Missing missing = measured.missing(); !missing.comparable()) {
+        warn(words.others()[0] + ": " + missing.why_not() + "; its waits cannot be compared");
+    }
+    return printed(words, waits_table(input.tree, measured));
 }
 
 } // namespace
 
-Table waits_table(const hmcs::Tree &tree, const hmcs::WaitsResult &result) {
+Table waits_table(const hmcs::Tree &tree, const Measured &measured) {
     Table table;
     table.column("thread");
     table.column("home");
@@ -37,25 +45,45 @@ Table waits_table(const hmcs::Tree &tree, const hmcs::WaitsResult &result) {
     table.column("total wait");
     table.column("largest wait");
     table.mean_column("mean wait");
-    for (std::size_t thread = 0; thread < result.threads.size(); ++thread) {
-        add(table, std::to_string(thread), std::to_string(tree.words().homes[thread]), result.threads[thread]);
+    table.column("under way");
+    table.column("entered", Side::left);
+    for (std::size_t thread = 0; thread < measured.threads.size(); ++thread) {
+        const bool entered = measured.threads[thread].attempts != 0;
+        const std::uint64_t under_way = measured.under_way[thread];
+        table.row();
+        table.cell(thread);
+        table.cell(tree.words().homes[thread]);
+        add(table, measured.threads[thread]);
+        add_under_way(table, under_way != 0, under_way - 1);
+        table.cell(entered ? "yes" : "NEVER", Value::of_truth(entered));
+        if (!entered) {
+            table.mark();
+        }
     }
-    add(table, "all", "", result.all);
+    const Missing missing = measured.missing();
+    table.row();
+    table.cell("all");
+    table.cell("", Value());
+    add(table, measured.all);
+    add_under_way(table, missing.under_way != 0, missing.longest_under_way);
+    table.cell(missing.never_entered == 0 ? "yes" : "all but " + std::to_string(missing.never_entered), Value::of_truth(missing.never_entered == 0));
     return table;
 }
 
 Command waits_command() {
     return {"waits", "how long each thread of a lock file waited",
-            "usage: hmcs waits FILE [--csv]\n"
+            "usage: hmcs waits FILE [--csv | --json]\n"
             "Runs the schedule of a lock file from a fresh lock and prints for each thread, and for all\n"
             "together, how many attempts were finished and how long they waited, in other threads' entries:\n"
             "the total, the largest, and the mean as an exact fraction and as a decimal. An attempt begins\n"
-            "when the thread joins the queue of its home and ends when it is inside.\n"
+            "when the thread joins the queue of its home and ends when it is inside. One that had not ended is\n"
+            "not among them: the column `under way` says how long it has waited so far. A thread that never\n"
+            "entered has no wait at all, and is marked NEVER.\n"
             "\n"
-            "  --csv  for a spreadsheet, the mean as numerator, denominator and decimal\n"
+            "  --csv, --json  for programs, the mean as numerator, denominator and decimal\n"
             "\n"
             "  hmcs waits two-sockets.lock\n",
-            {{"--csv", false}},
+            with_table_options({}),
             1,
             1,
             waits};

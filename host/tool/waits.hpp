@@ -2,11 +2,12 @@
 #ifndef HMCS_WAITS_HPP
 #define HMCS_WAITS_HPP
 
+#include "measured.hpp"
 #include "table.hpp"
 
 namespace tool {
 
-Table waits_table(const hmcs::Tree &tree, const hmcs::WaitsResult &result);
+Table waits_table(const hmcs::Tree &tree, const Measured &measured);
 
 } // namespace tool
 

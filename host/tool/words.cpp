@@ -2,6 +2,7 @@
 #include "tool.hpp"
 
 #include <charconv>
+#include <cstdio>
 
 namespace tool {
 
@@ -11,21 +12,54 @@ void refuse(const std::string &where, const hmcs::Refusal &refusal) {
     throw Stop{tool::refused, where + ": refused by " + std::to_string(refusal.number) + " at " + std::to_string(refusal.place) + ": " + refusal.text() + "\n"};
 }
 
+void warn(const std::string &said) { std::fputs(("hmcs: " + said + "\n").c_str(), stderr); }
+
+std::vector<Option> with_table_options(std::vector<Option> options) {
+    options.push_back({"--csv", false});
+    options.push_back({"--json", false});
+    return options;
+}
+
+std::string printed(const Words &words, const Table &table) {
+    if (words.has("--csv") && words.has("--json")) {
+        fail("give --csv or --json, not both");
+    }
+    return words.has("--csv") ? table.csv() : words.has("--json") ? table.json() : table.text();
+}
+
+namespace {
+
+// An option begins with a dash; a dash alone is a file, and one before a digit a negative number.
+bool is_option(const std::string &word) { return word.size() > 1 && word[0] == '-' && word[1] != '.' && (word[1] < '0' || word[1] > '9'); }
+
+} // namespace
+
 Words::Words(const std::vector<std::string> &words, const std::vector<Option> &known) {
     for (std::size_t k = 0; k < words.size(); ++k) {
         const std::string &word = words[k];
-        if (word.size() < 2 || word[0] != '-') {
+        if (word == "--") {
+            others_.insert(others_.end(), words.begin() + static_cast<std::ptrdiff_t>(k) + 1, words.end());
+            break;
+        }
+        if (word == "--help" || word == "-h") {
+            help_ = true;
+            break;
+        }
+        if (!is_option(word)) {
             others_.push_back(word);
             continue;
         }
         const auto option = std::find_if(known.begin(), known.end(), [&](const Option &o) { return o.name == word; });
         if (option == known.end()) {
-            fail("unknown option " + word + "; --help says more");
+            fail("unknown option " + word + "; see --help");
         }
         if (option->has_value && k + 1 == words.size()) {
-            fail(word + " needs a value; --help says more");
+            fail(word + " needs a value; see --help");
         }
         options_.emplace_back(word, option->has_value ? words[++k] : "");
+        if (option->has_value && options_.back().second.empty()) {
+            fail(word + " needs a value that is not empty");
+        }
     }
 }
 
@@ -34,6 +68,16 @@ std::vector<std::string> Words::values(const std::string &name) const {
     for (const auto &[option, value] : options_) {
         if (option == name) {
             found.push_back(value);
+        }
+    }
+    return found;
+}
+
+std::vector<std::pair<std::string, std::string>> Words::given(const std::vector<std::string> &names) const {
+    std::vector<std::pair<std::string, std::string>> found;
+    for (const auto &option : options_) {
+        if (std::find(names.begin(), names.end(), option.first) != names.end()) {
+            found.push_back(option);
         }
     }
     return found;

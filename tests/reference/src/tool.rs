@@ -3,7 +3,7 @@
 use crate::counters::Counters;
 use crate::refusals::{accept_entries, accept_tree, Refusal};
 use crate::table::*;
-use crate::waits::{run_waits, ROW};
+use crate::waits::{run_waits, seen, Seen, ROW};
 use crate::words::*;
 use crate::{bounds, lock_file};
 
@@ -21,20 +21,70 @@ pub fn accept(file: &[u8]) -> Result<Accepted, Refusal> {
     Ok(Accepted { tree, schedule })
 }
 
-/// The run of a schedule from a fresh lock: what it counts, and the rows of its waits, the last being that of all threads.
+/// The run of a schedule from a fresh lock: what it counts, the rows of its waits, the last being that of all threads, and the attempts that had not
+/// ended.
 pub struct Waited {
     pub reply: RunReply,
     pub rows: Vec<[u64; ROW]>,
+    pub under_way: Vec<Option<u64>>,
 }
 
 pub fn waited(tree: &Tree, schedule: &[u16]) -> Waited {
     let mut trace = vec![0; schedule.len()];
     let mut numbers = vec![0; ROW * (tree.threads + 1)];
-    let fresh = StateWords::of(&State::fresh_at(tree, 0));
-    let reply = run_waits(&TreeWords::of(tree), &fresh, schedule, &mut trace, &mut numbers);
+    let fresh = State::fresh_at(tree, 0);
+    let reply = run_waits(&TreeWords::of(tree), &StateWords::of(&fresh), schedule, &mut trace, &mut numbers);
     assert_eq!(reply.number, 0, "a run of what was accepted");
     let rows = numbers.chunks_exact(ROW).map(|row| row.try_into().expect("a row")).collect();
-    Waited { reply, rows }
+    let steps = seen(tree, &fresh, schedule);
+    let under_way = (0..tree.threads).map(|thread| under_way(&steps, thread as u16)).collect();
+    Waited { reply, rows, under_way }
+}
+
+/// The others' entries since a thread's last attempt began, if it has not entered since.
+fn under_way(steps: &[Seen], thread: u16) -> Option<u64> {
+    let own = |step: &Seen| step.thread == thread;
+    let from = steps.iter().rposition(|step| own(step) && step.begins)?;
+    let meanwhile = &steps[from..];
+    (!meanwhile.iter().any(|step| own(step) && step.enters)).then(|| meanwhile.iter().filter(|step| !own(step) && step.enters).count() as u64)
+}
+
+/// Which threads and attempts the waits leave out.
+struct Missing {
+    never_entered: usize,
+    fewest_entries: u64,
+    under_way: usize,
+    longest_under_way: Option<u64>,
+    comparable: bool,
+}
+
+impl Missing {
+    fn of(run: &Waited) -> Missing {
+        let threads = run.under_way.len();
+        let entries: Vec<u64> = run.rows[..threads].iter().map(|row| row[0]).collect();
+        let never_entered = entries.iter().filter(|&&count| count == 0).count();
+        let longest_under_way = run.under_way.iter().copied().flatten().max();
+        Missing {
+            never_entered,
+            fewest_entries: entries.into_iter().min().unwrap_or(0),
+            under_way: run.under_way.iter().filter(|one| one.is_some()).count(),
+            longest_under_way,
+            comparable: never_entered == 0 && longest_under_way.map_or(true, |so_far| so_far <= run.rows[threads][2]),
+        }
+    }
+}
+
+/// A number, or nothing.
+fn field(number: Option<u64>) -> String {
+    number.map_or(String::new(), |number| number.to_string())
+}
+
+/// Numerator, denominator and decimal of a mean, or nothing.
+fn mean_fields(numerator: u64, denominator: u64) -> String {
+    if denominator == 0 {
+        return ",,".to_string();
+    }
+    format!("{numerator},{denominator},{}", decimal(numerator, denominator))
 }
 
 /// What the state after a run has counted of its domains.
@@ -44,18 +94,23 @@ fn counters(run: &Waited) -> Counters {
 
 /// The domains below the root, in the order of the tree's table.
 pub fn tenures_table(accepted: &Accepted) -> String {
-    let counted = counters(&waited(&accepted.tree, &accepted.schedule));
-    let mut table = "domain,threshold,entries,tenures,longest tenure\n".to_string();
-    push_tenures(&accepted.tree, &counted, ROOT, 0, &mut table);
+    let mut table = "domain,threshold,entries,tenures,longest tenure,threads that never entered\n".to_string();
+    push_tenures(&accepted.tree, &waited(&accepted.tree, &accepted.schedule), ROOT, &mut table);
     table
 }
 
-fn push_tenures(tree: &Tree, counted: &Counters, domain: usize, level: usize, table: &mut String) {
+fn push_tenures(tree: &Tree, run: &Waited, domain: usize, table: &mut String) {
     for child in (1..tree.domains).filter(|&child| tree.parent(child) == domain) {
-        let [entries, tenures, longest] = counted.of(child);
-        *table += &format!("{}{child},{},{entries},{tenures},{longest}\n", "  ".repeat(level), tree.thresholds[child]);
-        push_tenures(tree, counted, child, level + 1, table);
+        let [entries, tenures, longest] = counters(run).of(child);
+        let never = (0..tree.threads).filter(|&thread| is_under(tree, thread, child) && run.rows[thread][0] == 0).count();
+        *table += &format!("{child},{},{entries},{tenures},{longest},{never}\n", tree.thresholds[child]);
+        push_tenures(tree, run, child, table);
     }
+}
+
+/// The domain is on the way from the thread's home to the root.
+fn is_under(tree: &Tree, thread: usize, domain: usize) -> bool {
+    std::iter::successors(Some(tree.home(thread)), |&above| (above != ROOT).then(|| tree.parent(above))).any(|above| above == domain)
 }
 
 /// Two digits behind the point, of a number that is not below 0.
@@ -63,53 +118,71 @@ fn decimal(numerator: u64, denominator: u64) -> String {
     format!("{:.2}", if denominator == 0 { 0.0 } else { numerator as f64 / denominator as f64 })
 }
 
-fn share(part: u32, whole: u32) -> String {
-    format!("{:.1} %", if whole == 0 { 0.0 } else { 100.0 * part as f64 / whole as f64 })
+fn share(part: u64, whole: u64) -> String {
+    format!("{:.1}", if whole == 0 { 0.0 } else { 100.0 * part as f64 / whole as f64 })
 }
 
 pub fn waits_table(accepted: &Accepted) -> String {
-    let mut table = "thread,home,attempts,total wait,largest wait,mean wait numerator,mean wait denominator,mean wait\n".to_string();
-    for (thread, &[attempts, total, largest, numerator, denominator]) in waited(&accepted.tree, &accepted.schedule).rows.iter().enumerate() {
+    let run = waited(&accepted.tree, &accepted.schedule);
+    let missing = Missing::of(&run);
+    let mut table = "thread,home,attempts,total wait,largest wait,mean wait numerator,mean wait denominator,mean wait,under way,entered\n".to_string();
+    for (thread, &[attempts, total, largest, numerator, denominator]) in run.rows.iter().enumerate() {
         let is_all = thread == accepted.tree.threads;
         let (name, home) = if is_all { ("all".to_string(), String::new()) } else { (thread.to_string(), accepted.tree.home(thread).to_string()) };
-        table += &format!("{name},{home},{attempts},{total},{largest},{numerator},{denominator},{}\n", decimal(numerator, denominator));
+        let under_way = if is_all { missing.longest_under_way } else { run.under_way[thread] };
+        let entered = if is_all { missing.never_entered == 0 } else { attempts > 0 };
+        let mean = mean_fields(numerator, denominator);
+        table += &format!("{name},{home},{attempts},{total},{largest},{mean},{},{entered}\n", field(under_way));
     }
     table
 }
 
 /// The first three columns of the counts; the last one has words alone.
 pub fn run_table(accepted: &Accepted) -> Vec<String> {
-    let RunReply { steps, entries, stays, root, passed, crossed, .. } = waited(&accepted.tree, &accepted.schedule).reply;
+    let run = waited(&accepted.tree, &accepted.schedule);
+    let RunReply { steps, entries, stays, root, passed, crossed, .. } = run.reply;
+    let missing = Missing::of(&run);
+    let line = |name: &str, part: u64, whole: u64| format!("{name},{part},{},", if whole == 0 { String::new() } else { share(part, whole) });
     vec![
-        format!("steps,{steps},,"),
-        format!("stays,{stays},{},", share(stays, steps)),
-        format!("entries,{entries},,"),
-        format!("  root,{root},{},", share(root, entries)),
-        format!("  crossed,{crossed},{},", share(crossed, entries)),
-        format!("  passed,{passed},{},", share(passed, entries)),
+        line("steps", steps as u64, 0),
+        line("stays", stays as u64, steps as u64),
+        line("entries", entries as u64, 0),
+        line("root", root as u64, entries as u64),
+        line("crossed", crossed as u64, entries as u64),
+        line("passed", passed as u64, entries as u64),
+        line("never entered", missing.never_entered as u64, accepted.tree.threads as u64),
+        line("fewest entries", missing.fewest_entries, 0),
+        line("under way", missing.under_way as u64, 0),
+        line("longest under way", missing.longest_under_way.unwrap_or(0), 0),
     ]
 }
 
-/// A sweep of some domains together over some thresholds, and of one schedule.
-pub fn sweep_rows(accepted: &Accepted, domains: &[usize], thresholds: &[u16]) -> Vec<String> {
-    let row = |&threshold: &u16| {
-        let mut tree = accepted.tree.clone();
-        domains.iter().for_each(|&domain| tree.thresholds[domain] = threshold);
-        let run = waited(&tree, &accepted.schedule);
-        let RunReply { entries, stays, root, passed, crossed, .. } = run.reply;
-        let [_, _, largest, numerator, denominator] = run.rows[tree.threads];
-        let mean = decimal(numerator, denominator);
-        let longest = domains.iter().map(|&domain| counters(&run).longest[domain]).max().unwrap_or(0);
-        let allowances = allowances_below_root(&tree);
-        format!("{threshold},{entries},{root},{crossed},{passed},{stays},{largest},{numerator},{denominator},{mean},{longest}{allowances}")
-    };
-    thresholds.iter().map(row).collect()
+/// What a sweep runs: one schedule for all rows, or one made for each row's tree.
+pub enum Swept<'a> {
+    Turns(&'a [u16]),
+    Busy { count: usize, seed: u64, work: u64 },
 }
 
-/// The allowances of the domains below the root, each behind a comma.
-fn allowances_below_root(tree: &Tree) -> String {
-    let below = (1..tree.domains).filter(|&domain| tree.parent(domain) == ROOT);
-    below.map(|domain| format!(",{}", bounds::capped_allowance(tree, domain))).collect()
+/// A sweep of some domains together over some thresholds, and of one schedule.
+pub fn sweep_rows(tree: &Tree, swept: &Swept, domains: &[usize], thresholds: &[u16]) -> Vec<String> {
+    let row = |&threshold: &u16| {
+        let mut tree = tree.clone();
+        domains.iter().for_each(|&domain| tree.thresholds[domain] = threshold);
+        let run = match *swept {
+            Swept::Turns(turns) => waited(&tree, turns),
+            Swept::Busy { count, seed, work } => waited(&tree, &busy(&tree, count, seed, work)),
+        };
+        assert!(!matches!(swept, Swept::Busy { .. }) || run.reply.stays == 0, "a stay among busy turns");
+        let RunReply { entries, stays, root, passed, crossed, .. } = run.reply;
+        let [_, _, largest, numerator, denominator] = run.rows[tree.threads];
+        let mean = mean_fields(numerator, denominator);
+        let Missing { never_entered, fewest_entries, under_way, longest_under_way, comparable } = Missing::of(&run);
+        let longest = domains.iter().map(|&domain| counters(&run).longest[domain]).max().unwrap_or(0);
+        let allowance = (1..tree.domains).filter(|&domain| tree.parent(domain) == ROOT).map(|domain| bounds::capped_allowance(&tree, domain)).max().unwrap_or(0);
+        let missing = format!("{never_entered},{fewest_entries},{under_way},{}", field(longest_under_way));
+        format!("{threshold},{entries},{root},{crossed},{passed},{stays},{largest},{mean},{missing},{longest},{allowance},{comparable}")
+    };
+    thresholds.iter().map(row).collect()
 }
 
 const ROWS: [&str; 14] = ["Idle", "Prep", "Swap", "Link", "Wait", "Inside", "Check", "Help", "Cas", "Linger", "Grant", "Draw", "Watch", "Raise"];
@@ -124,9 +197,8 @@ pub fn tree_rows(tree: &Tree) -> Vec<String> {
 fn push_domain(tree: &Tree, domain: usize, level: usize, rows: &mut Vec<String>) {
     let threshold = tree.thresholds[domain];
     rows.push(match (domain, tree.ticket_root) {
-        (ROOT, false) => "\"0, the root, a queue\",1,-,-,".to_string(),
-        (ROOT, true) => "\"0, the root, a ticket lock\",1,-,-,".to_string(),
-        _ => format!("{}{domain},{level},{threshold},{},", "  ".repeat(level - 1), bounds::capped_allowance(tree, domain)),
+        (ROOT, _) => "0,1,,,".to_string(),
+        _ => format!("{domain},{level},{threshold},{},", bounds::capped_allowance(tree, domain)),
     });
     for child in (1..tree.domains).filter(|&child| tree.parent(child) == domain) {
         push_domain(tree, child, level + 1, rows);
@@ -147,21 +219,51 @@ pub fn step_lines(accepted: &Accepted) -> Vec<(String, Kind, String)> {
     accepted.schedule.iter().enumerate().map(|step| line(step)).collect()
 }
 
-/// The schedule that the command makes of the words bursts:COUNT:SEED:LENGTH; of random:COUNT:SEED it is that of LENGTH 1.
-pub fn bursts(count: usize, seed: u64, length: u64, threads: usize) -> Vec<u16> {
-    let mut word = seed;
-    let mut below = |bound: u64| {
-        word = word.wrapping_add(0x9E37_79B9_7F4A_7C15);
-        let mixed = (word ^ (word >> 30)).wrapping_mul(0xBF58_476D_1CE4_E5B9);
+/// The generator of the schedules that the command makes: splitmix64.
+struct Drawn(u64);
+
+impl Drawn {
+    fn below(&mut self, bound: u64) -> u64 {
+        self.0 = self.0.wrapping_add(0x9E37_79B9_7F4A_7C15);
+        let mixed = (self.0 ^ (self.0 >> 30)).wrapping_mul(0xBF58_476D_1CE4_E5B9);
         let mixed = (mixed ^ (mixed >> 27)).wrapping_mul(0x94D0_49BB_1331_11EB);
         let mixed = mixed ^ (mixed >> 31);
         (((mixed >> 32) as u128 * bound as u128) >> 32) as u64
-    };
+    }
+}
+
+/// The schedule that the command makes of the words bursts:COUNT:SEED:LENGTH; of random:COUNT:SEED it is that of LENGTH 1.
+pub fn bursts(count: usize, seed: u64, length: u64, threads: usize) -> Vec<u16> {
+    let mut drawn = Drawn(seed);
     let mut schedule = Vec::new();
     while schedule.len() < count {
-        let thread = below(threads as u64) as u16;
-        let turns = if length == 1 { 1 } else { 1 + below(length) };
+        let thread = drawn.below(threads as u64) as u16;
+        let turns = if length == 1 { 1 } else { 1 + drawn.below(length) };
         (0..turns.min((count - schedule.len()) as u64)).for_each(|_| schedule.push(thread));
+    }
+    schedule
+}
+
+/// The schedule that the command makes of the words busy:COUNT:SEED:WORK, without WORK that of WORK 0: who can move is found by trying everybody.
+pub fn busy(tree: &Tree, count: usize, seed: u64, work: u64) -> Vec<u16> {
+    let mut drawn = Drawn(seed);
+    let mut state = State::fresh_at(tree, 0);
+    let mut pauses = vec![0u64; tree.threads]; // turns for which a thread is not drawn
+    let mut schedule = Vec::new();
+    while schedule.len() < count {
+        let can_move = |thread: usize| step(tree, &mut state.clone(), thread) != Kind::Stay;
+        let candidates: Vec<usize> = (0..tree.threads).filter(|&thread| pauses[thread] == 0 && can_move(thread)).collect();
+        let passed = if candidates.is_empty() { *pauses.iter().min().expect("a thread") } else { 1 };
+        pauses.iter_mut().for_each(|pause| *pause = pause.saturating_sub(passed));
+        if candidates.is_empty() {
+            continue;
+        }
+        let thread = candidates[drawn.below(candidates.len() as u64) as usize];
+        step(tree, &mut state, thread);
+        schedule.push(thread as u16);
+        if work != 0 && state.places[thread] == Place::Idle {
+            pauses[thread] = drawn.below(2 * work + 1);
+        }
     }
     schedule
 }

@@ -93,10 +93,17 @@ fn compare_sweep(tool: &Tool, random: &mut Random, accepted: &Accepted) -> Resul
     let domain_words = joined(domains.iter().map(|domain| domain.to_string()).collect());
     let threshold_words = joined(thresholds.iter().map(|threshold| threshold.to_string()).collect());
     let jobs = random.between(1, 3).to_string();
-    let words = ["sweep", "a.lock", "--domain", &domain_words, "--thresholds", &threshold_words, "--jobs", &jobs, "--csv"];
+    let mut words = vec!["sweep", "a.lock", "--domain", &domain_words, "--thresholds", &threshold_words, "--jobs", &jobs, "--csv"];
+    let (count, seed, work) = (random.below(300), random.word(), random.pick(&[0, 0, 1, 7, 60]));
+    let busy_words = if work == 0 { format!("busy:{count}:{seed}") } else { format!("busy:{count}:{seed}:{work}") };
+    let own = random.one_in(2);
+    if !own {
+        words.extend(["--schedule", &busy_words]);
+    }
+    let swept = if own { Swept::Turns(&accepted.schedule) } else { Swept::Busy { count, seed, work } };
     let printed = tool.printed(&words)?;
     let lines: Vec<&str> = printed.lines().skip(1).collect();
-    let expected = sweep_rows(accepted, &domains, &thresholds);
+    let expected = sweep_rows(&accepted.tree, &swept, &domains, &thresholds);
     (lines == expected).then_some(()).ok_or_else(|| format!("{words:?} prints\n{printed}and by the step table it is\n{}", expected.join("\n")))
 }
 

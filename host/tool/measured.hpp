@@ -1,0 +1,46 @@
+// A schedule run from a fresh lock: its counts, its waits, and which threads these leave out.
+#ifndef HMCS_MEASURED_HPP
+#define HMCS_MEASURED_HPP
+
+#include "hmcs.hpp"
+
+#include <string>
+#include <vector>
+
+namespace tool {
+
+// The threads and attempts that the waits of a run leave out.
+struct Missing {
+    std::uint64_t threads = 0;
+    std::uint64_t never_entered = 0;     // threads without an entry
+    std::uint64_t fewest_entries = 0;    // of the thread that entered least
+    std::uint64_t under_way = 0;         // attempts that had not ended
+    std::uint64_t longest_under_way = 0; // of them, in entries of others so far
+    std::uint64_t largest_finished = 0;  // wait of an attempt that had ended
+
+    // Whether the waits may be compared with those of another run: every thread entered, and no attempt under way has waited longer than all
+    // that ended.
+    bool comparable() const { return never_entered == 0 && longest_under_way <= largest_finished; }
+    // What the largest wait is at least, those under way among them.
+    std::uint64_t at_least() const { return std::max(largest_finished, longest_under_way); }
+    // Why not, for standard error; empty where they may be compared.
+    std::string why_not() const;
+};
+
+struct Measured {
+    hmcs::Refusal refusal;
+    hmcs::Counts counts;
+    std::vector<hmcs::Waits> threads;     // of each thread, its finished attempts
+    hmcs::Waits all;                      // of all together
+    std::vector<std::uint64_t> under_way; // of each thread 0, or one more than the others' entries since its attempt began
+    hmcs_state state;                     // after the run
+
+    Missing missing() const;
+};
+
+// Runs a schedule from a fresh lock of the tree.
+Measured measure(const hmcs::Tree &tree, const std::vector<std::uint16_t> &turns);
+
+} // namespace tool
+
+#endif
