@@ -6,7 +6,10 @@
 
 namespace tool {
 
-std::string page_of(const std::string &title, const std::string &summary, const std::string &body);
+// The words with which the command was called, for the foot of its pages.
+void remember_command(const std::vector<std::string> &words);
+// A page: its title, the first sentences, which say what follows from it, what else to know, and the rest as HTML.
+std::string page_of(const std::string &title, const std::string &first, const std::string &more, const std::string &body);
 std::string section(const std::string &title, const std::string &words, const std::string &body);
 // What can be opened where a page would be long.
 std::string folded(const std::string &title, const std::string &body, bool open);

@@ -1,4 +1,5 @@
 // The command: `hmcs WORD ..`. Finds the word, reads what follows it, prints what it gives, and ends with 0 accepted, 1 refused or 2 not done.
+#include "html.hpp"
 #include "tool.hpp"
 
 #include <cerrno>
@@ -65,7 +66,9 @@ void print(const std::string &text) {
 
 int main(int count, char **words) {
     try {
-        print(obey(std::vector<std::string>(words + std::min(count, 1), words + count)));
+        const std::vector<std::string> given(words + std::min(count, 1), words + count);
+        tool::remember_command(given);
+        print(obey(given));
         return tool::accepted;
     } catch (const tool::Stop &stop) {
         std::fputs(("hmcs: " + stop.said).c_str(), stderr);

@@ -16,12 +16,12 @@ std::vector<Shade> doing_shades() {
     return {{"idle", "idle"}, {"rising", "on its way up"}, {"waiting", "waiting"}, {"inside", "inside"}, {"releasing", "releasing"}};
 }
 
-std::string scrolled(const Table &table) { return "<div class=\"scroll\">" + table.html() + "</div>\n"; }
+std::string scrolled(const Table &table, const std::string &caption) { return "<div class=\"scroll\">" + table.html(caption) + "</div>\n"; }
 
 std::string tree_section(const hmcs::Tree &tree) {
     const std::optional<std::string> text = text_of(tree);
     const std::uint32_t domains = tree.words().domains;
-    const std::string table = scrolled(tree_table(tree));
+    const std::string table = scrolled(tree_table(tree), "The domains, each below its parent");
     return section("The tree", text ? "As text: " + *text : "", domains <= 16 ? table : folded("All " + std::to_string(domains) + " domains", table, false));
 }
 
@@ -57,21 +57,28 @@ std::string entries_section(const Recording &recording) {
 
 std::string waits_section(const hmcs::Tree &tree, const Measured &result) {
     std::uint64_t largest = 1;
-    for (const hmcs::Waits &waits : result.threads) {
-        largest = std::max(largest, waits.largest);
+    for (std::size_t thread = 0; thread < result.threads.size(); ++thread) {
+        largest = std::max({largest, result.threads[thread].largest, result.under_way[thread]});
     }
     std::string rows;
     for (std::size_t thread = 0; thread < result.threads.size(); ++thread) {
         const hmcs::Waits &waits = result.threads[thread];
-        rows += "<tr><td>" + std::to_string(thread) + "<td>" + decimal(waits.total, waits.attempts, 2) + "<td class=\"left fill\">" +
-                number_bar(std::to_string(waits.largest), waits.largest, largest) + "</td></tr>\n";
+        const std::uint64_t so_far = result.under_way[thread] == 0 ? 0 : result.under_way[thread] - 1;
+        const bool unfinished = waits.attempts == 0 || so_far > waits.largest;
+        const std::uint64_t shown = std::max(waits.largest, so_far);
+        const std::string text = (unfinished ? "at least " : "") + std::to_string(shown) + (waits.attempts == 0 ? ", never entered" : unfinished ? ", under way" : "");
+        rows += std::string(unfinished ? "<tr class=hatched>" : "<tr>") + "<th scope=row>" + std::to_string(thread) + "<td>" + std::to_string(waits.attempts) + "<td>" +
+                (waits.attempts == 0 ? "-" : decimal(waits.total, waits.attempts, 2)) + "<td class=\"left fill\">" + number_bar(text, shown, largest) + "</td></tr>\n";
     }
-    const std::string head = "<thead><tr><th>thread<th>mean wait<th class=left>largest wait</thead>";
+    const std::string head = "<caption>Waits of each thread</caption><thead><tr><th scope=col>thread<th scope=col>entries<th scope=col>mean wait"
+                             "<th scope=col class=left>largest wait</thead>";
     const std::string bars = "<table class=\"wide\">" + head + "<tbody>\n" + rows + "</tbody></table>\n";
     const bool few = result.threads.size() <= 40;
     const std::string shown = few ? bars : folded("Of all " + std::to_string(result.threads.size()) + " threads", bars, false);
-    return section("Waits", "How many entries of others an attempt waited for.",
-                   shown + folded("The waits as a table, the means as exact fractions", scrolled(waits_table(tree, result)), false));
+    return section("Waits",
+                   "How many entries of others an attempt waited for. Means are those of attempts that ended; a hatched thread never entered, or its attempt "
+                   "under way has waited longer than all that it finished.",
+                   shown + folded("The waits as a table, the means as exact fractions", scrolled(waits_table(tree, result), "Waits of each thread, in entries of others"), false));
 }
 
 std::string tenures_section(const hmcs::Tree &tree, const Measured &measured) {
@@ -82,13 +89,36 @@ std::string tenures_section(const hmcs::Tree &tree, const Measured &measured) {
         }
         const std::uint64_t threshold = tree.words().thresholds[domain.number];
         const std::uint64_t longest = measured.state.longest[domain.number];
-        rows += "<tr><td class=left>" + std::string(2 * (domain.level - 2), ' ') + std::to_string(domain.number) + "<td class=\"left fill\">" +
+        rows += "<tr><th scope=row class=left>" + std::string(2 * (domain.level - 2), ' ') + std::to_string(domain.number) + "<td class=\"left fill\">" +
                 number_bar(std::to_string(longest) + " of " + std::to_string(threshold), longest, threshold) + "</td></tr>\n";
     }
-    const std::string head = "<thead><tr><th class=left>domain<th class=left>longest tenure, of the threshold</thead>";
+    const std::string head = "<caption>Longest tenure of each domain</caption><thead><tr><th scope=col class=left>domain<th scope=col class=left>longest tenure, of the threshold</thead>";
     return section("Tenures", "How many members of a domain held the lock one after another at most, of as many as its threshold allows.",
                    "<table class=\"wide\">" + head + "<tbody>\n" + rows + "</tbody></table>\n" +
-                       folded("The tenures as a table", scrolled(tenures_table(tree, measured)), false));
+                       folded("The tenures as a table", scrolled(tenures_table(tree, measured), "Entries and tenures of each domain"), false));
+}
+
+// What the page says first: how many entered, and who is missing.
+std::string first_words(const Measured &measured) {
+    const Missing missing = measured.missing();
+    const hmcs::Counts &c = measured.counts;
+    const std::string split = std::to_string(c.entries) + " entries in " + std::to_string(c.steps) + " turns, of which " + percent(c.root, c.entries) +
+                              " went through the root.";
+    if (missing.comparable()) {
+        return split + " Every thread entered, at least " + std::to_string(missing.fewest_entries) + " times; the largest wait was " +
+               std::to_string(missing.largest_finished) + " entries of others.";
+    }
+    return split + " The waits cannot be compared with those of another run: " + missing.why_not() + ".";
+}
+
+// The turn by turn part begins shortly before the first entry unless another turn is asked for.
+std::size_t first_shown(const Words &words, const Recording &recording) {
+    if (words.has("--from")) {
+        return number("--from", words.value("--from", ""), UINT32_MAX);
+    }
+    constexpr std::size_t ahead = 20;
+    const std::size_t entry = recording.entries.empty() ? 0 : recording.entries.front().turn;
+    return entry > ahead ? entry - ahead : 0;
 }
 
 std::string page(const Words &words) {
@@ -97,7 +127,6 @@ std::string page(const Words &words) {
         fail("page: -o OUT.html says where the page goes");
     }
     const Input input = read_lock_file(words.others()[0]);
-    const std::size_t from = number("--from", words.value("--from", "0"), UINT32_MAX);
     const std::size_t count = number("--count", words.value("--count", "200"), UINT32_MAX);
     if (input.schedule.empty()) {
         fail(words.others()[0] + ": its schedule has no turn, so there is nothing to show");
@@ -108,11 +137,12 @@ std::string page(const Words &words) {
     }
     const Recording recording = record(input.tree, input.schedule);
     const std::string name = as_utf8(std::filesystem::path(words.others()[0]).filename().string());
-    const std::string summary = std::to_string(input.tree.words().threads) + " threads, " + std::to_string(input.tree.words().domains) + " domains, " +
-                                std::to_string(input.schedule.size()) + " turns from a fresh lock. A turn lets one thread take one step; turns are not time.";
-    const std::string html = page_of(name, summary,
-                                     tree_section(input.tree) + counts_section(measured.counts) + timeline_section(input.tree, recording, from, count) +
-                                         entries_section(recording) + waits_section(input.tree, measured) + tenures_section(input.tree, measured));
+    const std::string more = std::to_string(input.tree.words().threads) + " threads, " + std::to_string(input.tree.words().domains) + " domains, " +
+                             std::to_string(input.schedule.size()) + " turns from a fresh lock. A turn lets one thread take one step; turns are not time.";
+    const std::string html = page_of(name, first_words(measured), more,
+                                     tree_section(input.tree) + counts_section(measured.counts) +
+                                         timeline_section(input.tree, recording, first_shown(words, recording), count) + entries_section(recording) +
+                                         waits_section(input.tree, measured) + tenures_section(input.tree, measured));
     return write_bytes(path, html, words.others());
 }
 
@@ -127,7 +157,8 @@ Command page_command() {
             "has columns, several share a column, and some turns are shown one by one as well.\n"
             "\n"
             "  -o OUT.html  where the page goes\n"
-            "  --from K     the first of the turns that are shown one by one, 0 if not given\n"
+            "  --from K     the first of the turns that are shown one by one; if not given, shortly before the first\n"
+            "               entry\n"
             "  --count N    how many of them, 200 if not given\n"
             "\n"
             "  hmcs page two-sockets.lock -o two-sockets.html\n",

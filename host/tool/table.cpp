@@ -124,8 +124,8 @@ std::string Table::json() const {
     return printed + (rows_.empty() ? "]\n" : "\n]\n");
 }
 
-std::string Table::html() const {
-    std::string printed = "<table><thead><tr>";
+std::string Table::html(const std::string &caption) const {
+    std::string printed = "<table><caption>" + escaped(caption) + "</caption><thead><tr>";
     const auto side_of = [&](std::size_t c) { return columns_[c].side == Side::left ? " class=left" : ""; };
     for (std::size_t c = 0; c < columns_.size(); ++c) {
         printed += std::string("<th scope=col") + side_of(c) + ">" + escaped(columns_[c].name);

@@ -45,7 +45,7 @@ public:
     std::string text() const;
     std::string csv() const;
     std::string json() const; // a list of objects
-    std::string html() const;
+    std::string html(const std::string &caption) const;
 
 private:
     struct Cell {

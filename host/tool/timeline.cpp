@@ -78,7 +78,7 @@ private:
 // Lanes stretched over the width of the page, each this many pixels high.
 std::string picture(const std::string &paths, const std::string &title, std::size_t columns, std::size_t count, std::size_t height) {
     return "<svg viewBox=\"0 0 " + std::to_string(columns) + " " + std::to_string(count) + "\" height=\"" + std::to_string(count * height) +
-           "\" preserveAspectRatio=\"none\" fill=\"none\" stroke-width=\".82\" role=\"img\"><title>" + escaped(title) + "</title>" + paths + "</svg>";
+           "\" preserveAspectRatio=\"none\" fill=\"none\" stroke-width=\".82\" role=\"img\" aria-label=\"" + escaped(title) + "\">" + paths + "</svg>";
 }
 
 std::string names(const std::vector<std::string> &texts, std::size_t height) {
@@ -97,13 +97,13 @@ std::string entry_lanes(const Recording &recording, const Window &window) {
     for (std::size_t lane = 0; lane < 3; ++lane) {
         Strokes background, strokes;
         background.add(lane, 0, window.columns);
-        std::size_t behind = 0; // the first column that has no stroke yet
+        std::size_t free = 0; // the first column that has no stroke yet
         for (const Entry &entry : recording.entries) {
             const bool shown = entry.kind == kinds[lane] && entry.turn >= window.from && entry.turn < window.to;
             const std::size_t column = shown ? window.column_of(entry.turn) : 0;
-            if (shown && column >= behind) {
-                behind = std::min(column + width, window.columns);
-                strokes.add(lane, column, behind - column);
+            if (shown && column >= free) {
+                free = std::min(column + width, window.columns);
+                strokes.add(lane, column, free - column);
             }
         }
         paths += background.path("idle") + strokes.path(texts[lane]);
