@@ -1,5 +1,6 @@
 // `rate`: the rate of a busy three-level lock, without a run.
 #include "tool.hpp"
+#include "trial.hpp"
 
 #include <charconv>
 
@@ -7,20 +8,11 @@ namespace tool {
 
 namespace {
 
-double passing_time(const std::string &name, const std::string &word) {
-    double value = 0;
-    const auto [end, error] = std::from_chars(word.data(), word.data() + word.size(), value);
-    if (word.empty() || end != word.data() + word.size() || error != std::errc()) {
-        fail(name + " must be a number, not \"" + word + "\"");
-    }
-    return value;
-}
-
 std::string rate(const Words &words) {
     const std::vector<std::string> &w = words.others();
     const auto h1 = static_cast<std::uint16_t>(number("H1", w[0], 65535));
     const auto h2 = static_cast<std::uint16_t>(number("H2", w[1], 65535));
-    const hmcs::RateResult result = hmcs::rate(h1, h2, {passing_time("P1", w[2]), passing_time("P2", w[3]), passing_time("P3", w[4])});
+    const hmcs::RateResult result = hmcs::rate(h1, h2, {real_number("P1", w[2]), real_number("P2", w[3]), real_number("P3", w[4])});
     if (result.refused()) {
         refuse("rate", result.refusal);
     }

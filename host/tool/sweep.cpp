@@ -140,6 +140,7 @@ std::string sweep(const Words &words) {
     sweep.tree = input.tree;
     sweep.axes = axes_of(words, input.tree);
     sweep.schedules = schedules_of(words, input);
+    sweep.times = times_of(words);
     sweep.rows = rows_of(sweep);
     const std::uint64_t jobs = number("--jobs", words.value("--jobs", "1"), 1024);
     if (jobs == 0) {
@@ -147,13 +148,13 @@ std::string sweep(const Words &words) {
     }
     run_rows(sweep, jobs);
     for (const SweepRow &row : sweep.rows) {
-        if (row.refusal.refused()) {
-            refuse(name_of(sweep, row), row.refusal);
+        if (row.trial.refusal.refused()) {
+            refuse(name_of(sweep, row), row.trial.refusal);
         }
     }
     for (const SweepRow &row : sweep.rows) {
-        if (!row.missing.comparable()) {
-            warn(name_of(sweep, row) + ": " + row.missing.why_not() + "; its waits cannot be compared");
+        if (!row.trial.missing.comparable()) {
+            warn(name_of(sweep, row) + ": " + row.trial.missing.why_not() + "; its waits cannot be compared");
         }
     }
     if (words.has("--page")) {
@@ -179,24 +180,12 @@ std::string name_of(const Sweep &sweep, const SweepRow &row) {
 
 namespace {
 
-// Waits, and which threads and attempts they leave out. Waits that cannot be compared are not shown as if they could.
-void add_waits(Table &table, const SweepRow &row) {
-    const Missing &missing = row.missing;
-    const bool comparable = missing.comparable();
-    table.cell(comparable ? std::to_string(row.waits.largest) : "at least " + std::to_string(missing.at_least()), Value(row.waits.largest));
-    if (comparable) {
-        table.mean(row.waits.numerator, row.waits.denominator);
-    } else {
-        table.mean(row.waits.numerator, row.waits.denominator, "not comparable");
+std::uint64_t longest_tenure(const Axis &axis, const Trial &trial) {
+    std::uint64_t longest = 0;
+    for (const std::uint32_t domain : axis.domains) {
+        longest = std::max(longest, trial.longest[domain]);
     }
-    table.cell(missing.never_entered == 0 ? "0" : std::to_string(missing.never_entered) + " of " + std::to_string(missing.threads), Value(missing.never_entered));
-    table.cell(missing.fewest_entries);
-    table.cell(missing.under_way);
-    if (missing.under_way == 0) {
-        table.cell("-", Value());
-    } else {
-        table.cell("at least " + std::to_string(missing.longest_under_way), Value(missing.longest_under_way));
-    }
+    return longest;
 }
 
 } // namespace
@@ -210,13 +199,7 @@ Table sweep_table(const Sweep &sweep) {
     for (const Axis &axis : sweep.axes) {
         table.column(several ? "threshold of " + axis.name : "threshold");
     }
-    for (const char *name : {"entries", "root", "crossed", "passed", "stays", "largest wait"}) {
-        table.column(name);
-    }
-    table.mean_column("mean wait");
-    for (const char *name : {"never entered", "fewest entries", "under way", "longest under way"}) {
-        table.column(name);
-    }
+    add_trial_columns(table, sweep.times.has_value());
     for (const Axis &axis : sweep.axes) {
         table.column(several ? "longest tenure of " + axis.name : "longest tenure");
     }
@@ -230,16 +213,14 @@ Table sweep_table(const Sweep &sweep) {
         for (const std::uint16_t threshold : row.thresholds) {
             table.cell(threshold);
         }
-        for (const std::uint32_t count : {row.counts.entries, row.counts.root, row.counts.crossed, row.counts.passed, row.counts.stays}) {
-            table.cell(count);
+        const bool comparable = row.trial.missing.comparable();
+        add_trial(table, row.trial, sweep.times.has_value());
+        for (const Axis &axis : sweep.axes) {
+            table.cell(longest_tenure(axis, row.trial));
         }
-        add_waits(table, row);
-        for (const std::uint64_t longest : row.longest) {
-            table.cell(longest);
-        }
-        table.cell(row.allowance);
-        table.cell(row.missing.comparable() ? "yes" : "NO", Value::of_truth(row.missing.comparable()));
-        if (!row.missing.comparable()) {
+        table.cell(capped(row.trial.allowance), Value(row.trial.allowance));
+        table.cell(comparable ? "yes" : "NO", Value::of_truth(comparable));
+        if (!comparable) {
             table.mark();
         }
     }
@@ -249,7 +230,7 @@ Table sweep_table(const Sweep &sweep) {
 Command sweep_command() {
     return {"sweep", "which threshold? one row for each that is tried",
             "usage: hmcs sweep TREE (--level L | --domain D[,D..]).. --thresholds T [--schedule S ..]\n"
-            "                       [--jobs N] [--csv | --json] [--page OUT.html] [--ticket]\n"
+            "                       [--times P1,P2,P3] [--jobs N] [--csv | --json] [--page OUT.html] [--ticket]\n"
             "Runs schedules on a tree with one threshold after another, each from a fresh lock, and prints a\n"
             "row for each: entries and how they split (root, crossed, passed), stays, the largest and the mean\n"
             "wait of all threads, in other threads' entries, the longest tenure of the domains, and the largest\n"
@@ -268,6 +249,10 @@ Command sweep_command() {
             "  --thresholds T     which thresholds: 1,2,5 or 1..8 or 1..64x2 (1, 2, 4, .. 64); once for all\n"
             "                     groups of domains, or once for each, in their order\n"
             "  --schedule S       what is run; if given again, each threshold has a row for each\n"
+            "  --times P1,P2,P3   how long it takes to pass the lock on at home, between homes and across the root:\n"
+            "                     adds the time per entry, (P1*passed + P2*crossed + P3*root) / entries, and in an\n"
+            "                     even tree of two or three levels that of `hmcs rate`; where all threads are\n"
+            "                     busy, the two should agree\n"
             "  --jobs N           how many runs at a time\n"
             "  --csv, --json      for programs\n"
             "  --page OUT.html    writes a page with charts as well\n"
@@ -278,7 +263,7 @@ Command sweep_command() {
             "\n"
             "  hmcs sweep '(16(4(#4) 4(#4)) 16(4(#4) 4(#4)))' --level 2 --thresholds 1..64x2\n",
             with_table_options(
-                {{"--domain", true}, {"--level", true}, {"--thresholds", true}, {"--schedule", true}, {"--jobs", true}, {"--page", true}, {"--ticket", false}}),
+                {{"--domain", true}, {"--level", true}, {"--thresholds", true}, {"--schedule", true}, {"--times", true}, {"--jobs", true}, {"--page", true}, {"--ticket", false}}),
             1,
             1,
             sweep};

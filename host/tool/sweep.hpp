@@ -2,9 +2,7 @@
 #ifndef HMCS_SWEEP_HPP
 #define HMCS_SWEEP_HPP
 
-#include "measured.hpp"
-#include "schedules.hpp"
-#include "table.hpp"
+#include "trial.hpp"
 
 namespace tool {
 
@@ -19,18 +17,14 @@ struct Axis {
 struct SweepRow {
     std::vector<std::uint16_t> thresholds;
     std::size_t schedule = 0;
-    hmcs::Refusal refusal;
-    hmcs::Counts counts;
-    hmcs::Waits waits; // of all threads together
-    Missing missing;
-    std::vector<std::uint64_t> longest; // for each axis, the longest tenure of its domains
-    std::uint64_t allowance = 0;        // the largest of the root's members
+    Trial trial;
 };
 
 struct Sweep {
     hmcs::Tree tree;
     std::vector<Axis> axes;
     std::vector<Schedule> schedules;
+    std::optional<hmcs::PassingTimes> times;
     std::vector<SweepRow> rows; // schedule by schedule, the last axis fastest
 };
 

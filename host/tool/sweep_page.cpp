@@ -9,26 +9,26 @@ namespace {
 
 // The wait as the page says it: one that is not known to be the largest says so.
 std::string wait_text(const SweepRow &row) {
-    return row.missing.comparable() ? std::to_string(row.waits.largest) : "at least " + std::to_string(row.missing.at_least());
+    return row.trial.missing.comparable() ? std::to_string(row.trial.waits.largest) : "at least " + std::to_string(row.trial.missing.at_least());
 }
 
 std::uint64_t largest_wait(const Sweep &sweep) {
     std::uint64_t largest = 1;
     for (const SweepRow &row : sweep.rows) {
-        largest = std::max(largest, row.missing.at_least());
+        largest = std::max(largest, row.trial.missing.at_least());
     }
     return largest;
 }
 
 std::string chart_row(const SweepRow &row, std::uint64_t largest) {
-    const bool comparable = row.missing.comparable();
+    const bool comparable = row.trial.missing.comparable();
     std::string cells;
     for (const std::uint16_t threshold : row.thresholds) {
         cells += "<th scope=row>" + std::to_string(threshold);
     }
-    const std::string why = comparable ? "" : "<div class=\"why\">" + escaped(row.missing.why_not()) + "</div>";
-    return std::string(comparable ? "<tr>" : "<tr class=hatched>") + cells + "<td>" + percent(row.counts.root, row.counts.entries) + "<td class=\"half\">" +
-           share_bar(row.counts) + "<td class=\"left half\">" + number_bar(wait_text(row), row.missing.at_least(), largest) + why + "</td></tr>\n";
+    const std::string why = comparable ? "" : "<div class=\"why\">" + escaped(row.trial.missing.why_not()) + "</div>";
+    return std::string(comparable ? "<tr>" : "<tr class=hatched>") + cells + "<td>" + percent(row.trial.counts.root, row.trial.counts.entries) + "<td class=\"half\">" +
+           share_bar(row.trial.counts) + "<td class=\"left half\">" + number_bar(wait_text(row), row.trial.missing.at_least(), largest) + why + "</td></tr>\n";
 }
 
 std::string chart(const Sweep &sweep, std::size_t schedule) {
@@ -49,9 +49,9 @@ std::string chart(const Sweep &sweep, std::size_t schedule) {
 std::string wait_colour(const Sweep &sweep, std::uint64_t wait) {
     std::uint64_t smallest = UINT64_MAX, largest = 0;
     for (const SweepRow &row : sweep.rows) {
-        if (row.missing.comparable()) {
-            smallest = std::min(smallest, row.waits.largest);
-            largest = std::max(largest, row.waits.largest);
+        if (row.trial.missing.comparable()) {
+            smallest = std::min(smallest, row.trial.waits.largest);
+            largest = std::max(largest, row.trial.waits.largest);
         }
     }
     const std::uint64_t strength = smallest >= largest ? 0 : 36 * (wait - smallest) / (largest - smallest);
@@ -69,11 +69,11 @@ std::string grid(const Sweep &sweep, std::size_t schedule) {
         if (row.schedule != schedule) {
             continue;
         }
-        const bool comparable = row.missing.comparable();
+        const bool comparable = row.trial.missing.comparable();
         rows += in_line == 0 ? "<tr><th scope=row>" + std::to_string(row.thresholds[0]) : "";
-        rows += std::string("<td") + (comparable ? " style=\"background:" + wait_colour(sweep, row.waits.largest) + "\"" : " class=hatched") + "><b>" + wait_text(row) +
-                "</b><span>root " + percent(row.counts.root, row.counts.entries) + "</span>" +
-                (comparable ? "" : "<span>" + escaped(row.missing.why_not()) + "</span>");
+        rows += std::string("<td") + (comparable ? " style=\"background:" + wait_colour(sweep, row.trial.waits.largest) + "\"" : " class=hatched") + "><b>" + wait_text(row) +
+                "</b><span>root " + percent(row.trial.counts.root, row.trial.counts.entries) + "</span>" +
+                (comparable ? "" : "<span>" + escaped(row.trial.missing.why_not()) + "</span>");
         in_line = (in_line + 1) % sweep.axes[1].thresholds.size();
         rows += in_line == 0 ? "</td></tr>\n" : "";
     }
@@ -89,7 +89,7 @@ std::string advice(const Sweep &sweep) {
     }
     std::vector<const SweepRow *> rows;
     for (const SweepRow &row : sweep.rows) {
-        if (row.missing.comparable()) {
+        if (row.trial.missing.comparable()) {
             rows.push_back(&row);
         }
     }
@@ -99,11 +99,11 @@ std::string advice(const Sweep &sweep) {
     }
     const SweepRow *free = rows.front();
     for (const SweepRow *row : rows) {
-        free = row->waits.largest <= rows.front()->waits.largest ? row : free;
+        free = row->trial.waits.largest <= rows.front()->trial.waits.largest ? row : free;
     }
     const auto same = [](const SweepRow &a, const SweepRow &b) {
-        return a.counts.entries == b.counts.entries && a.counts.root == b.counts.root && a.counts.crossed == b.counts.crossed && a.waits.total == b.waits.total &&
-               a.waits.largest == b.waits.largest;
+        return a.trial.counts.entries == b.trial.counts.entries && a.trial.counts.root == b.trial.counts.root && a.trial.counts.crossed == b.trial.counts.crossed &&
+               a.trial.waits.total == b.trial.waits.total && a.trial.waits.largest == b.trial.waits.largest;
     };
     std::size_t settled = rows.size() - 1;
     while (settled > 0 && same(*rows[settled - 1], *rows.back())) {
@@ -125,7 +125,7 @@ std::string first_words(const Sweep &sweep) {
     }
     std::size_t marked = 0;
     for (const SweepRow &row : sweep.rows) {
-        marked += row.missing.comparable() ? 0 : 1;
+        marked += row.trial.missing.comparable() ? 0 : 1;
     }
     const std::string all = std::to_string(sweep.rows.size());
     const std::string compared = marked == 0 ? " All " + all + " rows can be compared."

@@ -16,15 +16,6 @@ namespace tool {
 
 namespace {
 
-std::uint64_t largest_allowance(const hmcs::Tree &tree) {
-    const std::vector<std::uint64_t> allowances = hmcs::allowances(tree).domains;
-    std::uint64_t largest = 0;
-    for (std::size_t domain = 1; domain < allowances.size(); ++domain) {
-        largest = tree.words().parents[domain] == 0 ? std::max(largest, allowances[domain]) : largest;
-    }
-    return largest;
-}
-
 void run_row(const Sweep &sweep, SweepRow &row) {
     hmcs_tree words = sweep.tree.words();
     for (std::size_t a = 0; a < sweep.axes.size(); ++a) {
@@ -32,23 +23,7 @@ void run_row(const Sweep &sweep, SweepRow &row) {
             words.thresholds[domain] = row.thresholds[a];
         }
     }
-    const hmcs::Tree tree = hmcs::Tree::of(words);
-    row.refusal = hmcs::Lock(tree).refusal();
-    if (row.refusal.refused()) {
-        return;
-    }
-    const Measured measured = measure(tree, sweep.schedules[row.schedule].turns(tree));
-    row.refusal = measured.refusal;
-    row.counts = measured.counts;
-    row.waits = measured.all;
-    row.missing = measured.missing();
-    row.longest.assign(sweep.axes.size(), 0);
-    for (std::size_t a = 0; a < sweep.axes.size(); ++a) {
-        for (const std::uint32_t domain : sweep.axes[a].domains) {
-            row.longest[a] = std::max(row.longest[a], measured.state.longest[domain]);
-        }
-    }
-    row.allowance = largest_allowance(tree);
+    row.trial = try_tree(hmcs::Tree::of(words), sweep.schedules[row.schedule], sweep.times);
 }
 
 // Rows that wait to be run, and how many are done. The first exception of a job ends them all.

@@ -1,6 +1,7 @@
 //! What the command's tables must say, by the step table: as it prints them for a spreadsheet.
 
 use crate::counters::Counters;
+use crate::rate::{rate, PassingTimes};
 use crate::refusals::{accept_entries, accept_tree, Refusal};
 use crate::table::*;
 use crate::waits::{run_waits, seen, Seen, ROW};
@@ -164,7 +165,7 @@ pub enum Swept<'a> {
 }
 
 /// A sweep of some domains together over some thresholds, and of one schedule.
-pub fn sweep_rows(tree: &Tree, swept: &Swept, domains: &[usize], thresholds: &[u16]) -> Vec<String> {
+pub fn sweep_rows(tree: &Tree, swept: &Swept, domains: &[usize], thresholds: &[u16], times: Option<PassingTimes>) -> Vec<String> {
     let row = |&threshold: &u16| {
         let mut tree = tree.clone();
         domains.iter().for_each(|&domain| tree.thresholds[domain] = threshold);
@@ -180,9 +181,36 @@ pub fn sweep_rows(tree: &Tree, swept: &Swept, domains: &[usize], thresholds: &[u
         let longest = domains.iter().map(|&domain| counters(&run).longest[domain]).max().unwrap_or(0);
         let allowance = (1..tree.domains).filter(|&domain| tree.parent(domain) == ROOT).map(|domain| bounds::capped_allowance(&tree, domain)).max().unwrap_or(0);
         let missing = format!("{never_entered},{fewest_entries},{under_way},{}", field(longest_under_way));
-        format!("{threshold},{entries},{root},{crossed},{passed},{stays},{largest},{mean},{missing},{longest},{allowance},{comparable}")
+        let timed = times.map_or(String::new(), |times| time_fields(&tree, times, &run.reply));
+        format!("{threshold},{entries},{root},{crossed},{passed},{stays},{largest},{mean},{missing}{timed},{longest},{allowance},{comparable}")
     };
     thresholds.iter().map(row).collect()
+}
+
+/// The time per entry of a run, and by the rate: each after a comma, and nothing where there is none.
+fn time_fields(tree: &Tree, times: PassingTimes, reply: &RunReply) -> String {
+    let RunReply { entries, root, passed, crossed, .. } = *reply;
+    let time = (times.p1 * passed as f64 + times.p2 * crossed as f64 + times.p3 * root as f64) / entries as f64;
+    let time = if entries == 0 { String::new() } else { time.to_string() };
+    let by_rate = thresholds_of_levels(tree).and_then(|thresholds| match thresholds[..] {
+        [home] => rate(home, 1, times).ok(),
+        [middle, home] => rate(home, middle, times).ok(),
+        _ => None,
+    });
+    format!(",{time},{}", by_rate.map_or(String::new(), |rate| (1.0 / rate).to_string()))
+}
+
+/// The threshold of each level below the root, where every level has one and all homes are on the last level.
+fn thresholds_of_levels(tree: &Tree) -> Option<Vec<u16>> {
+    let level = |domain: usize| std::iter::successors(Some(domain), |&above| (above != ROOT).then(|| tree.parent(above))).count();
+    let last = (0..tree.domains).map(level).max()?;
+    let of_level = |wanted: usize| {
+        let mut found: Vec<u16> = (1..tree.domains).filter(|&domain| level(domain) == wanted).map(|domain| tree.thresholds[domain]).collect();
+        found.dedup();
+        (found.len() == 1).then(|| found[0])
+    };
+    let all_on_last = (0..tree.threads).all(|thread| level(tree.home(thread)) == last);
+    (2..=last).map(of_level).collect::<Option<Vec<u16>>>().filter(|_| all_on_last)
 }
 
 const ROWS: [&str; 14] = ["Idle", "Prep", "Swap", "Link", "Wait", "Inside", "Check", "Help", "Cas", "Linger", "Grant", "Draw", "Watch", "Raise"];

@@ -3,6 +3,7 @@
 use reference::file_writer::shortest;
 use reference::options::Options;
 use reference::random::Random;
+use reference::rate::PassingTimes;
 use reference::random_file::{random_file, valid_draft};
 use reference::table::{Kind, Tree};
 use reference::tool::*;
@@ -101,9 +102,14 @@ fn compare_sweep(tool: &Tool, random: &mut Random, accepted: &Accepted) -> Resul
         words.extend(["--schedule", &busy_words]);
     }
     let swept = if own { Swept::Turns(&accepted.schedule) } else { Swept::Busy { count, seed, work } };
+    let times = random.one_in(2).then(|| PassingTimes { p1: random.pick(&[0.05, 1.0, 3.25]), p2: random.pick(&[0.2, 7.0]), p3: random.pick(&[1.0, 1000.0, 0.3]) });
+    let time_words = times.map_or(String::new(), |times| format!("{},{},{}", times.p1, times.p2, times.p3));
+    if times.is_some() {
+        words.extend(["--times", &time_words]);
+    }
     let printed = tool.printed(&words)?;
     let lines: Vec<&str> = printed.lines().skip(1).collect();
-    let expected = sweep_rows(&accepted.tree, &swept, &domains, &thresholds);
+    let expected = sweep_rows(&accepted.tree, &swept, &domains, &thresholds, times);
     (lines == expected).then_some(()).ok_or_else(|| format!("{words:?} prints\n{printed}and by the step table it is\n{}", expected.join("\n")))
 }
 

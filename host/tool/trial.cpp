@@ -1,0 +1,166 @@
+#include "trial.hpp"
+
+#include "tool.hpp"
+#include "trees.hpp"
+
+#include <charconv>
+#include <cstdio>
+
+namespace tool {
+
+namespace {
+
+std::uint64_t largest_allowance(const hmcs::Tree &tree) {
+    const std::vector<std::uint64_t> allowances = hmcs::allowances(tree).domains;
+    std::uint64_t largest = 0;
+    for (std::size_t domain = 1; domain < allowances.size(); ++domain) {
+        largest = tree.words().parents[domain] == 0 ? std::max(largest, allowances[domain]) : largest;
+    }
+    return largest;
+}
+
+// The thresholds of levels 2 and on, where all threads are at home on the last level and each level has one threshold.
+std::optional<std::vector<std::uint16_t>> thresholds_by_level(const hmcs::Tree &tree) {
+    std::vector<std::uint16_t> thresholds;
+    std::vector<std::uint32_t> levels(tree.words().domains);
+    for (const Domain &domain : domains_in_order(tree)) {
+        levels[domain.number] = domain.level;
+        if (domain.level < 2) {
+            continue;
+        }
+        thresholds.resize(std::max<std::size_t>(thresholds.size(), domain.level - 1));
+        std::uint16_t &threshold = thresholds[domain.level - 2];
+        if (threshold != 0 && threshold != tree.words().thresholds[domain.number]) {
+            return std::nullopt;
+        }
+        threshold = tree.words().thresholds[domain.number];
+    }
+    for (std::uint32_t thread = 0; thread < tree.words().threads; ++thread) {
+        if (levels[tree.words().homes[thread]] != thresholds.size() + 1) {
+            return std::nullopt;
+        }
+    }
+    return thresholds;
+}
+
+// By the proved rate. In a tree of two levels the lock never passes between homes below one domain, as with a threshold of 1 there.
+std::optional<double> proved_time(const hmcs::Tree &tree, const hmcs::PassingTimes &times) {
+    const std::optional<std::vector<std::uint16_t>> thresholds = thresholds_by_level(tree);
+    if (!thresholds || thresholds->empty() || thresholds->size() > 2) {
+        return std::nullopt;
+    }
+    const hmcs::RateResult result = hmcs::rate(thresholds->back(), thresholds->size() == 1 ? 1 : thresholds->front(), times);
+    return result.accepted() ? std::optional<double>(1 / result.rate) : std::nullopt;
+}
+
+std::optional<double> time_per_entry(const hmcs::Counts &counts, const hmcs::PassingTimes &times) {
+    if (counts.entries == 0) {
+        return std::nullopt;
+    }
+    return (times.p1 * counts.passed + times.p2 * counts.crossed + times.p3 * counts.root) / counts.entries;
+}
+
+void add_time(Table &table, const std::optional<double> &time) {
+    if (!time) {
+        table.cell("-", Value());
+        return;
+    }
+    char text[64];
+    std::snprintf(text, sizeof text, "%.4f", *time);
+    table.cell(text, Value::of_decimal(shortest(*time)));
+}
+
+} // namespace
+
+Trial try_tree(const hmcs::Tree &tree, const Schedule &schedule, const std::optional<hmcs::PassingTimes> &times) {
+    Trial trial;
+    trial.refusal = hmcs::Lock(tree).refusal();
+    if (trial.refusal.refused()) {
+        return trial;
+    }
+    const Measured measured = measure(tree, schedule.turns(tree));
+    trial.refusal = measured.refusal;
+    trial.counts = measured.counts;
+    trial.waits = measured.all;
+    trial.missing = measured.missing();
+    trial.longest.assign(std::begin(measured.state.longest), std::end(measured.state.longest));
+    trial.allowance = largest_allowance(tree);
+    if (times) {
+        trial.time = time_per_entry(trial.counts, *times);
+        trial.proved_time = proved_time(tree, *times);
+    }
+    return trial;
+}
+
+double real_number(const std::string &name, const std::string &word) {
+    double value = 0;
+    const auto [end, error] = std::from_chars(word.data(), word.data() + word.size(), value);
+    if (word.empty() || end != word.data() + word.size() || error != std::errc()) {
+        fail(name + " must be a number, not \"" + word + "\"");
+    }
+    return value;
+}
+
+std::string shortest(double number) {
+    char text[400]; // enough for the largest and the smallest number without an exponent
+    const auto written = std::to_chars(text, text + sizeof text, number, std::chars_format::fixed);
+    return std::string(text, written.ptr);
+}
+
+std::optional<hmcs::PassingTimes> times_of(const Words &words) {
+    if (!words.has("--times")) {
+        return std::nullopt;
+    }
+    const std::vector<std::string> parts = split(words.value("--times", ""), ',');
+    if (parts.size() != 3) {
+        fail("--times: expected P1,P2,P3: how long it takes to pass the lock on at home, between homes and across the root");
+    }
+    const hmcs::PassingTimes times{real_number("P1", parts[0]), real_number("P2", parts[1]), real_number("P3", parts[2])};
+    if (const hmcs::RateResult result = hmcs::rate(1, 1, times); result.refused()) {
+        refuse("--times", result.refusal);
+    }
+    return times;
+}
+
+void add_trial_columns(Table &table, bool timed) {
+    for (const char *name : {"entries", "root", "crossed", "passed", "stays", "largest wait"}) {
+        table.column(name);
+    }
+    table.mean_column("mean wait");
+    for (const char *name : {"never entered", "fewest entries", "under way", "longest under way"}) {
+        table.column(name);
+    }
+    if (timed) {
+        table.column("time per entry");
+        table.column("time by rate");
+    }
+}
+
+void add_trial(Table &table, const Trial &trial, bool timed) {
+    const Missing &missing = trial.missing;
+    const bool comparable = missing.comparable();
+    for (const std::uint32_t count : {trial.counts.entries, trial.counts.root, trial.counts.crossed, trial.counts.passed, trial.counts.stays}) {
+        table.cell(count);
+    }
+    // waits that cannot be compared are not shown as if they could
+    table.cell(comparable ? std::to_string(trial.waits.largest) : "at least " + std::to_string(missing.at_least()), Value(trial.waits.largest));
+    if (comparable) {
+        table.mean(trial.waits.numerator, trial.waits.denominator);
+    } else {
+        table.mean(trial.waits.numerator, trial.waits.denominator, "not comparable");
+    }
+    table.cell(missing.never_entered == 0 ? "0" : std::to_string(missing.never_entered) + " of " + std::to_string(missing.threads), Value(missing.never_entered));
+    table.cell(missing.fewest_entries);
+    table.cell(missing.under_way);
+    if (missing.under_way == 0) {
+        table.cell("-", Value());
+    } else {
+        table.cell("at least " + std::to_string(missing.longest_under_way), Value(missing.longest_under_way));
+    }
+    if (timed) {
+        add_time(table, trial.time);
+        add_time(table, trial.proved_time);
+    }
+}
+
+} // namespace tool

@@ -1,0 +1,42 @@
+// A tree tried on a schedule: the figures that sweep, choose and compare show of it.
+#ifndef HMCS_TRIAL_HPP
+#define HMCS_TRIAL_HPP
+
+#include "measured.hpp"
+#include "schedules.hpp"
+#include "table.hpp"
+
+#include <optional>
+
+namespace tool {
+
+class Words;
+
+struct Trial {
+    hmcs::Refusal refusal;
+    hmcs::Counts counts;
+    hmcs::Waits waits; // of all threads together
+    Missing missing;
+    std::vector<std::uint64_t> longest; // of each domain, its longest tenure
+    std::uint64_t allowance = 0;        // the largest of the root's members
+    std::optional<double> time;         // per entry, where passing times are given
+    std::optional<double> proved_time;  // the same by the proved rate, in an even tree of two or three levels
+};
+
+// Runs the schedule from a fresh lock of the tree.
+Trial try_tree(const hmcs::Tree &tree, const Schedule &schedule, const std::optional<hmcs::PassingTimes> &times);
+
+// P1,P2,P3 of the option --times, if it is given; one that `rate` refuses is refused.
+std::optional<hmcs::PassingTimes> times_of(const Words &words);
+// A number that is not a whole one, as the command reads it.
+double real_number(const std::string &name, const std::string &word);
+// The shortest digits that read back as the same number.
+std::string shortest(double number);
+
+// The columns from the entries to the waits and times, and the cells of a row there.
+void add_trial_columns(Table &table, bool timed);
+void add_trial(Table &table, const Trial &trial, bool timed);
+
+} // namespace tool
+
+#endif
