@@ -61,6 +61,7 @@ struct Command {
     std::string (*run)(const Words &); // what standard output gets
 };
 
+Command machine_command();
 Command tree_command();
 Command make_command();
 Command show_command();

@@ -1,0 +1,43 @@
+// The layout of a computer, as lscpu prints it, and the tree that follows from it.
+#ifndef HMCS_LAYOUT_HPP
+#define HMCS_LAYOUT_HPP
+
+#include <cstdint>
+#include <string>
+#include <vector>
+
+namespace tool {
+
+// A worker's place: a processor, and the groups that it is in. What lscpu does not say is empty.
+struct Processor {
+    std::uint64_t number = 0;
+    std::string core, socket, node, cache; // the cache is the last one on its way to memory, with its level: "L3 0"
+};
+
+// The processors that are online, of lines as `lscpu -p=CPU,CORE,SOCKET,NODE,CACHE` prints them; the name is for errors.
+std::vector<Processor> read_layout(const std::string &name, const std::string &lines);
+
+// One processor of each core, the one with the lowest number, in the order of the processors.
+std::vector<Processor> one_per_core(const std::vector<Processor> &processors);
+
+// A group of processors: its groups, or if it has none its own workers, by the processors they run on.
+struct Group {
+    std::vector<Group> groups;
+    std::vector<Processor> workers;
+
+    std::size_t members() const { return groups.empty() ? workers.size() : groups.size(); }
+};
+
+// The machine as groups within groups: sockets or nodes, and what shares a last cache. A group with one member is left out.
+Group grouped(const std::vector<Processor> &processors);
+// So many workers, spread evenly over the processors; groups that get none are left out.
+Group spread(const Group &machine, std::uint64_t workers);
+
+// The text of the tree, with the number of members as each threshold.
+std::string text_of(const Group &machine);
+// The processors in the order of the tree's threads.
+std::vector<Processor> in_order(const Group &machine);
+
+} // namespace tool
+
+#endif
