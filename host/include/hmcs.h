@@ -5,12 +5,12 @@
  * globals, no locks. Link it so that a plugin does not export it: the CMake target hmcs::hmcs and the flags of pkg-config do.
  *
  * Pointers are the one thing that no function can test. A buffer must be valid for its length, and may be null where the length is 0; the
- * pointers to a state, a place, a length or allowances must be valid, aligned and not null. The buffers of one call must not overlap. Two calls
+ * pointers to a state, a place, a length, allowances or numbers under way must be valid, aligned and not null. The buffers of one call must not overlap. Two calls
  * may run at once unless one writes what the other reads or writes. hmcs_run_file and hmcs_run_many need 200 KB of stack, every other function at most
  * 72 KB besides its arguments and its result, which take up to 19 KB in the caller.
  *
- * Compare two states field by field, never by memcmp: struct hmcs_place and struct hmcs_state have padding, and so do struct hmcs_text_reply
- * and struct hmcs_journal_answer.
+ * Compare two states field by field, never by memcmp: struct hmcs_place and struct hmcs_state have padding, and so do struct hmcs_text_reply,
+ * struct hmcs_journal_answer and struct hmcs_waits_reply.
  */
 #ifndef HMCS_H
 #define HMCS_H
@@ -18,8 +18,8 @@
 #include <stddef.h>
 #include <stdint.h>
 
-/* The version, here and nowhere else; HMCS_VERSION is the version as a text, such as "2.0.0". */
-#define HMCS_VERSION_MAJOR 2
+/* The version, here and nowhere else; HMCS_VERSION is the version as a text, such as "3.0.0". */
+#define HMCS_VERSION_MAJOR 3
 #define HMCS_VERSION_MINOR 0
 #define HMCS_VERSION_PATCH 0
 #define HMCS_VERSION_TEXT(major, minor, patch) #major "." #minor "." #patch
@@ -130,7 +130,9 @@ enum hmcs_refusal {
     HMCS_ROWS_SHORT = 23,      /* The row buffer holds fewer rows than there are schedules. */
     HMCS_BAD_TIME = 24,        /* A passing time is not a number from 1/1024 to 1,048,576, the place being 1 to 3. */
     HMCS_JOURNAL_BROKEN = 25,  /* A journal entry is cut off or has another bit set, the place being its first byte. */
-    HMCS_OTHER_KIND = 26       /* The kind that a journal entry names is not the step's, the place being the journal entry's first byte. */
+    HMCS_OTHER_KIND = 26,      /* The kind that a journal entry names is not the step's, the place being the journal entry's first byte. */
+    HMCS_BAD_UNDER_WAY = 27    /* A number of an attempt under way is above HMCS_MOST_COUNTED, or is not 0 after the last thread, the place being the
+                                * thread. Tested last before 19. */
 };
 
 /* The sentence of a refusal number, for people. */
@@ -163,6 +165,7 @@ static inline const char *hmcs_refusal_text(uint32_t number) {
     case HMCS_BAD_TIME: return "a passing time is not a number from 1/1024 to 1,048,576";
     case HMCS_JOURNAL_BROKEN: return "a journal entry is cut off or has another bit set";
     case HMCS_OTHER_KIND: return "the kind that a journal entry names is not the step's";
+    case HMCS_BAD_UNDER_WAY: return "a number of an attempt under way is above 2^63, or is not 0 after the last thread";
     default: return "no refusal has this number";
     }
 }
@@ -250,13 +253,28 @@ hmcs_run_reply hmcs_run(hmcs_tree tree, hmcs_state state, const uint16_t *schedu
 /* How many numbers a row of waits has: attempts finished, total wait, largest wait, and the mean's numerator and denominator, in this order. */
 enum { HMCS_WAIT_NUMBERS = 5 };
 
+/* What a run with waits returns: what hmcs_run returns, and how many rows were written, one more than there are threads; 0 if refused. */
+typedef struct hmcs_waits_reply {
+    hmcs_run_reply run;
+    uint32_t rows;
+} hmcs_waits_reply;
+
 /* The steps of a schedule as hmcs_run takes them, and the waits of the attempts that begin and finish within the run. An attempt of a thread begins
  * with its Swap at home (at a ticket root that is its home, with its draw) and finishes with its next entry, which may be the same step; its wait
  * is the number of other threads' entries between the two. At the front of the rows stands a row for each thread, in their order, then one for
  * all threads together; nothing after them is written. A mean is total over attempts in lowest terms; a row without an attempt is 0
  * throughout, and a total of 0 over some attempts has the mean 0 over 1. Refused as hmcs_run is, with 18 between 13 and 19; then the counts are
  * 0, and state, trace and rows are as they came. A buffer of k numbers holds k / 5 rows, rounded down. */
-hmcs_run_reply hmcs_run_waits(hmcs_tree tree, hmcs_state state, const uint16_t *schedule, size_t schedule_length, uint16_t *trace, size_t trace_length, uint64_t *rows, size_t rows_length);
+hmcs_waits_reply hmcs_run_waits(hmcs_tree tree, hmcs_state state, const uint16_t *schedule, size_t schedule_length, uint16_t *trace, size_t trace_length, uint64_t *rows, size_t rows_length);
+
+/* The same from attempts that are under way, so that a history may take several calls: the next one from the state and the numbers that the one
+ * before left. under_way has HMCS_THREADS elements and is read and written: under_way[i] is 0 where thread i has no attempt under way, and otherwise one
+ * more than the other threads' entries since that attempt began. All 0 is the start of a history, and then the rows are those of
+ * hmcs_run_waits. The rows are of the attempts that finish within the run, whenever they began. Calls one after another give what one call on all their
+ * turns would give: attempts and totals added, the largest of the largest waits, and the same numbers under way. In the last row UINT64_MAX also stands
+ * for a larger total, and the mean is that of the number that stands there; no total is larger where the numbers handed in and the run's entries, as often as
+ * there are threads, add up to at most UINT64_MAX. Refused as hmcs_run_waits is, with 27 between 18 and 19; then under_way is as it came too. */
+hmcs_waits_reply hmcs_run_waits_on(hmcs_tree tree, hmcs_state state, const uint16_t *schedule, size_t schedule_length, uint16_t *trace, size_t trace_length, uint64_t *rows, size_t rows_length, uint64_t *under_way);
 
 /* A fresh lock, written where the host keeps its state, its start as above. Refused by 4 to 9 and 16; then the state is as it was. */
 hmcs_answer hmcs_fresh_in_place(hmcs_tree tree, hmcs_state *state, uint16_t start);
@@ -296,13 +314,21 @@ hmcs_rounds_reply hmcs_rounds(hmcs_tree tree);
 /* How many numbers a row has: number, place, steps, entries, stays, root, passed and crossed, in this order, as hmcs_run_reply has them. */
 enum { HMCS_ROW_NUMBERS = 8 };
 
+/* What many schedules in one call return: number and place of the whole call, and how many rows were written, one for each schedule; 0 if
+ * refused. */
+typedef struct hmcs_many_reply {
+    uint32_t number;
+    uint32_t place;
+    size_t rows;
+} hmcs_many_reply;
+
 /* Many schedules on one tree, their turns one after another in entries: lengths_length schedules, the first of lengths[0] turns, and so on. Each runs
  * from its own fresh lock (of start 0), and what hmcs_run would answer for it alone, with a trace buffer of its length, is its row, in the order of the
  * schedules at the front of the rows; nothing after them is written, and no trace is kept. A schedule with more than 65,536 turns (11) or
  * with a turn that names no thread (12, the place being its position in that schedule) has this in its row, with counts 0, and the others run
  * all the same. The whole call is refused by 4 to 9 and 16, then by 22, then by 23; then the rows are as they came. A buffer of k numbers
  * holds k / 8 rows, rounded down. No schedules and no turns are accepted too. */
-hmcs_answer hmcs_run_many(hmcs_tree tree, const uint32_t *lengths, size_t lengths_length, const uint16_t *entries, size_t entries_length, uint32_t *rows, size_t rows_length);
+hmcs_many_reply hmcs_run_many(hmcs_tree tree, const uint32_t *lengths, size_t lengths_length, const uint16_t *entries, size_t entries_length, uint32_t *rows, size_t rows_length);
 
 /* What the check of a journal returns: number and place. The place is a position in the journal, however long that is. */
 typedef struct hmcs_journal_answer {
@@ -425,6 +451,11 @@ HMCS_OFFSET(hmcs_step_reply, state, 16);
 HMCS_LAYOUT(hmcs_run_reply, 9000, 8);
 HMCS_OFFSET(hmcs_run_reply, crossed, 28);
 HMCS_OFFSET(hmcs_run_reply, state, 32);
+HMCS_LAYOUT(hmcs_waits_reply, 9008, 8);
+HMCS_OFFSET(hmcs_waits_reply, rows, 9000);
+HMCS_LAYOUT(hmcs_many_reply, 16, 8);
+HMCS_OFFSET(hmcs_many_reply, place, 4);
+HMCS_OFFSET(hmcs_many_reply, rows, 8);
 HMCS_LAYOUT(hmcs_rounds_reply, 24, 8);
 HMCS_OFFSET(hmcs_rounds_reply, place, 4);
 HMCS_OFFSET(hmcs_rounds_reply, rounds, 8);

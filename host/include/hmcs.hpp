@@ -5,9 +5,11 @@
 #include "hmcs.h"
 
 #include <algorithm>
+#include <array>
 #include <cstddef>
 #include <cstdint>
 #include <iterator>
+#include <numeric>
 #include <optional>
 #include <string>
 #include <string_view>
@@ -109,14 +111,29 @@ struct [[nodiscard]] RunResult : Result {
     std::vector<std::uint16_t> trace; // the entering threads
 };
 
-// Waits of attempts that began and finished within a run. Without an attempt all five are 0.
+// Waits of attempts that finished within a run. Without an attempt all five are 0.
 struct Waits {
     std::uint64_t attempts = 0;
-    std::uint64_t total = 0;       // other threads' entries, over all attempts
+    std::uint64_t total = 0;       // other threads' entries, over all attempts; UINT64_MAX where it is larger
     std::uint64_t largest = 0;     // of one attempt
     std::uint64_t numerator = 0;   // of the mean, total over attempts in lowest terms
     std::uint64_t denominator = 0;
 };
+
+// The waits of both: attempts and totals added, the larger largest wait, and the mean in lowest terms.
+inline Waits joined(const Waits &a, const Waits &b) {
+    const auto sum = [](std::uint64_t x, std::uint64_t y) { return x > UINT64_MAX - y ? UINT64_MAX : x + y; };
+    Waits waits{sum(a.attempts, b.attempts), sum(a.total, b.total), std::max(a.largest, b.largest), 0, 0};
+    if (waits.attempts != 0) {
+        const std::uint64_t divisor = std::gcd(waits.total, waits.attempts);
+        waits.numerator = waits.total / divisor;
+        waits.denominator = waits.attempts / divisor;
+    }
+    return waits;
+}
+
+// The attempts under way: for each thread 0 where it has none, otherwise one more than the other threads' entries since it began.
+using UnderWay = std::array<std::uint64_t, HMCS_THREADS>;
 
 // A run with waits; if refused, no rows.
 struct [[nodiscard]] WaitsResult {
@@ -127,6 +144,49 @@ struct [[nodiscard]] WaitsResult {
     bool accepted() const { return run.accepted(); }
     bool refused() const { return run.refused(); }
 };
+
+// The waits of several runs one after another.
+struct WaitsSoFar {
+    std::vector<Waits> threads;            // one for each thread: its attempts that have finished
+    Waits all;                             // of all threads together
+    std::vector<std::uint64_t> under_way;  // one for each thread: its attempt that has not finished, as UnderWay has it
+};
+
+namespace detail {
+
+// The state after a run, and what the run said.
+inline void keep(const hmcs_run_reply &reply, hmcs_state &state, RunResult &result) {
+    state = reply.state;
+    result.refusal = Refusal{reply.number, reply.place};
+    result.counts = Counts{reply.steps, reply.entries, reply.stays, reply.root, reply.passed, reply.crossed};
+    result.trace.resize(reply.entries);
+}
+
+} // namespace detail
+
+// Runs a schedule from a state and the attempts under way, both of which the host keeps: from attempts under way that are all 0, the waits of those
+// that begin and finish within the run. Both are then those after the run; if refused, they are as they were.
+inline WaitsResult run_waits(const Tree &tree, hmcs_state &state, UnderWay &under_way, const std::uint16_t *schedule, std::size_t length) {
+    WaitsResult result;
+    std::vector<std::uint64_t> numbers((HMCS_THREADS + 1) * HMCS_WAIT_NUMBERS);
+    result.run.trace.resize(std::min<std::size_t>(length, 65536)); // a longer schedule is refused (11) before the trace is looked at
+    const hmcs_waits_reply reply = hmcs_run_waits_on(tree.words(), state, schedule, length, result.run.trace.data(), result.run.trace.size(), numbers.data(),
+                                                     numbers.size(), under_way.data());
+    detail::keep(reply.run, state, result.run);
+    for (std::size_t row = 0; row < reply.rows; ++row) {
+        const std::uint64_t *n = numbers.data() + row * HMCS_WAIT_NUMBERS;
+        result.threads.push_back(Waits{n[0], n[1], n[2], n[3], n[4]});
+    }
+    if (result.accepted()) {
+        result.all = result.threads.back();
+        result.threads.pop_back();
+    }
+    return result;
+}
+
+inline WaitsResult run_waits(const Tree &tree, hmcs_state &state, UnderWay &under_way, const std::vector<std::uint16_t> &schedule) {
+    return run_waits(tree, state, under_way, schedule.data(), schedule.size());
+}
 
 // What a step was.
 enum class Kind : std::uint32_t {
@@ -187,6 +247,7 @@ public:
     // One step of a thread. If refused, the state is as it was. A number above 65,535 is refused as 65,535 is.
     StepResult step(std::uint32_t thread) {
         const hmcs_step_answer a = hmcs_step_in_place(tree_, &state_, static_cast<std::uint16_t>(std::min<std::uint32_t>(thread, 65535)));
+        under_way_known_ = under_way_known_ && a.number != 0;
         return StepResult{{Refusal{a.number, a.place}}, static_cast<Kind>(a.kind), a.domain};
     }
 
@@ -195,32 +256,42 @@ public:
         RunResult result;
         result.trace.resize(std::min<std::size_t>(length, 65536)); // a longer schedule is refused (11) before the trace is looked at
         const hmcs_run_reply reply = hmcs_run(tree_, state_, schedule, length, result.trace.data(), result.trace.size());
-        keep(reply, result);
+        detail::keep(reply, state_, result);
+        under_way_known_ = under_way_known_ && result.counts.steps == 0;
         return result;
     }
 
     RunResult run(const std::vector<std::uint16_t> &schedule) { return run(schedule.data(), schedule.size()); }
 
-    // Runs a schedule, and gives the waits of its attempts. If refused, the state is as it was and no step is taken.
+    // Runs a schedule, and gives the waits of the attempts that finish within it. The lock keeps the attempts under way, so that the waits go on
+    // from one such run to the next; after a step or a run without waits they are not known, and attempts that began before it are not counted. If
+    // refused, the state is as it was and no step is taken.
     WaitsResult run_waits(const std::uint16_t *schedule, std::size_t length) {
-        WaitsResult result;
-        std::vector<std::uint64_t> numbers((HMCS_THREADS + 1) * HMCS_WAIT_NUMBERS);
-        result.run.trace.resize(std::min<std::size_t>(length, 65536)); // a longer schedule is refused (11) before the trace is looked at
-        const hmcs_run_reply reply =
-            hmcs_run_waits(tree_, state_, schedule, length, result.run.trace.data(), result.run.trace.size(), numbers.data(), numbers.size());
-        keep(reply, result.run);
+        if (!under_way_known_) {
+            under_way_.fill(0);
+            under_way_known_ = true;
+        }
+        WaitsResult result = hmcs::run_waits(Tree::of(tree_), state_, under_way_, schedule, length);
         if (result.accepted()) {
-            for (std::size_t at = 0; at <= tree_.threads; ++at) {
-                const std::uint64_t *n = numbers.data() + at * HMCS_WAIT_NUMBERS;
-                result.threads.push_back(Waits{n[0], n[1], n[2], n[3], n[4]});
-            }
-            result.all = result.threads.back();
-            result.threads.pop_back();
+            waits_.resize(result.threads.size());
+            std::transform(result.threads.begin(), result.threads.end(), waits_.begin(), waits_.begin(), joined);
+            all_waits_ = joined(result.all, all_waits_);
         }
         return result;
     }
 
     WaitsResult run_waits(const std::vector<std::uint16_t> &schedule) { return run_waits(schedule.data(), schedule.size()); }
+
+    // The waits of all runs with waits so far, and the attempts under way.
+    WaitsSoFar waits() const {
+        WaitsSoFar result{waits_, all_waits_, {}};
+        result.threads.resize(threads());
+        result.under_way.assign(under_way_.begin(), under_way_.begin() + static_cast<std::ptrdiff_t>(threads()));
+        if (!under_way_known_) {
+            std::fill(result.under_way.begin(), result.under_way.end(), 0);
+        }
+        return result;
+    }
 
     // The chain of threads that a thread waits for. A number above 65,535 is refused as 65,535 is. A state that was reached by steps and runs
     // has a chain for each of its threads.
@@ -255,19 +326,17 @@ public:
     }
 
 private:
-    // The state after a run, and what the run said.
-    void keep(const hmcs_run_reply &reply, RunResult &result) {
-        state_ = reply.state;
-        result.refusal = Refusal{reply.number, reply.place};
-        result.counts = Counts{reply.steps, reply.entries, reply.stays, reply.root, reply.passed, reply.crossed};
-        result.trace.resize(reply.entries);
-    }
+    std::size_t threads() const { return std::min<std::size_t>(tree_.threads, HMCS_THREADS); }
 
     static Refusal of(hmcs_answer a) { return Refusal{a.number, a.place}; }
 
     hmcs_tree tree_;
     hmcs_state state_;
     Refusal refusal_;
+    UnderWay under_way_{};
+    bool under_way_known_ = true; // whether these are the attempts under way in this state
+    std::vector<Waits> waits_;    // of all runs with waits so far, one for each thread
+    Waits all_waits_;
 };
 
 // The allowances of a tree's domains; if refused, none.
@@ -322,14 +391,11 @@ inline ManyResult run_many(const Tree &tree, const std::vector<std::vector<std::
         entries.insert(entries.end(), schedule.begin(), schedule.begin() + static_cast<std::ptrdiff_t>(length));
     }
     std::vector<std::uint32_t> numbers(schedules.size() * HMCS_ROW_NUMBERS);
-    const hmcs_answer answer = hmcs_run_many(tree.words(), lengths.data(), lengths.size(), entries.data(), entries.size(), numbers.data(), numbers.size());
+    const hmcs_many_reply reply = hmcs_run_many(tree.words(), lengths.data(), lengths.size(), entries.data(), entries.size(), numbers.data(), numbers.size());
     ManyResult result;
-    result.refusal = Refusal{answer.number, answer.place};
-    if (result.refused()) {
-        return result;
-    }
-    for (std::size_t at = 0; at < numbers.size(); at += HMCS_ROW_NUMBERS) {
-        const std::uint32_t *n = numbers.data() + at;
+    result.refusal = Refusal{reply.number, reply.place};
+    for (std::size_t row = 0; row < reply.rows; ++row) {
+        const std::uint32_t *n = numbers.data() + row * HMCS_ROW_NUMBERS;
         result.rows.push_back(Row{{Refusal{n[0], n[1]}}, Counts{n[2], n[3], n[4], n[5], n[6], n[7]}});
     }
     return result;

@@ -79,9 +79,9 @@ void buffers() {
                 std::memcpy(lengths.as<void>(), given.data(), sizeof given);
                 std::memcpy(entries.as<void>(), all.data(), count * 2);
                 std::memset(rows.as<void>(), 0x33, room * 4);
-                const hmcs_answer answer = hmcs_run_many(tree.words(), lengths.as<std::uint32_t>(), 3, entries.as<std::uint16_t>(), count, rows.as<std::uint32_t>(), room);
+                const hmcs_many_reply answer = hmcs_run_many(tree.words(), lengths.as<std::uint32_t>(), 3, entries.as<std::uint16_t>(), count, rows.as<std::uint32_t>(), room);
                 const std::uint32_t number = count < all.size() ? HMCS_LENGTHS_WRONG : room < 24 ? HMCS_ROWS_SHORT : HMCS_ACCEPTED;
-                CHECK(answer.number == number && answer.place == 0);
+                CHECK(answer.number == number && answer.place == 0 && answer.rows == (number == 0 ? 3U : 0U));
                 for (std::size_t k = 0; k < room; ++k) {
                     CHECK(rows.as<std::uint32_t>()[k] == (number == 0 && k < 24 ? wanted[k / 8][k % 8] : 0x33333333));
                 }
@@ -103,8 +103,8 @@ void sums() {
     CHECK(hmcs_run_many(tree.words(), nullptr, 0, nullptr, 0, nullptr, 0).number == 0);
     hmcs_tree bad = tree.words();
     bad.homes[2] = 1;
-    const hmcs_answer refused = hmcs_run_many(bad, wraps, 2, nullptr, 0, nullptr, 0);
-    CHECK(refused.number == HMCS_EMPTY_DOMAIN && refused.place == 2);
+    const hmcs_many_reply refused = hmcs_run_many(bad, wraps, 2, nullptr, 0, nullptr, 0);
+    CHECK(refused.number == HMCS_EMPTY_DOMAIN && refused.place == 2 && refused.rows == 0);
     CHECK(std::string(hmcs_refusal_text(HMCS_LENGTHS_WRONG)) != hmcs_refusal_text(HMCS_ROWS_SHORT));
 }
 

@@ -1,4 +1,5 @@
-// A run with waits, as a host makes it: rows by hand, the run itself as without them, refusals, and that nothing outside the buffers is touched.
+// A run with waits, as a host makes it: rows by hand, the run itself as without them, runs one after another, refusals, and that nothing outside the buffers is
+// touched.
 #include "check.hpp"
 #include "guarded.hpp"
 #include "hmcs.hpp"
@@ -64,10 +65,11 @@ void buffers() {
                 std::memcpy(schedule.as<void>(), schedule22.data(), schedule22.size() * 2);
                 std::memset(trace.as<void>(), 0x33, length * 2);
                 std::memset(rows.as<void>(), 0x33, room * 8);
-                const hmcs_run_reply r = hmcs_run_waits(tree.words(), fresh, schedule.as<std::uint16_t>(), schedule22.size(), trace.as<std::uint16_t>(), length,
+                const hmcs_waits_reply reply = hmcs_run_waits(tree.words(), fresh, schedule.as<std::uint16_t>(), schedule22.size(), trace.as<std::uint16_t>(), length,
                                                         rows.as<std::uint64_t>(), room);
+                const hmcs_run_reply &r = reply.run;
                 const std::uint32_t number = length < schedule22.size() ? HMCS_TRACE_SHORT : room < 20 ? HMCS_WAITS_SHORT : HMCS_ACCEPTED;
-                CHECK(r.number == number && r.place == 0 && r.entries == (number == 0 ? 3U : 0U));
+                CHECK(r.number == number && r.place == 0 && r.entries == (number == 0 ? 3U : 0U) && reply.rows == (number == 0 ? 4U : 0U));
                 CHECK(number == 0 || same(r.state, fresh));
                 for (std::size_t k = 0; k < length; ++k) {
                     CHECK(trace.as<std::uint16_t>()[k] == (number == 0 && k < 3 ? k : 0x3333));
@@ -79,13 +81,91 @@ void buffers() {
             }
         }
     }
-    CHECK(hmcs_run_waits(tree.words(), fresh, nullptr, 0, nullptr, 0, nullptr, 0).number == HMCS_WAITS_SHORT);
+    CHECK(hmcs_run_waits(tree.words(), fresh, nullptr, 0, nullptr, 0, nullptr, 0).run.number == HMCS_WAITS_SHORT);
+}
+
+bool same_waits(const hmcs::Waits &a, const hmcs::Waits &b) { return numbers_of(a) == numbers_of(b); }
+
+// A schedule cut at each of its turns: what the two runs say together is what one run says, and so are the attempts under way between them.
+void cut_anywhere() {
+    const Schedule schedule = taking_turns();
+    hmcs::Lock whole(root_alone(hmcs::RootKind::queue, 2));
+    const hmcs::WaitsResult wanted = whole.run_waits(schedule);
+    for (std::size_t at = 0; at <= schedule.size(); ++at) {
+        const auto middle = schedule.begin() + static_cast<std::ptrdiff_t>(at);
+        hmcs::Lock lock(root_alone(hmcs::RootKind::queue, 2));
+        const hmcs::WaitsResult first = lock.run_waits(Schedule(schedule.begin(), middle));
+        const hmcs::WaitsResult second = lock.run_waits(Schedule(middle, schedule.end()));
+        const hmcs::WaitsSoFar waits = lock.waits();
+        CHECK(first.accepted() && second.accepted() && waits.threads.size() == 2 && waits.under_way == whole.waits().under_way);
+        CHECK(same_waits(waits.threads[0], wanted.threads[0]) && same_waits(waits.threads[1], wanted.threads[1]) && same_waits(waits.all, wanted.all));
+        CHECK(same_waits(waits.all, hmcs::joined(first.all, second.all)) && same(lock.state(), whole.state()));
+    }
+}
+
+// What the lock keeps, and when it is not known.
+void kept() {
+    hmcs::Lock lock(root_alone(hmcs::RootKind::queue, 2));
+    CHECK((lock.waits().under_way == std::vector<std::uint64_t>{0, 0}) && numbers_of(lock.waits().all) == Numbers{});
+    // thread 1 waits in the queue while thread 0 is inside: its attempt is under way, and nobody has entered since
+    CHECK(lock.run_waits(Schedule{0, 0, 1, 1, 1}).accepted());
+    CHECK((lock.waits().under_way == std::vector<std::uint64_t>{0, 1}) && (numbers_of(lock.waits().threads[0]) == Numbers{1, 0, 0, 0, 1}));
+    CHECK(lock.run_waits(Schedule{2}).refused() && (lock.waits().under_way == std::vector<std::uint64_t>{0, 1}));
+    hmcs::Lock other = lock;
+    const hmcs::WaitsResult result = lock.run_waits(Schedule{0, 0, 0, 1});
+    CHECK((numbers_of(result.threads[1]) == Numbers{1, 0, 0, 0, 1}) && (numbers_of(lock.waits().all) == Numbers{2, 0, 0, 0, 1}));
+    CHECK((lock.waits().under_way == std::vector<std::uint64_t>{0, 0}));
+    // a run without turns changes nothing; after a step without waits the attempt is not known
+    CHECK(other.run(Schedule{}).accepted() && other.waits().under_way[1] == 1);
+    CHECK(other.step(0).accepted() && other.waits().under_way[1] == 0);
+    CHECK((numbers_of(other.run_waits(Schedule{0, 0, 1}).threads[1]) == Numbers{}));
+    hmcs::Lock refused((hmcs::Tree()));
+    CHECK(refused.refused() && refused.run_waits(Schedule{}).refused() && refused.waits().threads.empty() && refused.waits().under_way.empty());
+}
+
+// Numbers that a host hands in: large ones, totals that are cut, 27 with its place, and 18 before it.
+void numbers() {
+    const hmcs::Tree tree = root_alone(hmcs::RootKind::queue, 3);
+    // thread 0 is inside, and threads 1 and 2 wait in the queue
+    hmcs_state state = hmcs::Lock(tree).state();
+    hmcs::UnderWay under_way{};
+    CHECK(hmcs::run_waits(tree, state, under_way, Schedule{0, 0, 1, 1, 1, 2, 2, 2}).accepted() && under_way[1] == 1 && under_way[2] == 1);
+    const hmcs_state waiting = state;
+    const Schedule go_on = {0, 0, 0, 1, 1, 1, 1, 2};
+    under_way[1] = HMCS_MOST_COUNTED;
+    under_way[2] = HMCS_MOST_COUNTED;
+    const hmcs::WaitsResult result = hmcs::run_waits(tree, state, under_way, go_on);
+    CHECK((numbers_of(result.threads[1]) == Numbers{1, HMCS_MOST_COUNTED - 1, HMCS_MOST_COUNTED - 1, HMCS_MOST_COUNTED - 1, 1}));
+    CHECK((numbers_of(result.threads[2]) == Numbers{1, HMCS_MOST_COUNTED, HMCS_MOST_COUNTED, HMCS_MOST_COUNTED, 1}));
+    CHECK(result.all.total == UINT64_MAX && result.all.largest == HMCS_MOST_COUNTED && result.all.numerator == UINT64_MAX && result.all.denominator == 2);
+    CHECK(under_way == hmcs::UnderWay{});
+    for (const std::size_t at : {std::size_t{1}, std::size_t{3}, std::size_t{255}}) {
+        under_way = {};
+        under_way[at] = at == 1 ? HMCS_MOST_COUNTED + 1 : 1;
+        const hmcs::UnderWay before = under_way;
+        hmcs_state kept = waiting;
+        const hmcs::WaitsResult refused = hmcs::run_waits(tree, kept, under_way, go_on);
+        CHECK(refused.run.refusal.number == HMCS_BAD_UNDER_WAY && refused.run.refusal.place == at && refused.threads.empty());
+        CHECK(under_way == before && same(kept, waiting));
+    }
+    // the largest number goes one further where another thread enters meanwhile; the call after it refuses the number
+    state = waiting;
+    under_way = {};
+    under_way[2] = HMCS_MOST_COUNTED;
+    CHECK(hmcs::run_waits(tree, state, under_way, Schedule{0, 0, 0, 1}).accepted() && under_way[2] == HMCS_MOST_COUNTED + 1);
+    CHECK(hmcs::run_waits(tree, state, under_way, Schedule{}).run.refusal.number == HMCS_BAD_UNDER_WAY);
+    // 18 before 27
+    const hmcs_waits_reply few = hmcs_run_waits_on(tree.words(), state, nullptr, 0, nullptr, 0, nullptr, 0, under_way.data());
+    CHECK(few.run.number == HMCS_WAITS_SHORT && few.rows == 0 && under_way[2] == HMCS_MOST_COUNTED + 1);
 }
 
 } // namespace
 
 int main() {
     wrapper();
+    cut_anywhere();
+    kept();
+    numbers();
     buffers();
     std::printf("waits: %d checks, %d failures\n", checks, failures);
     return failures == 0 ? 0 : 1;

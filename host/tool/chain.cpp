@@ -16,12 +16,9 @@ std::string standing(const hmcs::Lock &lock, std::uint16_t thread) {
 }
 
 std::string chain(const Words &words) {
-    const Input input = read_lock_file(words.others()[0]);
+    const Input input = read_run(words);
     const std::uint64_t thread = number("THREAD", words.others()[1], UINT32_MAX);
-    hmcs::Lock lock(input.tree);
-    if (const hmcs::RunResult run = lock.run(input.schedule); run.refused()) {
-        refuse(words.others()[0], run.refusal);
-    }
+    const hmcs::Lock lock = lock_after(input);
     const hmcs::ChainResult result = lock.chain(static_cast<std::uint32_t>(thread));
     if (result.refused()) {
         refuse("thread " + words.others()[1], result.refusal);
@@ -40,12 +37,15 @@ std::string chain(const Words &words) {
 Command chain_command() {
     return {"chain", "why a thread waits after a lock file's run",
             "usage: hmcs chain FILE THREAD\n"
+            "       hmcs chain TREE THREAD --schedule S [--ticket]\n"
             "Runs the schedule of a lock file from a fresh lock and then says why the thread waits: which thread\n"
             "it waits for, which one that waits for, and so on, up to one that can move. A thread that can move\n"
             "is the whole chain.\n"
-            "\n"
-            "  hmcs chain two-sockets.lock 3\n",
-            {},
+            "\n" +
+                std::string(run_help) +
+                "\n"
+                "  hmcs chain two-sockets.lock 3\n",
+            with_run_options({}),
             2,
             2,
             chain};

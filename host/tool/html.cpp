@@ -104,11 +104,11 @@ std::vector<Shade> kind_shades() {
     return {{"root", "root: through the root"}, {"crossed", "crossed: passed on between home and root"}, {"passed", "passed: passed on at home"}};
 }
 
-std::string share_bar(const hmcs::Counts &counts) {
+std::string share_bar(const Totals &counts) {
     std::string bar, label;
-    const std::pair<const char *, std::uint32_t> parts[] = {{"root", counts.root}, {"crossed", counts.crossed}, {"passed", counts.passed}};
+    const std::pair<const char *, std::uint64_t> parts[] = {{"root", counts.root}, {"crossed", counts.crossed}, {"passed", counts.passed}};
     for (const auto &[name, part] : parts) {
-        bar += std::string("<i class=\"") + name + "\" style=\"width:" + decimal(100 * std::uint64_t(part), counts.entries, 2) + "%\"></i>";
+        bar += std::string("<i class=\"") + name + "\" style=\"width:" + decimal(100 * part, counts.entries, 2) + "%\"></i>";
         label += (label.empty() ? "" : ", ") + std::string(name) + " " + percent(part, counts.entries);
     }
     return "<div class=\"shares\" role=\"img\" aria-label=\"" + label + "\">" + bar + "</div>";

@@ -2,6 +2,7 @@
 #ifndef HMCS_HTML_HPP
 #define HMCS_HTML_HPP
 
+#include "measured.hpp"
 #include "table.hpp"
 
 namespace tool {
@@ -24,7 +25,7 @@ std::string legend(const std::vector<Shade> &shades);
 
 // How the entries split, in the order of the legend of kinds.
 std::vector<Shade> kind_shades();
-std::string share_bar(const hmcs::Counts &counts);
+std::string share_bar(const Totals &counts);
 // A bar whose length is the number's share of the largest one, with the number next to it.
 std::string number_bar(const std::string &text, std::uint64_t number, std::uint64_t largest);
 

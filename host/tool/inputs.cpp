@@ -1,4 +1,5 @@
 // What a command reads: lock files, trees as text, and schedules.
+#include "schedules.hpp"
 #include "tool.hpp"
 
 namespace tool {
@@ -73,6 +74,42 @@ Input read_tree(const std::string &text_or_path, bool ticket) {
         fail("--ticket goes with a tree as text; the lock file " + text_or_path + " says itself what its root is");
     }
     return lock_of_bytes(text_or_path, bytes.substr(0, longest_file + 1));
+}
+
+const char *const run_help = "  --schedule S   runs the schedule S, as for `hmcs make`, on a tree in place of FILE\n"
+                             "  --ticket       the root of that tree, if it is a text, is a ticket lock\n";
+
+std::vector<Option> with_run_options(std::vector<Option> options) {
+    options.push_back({"--schedule", true});
+    options.push_back({"--ticket", false});
+    return options;
+}
+
+Input read_run(const Words &words) {
+    if (!words.has("--schedule")) {
+        if (words.has("--ticket")) {
+            fail("--ticket goes with --schedule and a tree as text; a lock file says itself what its root is");
+        }
+        return read_lock_file(words.others()[0]);
+    }
+    Input input = read_tree(words.others()[0], words.has("--ticket"));
+    const Schedule schedule(words.value("--schedule", ""));
+    if (schedule.has_seeds()) {
+        fail("--schedule: expected one seed, got a range");
+    }
+    input.schedule = schedule.turns(input.tree);
+    return input;
+}
+
+hmcs::Lock lock_after(const Input &input) {
+    constexpr std::size_t most = 65536; // turns of one run
+    hmcs::Lock lock(input.tree);
+    for (std::size_t from = 0; from < input.schedule.size(); from += most) {
+        if (const hmcs::RunResult run = lock.run(input.schedule.data() + from, std::min(most, input.schedule.size() - from)); run.refused()) {
+            refuse("the schedule", run.refusal);
+        }
+    }
+    return lock;
 }
 
 } // namespace tool

@@ -15,7 +15,11 @@ Input lock_of(const Words &words) {
         return read_shown(words.others()[0]);
     }
     Input input = read_tree(words.others()[0], words.has("--ticket"));
-    input.schedule = Schedule(words.others()[1]).turns(input.tree);
+    const Schedule schedule(words.others()[1]);
+    if (schedule.has_seeds()) {
+        fail("make: expected one seed, got a range");
+    }
+    input.schedule = schedule.turns(input.tree);
     return input;
 }
 
@@ -26,6 +30,11 @@ std::string make(const Words &words) {
     }
     const Input input = lock_of(words);
     const hmcs::WriteResult result = hmcs::write_file(input.tree, input.schedule);
+    if (result.refusal.number == HMCS_FILE_TOO_LONG || result.refusal.number == HMCS_SCHEDULE_LONG) {
+        const std::size_t most = (65536 - hmcs::write_file(input.tree, {}).file.size()) / 2; // a turn takes two bytes
+        throw Stop{refused, "make: refused by " + std::to_string(result.refusal.number) + " at 0: the schedule has " + std::to_string(input.schedule.size()) +
+                                " turns, and a lock file of this tree holds at most " + std::to_string(most) + "\n"};
+    }
     if (result.refused()) {
         refuse("make", result.refusal);
     }

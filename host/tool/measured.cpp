@@ -12,6 +12,17 @@ std::string Missing::why_not() const {
     return "";
 }
 
+Missing Missing::worst(const Missing &other) const {
+    Missing worse;
+    worse.threads = threads;
+    worse.never_entered = std::max(never_entered, other.never_entered);
+    worse.fewest_entries = std::min(fewest_entries, other.fewest_entries);
+    worse.under_way = std::max(under_way, other.under_way);
+    worse.longest_under_way = std::max(longest_under_way, other.longest_under_way);
+    worse.largest_finished = std::max(largest_finished, other.largest_finished);
+    return worse;
+}
+
 Missing Measured::missing() const {
     Missing missing;
     missing.threads = threads.size();
@@ -28,48 +39,33 @@ Missing Measured::missing() const {
     return missing;
 }
 
-namespace {
+void Totals::add(const hmcs::Counts &c) { add(Totals{c.steps, c.entries, c.stays, c.root, c.passed, c.crossed}); }
 
-// Whether the next step of a thread begins an attempt: its Swap at home, or its draw where its home is a ticket root.
-bool begins(const hmcs_tree &tree, const hmcs_place &place, std::uint16_t thread) {
-    const std::uint8_t home = tree.homes[thread];
-    return home == 0 && tree.ticket_root != 0 ? place.row == HMCS_IDLE || place.row == HMCS_DRAW : place.row == HMCS_SWAP && place.domain == home;
+void Totals::add(const Totals &c) {
+    steps += c.steps;
+    entries += c.entries;
+    stays += c.stays;
+    root += c.root;
+    passed += c.passed;
+    crossed += c.crossed;
 }
-
-std::vector<std::uint64_t> attempts_under_way(const hmcs::Tree &tree, const std::vector<std::uint16_t> &turns) {
-    hmcs::Lock lock(tree);
-    std::vector<std::uint64_t> began(tree.words().threads); // one more than the entries before
-    std::uint64_t entries = 0;
-    for (const std::uint16_t thread : turns) {
-        if (begins(tree.words(), lock.state().places[thread], thread)) {
-            began[thread] = entries + 1;
-        }
-        const hmcs::Kind kind = lock.step(thread).kind;
-        if (kind == hmcs::Kind::root_entry || kind == hmcs::Kind::passed_entry || kind == hmcs::Kind::crossed_entry) {
-            began[thread] = 0;
-            ++entries;
-        }
-    }
-    for (std::uint64_t &one : began) {
-        one = one == 0 ? 0 : entries + 2 - one;
-    }
-    return began;
-}
-
-} // namespace
 
 Measured measure(const hmcs::Tree &tree, const std::vector<std::uint16_t> &turns) {
+    constexpr std::size_t most = 65536; // turns of one run
     Measured measured;
     hmcs::Lock lock(tree);
-    const hmcs::WaitsResult result = lock.run_waits(turns);
-    measured.refusal = result.run.refusal;
-    measured.counts = result.run.counts;
-    measured.threads = result.threads;
-    measured.all = result.all;
-    measured.state = lock.state();
-    if (result.accepted()) {
-        measured.under_way = attempts_under_way(tree, turns);
+    measured.refusal = lock.refusal();
+    for (std::size_t from = 0; from < turns.size() && measured.refusal.accepted(); from += most) {
+        const hmcs::WaitsResult part = lock.run_waits(turns.data() + from, std::min(most, turns.size() - from));
+        measured.refusal = part.run.refusal;
+        measured.refusal.place += part.refused() ? from : 0; // 12 and 19, which alone can refuse here, have a turn as their place
+        measured.counts.add(part.run.counts);
     }
+    const hmcs::WaitsSoFar waits = lock.waits();
+    measured.threads = waits.threads;
+    measured.all = waits.all;
+    measured.under_way = waits.under_way;
+    measured.state = lock.state();
     return measured;
 }
 

@@ -21,15 +21,25 @@ struct Missing {
     // Whether the waits may be compared with those of another run: every thread entered, and no attempt under way has waited longer than all
     // that ended.
     bool comparable() const { return never_entered == 0 && longest_under_way <= largest_finished; }
+    // Of two runs of one tree, the worse of each.
+    Missing worst(const Missing &other) const;
     // What the largest wait is at least, those under way among them.
     std::uint64_t at_least() const { return std::max(largest_finished, longest_under_way); }
     // Why not, for standard error; empty where they may be compared.
     std::string why_not() const;
 };
 
+// The counts of a schedule of any length.
+struct Totals {
+    std::uint64_t steps = 0, entries = 0, stays = 0, root = 0, passed = 0, crossed = 0;
+
+    void add(const hmcs::Counts &counts);
+    void add(const Totals &counts);
+};
+
 struct Measured {
     hmcs::Refusal refusal;
-    hmcs::Counts counts;
+    Totals counts;
     std::vector<hmcs::Waits> threads;     // of each thread, its finished attempts
     hmcs::Waits all;                      // of all together
     std::vector<std::uint64_t> under_way; // of each thread 0, or one more than the others' entries since its attempt began
@@ -38,7 +48,7 @@ struct Measured {
     Missing missing() const;
 };
 
-// Runs a schedule from a fresh lock of the tree.
+// Runs a schedule from a fresh lock of the tree, as many turns at a time as the library takes. The place of a refusal is one in the whole schedule.
 Measured measure(const hmcs::Tree &tree, const std::vector<std::uint16_t> &turns);
 
 } // namespace tool

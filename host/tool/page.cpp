@@ -25,7 +25,7 @@ std::string tree_section(const hmcs::Tree &tree) {
     return section("The tree", text ? "As text: " + *text : "", domains <= 16 ? table : folded("All " + std::to_string(domains) + " domains", table, false));
 }
 
-std::string counts_section(const hmcs::Counts &c) {
+std::string counts_section(const Totals &c) {
     const std::string words = std::to_string(c.steps) + " steps, of which " + std::to_string(c.stays) + " (" + percent(c.stays, c.steps) +
                               ") were stays: the thread only waited. A thread got the lock " + std::to_string(c.entries) + " times: " + std::to_string(c.root) +
                               " through the root (" + percent(c.root, c.entries) + "), " + std::to_string(c.crossed) + " crossed (" +
@@ -47,12 +47,16 @@ std::string timeline_section(const hmcs::Tree &tree, const Recording &recording,
 }
 
 std::string entries_section(const Recording &recording) {
+    constexpr std::size_t most_lines = 10000; // of a longer run the first ones
+    const std::size_t count = std::min(recording.entries.size(), most_lines);
     std::string lines;
-    for (const Entry &entry : recording.entries) {
+    for (std::size_t k = 0; k < count; ++k) {
+        const Entry &entry = recording.entries[k];
         const char *kind = entry.kind == hmcs::Kind::root_entry ? "root" : entry.kind == hmcs::Kind::crossed_entry ? "crossed" : "passed";
         lines += "turn " + std::to_string(entry.turn) + "  thread " + std::to_string(entry.thread) + "  " + kind + "\n";
     }
-    return folded("All " + std::to_string(recording.entries.size()) + " entries, one a line", "<pre>" + lines + "</pre>\n", false);
+    const std::string title = count < recording.entries.size() ? "The first " + std::to_string(count) + " of " : "All ";
+    return folded(title + std::to_string(recording.entries.size()) + " entries, one a line", "<pre>" + lines + "</pre>\n", false);
 }
 
 std::string waits_section(const hmcs::Tree &tree, const Measured &result) {
@@ -101,7 +105,7 @@ std::string tenures_section(const hmcs::Tree &tree, const Measured &measured) {
 // What the page says first: how many entered, and who is missing.
 std::string first_words(const Measured &measured) {
     const Missing missing = measured.missing();
-    const hmcs::Counts &c = measured.counts;
+    const Totals &c = measured.counts;
     const std::string split = std::to_string(c.entries) + " entries in " + std::to_string(c.steps) + " turns, of which " + percent(c.root, c.entries) +
                               " went through the root.";
     if (missing.comparable()) {
@@ -126,7 +130,7 @@ std::string page(const Words &words) {
     if (path.empty()) {
         fail("page: -o OUT.html says where the page goes");
     }
-    const Input input = read_lock_file(words.others()[0]);
+    const Input input = read_run(words);
     const std::size_t count = number("--count", words.value("--count", "200"), UINT32_MAX);
     if (input.schedule.empty()) {
         fail(words.others()[0] + ": its schedule has no turn, so there is nothing to show");
@@ -136,7 +140,7 @@ std::string page(const Words &words) {
         refuse(words.others()[0], measured.refusal);
     }
     const Recording recording = record(input.tree, input.schedule);
-    const std::string name = as_utf8(std::filesystem::path(words.others()[0]).filename().string());
+    const std::string name = words.has("--schedule") ? as_utf8(words.value("--schedule", "")) : as_utf8(std::filesystem::path(words.others()[0]).filename().string());
     const std::string more = std::to_string(input.tree.words().threads) + " threads, " + std::to_string(input.tree.words().domains) + " domains, " +
                              std::to_string(input.schedule.size()) + " turns from a fresh lock. A turn lets one thread take one step; turns are not time.";
     const std::string html = page_of(name, first_words(measured), more,
@@ -151,6 +155,7 @@ std::string page(const Words &words) {
 Command page_command() {
     return {"page", "a page that shows a lock file's run",
             "usage: hmcs page FILE -o OUT.html [--from K] [--count N]\n"
+            "       hmcs page TREE --schedule S -o OUT.html [--ticket] ..\n"
             "Writes one self-contained page on a lock file's run: the tree; how the entries split; a timeline,\n"
             "one lane per thread, by home, coloured by what the thread does; the entries with their kinds; and\n"
             "the waits. It needs no script and nothing from elsewhere. If there are more turns than the page\n"
@@ -160,9 +165,11 @@ Command page_command() {
             "  --from K     the first of the turns that are shown one by one; if not given, shortly before the first\n"
             "               entry\n"
             "  --count N    how many of them, 200 if not given\n"
-            "\n"
-            "  hmcs page two-sockets.lock -o two-sockets.html\n",
-            {{"-o", true}, {"--from", true}, {"--count", true}},
+            +
+                std::string(run_help) +
+                "\n"
+                "  hmcs page two-sockets.lock -o two-sockets.html\n",
+            with_run_options({{"-o", true}, {"--from", true}, {"--count", true}}),
             1,
             1,
             page};

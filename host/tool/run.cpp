@@ -7,8 +7,10 @@ namespace tool {
 
 namespace {
 
+constexpr std::size_t most = 65536; // turns of one run
+
 Table run_table(const Measured &measured) {
-    const hmcs::Counts &c = measured.counts;
+    const Totals &c = measured.counts;
     const Missing missing = measured.missing();
     Table table;
     table.column("what", Side::left);
@@ -43,11 +45,14 @@ std::string run(const Words &words) {
     if (words.has("--trace") && (words.has("--csv") || words.has("--json"))) {
         fail("run: --trace prints a thread number per line, without --csv or --json");
     }
-    const Input input = read_lock_file(words.others()[0]);
+    const Input input = read_run(words);
     if (words.has("--trace")) {
         std::string trace;
-        for (const std::uint16_t thread : hmcs::Lock(input.tree).run(input.schedule).trace) {
-            trace += std::to_string(thread) + "\n";
+        hmcs::Lock lock(input.tree);
+        for (std::size_t from = 0; from < input.schedule.size(); from += most) {
+            for (const std::uint16_t thread : lock.run(input.schedule.data() + from, std::min(most, input.schedule.size() - from)).trace) {
+                trace += std::to_string(thread) + "\n";
+            }
         }
         return trace;
     }
@@ -63,15 +68,18 @@ std::string run(const Words &words) {
 Command run_command() {
     return {"run", "what a lock file's run counts",
             "usage: hmcs run FILE [--trace | --csv | --json]\n"
+            "       hmcs run TREE --schedule S [--ticket] ..\n"
             "Runs the schedule of a lock file from a fresh lock and prints its counts: steps, how many of them\n"
             "were stays, entries and how they split; and how many threads and attempts these leave out: threads\n"
             "that never entered, and attempts that had not ended.\n"
             "\n"
             "  --trace        the entering threads instead, one per line\n"
             "  --csv, --json  for programs\n"
-            "\n"
-            "  hmcs run two-sockets.lock\n",
-            with_table_options({{"--trace", false}}),
+            +
+                std::string(run_help) +
+                "\n"
+                "  hmcs run two-sockets.lock\n",
+            with_table_options(with_run_options({{"--trace", false}})),
             1,
             1,
             run};

@@ -16,12 +16,14 @@ const char *const schedule_help =
     "  busy:COUNT:SEED:WORK      the same, and a thread that has let the lock go pauses for 0 to 2*WORK turns\n"
     "  random:COUNT:SEED         any thread, also one that can only wait\n"
     "  bursts:COUNT:SEED:LENGTH  any thread, for 1 to LENGTH turns in a row\n"
-    "  turns:COUNT               the threads in turn, 0, 1, 2 and so on\n";
+    "  turns:COUNT               the threads in turn, 0, 1, 2 and so on\n"
+    "  FILE                      thread numbers with white space between them\n";
 
 namespace {
 
-constexpr std::uint64_t most_turns = 65537; // a longer schedule is refused (11) as this one is
+constexpr std::uint64_t most_turns = 100000000; // 200 MB
 constexpr std::uint64_t most_work = 1000000000;
+constexpr std::uint64_t most_seeds = 10000;
 
 const char *const forms = "busy:COUNT:SEED[:WORK], random:COUNT:SEED, bursts:COUNT:SEED:LENGTH or turns:COUNT";
 
@@ -65,8 +67,15 @@ Schedule::Schedule(const std::string &word) : name_(word), kind_(Kind::given) {
     if (parts.size() < least || parts.size() > most) {
         fail("the schedule " + word + " must be " + forms);
     }
-    count_ = std::min(number("the count of a schedule", parts[1], UINT64_MAX), most_turns);
-    seed_ = parts.size() > 2 ? number("the seed of a schedule", parts[2], UINT64_MAX) : 0;
+    count_ = number("the count of a schedule", parts[1], most_turns);
+    if (parts.size() > 2) {
+        const std::size_t dots = parts[2].find("..");
+        seed_ = number("the seed of a schedule", parts[2].substr(0, dots), UINT64_MAX);
+        last_seed_ = dots == std::string::npos ? seed_ : number("the last seed of a schedule", parts[2].substr(dots + 2), UINT64_MAX);
+        if (last_seed_ < seed_ || last_seed_ - seed_ >= most_seeds) {
+            fail("the seeds of the schedule " + word + " must go up, and be at most " + std::to_string(most_seeds));
+        }
+    }
     if (kind_ == Kind::bursts) {
         extra_ = number("the length of a burst", parts[3], UINT32_MAX);
         if (extra_ == 0) {
@@ -78,7 +87,7 @@ Schedule::Schedule(const std::string &word) : name_(word), kind_(Kind::given) {
 }
 
 std::vector<std::uint16_t> Schedule::tested(std::uint32_t threads) const {
-    for (std::size_t turn = 0; turn < given_.size() && turn < most_turns; ++turn) {
+    for (std::size_t turn = 0; turn < given_.size(); ++turn) {
         if (given_[turn] >= threads) {
             const std::string thread = std::to_string(given_[turn]) + (given_[turn] == 65535 ? " or more" : "");
             throw Stop{refused, name_ + ": refused by 12 at " + std::to_string(turn) + ": turn " + std::to_string(turn) + " names thread " + thread +
@@ -86,6 +95,26 @@ std::vector<std::uint16_t> Schedule::tested(std::uint32_t threads) const {
         }
     }
     return given_;
+}
+
+std::vector<Schedule> Schedule::by_seed() const {
+    std::vector<Schedule> schedules;
+    for (std::uint64_t seed = seed_;; ++seed) {
+        schedules.push_back(*this);
+        if (has_seeds()) {
+            std::vector<std::string> parts = split(name_, ':');
+            parts[2] = std::to_string(seed);
+            std::string name;
+            for (const std::string &part : parts) {
+                name += (name.empty() ? "" : ":") + part;
+            }
+            schedules.back().name_ = name;
+            schedules.back().seed_ = schedules.back().last_seed_ = seed;
+        }
+        if (seed == last_seed_) {
+            return schedules;
+        }
+    }
 }
 
 std::vector<std::uint16_t> Schedule::turns(const hmcs::Tree &tree) const {

@@ -11,12 +11,16 @@ namespace tool {
 
 class Schedule {
 public:
-    // turns:COUNT, random:COUNT:SEED, bursts:COUNT:SEED:LENGTH, busy:COUNT:SEED[:WORK], or a file, which is read here.
+    // turns:COUNT, random:COUNT:SEED, bursts:COUNT:SEED:LENGTH, busy:COUNT:SEED[:WORK], or a file, which is read here. A seed may be a range, such
+    // as 1..20.
     explicit Schedule(const std::string &word);
     // Turns that are already there, by a name for people.
     Schedule(const std::string &name, const std::vector<std::uint16_t> &turns) : name_(name), kind_(Kind::given), given_(turns) {}
 
     const std::string &name() const { return name_; }
+    // One schedule for each seed of a range; of any other schedule itself alone.
+    std::vector<Schedule> by_seed() const;
+    bool has_seeds() const { return last_seed_ > seed_; }
     // The turns for an accepted tree. Those of `busy` depend on its thresholds, all others only on the number of its threads.
     std::vector<std::uint16_t> turns(const hmcs::Tree &tree) const;
 
@@ -29,7 +33,8 @@ private:
     std::string name_;
     Kind kind_;
     std::vector<std::uint16_t> given_;
-    std::uint64_t count_ = 0, seed_ = 0, extra_ = 0; // extra: the length of a burst, or the work of `busy`
+    std::uint64_t count_ = 0, extra_ = 0; // extra: the length of a burst, or the work of `busy`
+    std::uint64_t seed_ = 0, last_seed_ = 0;
 };
 
 // The schedule that is run where none is named.

@@ -8,7 +8,7 @@ namespace tool {
 namespace {
 
 std::string steps(const Words &words) {
-    const Input input = read_lock_file(words.others()[0]);
+    const Input input = read_run(words);
     const std::size_t from = number("--from", words.value("--from", "0"), UINT32_MAX);
     const std::size_t count = number("--count", words.value("--count", "4294967295"), UINT32_MAX);
     if (from > 0 && from >= input.schedule.size()) {
@@ -48,6 +48,7 @@ std::string steps(const Words &words) {
 Command steps_command() {
     return {"steps", "one line for each step of a lock file's run",
             "usage: hmcs steps FILE [--from K] [--count N] [--csv | --json]\n"
+            "       hmcs steps TREE --schedule S [--ticket] ..\n"
             "Steps through a lock file's schedule from a fresh lock and prints a line for each step: the turn,\n"
             "the thread, the domain it is at, the row of the step table and what that does, the step's kind,\n"
             "and who is inside after it.\n"
@@ -55,9 +56,11 @@ Command steps_command() {
             "  --from K       the first turn to print, from 0\n"
             "  --count N      how many to print\n"
             "  --csv, --json  for programs\n"
-            "\n"
-            "  hmcs steps two-sockets.lock --from 100 --count 20\n",
-            with_table_options({{"--from", true}, {"--count", true}}),
+            +
+                std::string(run_help) +
+                "\n"
+                "  hmcs steps two-sockets.lock --from 100 --count 20\n",
+            with_table_options(with_run_options({{"--from", true}, {"--count", true}})),
             1,
             1,
             steps};

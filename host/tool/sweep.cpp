@@ -103,7 +103,8 @@ std::vector<Axis> axes_of(const Words &words, const hmcs::Tree &tree) {
 std::vector<Schedule> schedules_of(const Words &words, const Input &input) {
     std::vector<Schedule> schedules;
     for (const std::string &name : words.values("--schedule")) {
-        schedules.emplace_back(name);
+        const std::vector<Schedule> named = words.has("--each-seed") ? Schedule(name).by_seed() : std::vector<Schedule>{Schedule(name)};
+        schedules.insert(schedules.end(), named.begin(), named.end());
     }
     if (schedules.empty() && input.from_file) {
         schedules.emplace_back(words.others()[0], input.schedule);
@@ -199,7 +200,8 @@ Table sweep_table(const Sweep &sweep) {
     for (const Axis &axis : sweep.axes) {
         table.column(several ? "threshold of " + axis.name : "threshold");
     }
-    add_trial_columns(table, sweep.times.has_value());
+    const Shown shown{sweep.times.has_value(), std::any_of(sweep.schedules.begin(), sweep.schedules.end(), [](const Schedule &s) { return s.has_seeds(); })};
+    add_trial_columns(table, shown);
     for (const Axis &axis : sweep.axes) {
         table.column(several ? "longest tenure of " + axis.name : "longest tenure");
     }
@@ -214,7 +216,7 @@ Table sweep_table(const Sweep &sweep) {
             table.cell(threshold);
         }
         const bool comparable = row.trial.missing.comparable();
-        add_trial(table, row.trial, sweep.times.has_value());
+        add_trial(table, row.trial, shown);
         for (const Axis &axis : sweep.axes) {
             table.cell(longest_tenure(axis, row.trial));
         }
@@ -248,7 +250,10 @@ Command sweep_command() {
             "                     combination is tried\n"
             "  --thresholds T     which thresholds: 1,2,5 or 1..8 or 1..64x2 (1, 2, 4, .. 64); once for all\n"
             "                     groups of domains, or once for each, in their order\n"
-            "  --schedule S       what is run; if given again, each threshold has a row for each\n"
+            "  --schedule S       what is run; if given again, each threshold has a row for each. A seed may be a\n"
+            "                     range: with busy:65536:1..20 twenty schedules are run, the counts are their sums\n"
+            "                     and the largest wait is the worst of them, with the least beside it\n"
+            "  --each-seed        one row for each seed instead\n"
             "  --times P1,P2,P3   how long it takes to pass the lock on at home, between homes and across the root:\n"
             "                     adds the time per entry, (P1*passed + P2*crossed + P3*root) / entries, and in an\n"
             "                     even tree of two or three levels that of `hmcs rate`; where all threads are\n"
@@ -263,7 +268,7 @@ Command sweep_command() {
             "\n"
             "  hmcs sweep '(16(4(#4) 4(#4)) 16(4(#4) 4(#4)))' --level 2 --thresholds 1..64x2\n",
             with_table_options(
-                {{"--domain", true}, {"--level", true}, {"--thresholds", true}, {"--schedule", true}, {"--times", true}, {"--jobs", true}, {"--page", true}, {"--ticket", false}}),
+                {{"--domain", true}, {"--level", true}, {"--thresholds", true}, {"--schedule", true}, {"--each-seed", false}, {"--times", true}, {"--jobs", true}, {"--page", true}, {"--ticket", false}}),
             1,
             1,
             sweep};

@@ -22,7 +22,7 @@ std::uint64_t never_entered(const hmcs::Tree &tree, const Measured &measured, st
 }
 
 std::string tenures(const Words &words) {
-    const Input input = read_lock_file(words.others()[0]);
+    const Input input = read_run(words);
     const Measured measured = measure(input.tree, input.schedule);
     if (measured.refusal.refused()) {
         refuse(words.others()[0], measured.refusal);
@@ -58,6 +58,7 @@ Table tenures_table(const hmcs::Tree &tree, const Measured &measured) {
 Command tenures_command() {
     return {"tenures", "how long each domain of a lock file kept the lock",
             "usage: hmcs tenures FILE [--csv | --json]\n"
+            "       hmcs tenures TREE --schedule S [--ticket] ..\n"
             "Runs the schedule of a lock file from a fresh lock and prints for each domain, indented below its\n"
             "parent, how many entries its threads made, how many tenures it had, and the longest: how many of\n"
             "its members held the lock one after another before it was handed on above. A tenure is a period at\n"
@@ -65,9 +66,11 @@ Command tenures_command() {
             "threads under the domain never entered.\n"
             "\n"
             "  --csv, --json  for programs\n"
-            "\n"
-            "  hmcs tenures two-sockets.lock\n",
-            with_table_options({}),
+            +
+                std::string(run_help) +
+                "\n"
+                "  hmcs tenures two-sockets.lock\n",
+            with_table_options(with_run_options({})),
             1,
             1,
             tenures};

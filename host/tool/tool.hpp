@@ -99,6 +99,13 @@ struct Input {
 Input read_lock_file(const std::string &path);
 // A tree as text, or a file with one, or the tree of a lock file; with a ticket root where the text is to have one.
 Input read_tree(const std::string &text_or_path, bool ticket);
+// What a command runs: a lock file, or with --schedule a tree and that schedule, of any length.
+Input read_run(const Words &words);
+// The lock after a schedule of any length from a fresh one.
+hmcs::Lock lock_after(const Input &input);
+// The options with which a command runs a tree instead of a lock file.
+std::vector<Option> with_run_options(std::vector<Option> options);
+extern const char *const run_help;
 // Thread numbers with white space between them.
 std::vector<std::uint16_t> turns_of(const std::string &path, const std::string &text);
 // What `show` printed of a lock file; a domain or a thread that it leaves out is refused by the calls.

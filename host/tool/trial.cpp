@@ -53,7 +53,7 @@ std::optional<double> proved_time(const hmcs::Tree &tree, const hmcs::PassingTim
     return result.accepted() ? std::optional<double>(1 / result.rate) : std::nullopt;
 }
 
-std::optional<double> time_per_entry(const hmcs::Counts &counts, const hmcs::PassingTimes &times) {
+std::optional<double> time_per_entry(const Totals &counts, const hmcs::PassingTimes &times) {
     if (counts.entries == 0) {
         return std::nullopt;
     }
@@ -72,18 +72,39 @@ void add_time(Table &table, const std::optional<double> &time) {
 
 } // namespace
 
+namespace {
+
+// One seed more: counts and attempts are added; of waits and missing threads the worst stands.
+void join(Trial &trial, const Measured &measured, bool first) {
+    const Missing missing = measured.missing();
+    trial.counts.add(measured.counts);
+    trial.waits = hmcs::joined(trial.waits, measured.all);
+    trial.least_wait = first ? missing.at_least() : std::min(trial.least_wait, missing.at_least());
+    trial.missing = first ? missing : trial.missing.worst(missing);
+    trial.longest.resize(HMCS_DOMAINS);
+    for (std::size_t domain = 0; domain < HMCS_DOMAINS; ++domain) {
+        trial.longest[domain] = std::max(trial.longest[domain], measured.state.longest[domain]);
+    }
+}
+
+} // namespace
+
 Trial try_tree(const hmcs::Tree &tree, const Schedule &schedule, const std::optional<hmcs::PassingTimes> &times) {
     Trial trial;
     trial.refusal = hmcs::Lock(tree).refusal();
     if (trial.refusal.refused()) {
         return trial;
     }
-    const Measured measured = measure(tree, schedule.turns(tree));
-    trial.refusal = measured.refusal;
-    trial.counts = measured.counts;
-    trial.waits = measured.all;
-    trial.missing = measured.missing();
-    trial.longest.assign(std::begin(measured.state.longest), std::end(measured.state.longest));
+    bool first = true;
+    for (const Schedule &one : schedule.by_seed()) {
+        const Measured measured = measure(tree, one.turns(tree));
+        trial.refusal = measured.refusal;
+        if (trial.refusal.refused()) {
+            return trial;
+        }
+        join(trial, measured, first);
+        first = false;
+    }
     trial.allowance = largest_allowance(tree);
     if (times) {
         trial.time = time_per_entry(trial.counts, *times);
@@ -122,28 +143,34 @@ std::optional<hmcs::PassingTimes> times_of(const Words &words) {
     return times;
 }
 
-void add_trial_columns(Table &table, bool timed) {
+void add_trial_columns(Table &table, const Shown &shown) {
     for (const char *name : {"entries", "root", "crossed", "passed", "stays", "largest wait"}) {
         table.column(name);
+    }
+    if (shown.seeds) {
+        table.column("least by seed");
     }
     table.mean_column("mean wait");
     for (const char *name : {"never entered", "fewest entries", "under way", "longest under way"}) {
         table.column(name);
     }
-    if (timed) {
+    if (shown.timed) {
         table.column("time per entry");
         table.column("time by rate");
     }
 }
 
-void add_trial(Table &table, const Trial &trial, bool timed) {
+void add_trial(Table &table, const Trial &trial, const Shown &shown) {
     const Missing &missing = trial.missing;
     const bool comparable = missing.comparable();
-    for (const std::uint32_t count : {trial.counts.entries, trial.counts.root, trial.counts.crossed, trial.counts.passed, trial.counts.stays}) {
+    for (const std::uint64_t count : {trial.counts.entries, trial.counts.root, trial.counts.crossed, trial.counts.passed, trial.counts.stays}) {
         table.cell(count);
     }
     // waits that cannot be compared are not shown as if they could
     table.cell(comparable ? std::to_string(trial.waits.largest) : "at least " + std::to_string(missing.at_least()), Value(trial.waits.largest));
+    if (shown.seeds) {
+        table.cell(trial.least_wait);
+    }
     if (comparable) {
         table.mean(trial.waits.numerator, trial.waits.denominator);
     } else {
@@ -157,7 +184,7 @@ void add_trial(Table &table, const Trial &trial, bool timed) {
     } else {
         table.cell("at least " + std::to_string(missing.longest_under_way), Value(missing.longest_under_way));
     }
-    if (timed) {
+    if (shown.timed) {
         add_time(table, trial.time);
         add_time(table, trial.proved_time);
     }

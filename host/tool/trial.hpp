@@ -14,16 +14,17 @@ class Words;
 
 struct Trial {
     hmcs::Refusal refusal;
-    hmcs::Counts counts;
+    Totals counts;
     hmcs::Waits waits; // of all threads together
     Missing missing;
+    std::uint64_t least_wait = 0;       // the smallest of the largest waits, where several seeds were run
     std::vector<std::uint64_t> longest; // of each domain, its longest tenure
     std::uint64_t allowance = 0;        // the largest of the root's members
     std::optional<double> time;         // per entry, where passing times are given
     std::optional<double> proved_time;  // the same by the proved rate, in an even tree of two or three levels
 };
 
-// Runs the schedule from a fresh lock of the tree.
+// Runs the schedule from a fresh lock of the tree; of several seeds each, and then the counts are sums and the waits the worst.
 Trial try_tree(const hmcs::Tree &tree, const Schedule &schedule, const std::optional<hmcs::PassingTimes> &times);
 
 // P1,P2,P3 of the option --times, if it is given; one that `rate` refuses is refused.
@@ -34,8 +35,13 @@ double real_number(const std::string &name, const std::string &word);
 std::string shortest(double number);
 
 // The columns from the entries to the waits and times, and the cells of a row there.
-void add_trial_columns(Table &table, bool timed);
-void add_trial(Table &table, const Trial &trial, bool timed);
+struct Shown {
+    bool timed = false; // passing times were given
+    bool seeds = false; // several seeds were run
+};
+
+void add_trial_columns(Table &table, const Shown &shown);
+void add_trial(Table &table, const Trial &trial, const Shown &shown);
 
 } // namespace tool
 

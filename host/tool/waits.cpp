@@ -24,7 +24,7 @@ void add_under_way(Table &table, bool is_under_way, std::uint64_t entries) {
 }
 
 std::string waits(const Words &words) {
-    const Input input = read_lock_file(words.others()[0]);
+    const Input input = read_run(words);
     const Measured measured = measure(input.tree, input.schedule);
     if (measured.refusal.refused()) {
         refuse(words.others()[0], measured.refusal);
@@ -73,6 +73,7 @@ Table waits_table(const hmcs::Tree &tree, const Measured &measured) {
 Command waits_command() {
     return {"waits", "how long each thread of a lock file waited",
             "usage: hmcs waits FILE [--csv | --json]\n"
+            "       hmcs waits TREE --schedule S [--ticket] ..\n"
             "Runs the schedule of a lock file from a fresh lock and prints for each thread, and for all\n"
             "together, how many attempts were finished and how long they waited, in other threads' entries:\n"
             "the total, the largest, and the mean as an exact fraction and as a decimal. An attempt begins\n"
@@ -81,9 +82,11 @@ Command waits_command() {
             "entered has no wait at all, and is marked NEVER.\n"
             "\n"
             "  --csv, --json  for programs, the mean as numerator, denominator and decimal\n"
-            "\n"
-            "  hmcs waits two-sockets.lock\n",
-            with_table_options({}),
+            +
+                std::string(run_help) +
+                "\n"
+                "  hmcs waits two-sockets.lock\n",
+            with_table_options(with_run_options({})),
             1,
             1,
             waits};

@@ -10,12 +10,12 @@ ghost use Rattle.file_writer.specs.Answers.{write-answer, file-buffer-answer};
 ghost use Rattle.journal.specs.Answers.{journal-answer};
 ghost use Rattle.lock_file.specs.Answers.{read-answer, schedule-answer};
 ghost use Rattle.rate.specs.Answers.{rate-answer, reply-of};
-ghost use Rattle.schedules.specs.Answers.{many-answer, rows-answer};
+ghost use Rattle.schedules.specs.Answers.{many-reply, rows-answer};
 ghost use Rattle.text_tree.specs.Answers.{text-answer};
 use bounds::RoundsReply;
 use journal::JournalReply;
 use lock_file::ReadReply;
-ghost use Rattle.waits.specs.Answers.{waits-answer, waits-trace, waits-rows};
+ghost use Rattle.waits.specs.Answers.{waits-answer, waits-trace, waits-rows, waits-on-answer, waits-on-trace, waits-on-rows, waits-on-under-way};
 use model::FreshReply;
 use model::LockState;
 use model::RunReply;
@@ -23,7 +23,9 @@ use model::StepReply;
 use model::TreeWords;
 use rate::PassingTimes;
 use rate::RateReply;
+use schedules::ManyReply;
 use text_tree::TextReply;
+use waits::WaitsReply;
 
 // Number and place of an answer.
 #[repr(C)]
@@ -189,15 +191,11 @@ pub extern "C" fn hmcs_run_many(
     lengths: &[u32],
     entries: &[u16],
     rows: &mut [u32],
-) -> Answer
-    ensures { λ r. ⌜ r ≡ answer-of (many-answer tree (now (lengths .entry)) (now (entries .entry)) (now (rows .entry))) ⌝ }
+) -> ManyReply
+    ensures { λ r. ⌜ r ≡ many-reply tree (now (lengths .entry)) (now (entries .entry)) (now (rows .entry)) ⌝ }
     ensures { λ r. ⌜ now (rows .exit) ≡ rows-answer tree (now (lengths .entry)) (now (entries .entry)) (now (rows .entry)) ⌝ }
 {
-    let r = schedules_call::run_many(tree, lengths, entries, rows);
-    Answer {
-        number: r.number,
-        place: r.place,
-    }
+    schedules_call::run_many(tree, lengths, entries, rows)
 }
 
 // The check of a journal: 0 where its threads, stepped one after another from a fresh lock, give its kinds; else the number and the first byte of the first entry that is refused.
@@ -216,12 +214,30 @@ pub extern "C" fn hmcs_run_waits(
     schedule: &[u16],
     trace: &mut [u16],
     rows: &mut [u64],
-) -> RunReply
+) -> WaitsReply
     ensures { λ r. ⌜ r ≡ waits-answer tree state (now (schedule .entry)) (now (trace .entry)) (now (rows .entry)) ⌝ }
     ensures { λ r. ⌜ now (trace .exit) ≡ waits-trace tree state (now (schedule .entry)) (now (trace .entry)) (now (rows .entry)) ⌝ }
     ensures { λ r. ⌜ now (rows .exit) ≡ waits-rows tree state (now (schedule .entry)) (now (trace .entry)) (now (rows .entry)) ⌝ }
 {
     waits_call::run_waits(tree, state, schedule, trace, rows)
+}
+
+// The same from the attempts under way, whose numbers after the run stand where those before it stood; refused, trace, rows and numbers as they came.
+#[no_mangle]
+pub extern "C" fn hmcs_run_waits_on(
+    tree: TreeWords,
+    state: LockState,
+    schedule: &[u16],
+    trace: &mut [u16],
+    rows: &mut [u64],
+    under_way: &mut [u64; 256],
+) -> WaitsReply
+    ensures { λ r. ⌜ r ≡ waits-on-answer tree state (now (schedule .entry)) (now (trace .entry)) (now (rows .entry)) (now («under_way» .entry)) ⌝ }
+    ensures { λ r. ⌜ now (trace .exit) ≡ waits-on-trace tree state (now (schedule .entry)) (now (trace .entry)) (now (rows .entry)) (now («under_way» .entry)) ⌝ }
+    ensures { λ r. ⌜ now (rows .exit) ≡ waits-on-rows tree state (now (schedule .entry)) (now (trace .entry)) (now (rows .entry)) (now («under_way» .entry)) ⌝ }
+    ensures { λ r. ⌜ now («under_way» .exit) ≡ waits-on-under-way tree state (now (schedule .entry)) (now (trace .entry)) (now (rows .entry)) (now («under_way» .entry)) ⌝ }
+{
+    waits_call::run_waits_on(tree, state, schedule, trace, rows, under_way)
 }
 
 // The chain of threads that a thread waits for, itself first, at the front of the chain buffer; refused, that buffer as it came. The number is returned; place and length go where the host says.

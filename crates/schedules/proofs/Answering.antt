@@ -14,7 +14,7 @@ use Rattle.model.specs.Trees.{Tree, tree-of}
 use Rattle.model.specs.Refusals.{refusal, accepted, tree-refusal}
 use Rattle.schedules.specs.Rows.{total, cut, alone, row-of, rows-of, behind-one-another, all-rows}
 use Rattle.schedules.specs.Refusals.{many-refusal}
-use Rattle.schedules.specs.Answers.{many-answer, row-buffer, rows-answer}
+use Rattle.schedules.specs.Answers.{many-answer, many-reply, row-buffer, rows-answer}
 use Rattle.schedules.specs.Laws.{Many-refusal-law, None-law, schedule-at, row-at, Row-law, Keeps-rest, Buffer-law}
 use Rattle.schedules.proofs.Cutting.{as-many, in-order}
 use Rattle.schedules.proofs.Refusing.{many-refusal-law}
@@ -94,7 +94,7 @@ module _ (w : TreeWords) (ns es b : List ℕ) where
   length-rows = rows-length w (cut ns es) ∙ ap (λ n. 8 * n) (as-many ns es)
 
   rest-accepted : many-answer w ns es b .number ≡ 0 → Keeps-rest w ns es b
-  unfolding many-answer
+  unfolding many-answer many-reply
   rest-accepted e =
       let g = call-facts (tree-of w) ns (length es) (length b) e in
       let a = rows-accepted w ns es b e in
@@ -102,12 +102,21 @@ module _ (w : TreeWords) (ns es b : List ℕ) where
         long = ap length a ∙ simp (length-append, length-drop) (omega (arith, length-rows, g .fits));
         behind = ap (drop (8 * length ns)) a ∙ drop-at xs (drop (length xs) b) (8 * length ns) length-rows ∙ rw length-rows;
         refused = λ n. absurd (n e);
+        told = λ _. rw (eq-eqb (many-refusal (tree-of w) ns (length es) (length b) .number) 0 e);
+        none-told = λ n. absurd (n e);
       }
 
   rest-refused : many-answer w ns es b .number ≢ 0 → Keeps-rest w ns es b
+  unfolding many-reply
   rest-refused n =
       let a = rows-refused w ns es b n in
-      record { long = ap length a; behind = ap (drop (8 * length ns)) a; refused = λ _. a }
+      record {
+        long = ap length a;
+        behind = ap (drop (8 * length ns)) a;
+        refused = λ _. a;
+        told = λ e. absurd (n e);
+        none-told = λ _. rw (ne-eqb (many-answer w ns es b .number) 0 n);
+      }
 
 pub buffer-law : Buffer-law
 unfolding Buffer-law

@@ -7,12 +7,19 @@ use lib.ListN.{length, drop}
 use Rattle.model.specs.declared.TreeWords.{TreeWords}
 use Rattle.model.specs.Trees.{tree-of}
 use Rattle.model.specs.Refusals.{Refusal}
+use Rattle.schedules.specs.declared.ManyReply.{ManyReply}
 use Rattle.schedules.specs.Rows.{cut, all-rows}
 use Rattle.schedules.specs.Refusals.{many-refusal}
 
 -- number and place
 unfoldable pub many-answer : TreeWords → (lengths entries buffer : List ℕ) → Refusal
 many-answer w ns es b = many-refusal (tree-of w) ns (length es) (length b)
+
+-- what the call returns: number and place, and how many rows are written: one for each schedule; refused, none
+unfoldable pub many-reply : TreeWords → (lengths entries buffer : List ℕ) → ManyReply
+many-reply w ns es b =
+    let r = many-answer w ns es b in
+    record { number = r .number; place = r .place; rows = cond (eqb (r .number) 0) (length ns) 0 }
 
 -- the row buffer by the call's refusal: the rows at its front and nothing behind them; refused, as it came
 unfoldable pub row-buffer : Refusal → (buffer rows : List ℕ) → List ℕ

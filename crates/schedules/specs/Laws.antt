@@ -14,7 +14,7 @@ use Rattle.model.specs.Laws.{Refuses-exactly}
 use Rattle.claims.specs.Reached.{lone-run}
 use Rattle.schedules.specs.Rows.{total, cut, row-of, behind-one-another}
 use Rattle.schedules.specs.Refusals.{many-tests, many-refusal}
-use Rattle.schedules.specs.Answers.{many-answer, rows-answer}
+use Rattle.schedules.specs.Answers.{many-answer, many-reply, rows-answer}
 
 -- 1. REFUSALS. The tests are a list that the one law of refusals covers; in plain numbers, one of these four holds of every call
 pub record Refuses-many (t : Tree) (lengths : List ℕ) (entries room : ℕ) : Type 0 where
@@ -69,11 +69,13 @@ Row-law =
     (w : TreeWords) (lengths entries buffer : List ℕ) → many-answer w lengths entries buffer .number ≡ 0 → (k : ℕ) → k < length lengths →
     Says w (schedule-at lengths entries k) (row-at k (rows-answer w lengths entries buffer))
 
--- 4. THE BUFFER keeps its length and what is behind the rows; refused, all of it
+-- 4. THE BUFFER keeps its length and what is behind the rows; refused, all of it. The reply says how many rows stand at its front
 pub record Keeps-rest (w : TreeWords) (lengths entries buffer : List ℕ) : Type 0 where
   pub long : length (rows-answer w lengths entries buffer) ≡ length buffer
   pub behind : drop (8 * length lengths) (rows-answer w lengths entries buffer) ≡ drop (8 * length lengths) buffer
   pub refused : many-answer w lengths entries buffer .number ≢ 0 → rows-answer w lengths entries buffer ≡ buffer
+  pub told : many-answer w lengths entries buffer .number ≡ 0 → many-reply w lengths entries buffer .rows ≡ length lengths
+  pub none-told : many-answer w lengths entries buffer .number ≢ 0 → many-reply w lengths entries buffer .rows ≡ 0
 
 unfoldable pub Buffer-law : Type 0
 Buffer-law = (w : TreeWords) (lengths entries buffer : List ℕ) → Keeps-rest w lengths entries buffer

@@ -6,6 +6,7 @@ use native.Mathlib.Omega.{arith}
 use native.Mathlib.Numerals.{add-one}
 use lib.ListN.{length, take, drop, getD, drop-of-length-le}
 use lib.Seq.{sets, sets-eq, length-sets, drop-cons, drop-drop}
+use borrow.Author.Tests.{eq-eqb, ne-eqb}
 use Rattle.model.specs.declared.TreeWords.{TreeWords}
 use Rattle.model.specs.declared.RunReply.{RunReply}
 use Rattle.model.specs.Trees.{tree-of}
@@ -14,7 +15,7 @@ use Rattle.refusals.specs.declared.Refusal.{Refusal}
 use Rattle.refusals.specs.Arrays.{refusal-words}
 use Rattle.refusals.proofs.RunTests.{refusal-words-not, refusal-words-zero}
 use Rattle.schedules.specs.Refusals.{many-refusal}
-use Rattle.schedules.specs.Answers.{many-answer, rows-answer}
+use Rattle.schedules.specs.Answers.{many-answer, many-reply, rows-answer}
 use Rattle.schedules_call.proofs.Adding.{total-next}
 use Rattle.schedules.proofs.Cutting.{as-many}
 use Rattle.schedules.proofs.Answering.{Good-call, call-facts, rows-length, rows-accepted, rows-refused}
@@ -77,14 +78,20 @@ rows-written w ns es b e =
 
 -- THE CALL, by what the code was told of its refusal
 module _ (w : TreeWords) (ns es b : List ℕ) (r : Refusal) (e : r ≡ refusal-words (many-refusal (tree-of w) ns (length es) (length b))) where
-  pub call-refuses : (r .number ≡ 0 → ⊥) → (r ≡ refusal-words (many-answer w ns es b)) × (b ≡ rows-answer w ns es b)
-  unfolding many-answer
-  call-refuses n = (e, sym (rows-refused w ns es b (refusal-words-not r _ e n)))
+  pub call-refuses : (r .number ≡ 0 → ⊥) → (record { number = r .number; place = r .place; rows = 0 } ≡ many-reply w ns es b) × (b ≡ rows-answer w ns es b)
+  unfolding many-answer many-reply
+  call-refuses n =
+      let m = refusal-words-not r _ e n in
+      (rw (e, ne-eqb (many-refusal (tree-of w) ns (length es) (length b) .number) 0 m), sym (rows-refused w ns es b m))
 
   module _ (z : r .number ≡ 0) where
     pub call-good : Good-call (tree-of w) ns (length es) (length b)
     call-good = call-facts (tree-of w) ns (length es) (length b) (refusal-words-zero r _ e z)
 
-    pub call-answered : (b′ : List ℕ) → b′ ≡ sets b 0 (all-rows w (cut ns es)) → (r ≡ refusal-words (many-answer w ns es b)) × (b′ ≡ rows-answer w ns es b)
-    unfolding many-answer
-    call-answered b′ f = (e, f ∙ rows-written w ns es b (refusal-words-zero r _ e z))
+    pub call-answered :
+        (b′ : List ℕ) → b′ ≡ sets b 0 (all-rows w (cut ns es)) →
+        (record { number = r .number; place = r .place; rows = length ns } ≡ many-reply w ns es b) × (b′ ≡ rows-answer w ns es b)
+    unfolding many-answer many-reply
+    call-answered b′ f =
+        let ok = refusal-words-zero r _ e z in
+        (rw (e, eq-eqb (many-refusal (tree-of w) ns (length es) (length b) .number) 0 ok), f ∙ rows-written w ns es b ok)

@@ -7,12 +7,13 @@ ghost use Rattle.model.specs.Trees.{tree-of};
 ghost use Rattle.refusals.specs.Arrays.{refusal-words};
 ghost use Rattle.schedules.specs.Rows.{total};
 ghost use Rattle.schedules.specs.Refusals.{many-refusal};
-ghost use Rattle.schedules.specs.Answers.{many-answer, rows-answer};
+ghost use Rattle.schedules.specs.Answers.{many-reply, rows-answer};
 
 mod many;
 
 use model::TreeWords;
 use refusals::Refusal;
+use schedules::ManyReply;
 
 // Whether the lengths add up to the entries. What is left of the entries falls, so that no sum is made that could wrap.
 fn adds_up(lengths: &[u32], entries: usize) -> bool
@@ -64,15 +65,23 @@ pub fn many_refusal_of(tree: TreeWords, lengths: &[u32], entries: usize, room: u
 }
 
 // Many schedules, the entries of all of them behind one another: of each, run from its own fresh lock, one row of eight numbers at the front of the rows. Refused as a whole, the rows as they came.
-pub fn run_many(tree: TreeWords, lengths: &[u32], entries: &[u16], rows: &mut [u32]) -> Refusal
-    ensures { λ r. ⌜ r ≡ refusal-words (many-answer tree (now (lengths .entry)) (now (entries .entry)) (now (rows .entry))) ⌝ }
+pub fn run_many(tree: TreeWords, lengths: &[u32], entries: &[u16], rows: &mut [u32]) -> ManyReply
+    ensures { λ r. ⌜ r ≡ many-reply tree (now (lengths .entry)) (now (entries .entry)) (now (rows .entry)) ⌝ }
     ensures { λ r. ⌜ now (rows .exit) ≡ rows-answer tree (now (lengths .entry)) (now (entries .entry)) (now (rows .entry)) ⌝ }
 {
     let r = many_refusal_of(tree, lengths, entries.len(), rows.len());
     if r.number != 0 {
-        return r;
+        return ManyReply {
+            number: r.number,
+            place: r.place,
+            rows: 0,
+        };
     }
     let mut trace = [0u16; 65536];
     many::run_rows(tree, lengths, entries, &mut trace, rows);
-    r
+    ManyReply {
+        number: r.number,
+        place: r.place,
+        rows: lengths.len(),
+    }
 }

@@ -17,45 +17,93 @@ use Rattle.model.specs.Refusals.{refusal, first-refusal, run-tests-before-19, r
 use Rattle.model.specs.Answers.{counters-behind, run-reply, run-buffer, run-answer, trace-answer}
 use Rattle.schedules.specs.Rows.{total}
 use Rattle.schedules.specs.Answers.{row-buffer}
-use Rattle.waits.specs.Attempts.{waits, waits-below}
-use Rattle.waits.specs.Rows.{largest, row-with, row-of, rows-below, all-rows}
-use Rattle.waits.specs.Answers.{refused-by, waits-answer, waits-trace, waits-rows}
+use Rattle.waits.specs.Attempts.{waits-from, under-way-from, waits-below-from, under-way-below, waits-below}
+use Rattle.waits.specs.Rows.{largest, row-with, row-of, rows-below-from, rows-below, all-rows, capped, row-of-all, all-rows-from}
+use Rattle.waits.specs.Answers.{waits-reply, refused-by, waits-answer, waits-trace, waits-rows}
 use Rattle.waits.specs.Laws.{Waits-refusal-law, Runs-as, Waits-run-law, row-at, column, Says, Row-law, Keeps-rest, Row-buffer-law}
 use Rattle.waits.proofs.Refusing.{early-passes, early-zero, waits-refusal-law}
 use Rattle.waits.proofs.Sums.{total-join, largest-join}
-
-row-long : (n w m : ℕ) → length (row-with n w m) ≡ 5
-unfolding row-with
-row-long n w m = refl
-
-pub rows-long : (t : Tree) (k : ℕ) (xs : List Step) → length (rows-below t k xs) ≡ 5 * k
-unfolding rows-below row-of row-with
-rows-long t zero xs = refl
-rows-long t (suc k) xs = length-append (rows-below t k xs) (row-of (waits t k xs)) ∙ (let e = rows-long t k xs in omega arith)
-
-pub all-long : (t : Tree) (xs : List Step) → length (all-rows t xs) ≡ 5 * (t .threads + 1)
-unfolding all-rows row-of row-with
-all-long t xs = length-append (rows-below t (t .threads) xs) (row-of (waits-below t (t .threads) xs)) ∙ (let e = rows-long t (t .threads) xs in omega arith)
 
 -- ROWS at their places
 take-row : (n w m : ℕ) (l : List ℕ) → take 5 (row-with n w m ++ l) ≡ row-with n w m
 unfolding row-with
 take-row n w m l = refl
 
-taken : (ws l : List ℕ) → take 5 (row-of ws ++ l) ≡ row-of ws
+pub taken : (ws l : List ℕ) → take 5 (row-of ws ++ l) ≡ row-of ws
 unfolding row-of
 taken ws l = take-row (length ws) (total ws) (largest ws) l
 
-row-in : (t : Tree) (xs : List Step) (n i : ℕ) (rest : List ℕ) → i < n → row-at i (rows-below t n xs ++ rest) ≡ row-of (waits t i xs)
-unfolding rows-below
-row-in t xs zero i rest h = absurd (omega arith)
-row-in t xs (suc n) i rest h =
-    elim (ℕ-discrete i n) [
-      | yes z ↦
-          rw (z, append-assoc (rows-below t n xs) (row-of (waits t n xs)) rest, drop-at (rows-below t n xs) (row-of (waits t n xs) ++ rest) (5 * n) (rows-long t n xs))
-          (taken (waits t n xs) rest)
-      | no z ↦ rw (append-assoc (rows-below t n xs) (row-of (waits t n xs)) rest) (row-in t xs n i (row-of (waits t n xs) ++ rest) (omega arith))
-    ]
+pub taken-all : (ws l : List ℕ) → take 5 (row-of-all ws ++ l) ≡ row-of-all ws
+unfolding row-of-all
+taken-all ws l = take-row (length ws) (capped (total ws)) (largest ws) l
+
+module _ (t : Tree) (us : List ℕ) (xs : List Step) where
+  pub rows-long : (k : ℕ) → length (rows-below-from t us k xs) ≡ 5 * k
+  unfolding rows-below-from row-of row-with
+  rows-long zero = refl
+  rows-long (suc k) = length-append (rows-below-from t us k xs) (row-of (waits-from t k (getD us k 0) xs)) ∙ (let e = rows-long k in omega arith)
+
+  row-in : (n i : ℕ) (rest : List ℕ) → i < n → row-at i (rows-below-from t us n xs ++ rest) ≡ row-of (waits-from t i (getD us i 0) xs)
+  unfolding rows-below-from
+  row-in zero i rest h = absurd (omega arith)
+  row-in (suc n) i rest h =
+      let new = row-of (waits-from t n (getD us n 0) xs) in
+      elim (ℕ-discrete i n) [
+        | yes z ↦ rw (z, append-assoc (rows-below-from t us n xs) new rest, drop-at (rows-below-from t us n xs) (new ++ rest) (5 * n) (rows-long n)) (taken (waits-from t n (getD us n 0) xs) rest)
+        | no z ↦ rw (append-assoc (rows-below-from t us n xs) new rest) (row-in n i (new ++ rest) (omega arith))
+      ]
+
+  -- a buffer with the rows of so many threads at its front
+  module _ (n : ℕ) (B rest : List ℕ) (buffer : B ≡ rows-below-from t us n xs ++ rest) where
+    pub row-there : (i : ℕ) → i < n → row-at i B ≡ row-of (waits-from t i (getD us i 0) xs)
+    row-there i h = ap (row-at i) buffer ∙ row-in n i rest h
+
+    pub row-after : row-at n B ≡ take 5 rest
+    row-after = ap (row-at n) buffer ∙ ap (take 5) (drop-at (rows-below-from t us n xs) rest (5 * n) (rows-long n))
+
+    pub attempts-column : (k : ℕ) → k ≤ n → total (column 0 k B) ≡ length (waits-below-from t us k xs)
+    unfolding column total waits-below-from row-of row-with
+    attempts-column zero h = refl
+    attempts-column (suc k) h =
+        let ws = waits-from t k (getD us k 0) xs in
+        total-join (column 0 k B) (getD (row-at k B) 0 0 ∷ [])
+        ∙ (let a = attempts-column k (omega arith) in let c : getD (row-at k B) 0 0 ≡ length ws = ap (λ (r : List ℕ). getD r 0 0) (row-there k (omega arith)) in let d = length-append (waits-below-from t us k xs) ws in omega arith)
+
+    pub totals-column : (k : ℕ) → k ≤ n → total (column 1 k B) ≡ total (waits-below-from t us k xs)
+    unfolding column total waits-below-from row-of row-with
+    totals-column zero h = refl
+    totals-column (suc k) h =
+        let ws = waits-from t k (getD us k 0) xs in
+        total-join (column 1 k B) (getD (row-at k B) 1 0 ∷ [])
+        ∙ (let a = totals-column k (omega arith) in let c : getD (row-at k B) 1 0 ≡ total ws = ap (λ (r : List ℕ). getD r 1 0) (row-there k (omega arith)) in let d = total-join (waits-below-from t us k xs) ws in omega arith)
+
+    pub largest-column : (k : ℕ) → k ≤ n → largest (column 2 k B) ≡ largest (waits-below-from t us k xs)
+    unfolding column largest waits-below-from row-of row-with
+    largest-column zero h = refl
+    largest-column (suc k) h =
+        let ws = waits-from t k (getD us k 0) xs in
+        largest-join (column 2 k B) (getD (row-at k B) 2 0 ∷ [])
+        ∙ (let a = largest-column k (omega arith) in let c : getD (row-at k B) 2 0 ≡ largest ws = ap (λ (r : List ℕ). getD r 2 0) (row-there k (omega arith)) in let d = largest-join (waits-below-from t us k xs) ws in omega arith)
+
+  pub numbers-long : (k : ℕ) → length (under-way-below t us k xs) ≡ k
+  unfolding under-way-below
+  numbers-long zero = refl
+  numbers-long (suc k) = length-append (under-way-below t us k xs) (under-way-from t k (getD us k 0) xs ∷ []) ∙ (let e = numbers-long k in omega arith)
+
+  pub all-from-long : length (all-rows-from t us xs) ≡ 5 * (t .threads + 1)
+  unfolding all-rows-from row-of-all row-with
+  all-from-long = length-append (rows-below-from t us (t .threads) xs) (row-of-all (waits-below-from t us (t .threads) xs)) ∙ (let e = rows-long (t .threads) in omega arith)
+
+pub all-long : (t : Tree) (xs : List Step) → length (all-rows t xs) ≡ 5 * (t .threads + 1)
+unfolding all-rows row-of row-with
+all-long t xs = length-append (rows-below t (t .threads) xs) (row-of (waits-below t (t .threads) xs)) ∙ (let e = rows-long t [] xs (t .threads) in omega arith)
+
+-- what stands in front of the rest of a buffer keeps its length
+pub front-long : (n : ℕ) (xs rs : List ℕ) → length xs ≡ n → n ≤ length rs → length (xs ++ drop (length xs) rs) ≡ length rs
+front-long n xs rs l h = length-append xs (drop (length xs) rs) ∙ (let d = length-drop (length xs) rs in omega arith)
+
+pub front-rest : (n : ℕ) (xs rs : List ℕ) → length xs ≡ n → drop n (xs ++ drop (length xs) rs) ≡ drop n rs
+front-rest n xs rs l = drop-at xs (drop (length xs) rs) n l ∙ rw l
 
 -- THE CALL by its refusal
 module _ (w : TreeWords) (s : LockState) (is b rs : List ℕ) where
@@ -78,20 +126,31 @@ module _ (w : TreeWords) (s : LockState) (is b rs : List ℕ) where
   rows-fit e = early-passes t s is (length b) (length rs) (early-zero t s is (length b) (length rs) e) .1
 
   rest-accepted : refused-by w s is b rs .number ≡ 0 → Keeps-rest w s is b rs
+  unfolding waits-answer waits-reply
   rest-accepted e =
       let a = rows-accepted e in
       let l = all-long t xs in
       record {
-        long = ap length a ∙ length-append (all-rows t xs) (drop (length (all-rows t xs)) rs) ∙ (let d = length-drop (length (all-rows t xs)) rs in omega (arith, l, rows-fit e));
-        behind = ap (drop (5 * (t .threads + 1))) a ∙ drop-at (all-rows t xs) (drop (length (all-rows t xs)) rs) (5 * (t .threads + 1)) l ∙ rw l;
+        long = ap length a ∙ front-long (5 * (t .threads + 1)) (all-rows t xs) rs l (rows-fit e);
+        behind = ap (drop (5 * (t .threads + 1))) a ∙ front-rest (5 * (t .threads + 1)) (all-rows t xs) rs l;
         refused = λ n. absurd (n e);
+        told = λ _. rw (eq-eqb (refused-by w s is b rs .number) 0 e);
+        none-told = λ n. absurd (n e);
       }
 
   rest-kept : Keeps-rest w s is b rs
+  unfolding waits-answer waits-reply
   rest-kept =
       elim (ℕ-discrete (refused-by w s is b rs .number) 0) [
         | yes e ↦ rest-accepted e
-        | no n ↦ record { long = ap length (rows-refused n); behind = ap (drop (5 * (t .threads + 1))) (rows-refused n); refused = λ _. rows-refused n }
+        | no n ↦
+            record {
+              long = ap length (rows-refused n);
+              behind = ap (drop (5 * (t .threads + 1))) (rows-refused n);
+              refused = λ _. rows-refused n;
+              told = λ e. absurd (n e);
+              none-told = λ _. rw (ne-eqb (refused-by w s is b rs .number) 0 n);
+            }
       ]
 
   -- the run's part
@@ -107,7 +166,7 @@ module _ (w : TreeWords) (s : LockState) (is b rs : List ℕ) where
         ]
 
     runs-as : Runs-as w s is b rs
-    unfolding waits-answer waits-trace run-answer trace-answer
+    unfolding waits-answer waits-reply waits-trace run-answer trace-answer
     runs-as = record { reply = ap (λ r. run-reply r s (run t is (s .words)) (counters-behind t is s)) same-refusal; traced = ap (λ r. run-buffer r b (run t is (s .words))) same-refusal }
 
   -- what the rows say
@@ -119,41 +178,18 @@ module _ (w : TreeWords) (s : LockState) (is b rs : List ℕ) where
     unfolding all-rows
     buffer = rows-accepted e ∙ append-assoc (rows-below t (t .threads) xs) (row-of (waits-below t (t .threads) xs)) (drop (length (all-rows t xs)) rs)
 
-    of-thread : (i : ℕ) → i < t .threads → row-at i B ≡ row-of (waits t i xs)
-    of-thread i h = ap (row-at i) buffer ∙ row-in t xs (t .threads) i _ h
-
-    last-row : row-at (t .threads) B ≡ row-of (waits-below t (t .threads) xs)
-    last-row =
-        ap (row-at (t .threads)) buffer
-        ∙ ap (take 5) (drop-at (rows-below t (t .threads) xs) _ (5 * t .threads) (rows-long t (t .threads) xs)) ∙ taken (waits-below t (t .threads) xs) _
-
-    attempts-column : (k : ℕ) → k ≤ t .threads → total (column 0 k B) ≡ length (waits-below t k xs)
-    unfolding column total waits-below row-of row-with
-    attempts-column zero h = refl
-    attempts-column (suc k) h =
-        total-join (column 0 k B) (getD (row-at k B) 0 0 ∷ [])
-        ∙ (let a = attempts-column k (omega arith) in let c : getD (row-at k B) 0 0 ≡ length (waits t k xs) = ap (λ (r : List ℕ). getD r 0 0) (of-thread k (omega arith)) in let d = length-append (waits-below t k xs) (waits t k xs) in omega arith)
-
-    totals-column : (k : ℕ) → k ≤ t .threads → total (column 1 k B) ≡ total (waits-below t k xs)
-    unfolding column total waits-below row-of row-with
-    totals-column zero h = refl
-    totals-column (suc k) h =
-        total-join (column 1 k B) (getD (row-at k B) 1 0 ∷ [])
-        ∙ (let a = totals-column k (omega arith) in let c : getD (row-at k B) 1 0 ≡ total (waits t k xs) = ap (λ (r : List ℕ). getD r 1 0) (of-thread k (omega arith)) in let d = total-join (waits-below t k xs) (waits t k xs) in omega arith)
-
-    largest-column : (k : ℕ) → k ≤ t .threads → largest (column 2 k B) ≡ largest (waits-below t k xs)
-    unfolding column largest waits-below row-of row-with
-    largest-column zero h = refl
-    largest-column (suc k) h =
-        largest-join (column 2 k B) (getD (row-at k B) 2 0 ∷ [])
-        ∙ (let a = largest-column k (omega arith) in let c : getD (row-at k B) 2 0 ≡ largest (waits t k xs) = ap (λ (r : List ℕ). getD r 2 0) (of-thread k (omega arith)) in let d = largest-join (waits-below t k xs) (waits t k xs) in omega arith)
-
     says : Says w s is b rs
     unfolding row-of
     says =
         record {
-          of-thread = of-thread;
-          of-all = last-row ∙ rw (attempts-column (t .threads) (omega arith), totals-column (t .threads) (omega arith), largest-column (t .threads) (omega arith));
+          of-thread = row-there t [] xs (t .threads) B _ buffer;
+          of-all =
+              row-after t [] xs (t .threads) B _ buffer ∙ taken (waits-below t (t .threads) xs) _
+              ∙ rw (
+                attempts-column t [] xs (t .threads) B _ buffer (t .threads) (omega arith),
+                totals-column t [] xs (t .threads) B _ buffer (t .threads) (omega arith),
+                largest-column t [] xs (t .threads) B _ buffer (t .threads) (omega arith),
+              );
         }
 
 pub row-law : Row-law

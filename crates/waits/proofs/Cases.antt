@@ -21,10 +21,10 @@ use Rattle.model.specs.Answers.{counters-behind, run-reply, run-buffer}
 use Rattle.model.specs.Cases.{padded, tree, at-ticket-root, two-homes, first-entries, two-in-root, three-levels, same-numbers, place-numbers, same-counts, same-state, same-counters, same-lock}
 use Rattle.schedules.specs.Rows.{total}
 use Rattle.schedules.specs.Answers.{row-buffer}
-use Rattle.waits.specs.Attempts.{swaps-at, draws, begins-from, begins, enters, begun, counted, under-way-after, finished, finished-by, waits-from, waits-below}
-use Rattle.waits.specs.Rows.{largest, divisor-in, mean, row-with, row-of, rows-below, all-rows}
+use Rattle.waits.specs.Attempts.{swaps-at, draws, begins-from, begins, enters, begun, counted, under-way-after, finished, finished-by, waits-from, waits-below-from}
+use Rattle.waits.specs.Rows.{largest, divisor-in, mean, row-with, row-of, rows-below-from, all-rows}
 use Rattle.waits.specs.Refusals.{bad-row-room, row-room-tests, waits-tests-before-19, waits-tests, waits-refusal}
-use Rattle.waits.specs.Answers.{refused-by, waits-answer, waits-trace, waits-rows}
+use Rattle.waits.specs.Answers.{waits-reply, refused-by, waits-answer, waits-trace, waits-rows}
 use Rattle.waits.specs.Cases.{Case, rows-given, refused-from, refused-with, full-entries, reached, no-attempt, no-wait, taking-turns, cases, answered, holds, all-hold}
 use Rattle.model.proofs.Tests.{and-both}
 use Rattle.model.proofs.Walks.{walked, Sized, zero-from, first-pass, first-meets, formed-by-walks, same-formed, counts-by-walks, above-by-walks}
@@ -69,7 +69,7 @@ all-sized [] = true
 all-sized (c ∷ cs) = case-sized c && all-sized cs
 
 same-case : (c : Case) → case-sized c ≡ true → holds c ≡ holds-by-walks c
-unfolding holds-by-walks holds waits-answer waits-trace waits-rows
+unfolding holds-by-walks holds waits-answer waits-reply waits-trace waits-rows
 same-case c e =
     let a = and-both (leb (length (c .schedule)) 65536) (state-sized (c .state .words)) e in
     rw (same-refusal c (leb-true _ _ (a .0)) (sized (c .state .words) (a .1)))
@@ -88,7 +88,7 @@ unfolding any-below filter-below all-below read-word tree-of is-ticket is-child 
     entering counts-of run-of run good-tail queue-on-path good-place good-counters refusal accepted bad-domains bad-threads bad-parent too-deep no-threshold
     bad-home empty-domain tree-tests bad-length bad-entry bad-room run-reply run-buffer padded tree at-ticket-root two-homes first-entries two-in-root
     three-levels same-numbers place-numbers same-counts same-state total row-buffer swaps-at draws begins-from begins enters begun counted under-way-after
-    finished finished-by waits-from waits-below largest divisor-in mean row-with row-of rows-below all-rows rows-given refused-from refused-with full-entries
+    finished finished-by waits-from waits-below-from largest divisor-in mean row-with row-of rows-below-from all-rows rows-given refused-from refused-with full-entries
     reached no-attempt no-wait taking-turns cases all-sized
 cases-sized = refl
 
@@ -101,6 +101,6 @@ unfolding zero-from first-pass first-meets counts-by-walks above-by-walks walked
     run good-tail queue-on-path good-place good-counters refusal accepted lowest-bad first-refusal bad-domains bad-threads bad-parent too-deep no-threshold
     bad-home empty-domain tree-tests bad-length bad-entry bad-room run-reply run-buffer padded tree at-ticket-root two-homes first-entries two-in-root
     three-levels same-numbers place-numbers same-counts same-state same-counters same-lock total row-buffer swaps-at draws begins-from begins enters begun
-    counted under-way-after finished finished-by waits-from waits-below largest divisor-in mean row-with row-of rows-below all-rows bad-row-room rows-given
+    counted under-way-after finished finished-by waits-from waits-below-from largest divisor-in mean row-with row-of rows-below-from all-rows bad-row-room rows-given
     refused-from refused-with full-entries reached no-attempt no-wait taking-turns cases walked formed-by-walks walked-refusal holds-by-walks all-hold-by-walks
 cases-hold = same-cases cases cases-sized ∙ refl

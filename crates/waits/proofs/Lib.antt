@@ -1,10 +1,13 @@
 -- The proofs.
 pub mod Sums
+pub mod Joining
 pub mod Divisors
 pub mod Refusing
+pub mod RefusingOn
 pub mod Buffers
 pub mod Phases
 pub mod Entering
 pub mod Bounds
+pub mod Zeros
 pub mod Measuring
 pub mod Cases

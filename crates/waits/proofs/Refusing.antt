@@ -30,7 +30,7 @@ module _ (t : Tree) (s : LockState) (is : List ℕ) (room n : ℕ) where
   abbrev pub early : model.Refusal
   early = first-refusal (waits-tests-before-19 t s is room n)
 
-  early-numbered : Numbered (waits-tests-before-19 t s is room n)
+  pub early-numbered : Numbered (waits-tests-before-19 t s is room n)
   unfolding has-number tree-tests
   early-numbered = numbered (waits-tests-before-19 t s is room n) refl
 

@@ -1,25 +1,34 @@
--- Document 02, (vi): what a run with waits answers, and the two buffers after it, for every input. Assumes nothing: these are definitions.
-use mathlib.Core.List.{List}
-use Prim.Native.Nat.{ℕ}
-use lib.ListN.{length}
+-- Document 02, (vi): what a run with waits answers, and its buffers after it, for every input; and the same where it goes on from attempts under way. Assumes nothing: these are definitions.
+use mathlib.Core.Bool.{cond}
+use mathlib.Core.List.{List, _++_}
+use Prim.Native.Nat.{ℕ, _+_, _-_}
+use lib.Dec.{eqb}
+use lib.ListN.{length, replicate}
 use Rattle.model.specs.declared.TreeWords.{TreeWords}
 use Rattle.model.specs.declared.LockState.{LockState}
-use Rattle.model.specs.declared.RunReply.{RunReply}
+use Rattle.model.specs.declared.Counters.{Counters}
 use Rattle.model.specs.Trees.{tree-of}
-use Rattle.model.specs.Runs.{steps, run}
+use Rattle.model.specs.Runs.{steps, Run, run}
 use Rattle.model.specs.Refusals.{Refusal}
 use Rattle.model.specs.Answers.{counters-behind, run-reply, run-buffer}
 use Rattle.schedules.specs.Answers.{row-buffer}
-use Rattle.waits.specs.Rows.{all-rows}
-use Rattle.waits.specs.Refusals.{waits-refusal}
+use Rattle.waits.specs.declared.WaitsReply.{WaitsReply}
+use Rattle.waits.specs.Attempts.{under-way-below}
+use Rattle.waits.specs.Rows.{all-rows, all-rows-from}
+use Rattle.waits.specs.Refusals.{waits-refusal, waits-on-refusal}
 
--- number and place
+-- what the run returns, and how many rows are written: one for each thread and one for all; refused, none
+unfoldable pub waits-reply : Refusal → LockState → Run → Counters → (threads : ℕ) → WaitsReply
+waits-reply r s x c n = record { run = run-reply r s x c; rows = cond (eqb (r .number) 0) (n + 1) 0 }
+
+-- A RUN WITH WAITS. Number and place
 unfoldable pub refused-by : TreeWords → LockState → (schedule trace rows : List ℕ) → Refusal
 refused-by w s is b rs = waits-refusal (tree-of w) s is (length b) (length rs)
 
--- the run's reply
-unfoldable pub waits-answer : TreeWords → LockState → (schedule trace rows : List ℕ) → RunReply
-waits-answer w s is b rs = run-reply (refused-by w s is b rs) s (run (tree-of w) is (s .words)) (counters-behind (tree-of w) is s)
+-- its reply
+unfoldable pub waits-answer : TreeWords → LockState → (schedule trace rows : List ℕ) → WaitsReply
+waits-answer w s is b rs =
+    waits-reply (refused-by w s is b rs) s (run (tree-of w) is (s .words)) (counters-behind (tree-of w) is s) (tree-of w .threads)
 
 -- the trace buffer: the entering threads at its front; refused, as it came
 unfoldable pub waits-trace : TreeWords → LockState → (schedule trace rows : List ℕ) → List ℕ
@@ -28,3 +37,26 @@ waits-trace w s is b rs = run-buffer (refused-by w s is b rs) b (run (tree-of w)
 -- the row buffer: the rows at its front and nothing behind them; refused, as it came
 unfoldable pub waits-rows : TreeWords → LockState → (schedule trace rows : List ℕ) → List ℕ
 waits-rows w s is b rs = row-buffer (refused-by w s is b rs) rs (all-rows (tree-of w) (steps (tree-of w) is (s .words)))
+
+-- ONE THAT GOES ON from attempts under way. Number and place
+unfoldable pub refused-on : TreeWords → LockState → (schedule trace rows under-way : List ℕ) → Refusal
+refused-on w s is b rs us = waits-on-refusal (tree-of w) s is (length b) (length rs) us
+
+-- its reply
+unfoldable pub waits-on-answer : TreeWords → LockState → (schedule trace rows under-way : List ℕ) → WaitsReply
+waits-on-answer w s is b rs us =
+    waits-reply (refused-on w s is b rs us) s (run (tree-of w) is (s .words)) (counters-behind (tree-of w) is s) (tree-of w .threads)
+
+-- the trace buffer
+unfoldable pub waits-on-trace : TreeWords → LockState → (schedule trace rows under-way : List ℕ) → List ℕ
+waits-on-trace w s is b rs us = run-buffer (refused-on w s is b rs us) b (run (tree-of w) is (s .words))
+
+-- the row buffer
+unfoldable pub waits-on-rows : TreeWords → LockState → (schedule trace rows under-way : List ℕ) → List ℕ
+waits-on-rows w s is b rs us = row-buffer (refused-on w s is b rs us) rs (all-rows-from (tree-of w) us (steps (tree-of w) is (s .words)))
+
+-- the numbers of attempts under way, 256 of them: those after the run for the tree's threads, and 0 after the last thread; refused, as they came
+unfoldable pub waits-on-under-way : TreeWords → LockState → (schedule trace rows under-way : List ℕ) → List ℕ
+waits-on-under-way w s is b rs us =
+    let numbers = under-way-below (tree-of w) us (tree-of w .threads) (steps (tree-of w) is (s .words)) in
+    cond (eqb (refused-on w s is b rs us .number) 0) (numbers ++ replicate (256 - tree-of w .threads) 0) us

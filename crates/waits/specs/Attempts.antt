@@ -1,8 +1,9 @@
--- Document 02, (vi): the attempts of a thread and their waits, from the list of a run's steps. Assumes nothing: these are definitions.
+-- Document 02, (vi): the attempts of a thread and their waits, from the list of a run's steps, and the attempt that is under way after them. Assumes nothing: these are definitions.
 use mathlib.Core.Bool.{Bool, true, false, _&&_, cond}
 use mathlib.Core.List.{List, [], _∷_, _++_}
 use Prim.Native.Nat.{ℕ, zero, suc, _+_}
 use lib.Dec.{eqb}
+use lib.ListN.{getD}
 use Rattle.model.specs.declared.Place.{Place}
 use Rattle.model.specs.declared.Place.the-variants.{Idle, Prep, Swap, Link, Wait, Inside, Check, Help, Cas, Linger, Grant, Draw, Watch, Raise, Invalid}
 use Rattle.model.specs.Trees.{Tree, is-ticket}
@@ -84,11 +85,26 @@ unfoldable pub waits-from : Tree → (thread under-way : ℕ) → List Step → 
 waits-from t i a [] = []
 waits-from t i a (x ∷ xs) = finished-by t i x a ++ waits-from t i (under-way-after t i x a) xs
 
+-- the attempt that is under way after some steps, by the one that is under way before them
+unfoldable pub under-way-from : Tree → (thread under-way : ℕ) → List Step → ℕ
+under-way-from t i a [] = a
+under-way-from t i a (x ∷ xs) = under-way-from t i (under-way-after t i x a) xs
+
 -- those that begin and finish within a run: at its start none is under way
 abbrev pub waits : Tree → (thread : ℕ) → List Step → List ℕ
 waits t i xs = waits-from t i 0 xs
 
+-- ALL THREADS, by a list with one number for each: its attempt under way before the steps; none where the list has no number for it
 -- the waits of the first threads, in their order
-unfoldable pub waits-below : Tree → (threads : ℕ) → List Step → List ℕ
-waits-below t zero xs = []
-waits-below t (suc n) xs = waits-below t n xs ++ waits t n xs
+unfoldable pub waits-below-from : Tree → (under-way : List ℕ) → (threads : ℕ) → List Step → List ℕ
+waits-below-from t us zero xs = []
+waits-below-from t us (suc n) xs = waits-below-from t us n xs ++ waits-from t n (getD us n 0) xs
+
+-- their attempts under way after the steps
+unfoldable pub under-way-below : Tree → (under-way : List ℕ) → (threads : ℕ) → List Step → List ℕ
+under-way-below t us zero xs = []
+under-way-below t us (suc n) xs = under-way-below t us n xs ++ (under-way-from t n (getD us n 0) xs ∷ [])
+
+-- the waits of the first threads whose attempts begin and finish within a run
+abbrev pub waits-below : Tree → (threads : ℕ) → List Step → List ℕ
+waits-below t n xs = waits-below-from t [] n xs

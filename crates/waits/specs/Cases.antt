@@ -117,7 +117,7 @@ answered r tr xs c =
 
 unfoldable pub holds : Case → Bool
 holds c =
-    answered (waits-answer (c .words) (c .state) (c .schedule) (c .trace) (c .rows)) (waits-trace (c .words) (c .state) (c .schedule) (c .trace) (c .rows))
+    answered (waits-answer (c .words) (c .state) (c .schedule) (c .trace) (c .rows) .run) (waits-trace (c .words) (c .state) (c .schedule) (c .trace) (c .rows))
     (waits-rows (c .words) (c .state) (c .schedule) (c .trace) (c .rows)) c
 
 unfoldable pub all-hold : List Case → Bool

@@ -15,7 +15,7 @@ use Rattle.model.specs.Answers.{run-answer, trace-answer}
 use Rattle.model.specs.Laws.{All-threads, Formed, Refuses-exactly, Sixteen-bit}
 use Rattle.schedules.specs.Rows.{total}
 use Rattle.waits.specs.declared.Fraction.{Fraction}
-use Rattle.waits.specs.Attempts.{waits}
+use Rattle.waits.specs.Attempts.{waits, waits-below}
 use Rattle.waits.specs.Rows.{largest, mean, row-with, row-of}
 use Rattle.waits.specs.Refusals.{waits-tests, waits-refusal}
 use Rattle.waits.specs.Answers.{refused-by, waits-answer, waits-trace, waits-rows}
@@ -35,9 +35,9 @@ pub record Refuses-waits (t : Tree) (s : LockState) (schedule : List ℕ) (room 
 unfoldable pub Waits-refusal-law : Type 0
 Waits-refusal-law = (t : Tree) (s : LockState) (schedule : List ℕ) (room row-room : ℕ) → Refuses-waits t s schedule room row-room
 
--- 2. THE RUN. Where 18 does not refuse, reply and trace are those of the run itself
+-- 2. THE RUN. Where 18 does not refuse, the run's reply and the trace are those of the run itself
 pub record Runs-as (w : TreeWords) (s : LockState) (schedule trace rows : List ℕ) : Type 0 where
-  pub reply : waits-answer w s schedule trace rows ≡ run-answer w s schedule trace
+  pub reply : waits-answer w s schedule trace rows .run ≡ run-answer w s schedule trace
   pub traced : waits-trace w s schedule trace rows ≡ trace-answer w s schedule trace
 
 unfoldable pub Waits-run-law : Type 0
@@ -74,11 +74,13 @@ pub record Says (w : TreeWords) (s : LockState) (schedule trace rows : List ℕ)
 unfoldable pub Row-law : Type 0
 Row-law = (w : TreeWords) (s : LockState) (schedule trace rows : List ℕ) → refused-by w s schedule trace rows .number ≡ 0 → Says w s schedule trace rows
 
--- 5. THE ROW BUFFER keeps its length and what is behind the rows; refused, all of it
+-- 5. THE ROW BUFFER keeps its length and what is behind the rows; refused, all of it. The reply says how many rows stand at its front
 pub record Keeps-rest (w : TreeWords) (s : LockState) (schedule trace rows : List ℕ) : Type 0 where
   pub long : length (waits-rows w s schedule trace rows) ≡ length rows
   pub behind : drop (5 * (tree-of w .threads + 1)) (waits-rows w s schedule trace rows) ≡ drop (5 * (tree-of w .threads + 1)) rows
   pub refused : refused-by w s schedule trace rows .number ≢ 0 → waits-rows w s schedule trace rows ≡ rows
+  pub told : refused-by w s schedule trace rows .number ≡ 0 → waits-answer w s schedule trace rows .rows ≡ tree-of w .threads + 1
+  pub none-told : refused-by w s schedule trace rows .number ≢ 0 → waits-answer w s schedule trace rows .rows ≡ 0
 
 unfoldable pub Row-buffer-law : Type 0
 Row-buffer-law = (w : TreeWords) (s : LockState) (schedule trace rows : List ℕ) → Keeps-rest w s schedule trace rows
@@ -98,10 +100,18 @@ Entry-law =
     (t : Tree) → Sixteen-bit t → tree-refusal t .number ≡ 0 → (schedule : List ℕ) → All-threads t schedule → (i : ℕ) → i < t .threads →
     Enters-by-attempts t schedule i
 
--- 7. BOUNDS. A thread's attempts, total and largest wait are at most the run's entries, so that no number of a row overflows
-pub record Bounded (t : Tree) (schedule : List ℕ) (s : State) (i : ℕ) : Type 0 where
-  pub attempts : length (waits t i (steps t schedule s)) ≤ length schedule
-  pub total : total (waits t i (steps t schedule s)) ≤ length schedule
+-- 7. BOUNDS. Attempts, total and largest wait of a thread's row are at most the run's entries. So are attempts and largest wait of the last row, and its total is at most as much for each thread. The run's entries are at most the schedule's, so that no number of a row overflows
+abbrev pub entered : Tree → (schedule : List ℕ) → State → ℕ
+entered t is s = run t is s .counts .entries
+
+pub record Bounded (t : Tree) (schedule : List ℕ) (s : State) : Type 0 where
+  pub attempts : (i : ℕ) → length (waits t i (steps t schedule s)) ≤ entered t schedule s
+  pub total-wait : (i : ℕ) → total (waits t i (steps t schedule s)) ≤ entered t schedule s
+  pub largest-wait : (i : ℕ) → largest (waits t i (steps t schedule s)) ≤ entered t schedule s
+  pub all-attempts : length (waits-below t (t .threads) (steps t schedule s)) ≤ entered t schedule s
+  pub all-total : total (waits-below t (t .threads) (steps t schedule s)) ≤ t .threads * entered t schedule s
+  pub all-largest : largest (waits-below t (t .threads) (steps t schedule s)) ≤ entered t schedule s
+  pub entries : entered t schedule s ≤ length schedule
 
 unfoldable pub Bound-law : Type 0
-Bound-law = (t : Tree) (schedule : List ℕ) (s : State) (i : ℕ) → Bounded t schedule s i
+Bound-law = (t : Tree) (schedule : List ℕ) (s : State) → Bounded t schedule s

@@ -4,5 +4,6 @@ pub mod Rows
 pub mod Refusals
 pub mod Answers
 pub mod Laws
+pub mod GoingOn
 pub mod Meanings
 pub mod Cases

@@ -1,10 +1,12 @@
--- Document 02, (vi): what refuses a run with waits: 4 to 9, 16 and 10 to 13, then 18, and 19 last of all. Assumes nothing: these are definitions.
-use mathlib.Core.Bool.{Bool}
+-- Document 02, (vi): what refuses a run with waits: 4 to 9, 16 and 10 to 13, then 18, and 19 last of all; and where it goes on, 27 before 19. Assumes nothing: these are definitions.
+use mathlib.Core.Bool.{Bool, _&&_, _||_, not}
 use mathlib.Core.List.{List, [], _∷_, _++_}
 use Prim.Native.Nat.{ℕ, _+_, _/_}
-use lib.Dec.{ltb}
+use lib.Dec.{eqb, ltb, leb}
+use lib.ListN.{getD}
 use Rattle.model.specs.declared.LockState.{LockState}
 use Rattle.model.specs.Trees.{Tree}
+use Rattle.model.specs.Counters.{most-counted}
 use Rattle.model.specs.Refusals.{Refusal, Test, test, first-refusal, counter-tests, run-tests-before-19}
 
 -- 18: the row buffer holds fewer rows than threads plus one. A row is five numbers
@@ -23,3 +25,20 @@ waits-tests t s is room n = waits-tests-before-19 t s is room n ++ counter-tests
 
 unfoldable pub waits-refusal : Tree → LockState → (schedule : List ℕ) → (room row-room : ℕ) → Refusal
 waits-refusal t s is room n = first-refusal (waits-tests t s is room n)
+
+-- 27: a number of attempts under way is above 2^63, or is not 0 after the last thread. There are 256 of them
+unfoldable pub bad-under-way : Tree → (under-way : List ℕ) → (thread : ℕ) → Bool
+bad-under-way t us i = ltb most-counted (getD us i 0) || (leb (t .threads) i && not (eqb (getD us i 0) 0))
+
+abbrev pub under-way-tests : Tree → (under-way : List ℕ) → List Test
+under-way-tests t us = test 27 256 (bad-under-way t us) ∷ []
+
+-- the same tests where the run goes on, with 27 last before 19
+abbrev pub waits-on-tests-before-19 : Tree → LockState → (schedule : List ℕ) → (room row-room : ℕ) → (under-way : List ℕ) → List Test
+waits-on-tests-before-19 t s is room n us = waits-tests-before-19 t s is room n ++ under-way-tests t us
+
+unfoldable pub waits-on-tests : Tree → LockState → (schedule : List ℕ) → (room row-room : ℕ) → (under-way : List ℕ) → List Test
+waits-on-tests t s is room n us = waits-on-tests-before-19 t s is room n us ++ counter-tests t s is
+
+unfoldable pub waits-on-refusal : Tree → LockState → (schedule : List ℕ) → (room row-room : ℕ) → (under-way : List ℕ) → Refusal
+waits-on-refusal t s is room n us = first-refusal (waits-on-tests t s is room n us)

@@ -1,14 +1,14 @@
 -- Document 02, (vi): the row of some waits, and the mean as a fraction in lowest terms. Assumes nothing: these are definitions.
 use mathlib.Core.Bool.{cond}
 use mathlib.Core.List.{List, [], _∷_, _++_}
-use Prim.Native.Nat.{ℕ, zero, suc, _/_, _%_, max}
+use Prim.Native.Nat.{ℕ, zero, suc, _/_, _%_, max, min}
 use lib.Dec.{eqb}
-use lib.ListN.{length}
+use lib.ListN.{length, getD}
 use Rattle.model.specs.Trees.{Tree}
 use Rattle.model.specs.Steps.{Step}
 use Rattle.schedules.specs.Rows.{total}
 use Rattle.waits.specs.declared.Fraction.{Fraction}
-use Rattle.waits.specs.Attempts.{waits, waits-below}
+use Rattle.waits.specs.Attempts.{waits-from, waits-below-from, waits-below}
 
 -- the largest of some waits; 0 where there is none
 unfoldable pub largest : List ℕ → ℕ
@@ -38,11 +38,27 @@ row-with n w m = let f = mean w n in n ∷ w ∷ m ∷ f .numerator ∷ f .denom
 unfoldable pub row-of : List ℕ → List ℕ
 row-of ws = row-with (length ws) (total ws) (largest ws)
 
--- the rows of the first threads, in their order
-unfoldable pub rows-below : Tree → (threads : ℕ) → List Step → List ℕ
-rows-below t zero xs = []
-rows-below t (suc n) xs = rows-below t n xs ++ row-of (waits t n xs)
+-- the rows of the first threads, in their order, by their attempts under way before the steps
+unfoldable pub rows-below-from : Tree → (under-way : List ℕ) → (threads : ℕ) → List Step → List ℕ
+rows-below-from t us zero xs = []
+rows-below-from t us (suc n) xs = rows-below-from t us n xs ++ row-of (waits-from t n (getD us n 0) xs)
+
+-- those of attempts that begin and finish within a run
+abbrev pub rows-below : Tree → (threads : ℕ) → List Step → List ℕ
+rows-below t n xs = rows-below-from t [] n xs
 
 -- a row for each thread, and the last one for all of them together
 unfoldable pub all-rows : Tree → List Step → List ℕ
 all-rows t xs = rows-below t (t .threads) xs ++ row-of (waits-below t (t .threads) xs)
+
+-- a number, or the largest of 64 bits where it is larger
+unfoldable pub capped : ℕ → ℕ
+capped n = min n 18446744073709551615
+
+-- the row of all threads together where attempts may be under way before the steps: their total may need more than 64 bits, and is cut; the mean is that of the cut total
+unfoldable pub row-of-all : List ℕ → List ℕ
+row-of-all ws = row-with (length ws) (capped (total ws)) (largest ws)
+
+-- a row for each thread, and the last one, by the attempts under way before the steps
+unfoldable pub all-rows-from : Tree → (under-way : List ℕ) → List Step → List ℕ
+all-rows-from t us xs = rows-below-from t us (t .threads) xs ++ row-of-all (waits-below-from t us (t .threads) xs)

@@ -8,12 +8,14 @@ use Rattle.model.specs.Trees.{Tree}
 use Rattle.model.specs.Refusals as model
 use Rattle.model.specs.Refusals.{refusal, first-refusal, counter-tests, run-tests-before-19}
 use Rattle.model.specs.Laws.{Refusal-law}
-use Rattle.model.proofs.Laws.Refusals.{refusal-law, run-numbered-before-19}
+use Rattle.model.proofs.Laws.Refusals.{accepted-number, refusal-law, run-numbered-before-19}
 use Rattle.refusals.specs.declared.Refusal.{Refusal}
 use Rattle.refusals.specs.Arrays.{refusal-words}
 use Rattle.refusals.proofs.RunTests.{refusal-words-not, refusal-words-zero}
-use Rattle.waits.specs.Refusals.{waits-refusal}
-use Rattle.waits.proofs.Refusing.{run-early, early, run-decides, rows-refuse, rows-pass, early-decides, counters-decide, early-passes}
+use Rattle.refusals.specs.Lowest.{Lowest}
+use Rattle.waits.specs.Refusals.{bad-under-way, waits-on-refusal}
+use Rattle.waits.proofs.Refusing.{run-early, early, run-decides, rows-refuse, rows-pass, early-decides, early-passes}
+use Rattle.waits.proofs.RefusingOn.{waits-refused, number-refuses, numbers-pass, on-early-decides, on-counters-decide}
 
 module _ (t : Tree) (s : LockState) (is : List ℕ) (room n : ℕ) (r : Refusal) (e : r ≡ refusal-words (run-early t s is room n)) where
   pub run-answered : (r .number ≡ 0 → ⊥) → r ≡ refusal-words (early t s is room n)
@@ -29,16 +31,25 @@ module _ (t : Tree) (s : LockState) (is : List ℕ) (room n : ℕ) (r : Refusal)
         let passes = refusal-words-zero r _ e z in
         e ∙ ap refusal-words (refusal-law (run-tests-before-19 t s is room) (run-numbered-before-19 t s is room) .zero-accepted passes ∙ sym (rows-pass t s is room n passes (omega arith)))
 
--- what a caller learns from what it is told
-module _ (t : Tree) (s : LockState) (is : List ℕ) (room n : ℕ) (r : Refusal) (e : r ≡ refusal-words (early t s is room n)) where
-  -- refused: what it is told is the answer
-  pub waits-answered : (r .number ≡ 0 → ⊥) → r ≡ refusal-words (waits-refusal t s is room n)
-  waits-answered h = e ∙ ap refusal-words (sym (early-decides t s is room n (refusal-words-not r _ e h)))
+-- with 27 after them: what the numbers refuse, and what is left where they do not
+module _ (t : Tree) (s : LockState) (is : List ℕ) (room n : ℕ) (us : List ℕ) (r : Refusal) (e : r ≡ refusal-words (early t s is room n)) where
+  -- refused before 27: what is told is the answer
+  pub waits-answered : (r .number ≡ 0 → ⊥) → r ≡ refusal-words (waits-on-refusal t s is room n us)
+  waits-answered h = e ∙ ap refusal-words (sym (waits-refused t s is room n us (refusal-words-not r _ e h) ∙ early-decides t s is room n (refusal-words-not r _ e h)))
 
-  -- not refused: 19 is left, and the run and its rows may go on
-  module _ (z : r .number ≡ 0) where
-    pub counters-left : waits-refusal t s is room n ≡ first-refusal (counter-tests t s is)
-    counters-left = counters-decide t s is room n (refusal-words-zero r _ e z)
+  module _ (z : r .number ≡ 0) (k : ℕ) (L : Lowest 256 (bad-under-way t us) k) where
+    passes : early t s is room n .number ≡ 0
+    passes = refusal-words-zero r _ e z
 
-    pub answered-passes : (first-refusal (run-tests-before-19 t s is room) .number ≡ 0) × (5 * (t .threads + 1) ≤ n)
-    answered-passes = early-passes t s is room n (refusal-words-zero r _ e z)
+    pub number-answered : k < 256 → refusal-words (refusal 27 k) ≡ refusal-words (waits-on-refusal t s is room n us)
+    unfolding refusal
+    number-answered h =
+        let refused = number-refuses t s is room n us passes k L h in
+        ap refusal-words (sym (on-early-decides t s is room n us (λ q. let m = sym (ap (λ v. v .number) refused) ∙ q in omega arith) ∙ refused))
+
+    -- 19 is left, and the run and its rows may go on
+    pub run-passes : first-refusal (run-tests-before-19 t s is room) .number ≡ 0
+    run-passes = early-passes t s is room n passes .0
+
+    pub counters-left : 256 ≤ k → waits-on-refusal t s is room n us ≡ first-refusal (counter-tests t s is)
+    counters-left h = on-counters-decide t s is room n us (ap (λ v. v .number) (numbers-pass t s is room n us passes k L h) ∙ accepted-number)

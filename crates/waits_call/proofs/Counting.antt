@@ -19,8 +19,8 @@ use Rattle.model.specs.Steps.{Kind, stay, other, root-entry, passed-entry, cros
 use Rattle.model.specs.Runs.{steps, state-after, how-many}
 use Rattle.model.proofs.Trees.Accepted.{accepted}
 use Rattle.waits.specs.Attempts.{swaps-at, draws, begins-from}
-use Rattle.waits_call.specs.Tallies.{begins-number, mark-with, finishes, wait-of, noted, Tallies}
-use Rattle.waits_call.proofs.Tables.{turn, fits}
+use Rattle.waits_call.specs.Tallies.{first, begins-number, mark-with, finishes, wait-of, noted, Tallies}
+use Rattle.waits_call.proofs.Tables.{turn, mark-small, attempts-small, total-small}
 use Rattle.members.specs.Standing.{is-entry-number}
 use Rattle.steps.specs.Running.{code-of, step-code}
 use Rattle.waits_call.specs.Waiting.{ticket-home, mark-at, Fits, Counting, Countable, Counted}
@@ -118,18 +118,18 @@ module _ (w : TreeWords) (is codes M₀ A₀ W₀ L₀ : List ℕ) (n₀ : ℕ) 
   abbrev t : Tree
   t = tree-of w
 
-  abbrev Given : List Step → State → Type 0
-  Given done s = Counting t is codes M₀ A₀ W₀ L₀ n₀ done s
+  abbrev Given : List ℕ → List Step → State → Type 0
+  Given us done s = Counting t is codes M₀ A₀ W₀ L₀ n₀ us done s
 
   -- the first k steps are counted
   pub record Counted-so-far (M A W L : List ℕ) (n k : ℕ) : Type 0 where
     pub within : k ≤ length is
     pub few : n ≤ n₀ + k
-    pub tallies : (done : List Step) (s : State) → Given done s → Tallies t (done ++ steps t (take k is) s) M A W L n
+    pub tallies : (us : List ℕ) (done : List Step) (s : State) → Given us done s → Tallies t us (done ++ steps t (take k is) s) M A W L n
 
   pub counted-start : Counted-so-far M₀ A₀ W₀ L₀ n₀ 0
   unfolding steps
-  counted-start = record { within = omega arith; few = omega arith; tallies = λ done s g. rw (append-nil done) (g .tallied) }
+  counted-start = record { within = omega arith; few = omega arith; tallies = λ us done s g. rw (append-nil done) (g .tallied) }
 
   module _ (M A W L : List ℕ) (n k : ℕ) (G : Counted-so-far M A W L n k) (h : k < length is) (C : Countable t is codes M₀ A₀ W₀ L₀ n₀) where
     pub thread-known : getD is k 0 < t .threads
@@ -141,14 +141,19 @@ module _ (w : TreeWords) (is codes M₀ A₀ W₀ L₀ : List ℕ) (n₀ : ℕ) 
     pub codes-long : k < length codes
     codes-long = omega (arith, C .counting .long)
 
-    pub entered-few : n ≤ 65536
+    pub entered-few : n ≤ first + 65536
     entered-few = omega (arith, G .few, C .counting .short)
 
     pub note-fits : Fits M A W (getD is k 0) n
     note-fits =
-        let T = G .tallies (C .done) (C .state) (C .counting) in
-        let o = fits t _ M A W L n T (getD is k 0) thread-small in
-        record { place = thread-small; few = entered-few; mark = o .0; attempts-few = o .1 .0; total-small = o .1 .1 }
+        let T = G .tallies (C .under-way) (C .done) (C .state) (C .counting) in
+        record {
+          place = thread-small;
+          few = entered-few;
+          mark = mark-small t (C .under-way) _ M A W L n T (getD is k 0) thread-small;
+          attempts-few = omega (arith, attempts-small t (C .under-way) _ M A W L n T (getD is k 0) thread-small, entered-few);
+          total-small = total-small t (C .under-way) _ M A W L n T entered-few (getD is k 0) thread-small;
+        }
 
     pub going-turn :
         (b e : Bool) → b ≡ begins-number (ticket-home (w .«ticket_root») (getD (w .homes) (getD is k 0) 0)) (getD (w .homes) (getD is k 0) 0) (getD codes k 0 / 8) →
@@ -164,7 +169,7 @@ module _ (w : TreeWords) (is codes M₀ A₀ W₀ L₀ : List ℕ) (n₀ : ℕ) 
           within = omega arith;
           few = omega (arith, G .few, at-most e);
           tallies =
-              λ done s g.
+              λ us done s g.
               (let i = getD is k 0 in
               let x = step t i (state-after s (steps t (take k is) s)) in
               let code : getD codes k 0 ≡ step-code x = g .each-code k h in
@@ -172,7 +177,7 @@ module _ (w : TreeWords) (is codes M₀ A₀ W₀ L₀ : List ℕ) (n₀ : ℕ) 
               let enters : is-entry (x .kind) ≡ e = kind-by-code x ∙ sym (ee ∙ ap (λ v. is-entry-number (v % 8)) code) in
               let more : done ++ steps t (take (k + 1) is) s ≡ (done ++ steps t (take k is) s) ++ (x ∷ []) =
               ap (λ (r : List Step). done ++ r) (next-step t is [] s k h) ∙ sym (append-assoc done (steps t (take k is) s) (x ∷ [])) in
-              rw more (turn t _ M A W L n (G .tallies done s g) x i refl thread-small b e begins enters M′ A′ W′ L′ em ea ew el));
+              rw more (turn t us _ M A W L n (G .tallies us done s g) x i refl thread-small b e begins enters M′ A′ W′ L′ em ea ew el));
         }
 
     -- the same by the numbers that the code has read
@@ -194,4 +199,4 @@ module _ (w : TreeWords) (is codes M₀ A₀ W₀ L₀ : List ℕ) (n₀ : ℕ) 
         (el ∙ ap (λ v. noted (finishes e (mark-at M v n b)) L v (max (getD L v 0) (wait-of n (mark-at M v n b)))) ei))
 
   pub counted-ends : (M A W L : List ℕ) (n k : ℕ) → Counted-so-far M A W L n k → length is ≤ k → Counted t is codes M₀ A₀ W₀ L₀ n₀ M A W L n
-  counted-ends M A W L n k G h = record { counted = λ done s g. subst (λ (r : List ℕ). Tallies t (done ++ steps t r s) M A W L n) (take-all k is h) (G .tallies done s g) }
+  counted-ends M A W L n k G h = record { counted = λ us done s g. subst (λ (r : List ℕ). Tallies t us (done ++ steps t r s) M A W L n) (take-all k is h) (G .tallies us done s g) }

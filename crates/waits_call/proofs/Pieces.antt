@@ -25,11 +25,12 @@ use Rattle.model.proofs.Laws.Form.{form-law}
 use Rattle.model.proofs.Counted.{counters-none, counters-join, how-many-most}
 use Rattle.model.proofs.Laws.Counters.{counter-form-law}
 use Rattle.model.proofs.Laws.Calls.{Good-run, run-facts, run-counted, early-accepted}
-use Rattle.waits.specs.Rows.{all-rows}
-use Rattle.waits_call.specs.Tallies.{Tallies, rows-by}
-use Rattle.waits_call.proofs.Tables.{start, fits, rows-end}
+use Rattle.waits.specs.Attempts.{under-way-below}
+use Rattle.waits.specs.Rows.{all-rows-from}
+use Rattle.waits_call.specs.Tallies.{first, Tallies, rows-by, numbers-by}
+use Rattle.waits_call.proofs.Tables.{start, mark-small, attempts-small, rows-end, numbers-end}
 use Rattle.steps.specs.Running.{kinds-of, counts-by, trace-front, step-code, codes-front}
-use Rattle.waits_call.specs.Waiting.{kinds-added, Counting, Countable, Counted, Small}
+use Rattle.waits_call.specs.Waiting.{kinds-added, Counting, Countable, Counted, Small, Marks-of, Handed-in, Marks-fit}
 use Rattle.steps.proofs.SoFar.{counts-kinds}
 use Rattle.steps.proofs.Telling.{told-front-length}
 
@@ -105,7 +106,7 @@ sets-long l l′ xs e = ap length e ∙ length-sets l 0 xs
 pub threads-few : (w : TreeWords) → tree-refusal (tree-of w) .number ≡ 0 → tree-of w .threads ≤ 256
 threads-few w z = accepted (tree-of w) z .few-threads
 
-module _ (w : TreeWords) (is b₀ : List ℕ) (s₀ : State) (c₀ : Counters) where
+module _ (w : TreeWords) (us is b₀ : List ℕ) (s₀ : State) (c₀ : Counters) where
   abbrev t : Tree
   t = tree-of w
 
@@ -124,11 +125,11 @@ module _ (w : TreeWords) (is b₀ : List ℕ) (s₀ : State) (c₀ : Counters) w
     pub counters-are : c ≡ counters-after t c₀ (done from)
     pub kinds-are : kinds ≡ kinds-of (done from)
     pub trace-is : b ≡ trace-front b₀ (run t (take from is) s₀)
-    pub tallies : Tallies t (done from) M A W L n
+    pub tallies : Tallies t us (done from) M A W L n
 
-  pub pieces-start : Formed t s₀ → In-pieces b₀ (replicate 256 0) (replicate 256 0) (replicate 256 0) (replicate 256 0) s₀ c₀ (0 ∷ 0 ∷ 0 ∷ 0 ∷ 0 ∷ 0 ∷ []) 0 0
+  pub pieces-start : (M : List ℕ) → Handed-in us → Marks-of us M → Formed t s₀ → In-pieces b₀ M (replicate 256 0) (replicate 256 0) (replicate 256 0) s₀ c₀ (0 ∷ 0 ∷ 0 ∷ 0 ∷ 0 ∷ 0 ∷ []) first 0
   unfolding run run-of steps state-after how-many entering kinds-of
-  pieces-start f = record { within = omega arith; formed = f; first-formed = f; state-is = refl; counters-are = sym (counters-none t c₀); kinds-are = refl; trace-is = refl; tallies = start t }
+  pieces-start M H K f = record { within = omega arith; formed = f; first-formed = f; state-is = refl; counters-are = sym (counters-none t c₀); kinds-are = refl; trace-is = refl; tallies = start t us M H K }
 
   module _ (b M A W L : List ℕ) (s : State) (c : Counters) (kinds : List ℕ) (n from : ℕ) (G : In-pieces b M A W L s c kinds n from) (ok : run-refusal t handed is (length b₀) .number ≡ 0) where
     abbrev R : Good-run t handed is (length b₀)
@@ -140,27 +141,30 @@ module _ (w : TreeWords) (is b₀ : List ℕ) (s₀ : State) (c₀ : Counters) w
     done-long : length (done from) ≡ from
     done-long = steps-length t (take from is) s₀ ∙ length-take-le from is (G .within)
 
-    entered-few : n ≤ from
+    entered-few : n ≤ first + from
     entered-few = omega (arith, G .tallies .entered-are, how-many-most is-entry (done from), done-long)
 
-    traced : n ≡ length T
+    traced : n - first ≡ length T
     unfolding run run-of counts-of Count-law
-    traced = G .tallies .entered-are ∙ sym (count-law t (take from is) s₀ .traced)
+    traced = let c = count-law t (take from is) s₀ .traced in let e = G .tallies .entered-are in omega (arith, c, e)
 
     pub trace-long : length b ≡ length b₀
     trace-long = ap length (G .trace-is) ∙ length-append T (drop (length T) b₀) ∙ (let e = length-drop (length T) b₀ in omega (arith, traced, entered-few, G .within, R .fits))
 
-    pub part-room : n ≤ length b
+    pub from-first : first ≤ n
+    from-first = omega (arith, G .tallies .entered-are)
+
+    pub part-room : n - first ≤ length b
     part-room = omega (arith, trace-long, entered-few, G .within, R .fits)
 
-    pub entered-small : n ≤ 65536
+    pub entered-small : n ≤ first + 65536
     entered-small = omega (arith, entered-few, G .within, R .short)
 
-    pub tables-small : Small A × Small W
-    tables-small = (
-      record { small = λ i h. (let o = fits t (done from) M A W L n (G .tallies) i h in omega (arith, o .1 .0, entered-small)) },
-      record { small = λ i h. (let o = fits t (done from) M A W L n (G .tallies) i h in omega (arith, o .1 .1, entered-small)) },
-    )
+    pub attempts-table : Small A
+    attempts-table = record { small = λ i h. omega (arith, attempts-small t us (done from) M A W L n (G .tallies) i h, entered-small) }
+
+    pub marks-fit : Marks-fit M n
+    marks-fit = record { few = entered-small; each = mark-small t us (done from) M A W L n (G .tallies) }
 
     -- the end
     module _ (h : length is ≤ from) where
@@ -180,8 +184,12 @@ module _ (w : TreeWords) (is b₀ : List ℕ) (s₀ : State) (c₀ : Counters) w
       pub trace-ends : b ≡ trace-front b₀ (run t is s₀)
       trace-ends = G .trace-is ∙ ap (λ v. trace-front b₀ (run t v s₀)) whole
 
-      pub rows-are : t .threads ≤ 256 → (l l′ : List ℕ) → l′ ≡ sets l 0 (rows-by (t .threads) A W L) → l′ ≡ sets l 0 (all-rows t (steps t is s₀))
-      rows-are few l l′ e = e ∙ ap (λ (r : List ℕ). sets l 0 r) (rows-end t (done from) M A W L n (G .tallies) few ∙ ap (λ v. all-rows t (steps t v s₀)) whole)
+      pub rows-are : t .threads ≤ 256 → (l l′ : List ℕ) → l′ ≡ sets l 0 (rows-by (t .threads) A W L) → l′ ≡ sets l 0 (all-rows-from t us (steps t is s₀))
+      rows-are few l l′ e = e ∙ ap (λ (r : List ℕ). sets l 0 r) (rows-end t us (done from) M A W L n (G .tallies) few ∙ ap (λ v. all-rows-from t us (steps t v s₀)) whole)
+
+      pub numbers-are : t .threads ≤ 256 → (l l′ : List ℕ) → l′ ≡ sets l 0 (numbers-by (t .threads) n M) → l′ ≡ sets l 0 (under-way-below t us (t .threads) (steps t is s₀))
+      numbers-are few l l′ e =
+          e ∙ ap (λ (r : List ℕ). sets l 0 r) (numbers-end t us (done from) M A W L n (G .tallies) (t .threads) few ∙ ap (λ v. under-way-below t us (t .threads) (steps t v s₀)) whole)
 
     -- a piece
     module _ (end : ℕ) (more : from < end) (fit : end ≤ length is) (short : end ≤ from + 1024) where
@@ -205,11 +213,11 @@ module _ (w : TreeWords) (is b₀ : List ℕ) (s₀ : State) (c₀ : Counters) w
           ap (λ v. any-above (counters-after t c₀ v)) (sym (steps-take t (p + 1) (take from is) s₀) ∙ ap (λ v. steps t v s₀) (take-take (p + 1) from is k) ∙ steps-take t (p + 1) is s₀)
           ∙ run-counted t handed is (length b₀) ok p (omega (arith, G .within))))
 
-      pub piece-runs : first-refusal (run-tests-before-19 t (lock-state s c) piece (length (take (length b - n) (drop n b)))) .number ≡ 0
+      pub piece-runs : first-refusal (run-tests-before-19 t (lock-state s c) piece (length (take (length b - (n - first)) (drop (n - first) b)))) .number ≡ 0
       piece-runs =
-          let room : length (take (length b - n) (drop n b)) ≡ length b - n = length-take-le (length b - n) (drop n b) (omega (arith, length-drop n b)) in
+          let room : length (take (length b - (n - first)) (drop (n - first) b)) ≡ length b - (n - first) = length-take-le (length b - (n - first)) (drop (n - first) b) (omega (arith, length-drop (n - first) b)) in
           ap (λ r. r .number)
-          (early-accepted t (lock-state s c) piece (length (take (length b - n) (drop n b)))
+          (early-accepted t (lock-state s c) piece (length (take (length b - (n - first)) (drop (n - first) b)))
           (record {
             tree = R .tree;
             form = G .formed .form;
@@ -246,7 +254,7 @@ module _ (w : TreeWords) (is b₀ : List ℕ) (s₀ : State) (c₀ : Counters) w
             ∙ ap (λ j. getD (codes-front (replicate 1024 0) (steps t (take k piece) s ++ (x ∷ qs))) j 0) (sym long)
             ∙ code-at-seam (replicate 1024 0) (steps t (take k piece) s) x qs (omega (arith, long, length-replicate {A = ℕ} 1024 0, piece-long, short))
 
-        counting : Counting t piece codes M A W L n (done from) s
+        counting : Counting t piece codes M A W L n us (done from) s
         counting =
             record {
               tree = R .tree;
@@ -258,12 +266,12 @@ module _ (w : TreeWords) (is b₀ : List ℕ) (s₀ : State) (c₀ : Counters) w
             }
 
         pub countable : Countable t piece codes M A W L n
-        countable = record { done = done from; state = s; counting = counting }
+        countable = record { under-way = us; done = done from; state = s; counting = counting }
 
         pub pieces-turn :
-            (s′ : State) (c′ : Counters) → s′ ≡ run t piece s .state → c′ ≡ counters-after t c (steps t piece s) → (ys : List ℕ) → ys ≡ trace-front (take (length b - n) (drop n b)) (run t piece s) → (pk kinds′ : List ℕ) →
+            (s′ : State) (c′ : Counters) → s′ ≡ run t piece s .state → c′ ≡ counters-after t c (steps t piece s) → (ys : List ℕ) → ys ≡ trace-front (take (length b - (n - first)) (drop (n - first) b)) (run t piece s) → (pk kinds′ : List ℕ) →
             pk ≡ kinds-of (steps t piece s) → kinds′ ≡ kinds-added kinds pk → (M′ A′ W′ L′ : List ℕ) (n′ : ℕ) → Counted t piece codes M A W L n M′ A′ W′ L′ n′ →
-            In-pieces (take n b ++ (ys ++ drop (length b - n) (drop n b))) M′ A′ W′ L′ s′ c′ kinds′ n′ end
+            In-pieces (take (n - first) b ++ (ys ++ drop (length b - (n - first)) (drop (n - first) b))) M′ A′ W′ L′ s′ c′ kinds′ n′ end
         unfolding run run-of Form-law
         pieces-turn s′ c′ es ec ys ey pk kinds′ ek em M′ A′ W′ L′ n′ C =
             record {
@@ -274,7 +282,7 @@ module _ (w : TreeWords) (is b₀ : List ℕ) (s₀ : State) (c₀ : Counters) w
               counters-are = ec ∙ ap (λ v. counters-after t v (steps t piece s)) (G .counters-are) ∙ sym (ap (counters-after t c₀) joined ∙ counters-join t c₀ (done from) (steps t piece s));
               kinds-are = em ∙ ap (λ v. kinds-added v pk) (G .kinds-are) ∙ ap (kinds-added (kinds-of (done from))) ek ∙ sym (ap kinds-of joined ∙ kinds-join (done from) (steps t piece s));
               trace-is =
-                  trace-behind b₀ b T (entering (steps t piece s)) ys n (G .trace-is) traced part-room ey
+                  trace-behind b₀ b T (entering (steps t piece s)) ys (n - first) (G .trace-is) traced part-room ey
                   ∙ sym (ap (λ v. v ++ drop (length v) b₀) (ap entering joined ∙ entering-join (done from) (steps t piece s)));
-              tallies = rw joined (C .counted (done from) s counting);
+              tallies = rw joined (C .counted us (done from) s counting);
             }

@@ -1,13 +1,15 @@
-// A run with waits: what refuses it, 4 to 9, 16 and 10 to 13, then 18 and 19, the mean of a row, and the run itself.
+// A run with waits: what refuses it, 4 to 9, 16 and 10 to 13, then 18, 27 and 19, the mean of a row, and the run itself.
 ghost use mathlib.Core.Path.{_≡_};
 ghost use Rattle.model.specs.Trees.{tree-of};
 ghost use Rattle.model.specs.Counters.{lock-state};
 ghost use Rattle.model.specs.Refusals.{first-refusal};
 ghost use Rattle.refusals.specs.Arrays.{refusal-words};
+ghost use Rattle.refusals.specs.Lowest.{Lowest};
 ghost use Rattle.run_refusals.specs.Counts.{counters-in};
 ghost use Rattle.waits.specs.Rows.{greatest-divisor, mean};
-ghost use Rattle.waits.specs.Refusals.{waits-tests-before-19, waits-refusal};
-ghost use Rattle.waits.specs.Answers.{waits-answer, waits-trace, waits-rows};
+ghost use Rattle.waits.specs.Refusals.{waits-tests-before-19, bad-under-way, waits-on-refusal};
+ghost use Rattle.waits.specs.Answers.{waits-answer, waits-trace, waits-rows, waits-on-answer, waits-on-trace, waits-on-rows, waits-on-under-way};
+ghost use Rattle.waits_call.specs.Waiting.{bad-number};
 
 mod waiting;
 
@@ -18,6 +20,10 @@ use model::State;
 use model::TreeWords;
 use refusals::Refusal;
 use waits::Fraction;
+use waits::WaitsReply;
+
+// The most that a number of an attempt under way may be, 2^63.
+const MOST: u64 = 9223372036854775808;
 
 // The greatest common divisor, by Euclid's algorithm.
 fn greatest_divisor(a: u64, b: u64) -> u64
@@ -76,7 +82,35 @@ pub fn waits_refusal_of<'c>(
     r
 }
 
-// With 19 behind them.
+// A number of an attempt under way cannot be: above 2^63, or not 0 after the last thread.
+fn is_bad_number(threads: u32, at: u32, number: u64) -> bool
+    ensures { λ r. ⌜ r ≡ bad-number threads at number ⌝ }
+{
+    if MOST < number {
+        return true;
+    }
+    if at < threads {
+        return false;
+    }
+    number != 0
+}
+
+// The lowest index of such a number; 256 where there is none.
+fn lowest_bad_number(tree: TreeWords, under_way: &[u64; 256]) -> u32
+    ensures { λ r. ⌜ Lowest 256 (bad-under-way (tree-of tree) (now («under_way» .entry))) r ⌝ }
+{
+    let mut k: u32 = 0;
+    while k < 256 {
+        let number = under_way[k as usize];
+        if is_bad_number(tree.threads, k, number) {
+            return k;
+        }
+        k += 1;
+    }
+    k
+}
+
+// With 27 and 19 after them.
 fn refusal_of<'c>(
     tree: TreeWords,
     state: State,
@@ -86,8 +120,9 @@ fn refusal_of<'c>(
     schedule: &[u16],
     room: usize,
     row_room: usize,
+    under_way: &[u64; 256],
 ) -> Refusal
-    ensures { λ r. ⌜ r ≡ refusal-words (waits-refusal (tree-of tree) (lock-state state (counters-in (now (entries .entry)) (now (tenures .entry)) (now (longest .entry)))) (now (schedule .entry)) room «row_room») ⌝ }
+    ensures { λ r. ⌜ r ≡ refusal-words (waits-on-refusal (tree-of tree) (lock-state state (counters-in (now (entries .entry)) (now (tenures .entry)) (now (longest .entry)))) (now (schedule .entry)) room «row_room» (now («under_way» .entry))) ⌝ }
 {
     let r = waits_refusal_of(
         tree,
@@ -102,20 +137,29 @@ fn refusal_of<'c>(
     if r.number != 0 {
         return r;
     }
+    let k = lowest_bad_number(tree, under_way);
+    if k < 256 {
+        return Refusal {
+            number: 27,
+            place: k,
+        };
+    }
     steps::limits::counter_refusal_of(tree, state, entries, tenures, longest, schedule)
 }
 
-// A run, and in a row buffer of its own the waits of each thread's attempts and of all together, five numbers a row. Refused, state, trace and rows as they came.
-pub fn run_waits(
+// A run, and in a row buffer of its own the waits of each thread's attempts and of all together, five numbers a row, from the attempts under way; their numbers after the run stand where those before it stood. Refused, state, trace, rows and numbers as they came.
+pub fn run_waits_on(
     tree: TreeWords,
     state: LockState,
     schedule: &[u16],
     trace: &mut [u16],
     rows: &mut [u64],
-) -> RunReply
-    ensures { λ r. ⌜ r ≡ waits-answer tree state (now (schedule .entry)) (now (trace .entry)) (now (rows .entry)) ⌝ }
-    ensures { λ r. ⌜ now (trace .exit) ≡ waits-trace tree state (now (schedule .entry)) (now (trace .entry)) (now (rows .entry)) ⌝ }
-    ensures { λ r. ⌜ now (rows .exit) ≡ waits-rows tree state (now (schedule .entry)) (now (trace .entry)) (now (rows .entry)) ⌝ }
+    under_way: &mut [u64; 256],
+) -> WaitsReply
+    ensures { λ r. ⌜ r ≡ waits-on-answer tree state (now (schedule .entry)) (now (trace .entry)) (now (rows .entry)) (now («under_way» .entry)) ⌝ }
+    ensures { λ r. ⌜ now (trace .exit) ≡ waits-on-trace tree state (now (schedule .entry)) (now (trace .entry)) (now (rows .entry)) (now («under_way» .entry)) ⌝ }
+    ensures { λ r. ⌜ now (rows .exit) ≡ waits-on-rows tree state (now (schedule .entry)) (now (trace .entry)) (now (rows .entry)) (now («under_way» .entry)) ⌝ }
+    ensures { λ r. ⌜ now («under_way» .exit) ≡ waits-on-under-way tree state (now (schedule .entry)) (now (trace .entry)) (now (rows .entry)) (now («under_way» .entry)) ⌝ }
 {
     let words = state.words;
     let counters = state.counters;
@@ -131,9 +175,14 @@ pub fn run_waits(
         schedule,
         trace.len(),
         rows.len(),
+        under_way,
     );
     if r.number != 0 {
-        return steps::refused(r.number, r.place, state);
+        let refused = steps::refused(r.number, r.place, state);
+        return WaitsReply {
+            run: refused,
+            rows: 0,
+        };
     }
     let mut kinds = [0u32; 6];
     let after = waiting::run_counted(
@@ -143,6 +192,7 @@ pub fn run_waits(
         trace,
         &mut kinds,
         rows,
+        under_way,
         &mut entries,
         &mut tenures,
         &mut longest,
@@ -157,10 +207,30 @@ pub fn run_waits(
         words: after,
         counters: counted,
     };
-    RunReply {
+    let ran = RunReply {
         number: 0,
         place: 0,
         counts,
         state: left,
+    };
+    WaitsReply {
+        run: ran,
+        rows: tree.threads + 1,
     }
+}
+
+// The same of attempts that begin and finish within the run: none is under way before it.
+pub fn run_waits(
+    tree: TreeWords,
+    state: LockState,
+    schedule: &[u16],
+    trace: &mut [u16],
+    rows: &mut [u64],
+) -> WaitsReply
+    ensures { λ r. ⌜ r ≡ waits-answer tree state (now (schedule .entry)) (now (trace .entry)) (now (rows .entry)) ⌝ }
+    ensures { λ r. ⌜ now (trace .exit) ≡ waits-trace tree state (now (schedule .entry)) (now (trace .entry)) (now (rows .entry)) ⌝ }
+    ensures { λ r. ⌜ now (rows .exit) ≡ waits-rows tree state (now (schedule .entry)) (now (trace .entry)) (now (rows .entry)) ⌝ }
+{
+    let mut under_way = [0u64; 256];
+    run_waits_on(tree, state, schedule, trace, rows, &mut under_way)
 }

@@ -2,19 +2,25 @@
 ghost use mathlib.Core.Path.{_≡_};
 ghost use mathlib.Core.Bool.{cond};
 ghost use Prim.Native.Nat.{_+_, _*_, _≤_, _<_, max};
-ghost use lib.ListN.{length, getD, set};
+ghost use lib.ListN.{length, getD, set, replicate};
 ghost use lib.Seq.{sets};
 ghost use Rattle.model.specs.Trees.{tree-of};
 ghost use Rattle.model.specs.Runs.{steps, run};
-ghost use Rattle.model.specs.Counters.{lock-state, counters-after};
+ghost use Rattle.model.specs.Counters.{lock-state, counters-after, most-counted};
 ghost use Rattle.model.specs.Refusals.{run-refusal};
 ghost use Rattle.run_refusals.specs.Counts.{counters-in};
-ghost use Rattle.waits.specs.Rows.{row-with, all-rows};
-ghost use Rattle.waits_call.specs.Tallies.{begins-number, mark-with, finishes, wait-of, noted, rows-by};
+ghost use Rattle.waits.specs.Attempts.{under-way-below};
+ghost use Rattle.waits.specs.Rows.{row-with, capped, all-rows-from};
+ghost use Rattle.waits_call.specs.Tallies.{first, begins-number, mark-with, mark-of, number-of, finishes, wait-of, noted, rows-by, numbers-by};
 ghost use Rattle.steps.specs.Running.{kinds-of, counts-by, trace-front};
-ghost use Rattle.waits_call.specs.Waiting.{kinds-added, ticket-home, mark-at, Fits, Countable, Counted, Small};
+ghost use Rattle.waits_call.specs.Waiting.{kinds-added, ticket-home, mark-at, Fits, Countable, Counted, Small, Marks-of, Handed-in, Marks-fit};
 use model::State;
 use model::TreeWords;
+
+// The entries are counted from 2^63 on, so that a mark can stand for every number that may be under way before them.
+const FIRST: u64 = 9223372036854775808;
+
+const LARGEST_NUMBER: u64 = 18446744073709551615;
 
 fn larger(a: u64, b: u64) -> u64
     ensures { λ r. ⌜ r ≡ max a b ⌝ }
@@ -48,7 +54,7 @@ fn begins_at(ticket_home: bool, home: u8, place: u16) -> bool
 }
 
 fn mark_with(begins: bool, entered: u64, mark: u64) -> u64
-    requires { ⌜ entered ≤ 65536 ⌝ }
+    requires { ⌜ entered ≤ first + 65536 ⌝ }
     ensures { λ r. ⌜ r ≡ mark-with begins entered mark ⌝ }
 {
     if begins {
@@ -58,13 +64,72 @@ fn mark_with(begins: bool, entered: u64, mark: u64) -> u64
 }
 
 fn one_more(enters: bool, entered: u64) -> u64
-    requires { ⌜ entered ≤ 65536 ⌝ }
+    requires { ⌜ entered ≤ first + 65536 ⌝ }
     ensures { λ r. ⌜ r ≡ entered + cond enters 1 0 ⌝ }
 {
     if enters {
         return entered + 1;
     }
     entered
+}
+
+// The mark of a number under way.
+fn mark_of(number: u64) -> u64
+    requires { ⌜ number ≤ most-counted ⌝ }
+    ensures { λ r. ⌜ r ≡ mark-of number ⌝ }
+{
+    if number == 0 {
+        return 0;
+    }
+    FIRST + 2 - number
+}
+
+// The number under way of a mark.
+fn number_of(entered: u64, mark: u64) -> u64
+    requires { ⌜ entered ≤ first + 65536 ⌝ }
+    requires { ⌜ mark ≤ entered + 1 ⌝ }
+    ensures { λ r. ⌜ r ≡ number-of entered mark ⌝ }
+{
+    if mark == 0 {
+        return 0;
+    }
+    entered + 2 - mark
+}
+
+// The marks of the numbers handed in.
+fn set_marks(marks: &mut [u64; 256], under_way: &[u64; 256])
+    requires { ⌜ length (now marks) ≡ 256 ⌝ }
+    requires { ⌜ Handed-in (now «under_way») ⌝ }
+    ensures { λ r. ⌜ Marks-of (now («under_way» .entry)) (now (marks .exit)) ⌝ }
+{
+    let mut k: usize = 0;
+    while k < 256 {
+        marks[k] = mark_of(under_way[k]);
+        k += 1;
+    }
+}
+
+// The numbers of the threads after the run, by their marks.
+fn put_numbers(numbers: &mut [u64; 256], threads: u32, marks: &[u64; 256], entered: u64)
+    requires { ⌜ threads ≤ 256 ⌝ }
+    requires { ⌜ Marks-fit (now marks) entered ⌝ }
+    ensures { λ r. ⌜ now (numbers .exit) ≡ sets (now (numbers .entry)) 0 (numbers-by threads entered (now (marks .entry))) ⌝ }
+{
+    let mut k: usize = 0;
+    while k < threads as usize {
+        numbers[k] = number_of(entered, marks[k]);
+        k += 1;
+    }
+}
+
+// The sum of two totals, or the largest number of 64 bits where it is larger.
+fn capped_sum(a: u64, b: u64) -> u64
+    ensures { λ r. ⌜ r ≡ capped (a + b) ⌝ }
+{
+    if LARGEST_NUMBER - a < b {
+        return LARGEST_NUMBER;
+    }
+    a + b
 }
 
 // One step more in the tables of its thread, by whether it begins an attempt and whether it enters.
@@ -161,7 +226,6 @@ fn put_rows(
     requires { ⌜ threads ≤ 256 ⌝ }
     requires { ⌜ 5 * (threads + 1) ≤ length (now rows) ⌝ }
     requires { ⌜ Small (now attempts) ⌝ }
-    requires { ⌜ Small (now totals) ⌝ }
     ensures { λ r. ⌜ now (rows .exit) ≡ sets (now (rows .entry)) 0 (rows-by threads (now (attempts .entry)) (now (totals .entry)) (now (longest .entry))) ⌝ }
 {
     let mut k: usize = 0;
@@ -175,7 +239,7 @@ fn put_rows(
         let m = longest[k];
         put_row(rows, at, a, w, m);
         all_attempts += a;
-        all_totals += w;
+        all_totals = capped_sum(all_totals, w);
         most = larger(most, m);
         at += 5;
         k += 1;
@@ -208,7 +272,7 @@ fn piece_end(from: usize, whole: usize) -> usize
     from + 1024
 }
 
-// The run of a whole schedule in pieces, the rows of its waits, and the counters of the domains. Each piece copies the state once, and what its steps were has room for one piece.
+// The run of a whole schedule in pieces, the rows of its waits from the attempts under way and the numbers of those under way after it, and the counters of the domains. Each piece copies the state once, and what its steps were has room for one piece.
 pub(crate) fn run_counted(
     tree: TreeWords,
     state: State,
@@ -216,31 +280,35 @@ pub(crate) fn run_counted(
     trace: &mut [u16],
     kinds: &mut [u32; 6],
     rows: &mut [u64],
+    under_way: &mut [u64; 256],
     entries: &mut [u64; 64],
     tenures: &mut [u64; 64],
     longest: &mut [u64; 64],
 ) -> State
     requires { ⌜ run-refusal (tree-of tree) (lock-state state (counters-in (now entries) (now tenures) (now longest))) (now schedule) (length (now trace)) .number ≡ 0 ⌝ }
     requires { ⌜ 5 * (tree-of tree .threads + 1) ≤ length (now rows) ⌝ }
+    requires { ⌜ Handed-in (now «under_way») ⌝ }
     ensures { λ r. ⌜ r ≡ run (tree-of tree) (now (schedule .entry)) state .state ⌝ }
     ensures { λ r. ⌜ now (trace .exit) ≡ trace-front (now (trace .entry)) (run (tree-of tree) (now (schedule .entry)) state) ⌝ }
     ensures { λ r. ⌜ now (kinds .exit) ≡ kinds-of (steps (tree-of tree) (now (schedule .entry)) state) ⌝ }
-    ensures { λ r. ⌜ now (rows .exit) ≡ sets (now (rows .entry)) 0 (all-rows (tree-of tree) (steps (tree-of tree) (now (schedule .entry)) state)) ⌝ }
+    ensures { λ r. ⌜ now (rows .exit) ≡ sets (now (rows .entry)) 0 (all-rows-from (tree-of tree) (now («under_way» .entry)) (steps (tree-of tree) (now (schedule .entry)) state)) ⌝ }
+    ensures { λ r. ⌜ now («under_way» .exit) ≡ sets (replicate 256 0) 0 (under-way-below (tree-of tree) (now («under_way» .entry)) (tree-of tree .threads) (steps (tree-of tree) (now (schedule .entry)) state)) ⌝ }
     ensures { λ r. ⌜ counters-in (now (entries .exit)) (now (tenures .exit)) (now (longest .exit)) ≡ counters-after (tree-of tree) (counters-in (now (entries .entry)) (now (tenures .entry)) (now (longest .entry))) (steps (tree-of tree) (now (schedule .entry)) state) ⌝ }
 {
     let mut marks = [0u64; 256];
+    set_marks(&mut marks, under_way);
     let mut attempts = [0u64; 256];
     let mut totals = [0u64; 256];
     let mut largest = [0u64; 256];
     let mut n = state;
     let mut tally = [0u32; 6];
-    let mut entered: u64 = 0;
+    let mut entered: u64 = FIRST;
     let mut from: usize = 0;
     while from < schedule.len() {
         let end = piece_end(from, schedule.len());
         let mut codes = [0u16; 1024];
         let mut piece = [0u32; 6];
-        let written = entered as usize;
+        let written = (entered - FIRST) as usize;
         n = steps::run::run_steps(
             tree,
             n,
@@ -267,5 +335,8 @@ pub(crate) fn run_counted(
     }
     *kinds = tally;
     put_rows(rows, tree.threads, &attempts, &totals, &largest);
+    let mut numbers = [0u64; 256];
+    put_numbers(&mut numbers, tree.threads, &marks, entered);
+    *under_way = numbers;
     n
 }

@@ -65,7 +65,11 @@ element-copy-out-totals : tie.Need-element-copy-out-totals
 element-copy-out-totals c = search needs
 
 add-totals : tie.Need-add-totals
-add-totals c = search needs
+add-totals c =
+    let first = c .before .before .before .before .before .before in
+    let m = c .before .before .before .before .mark-with .ensures in
+    let small = first .pre .total-small (first .args .begins) (λ q. c .before .before .if2 .left (m ∙ q)) in
+    omega (arith, rw (← m) at small)
 
 mul-totals-2 : tie.Need-mul-totals-2
 mul-totals-2 c = search needs

@@ -46,15 +46,10 @@ add-all-attempts c =
     let l = test .before .loop in
     let p = test .before .before .before .pre in
     let more = test .loop-test .taken in
-    omega (arith, l .inv .attempts-small, p .1 .1 .0 .small (l .k) (omega (arith, more, p .0)), more, p .0)
+    omega (arith, l .inv .attempts-small, p .1 .1 .small (l .k) (omega (arith, more, p .0)), more, p .0)
 
-add-all-totals : tie.Need-add-all-totals Inv-loop μ-loop
-add-all-totals c =
-    let test = c .before .before .before .before .before .before .before in
-    let l = test .before .loop in
-    let p = test .before .before .before .pre in
-    let more = test .loop-test .taken in
-    omega (arith, l .inv .totals-small, p .1 .1 .1 .small (l .k) (omega (arith, more, p .0)), more, p .0)
+capped-sum-requires : tie.Need-capped-sum-requires Inv-loop μ-loop
+capped-sum-requires c κs = search needs
 
 larger-requires : tie.Need-larger-requires Inv-loop μ-loop
 larger-requires c κs = search needs
@@ -70,8 +65,10 @@ loop-less c = omega arith
 
 loop-again : tie.Need-loop-again Inv-loop μ-loop
 loop-again c =
-    let first = c .before .before .before .before .before .before .before .before .before .before .before in
-    written-turn _ _ _ _ _ _ _ _ _ _ _ (c .before .before .before .before .before .before .before .before .before .loop .inv) (c .before .before .before .before .before .before .before .before .loop-test .taken) (first .pre .0) (first .pre .1 .1 .0) (first .pre .1 .1 .1) _ (c .before .before .before .put-row .ensures) _ (c .larger .ensures)
+    let put = c .before .before .before .before in
+    let test = put .before .before .before .before .before in
+    let first = test .before .before .before in
+    written-turn _ _ _ _ _ _ _ _ _ _ _ (test .before .loop .inv) (test .loop-test .taken) (first .pre .0) (first .pre .1 .1) _ (put .put-row .ensures) _ _ (c .before .capped-sum .ensures) (c .larger .ensures)
 
 put-row-requires-2 : tie.Need-put-row-requires-2 Inv-loop μ-loop
 put-row-requires-2 c κs = row-room _ _ _ _ _ _ _ _ _ _ _ (c .before .before .loop .inv) (c .before .before .before .before .pre .1 .0)
@@ -97,7 +94,7 @@ put-rows-spec =
     element-copy-out-m
     put-row-requires
     add-all-attempts
-    add-all-totals
+    capped-sum-requires
     larger-requires
     add-at
     add-k

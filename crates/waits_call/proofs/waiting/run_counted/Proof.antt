@@ -11,26 +11,36 @@ use Rattle.model.proofs.Laws.Calls.{run-facts}
 use Rattle.waits_call.specs.Tallies.{rows-by}
 use Rattle.run_refusals.specs.Counts.{counters-in}
 use Rattle.steps.proofs.Typing.{typed}
-use Rattle.waits_call.proofs.Pieces.{In-pieces, pieces-start, trace-long, part-room, entered-small, tables-small, sets-long, state-ends, counters-end, kinds-end, trace-ends, rows-are, piece-runs, kinds-fit, countable, pieces-turn, threads-few}
+use Rattle.waits_call.proofs.Pieces.{In-pieces, pieces-start, trace-long, part-room, from-first, entered-small, attempts-table, marks-fit, sets-long, state-ends, counters-end, kinds-end, trace-ends, rows-are, numbers-are, piece-runs, kinds-fit, countable, pieces-turn, threads-few}
 use Rattle.waits_call.proofs.waiting.run_counted.Statement.{statement}
 use Rattle.waits_call.proofs.waiting.run_counted.Tie as tie
 
 abbrev Inv-loop : tie.InvT-loop
-Inv-loop tree schedule trace₀ kinds rows entries₀ tenures₀ longest₀ marks₀ attempts₀ totals₀ largest₀ n₀ tally₀ entered₀ from₀ trace entries tenures longest marks attempts totals largest n tally entered from =
-    In-pieces tree schedule trace₀ n₀ (counters-in entries₀ tenures₀ longest₀) trace marks attempts totals largest n (counters-in entries tenures longest) tally entered from
+Inv-loop tree schedule trace₀ kinds rows under-way entries₀ tenures₀ longest₀ marks₀ attempts₀ totals₀ largest₀ n₀ tally₀ entered₀ from₀ trace entries tenures longest marks attempts totals largest n tally entered from =
+    In-pieces tree under-way schedule trace₀ n₀ (counters-in entries₀ tenures₀ longest₀) trace marks attempts totals largest n (counters-in entries tenures longest) tally entered from
 
 abbrev μ-loop : tie.MeasureT-loop
-μ-loop tree schedule trace₀ kinds rows entries₀ tenures₀ longest₀ marks₀ attempts₀ totals₀ largest₀ n₀ tally₀ entered₀ from₀ trace entries tenures longest marks attempts totals largest n tally entered from =
+μ-loop tree schedule trace₀ kinds rows under-way entries₀ tenures₀ longest₀ marks₀ attempts₀ totals₀ largest₀ n₀ tally₀ entered₀ from₀ trace entries tenures longest marks attempts totals largest n tally entered from =
     length schedule - from
+
+-- where the loop's turn comes from
+abbrev start : tie.At-loop Inv-loop μ-loop → tie.Start Inv-loop μ-loop
+start turn = turn .before .before .before .before .before .before .before
+
+set-marks-requires : tie.Need-set-marks-requires Inv-loop μ-loop
+set-marks-requires c κs = (search needs, c .before .before .before .before .before .pre .1 .1)
 
 loop-holds : tie.Need-loop-holds Inv-loop μ-loop
 loop-holds c =
-    let first = c .before .before .before in
+    let first = c .before .before .before .before .before .before in
     let g = first .good .1 .0 .1 .1 in
-    pieces-start _ _ _ _ _ (record { typed = typed (first .args .state) _ _ _ _ _ _ (g .0) (g .1 .0) (g .1 .1 .0) (g .1 .1 .1 .0) (g .1 .1 .1 .1 .0) (g .1 .1 .1 .1 .1 .0); form = run-facts _ _ _ _ (first .pre .0) .form })
+    pieces-start _ _ _ _ _ _ _ (first .pre .1 .1) (c .set-marks .ensures) (record { typed = typed (first .args .state) _ _ _ _ _ _ (g .0) (g .1 .0) (g .1 .1 .0) (g .1 .1 .1 .0) (g .1 .1 .1 .1 .0) (g .1 .1 .1 .1 .1 .0); form = run-facts _ _ _ _ (first .pre .0) .form })
 
 piece-end-requires : tie.Need-piece-end-requires Inv-loop μ-loop
 piece-end-requires c κs = omega arith
+
+sub-written : tie.Need-sub-written Inv-loop μ-loop
+sub-written c = from-first _ _ _ _ _ _ _ _ _ _ _ _ _ _ _ _ (c .before .before .loop .inv) (start (c .before .before) .pre .0)
 
 mul-run-steps : tie.Need-mul-run-steps Inv-loop μ-loop
 mul-run-steps c = search needs
@@ -45,13 +55,13 @@ part-run-steps-end : tie.Need-part-run-steps-end Inv-loop μ-loop
 part-run-steps-end c = search needs
 
 mul-run-steps-2 : tie.Need-mul-run-steps-2 Inv-loop μ-loop
-mul-run-steps-2 c = omega (arith, entered-small _ _ _ _ _ _ _ _ _ _ _ _ _ _ _ (c .before .before .before .loop .inv) (c .before .before .before .before .before .before .before .pre .0))
+mul-run-steps-2 c = omega (arith, entered-small _ _ _ _ _ _ _ _ _ _ _ _ _ _ _ _ (c .before .before .before .loop .inv) (start (c .before .before .before) .pre .0))
 
 sub-run-steps-2 : tie.Need-sub-run-steps-2 Inv-loop μ-loop
-sub-run-steps-2 c = part-room _ _ _ _ _ _ _ _ _ _ _ _ _ _ _ (c .before .before .before .loop .inv) (c .before .before .before .before .before .before .before .pre .0)
+sub-run-steps-2 c = part-room _ _ _ _ _ _ _ _ _ _ _ _ _ _ _ _ (c .before .before .before .loop .inv) (start (c .before .before .before) .pre .0)
 
 part-run-steps-start-2 : tie.Need-part-run-steps-start-2 Inv-loop μ-loop
-part-run-steps-start-2 c = part-room _ _ _ _ _ _ _ _ _ _ _ _ _ _ _ (c .before .before .before .loop .inv) (c .before .before .before .before .before .before .before .pre .0)
+part-run-steps-start-2 c = part-room _ _ _ _ _ _ _ _ _ _ _ _ _ _ _ _ (c .before .before .before .loop .inv) (start (c .before .before .before) .pre .0)
 
 part-run-steps-end-2 : tie.Need-part-run-steps-end-2 Inv-loop μ-loop
 part-run-steps-end-2 c = omega arith
@@ -64,7 +74,7 @@ run-steps-requires c κs =
     let ended = c .before .before .before .before .before .before .before in
     let turn = ended .before .before in
     let e = ended .piece-end .ensures in
-    piece-runs _ _ _ _ _ _ _ _ _ _ _ _ _ _ _ (turn .loop .inv) (turn .before .before .before .before .pre .0) _ (e .0) (e .1 .0) (e .1 .1)
+    piece-runs _ _ _ _ _ _ _ _ _ _ _ _ _ _ _ _ (turn .loop .inv) (start turn .pre .0) _ (e .0) (e .1 .0) (e .1 .1)
 
 add-kinds-requires : tie.Need-add-kinds-requires Inv-loop μ-loop
 add-kinds-requires c κs =
@@ -72,10 +82,12 @@ add-kinds-requires c κs =
     let ended = ran .before .before .before .before .before .before .before .before in
     let turn = ended .before .before in
     let e = ended .piece-end .ensures in
-    kinds-fit _ _ _ _ _ _ _ _ _ _ _ _ _ _ _ (turn .loop .inv) (turn .before .before .before .before .pre .0) _ (e .0) (e .1 .0) (e .1 .1) _ (ran .run-steps .ensures .1 .1 .0)
+    kinds-fit _ _ _ _ _ _ _ _ _ _ _ _ _ _ _ _ (turn .loop .inv) (start turn .pre .0) _ (e .0) (e .1 .0) (e .1 .1) _ (ran .run-steps .ensures .1 .1 .0)
 
 mul-count-piece : tie.Need-mul-count-piece Inv-loop μ-loop
-mul-count-piece c = omega (arith, c .before .before .before .before .before .before .before .before .before .before .before .before .before .before .before .loop-test .taken, run-facts _ _ _ _ (c .before .before .before .before .before .before .before .before .before .before .before .before .before .before .before .before .before .before .before .before .pre .0) .short)
+mul-count-piece c =
+    let test = c .before .before .before .before .before .before .before .before .before .before .before .before .before .before .before in
+    omega (arith, test .loop-test .taken, run-facts _ _ _ _ (start (test .before) .pre .0) .short)
 
 sub-count-piece : tie.Need-sub-count-piece Inv-loop μ-loop
 sub-count-piece c = search needs
@@ -95,7 +107,7 @@ count-piece-requires c κs =
     let ended = ran .before .before .before .before .before .before .before .before in
     let turn = ended .before .before in
     let e = ended .piece-end .ensures in
-    countable _ _ _ _ _ _ _ _ _ _ _ _ _ _ _ (turn .loop .inv) (turn .before .before .before .before .pre .0) _ (e .0) (e .1 .0) (e .1 .1) _ (ran .run-steps .ensures .1 .1 .1 .0)
+    countable _ _ _ _ _ _ _ _ _ _ _ _ _ _ _ _ (turn .loop .inv) (start turn .pre .0) _ (e .0) (e .1 .0) (e .1 .1) _ (ran .run-steps .ensures .1 .1 .1 .0)
 
 loop-less : tie.Need-loop-less Inv-loop μ-loop
 loop-less c = let e = c .before .before .before .before .before .before .before .before .before .before .before .before .before .before .before .before .before .before .before .before .before .piece-end .ensures in omega (arith, e .0, e .1 .0)
@@ -108,39 +120,59 @@ loop-again c =
     let turn = ended .before .before in
     let ran = after .run-steps .ensures in
     let e = ended .piece-end .ensures in
-    pieces-turn _ _ _ _ _ _ _ _ _ _ _ _ _ _ _ (turn .loop .inv) (turn .before .before .before .before .pre .0) _ (e .0) (e .1 .0) (e .1 .1) _ (ran .1 .1 .1 .0) _ _ (ran .0) (ran .1 .1 .1 .1) _ (ran .1 .0) _ _ (ran .1 .1 .0)
+    pieces-turn _ _ _ _ _ _ _ _ _ _ _ _ _ _ _ _ (turn .loop .inv) (start turn .pre .0) _ (e .0) (e .1 .0) (e .1 .1) _ (ran .1 .1 .1 .0) _ _ (ran .0) (ran .1 .1 .1 .1) _ (ran .1 .0) _ _ (ran .1 .1 .0)
     (added .add-kinds .ensures) _ _ _ _ _ (c .count-piece .ensures)
 
 put-rows-requires : tie.Need-put-rows-requires Inv-loop μ-loop
 unfolding tree-of
 put-rows-requires c κs =
-    let first = c .before .before .before .before .before .before .before .before .before in
-    let small = tables-small _ _ _ _ _ _ _ _ _ _ _ _ _ _ _ (c .before .before .before .before .before .loop .inv) (c .before .before .before .before .before .before .before .before .before .pre .0) in
-    (threads-few (first .args .tree) (run-facts _ _ _ _ (first .pre .0) .tree), (first .pre .1, (small .0, small .1)))
+    let turn = c .before .before .before .before .before in
+    let first = start turn in
+    (threads-few (first .args .tree) (run-facts _ _ _ _ (first .pre .0) .tree), (first .pre .1 .0, attempts-table _ _ _ _ _ _ _ _ _ _ _ _ _ _ _ _ (turn .loop .inv) (first .pre .0)))
+
+-- the loop's end, by what comes after it
+abbrev after-loop : tie.After-put-rows Inv-loop μ-loop → tie.After-loop Inv-loop μ-loop
+after-loop put = put .before .before .before .before .before
+
+put-numbers-requires : tie.Need-put-numbers-requires Inv-loop μ-loop
+unfolding tree-of
+put-numbers-requires c κs =
+    let turn = after-loop (c .before .before .before .before) .before in
+    let first = start turn in
+    (threads-few (first .args .tree) (run-facts _ _ _ _ (first .pre .0) .tree), marks-fit _ _ _ _ _ _ _ _ _ _ _ _ _ _ _ _ (turn .loop .inv) (first .pre .0))
 
 same-length : tie.Need-same-length Inv-loop μ-loop
-same-length c = trace-long _ _ _ _ _ _ _ _ _ _ _ _ _ _ _ (c .before .before .before .before .before .before .before .before .loop .inv) (c .before .before .before .before .before .before .before .before .before .before .before .before .pre .0)
+same-length c = let turn = after-loop (c .before .before .before .before .before) .before in trace-long _ _ _ _ _ _ _ _ _ _ _ _ _ _ _ _ (turn .loop .inv) (start turn .pre .0)
 
 same-length-2 : tie.Need-same-length-2 Inv-loop μ-loop
 same-length-2 c =
-    let first = c .before .before .before .before .before .before .before .before .before .before .before .before .args in
-    let l = c .before .before .before .before .before .before .before .before .loop in
-    sets-long (first .rows .now) _ (rows-by (first .tree .threads) (l .attempts) (l .totals) (l .largest)) (c .before .before .put-rows .ensures)
+    let put = c .before .before .before .before .before in
+    let turn = after-loop put .before in
+    let first = start turn in
+    let l = turn .loop in
+    sets-long (first .args .rows .now) _ (rows-by (first .args .tree .threads) (l .attempts) (l .totals) (l .largest)) (put .put-rows .ensures)
 
 returns : tie.Need-returns Inv-loop μ-loop
 unfolding tree-of
 returns c =
-    let e = c .before .before .before .before .before .before .before .loop-test .left in
-    let first = c .before .before .before .before .before .before .before .before .before .before .before .before in
-    let g = c .before .before .before .before .before .before .before .before .loop .inv in (
-      state-ends _ _ _ _ _ _ _ _ _ _ _ _ _ _ _ g (first .pre .0) e,
+    let put = c .before .before .before .before .before in
+    let e = after-loop put .loop-test .left in
+    let turn = after-loop put .before in
+    let first = start turn in
+    let ok = first .pre .0 in
+    let g = turn .loop .inv in
+    let few = threads-few (first .args .tree) (run-facts _ _ _ _ ok .tree) in (
+      state-ends _ _ _ _ _ _ _ _ _ _ _ _ _ _ _ _ g ok e,
       (
-        trace-ends _ _ _ _ _ _ _ _ _ _ _ _ _ _ _ g (first .pre .0) e,
+        trace-ends _ _ _ _ _ _ _ _ _ _ _ _ _ _ _ _ g ok e,
         (
-          kinds-end _ _ _ _ _ _ _ _ _ _ _ _ _ _ _ g (first .pre .0) e,
+          kinds-end _ _ _ _ _ _ _ _ _ _ _ _ _ _ _ _ g ok e,
           (
-            rows-are _ _ _ _ _ _ _ _ _ _ _ _ _ _ _ g (first .pre .0) e (threads-few (first .args .tree) (run-facts _ _ _ _ (first .pre .0) .tree)) _ _ (c .before .before .put-rows .ensures),
-            counters-end _ _ _ _ _ _ _ _ _ _ _ _ _ _ _ g (first .pre .0) e,
+            rows-are _ _ _ _ _ _ _ _ _ _ _ _ _ _ _ _ g ok e few _ _ (put .put-rows .ensures),
+            (
+              numbers-are _ _ _ _ _ _ _ _ _ _ _ _ _ _ _ _ g ok e few _ _ (c .put-numbers .ensures),
+              counters-end _ _ _ _ _ _ _ _ _ _ _ _ _ _ _ _ g ok e,
+            ),
           ),
         ),
       ),
@@ -152,8 +184,10 @@ run-counted-spec =
     (tie.spec
     Inv-loop
     μ-loop
+    set-marks-requires
     loop-holds
     piece-end-requires
+    sub-written
     mul-run-steps
     sub-run-steps
     part-run-steps-start
@@ -174,6 +208,7 @@ run-counted-spec =
     loop-less
     loop-again
     put-rows-requires
+    put-numbers-requires
     same-length
     same-length-2
     returns)
