@@ -297,6 +297,14 @@ uint32_t hmcs_chain(hmcs_tree tree, hmcs_state state, uint16_t thread, uint16_t 
  * The buffer has HMCS_DOMAINS elements. Refused by 4 to 9 and 16; then it is as it came. */
 hmcs_answer hmcs_allowances(hmcs_tree tree, uint64_t *allowances);
 
+/* The longest wait of each thread, W: bounds[i] becomes how many entries of others thread i waits for at most in one attempt as long as nobody
+ * stalls, or UINT64_MAX where that is larger; those after the last thread become 0. It is proved for every schedule from a fresh lock: just before
+ * another thread enters, the chain of hmcs_chain says whom thread i waits for in the end, and at most W entries of an attempt are by that thread
+ * itself. Any other entry passes a thread that could have moved and had no turn, and no number bounds those. So where only threads enter for which
+ * everybody waits, W is the longest wait. W is the sum, from the thread's home up, of what the other members of each domain may enter: see
+ * SPECIFICATION.md. The buffer has HMCS_THREADS elements. Refused by 4 to 9 and 16; then it is as it came. */
+hmcs_answer hmcs_wait_bounds(hmcs_tree tree, uint64_t *bounds);
+
 /* What hmcs_rounds returns: number and place, rounds and turns; if refused, rounds and turns are 0. */
 typedef struct hmcs_rounds_reply {
     uint32_t number;

@@ -354,6 +354,23 @@ inline AllowancesResult allowances(const Tree &tree) {
     return result;
 }
 
+// The longest waits of a tree's threads; if refused, none.
+struct [[nodiscard]] WaitBoundsResult : Result {
+    std::vector<std::uint64_t> threads; // one for each, in entries of others; UINT64_MAX where it is larger
+
+    std::uint64_t largest() const { return threads.empty() ? 0 : *std::max_element(threads.begin(), threads.end()); }
+};
+
+// How many entries of others each thread waits for at most in one attempt, as long as nobody stalls.
+inline WaitBoundsResult wait_bounds(const Tree &tree) {
+    WaitBoundsResult result;
+    result.threads.resize(HMCS_THREADS);
+    const hmcs_answer answer = hmcs_wait_bounds(tree.words(), result.threads.data());
+    result.refusal = Refusal{answer.number, answer.place};
+    result.threads.resize(result.accepted() ? tree.words().threads : 0);
+    return result;
+}
+
 // In how many rounds every thread enters, and how many turns these are by round robin; 0 if refused, UINT64_MAX where it is larger.
 struct [[nodiscard]] RoundsResult : Result {
     std::uint64_t rounds = 0;

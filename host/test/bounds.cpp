@@ -1,4 +1,4 @@
-// The allowances of a tree and the rounds in which every thread enters, as a host asks for them: levels, the largest child, numbers beyond 64 bits, refusals, that nothing outside the buffer is touched, and that by round robin every thread enters in the turns that are told.
+// The allowances of a tree, its longest waits and the rounds in which every thread enters, as a host asks for them: levels, the largest child, numbers beyond 64 bits, refusals, that nothing outside the buffer is touched, and that by round robin every thread enters in the turns that are told.
 #include "check.hpp"
 #include "guarded.hpp"
 #include "hmcs.hpp"
@@ -42,6 +42,30 @@ void buffer() {
     }
 }
 
+// A fair lock lets everybody else by once, and so do thresholds that divide the numbers of members; larger ones let others by more often.
+void longest_waits() {
+    CHECK((hmcs::wait_bounds(root_alone(hmcs::RootKind::ticket, 3)).threads == Numbers{2, 2, 2}));
+    CHECK((hmcs::wait_bounds(example_tree()).threads == Numbers{2, 2, 2}));
+    CHECK((hmcs::wait_bounds(hmcs::read_tree("(3(#2) 2(#2))").tree).threads == Numbers{3, 3, 4, 4}));
+    CHECK(hmcs::wait_bounds(hmcs::read_tree("(4(8(#8) 8(#8) 8(#8) 8(#8)) 4(8(#8) 8(#8) 8(#8) 8(#8)))").tree).threads == Numbers(64, 63));
+    CHECK(hmcs::wait_bounds(hmcs::read_tree("(8(16(#8) 16(#8) 16(#8) 16(#8)) 8(16(#8) 16(#8) 16(#8) 16(#8)))").tree).threads == Numbers(64, 183));
+    CHECK((hmcs::wait_bounds(hmcs::read_tree("(65535(65535(65535(65535(65535(#2))))) 1(#1))").tree).threads == Numbers{2, 2, UINT64_C(65535)}));
+    const std::string wide = "(65535(65535(65535(65535(65535(#2) 1(#1)) 1(#1)) 1(#1)) 1(#1)) 1(#1))";
+    CHECK(hmcs::wait_bounds(hmcs::read_tree(wide).tree).largest() == UINT64_MAX);
+    hmcs::Tree empty = example_tree();
+    empty.add_domain(0, 4);
+    CHECK(hmcs::wait_bounds(empty).refusal.number == HMCS_EMPTY_DOMAIN && hmcs::wait_bounds(empty).threads.empty());
+    for (const bool at_end : {false, true}) {
+        Guarded memory(HMCS_THREADS * sizeof(std::uint64_t), at_end);
+        std::uint64_t *numbers = memory.as<std::uint64_t>();
+        std::fill(numbers, numbers + HMCS_THREADS, UINT64_C(0x5A5A));
+        CHECK(hmcs_wait_bounds(empty.words(), numbers).place == 3);
+        CHECK(std::all_of(numbers, numbers + HMCS_THREADS, [](std::uint64_t n) { return n == 0x5A5A; }));
+        CHECK(hmcs_wait_bounds(example_tree().words(), numbers).number == HMCS_ACCEPTED && numbers[0] == 2);
+        CHECK(std::all_of(numbers + 3, numbers + HMCS_THREADS, [](std::uint64_t n) { return n == 0; }));
+    }
+}
+
 bool tells(const hmcs::Tree &tree, std::uint64_t rounds, std::uint64_t turns) {
     const hmcs::RoundsResult told = hmcs::rounds(tree);
     return told.accepted() && told.rounds == rounds && told.turns == turns;
@@ -79,6 +103,7 @@ int main() {
     levels();
     beyond();
     buffer();
+    longest_waits();
     rounds();
     everyone_enters();
     std::printf("bounds: %d checks, %d failures\n", checks, failures);

@@ -35,6 +35,8 @@ pre { font: 13px/1.45 ui-monospace, monospace; columns: 20rem; column-rule: 1px 
 .number { display: flex; align-items: center; gap: .5rem; min-width: 8rem; } .number i { flex: none; display: block; height: .8rem; border-radius: 2px; background: var(--bar); }
 .why { color: var(--soft); font-size: 13px; white-space: normal; }
 .hatched td, .hatched th, td.hatched { background: repeating-linear-gradient(135deg, transparent 0 6px, var(--hatch) 6px 8px); } .hatched .number i { opacity: .35; }
+.chart { max-width: 48rem; width: 100%; } .chart text { fill: var(--soft); font-size: 12px; } .axis { fill: none; stroke: var(--line); stroke-width: 1.5; }
+.limit { stroke: var(--root); stroke-dasharray: 5 4; } .dot { fill: none; stroke: var(--bar); stroke-width: 2; } .chosen { fill: var(--passed); } .beyond { fill: none; stroke: var(--root); stroke-width: 2; }
 .grid th { text-align: center; vertical-align: middle; } .grid caption { max-width: 40rem; } .grid td { text-align: center; padding: .4rem .7rem; border: 1px solid var(--paper); } .grid b { font-size: 1.1rem; } .grid span { display: block; font-size: 12px; }
 .grid td { color: #10243e; } .grid td.hatched, .grid td.hatched span { color: var(--ink); }
 .idle { background: var(--idle); stroke: var(--idle); } .rising { background: var(--rising); stroke: var(--rising); }

@@ -11,7 +11,7 @@ namespace {
 
 std::vector<tool::Command> commands() {
     return {tool::machine_command(), tool::tree_command(),  tool::make_command(),  tool::show_command(), tool::run_command(),  tool::steps_command(),  tool::waits_command(),
-            tool::tenures_command(), tool::chain_command(), tool::sweep_command(), tool::page_command(), tool::rate_command(), tool::journal_command()};
+            tool::tenures_command(), tool::chain_command(), tool::sweep_command(), tool::choose_command(), tool::page_command(), tool::rate_command(), tool::journal_command()};
 }
 
 std::string help() {

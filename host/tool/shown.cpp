@@ -20,7 +20,8 @@ void add_threads(const std::string &path, const std::string &word, std::uint32_t
     }
 }
 
-// One line of the table: the domain indented by its level, and after it level, threshold, allowance and threads. The path has the domain of each level.
+// One line of the table: the domain indented by its level, and after it level, threshold, allowance and, where threads are at home, longest wait and
+// threads. The path has the domain of each level.
 void add_domain(const std::string &path, const std::string &line, std::vector<std::uint32_t> &above, hmcs_tree &words) {
     std::istringstream parts(line);
     std::string name, level, threshold, allowance, thread;
@@ -46,6 +47,7 @@ void add_domain(const std::string &path, const std::string &line, std::vector<st
         words.thresholds[domain] = static_cast<std::uint16_t>(number(path + ": a threshold", threshold, 65535));
     }
     above.push_back(domain);
+    parts >> thread; // the longest wait, which follows from the rest
     while (parts >> thread) {
         add_threads(path, thread, domain, words);
     }

@@ -71,6 +71,7 @@ Command waits_command();
 Command tenures_command();
 Command chain_command();
 Command sweep_command();
+Command choose_command();
 Command page_command();
 Command rate_command();
 Command journal_command();

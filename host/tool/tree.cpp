@@ -21,7 +21,9 @@ Command tree_command() {
     return {"tree", "the domains of a tree, indented",
             "usage: hmcs tree TREE [--ticket] [--csv | --json]\n"
             "Prints the domains of a tree, each indented below its parent: number, level (the root is at level\n"
-            "1), threshold, allowance, and the threads that are at home in it. The allowance is how many entries\n"
+            "1), threshold, allowance, longest wait, and the threads that are at home in it. The longest wait is\n"
+            "how many entries of others a thread of the home waits for at most, whatever the schedule, as long as\n"
+            "nobody stalls: a thread that could move and gets no turn lets others by without end. The allowance is how many entries\n"
             "the threads under a domain may make while another member of its parent waits: its threshold times\n"
             "the largest allowance of its members, where a thread's is 1. The last line says after how many rounds every thread has entered, wherever they\n"
             "begin: a round is a stretch of turns in which every thread has one or more. By round robin each has\n"

@@ -49,6 +49,14 @@ std::vector<std::uint32_t> threads_at_home(const hmcs::Tree &tree, std::uint32_t
     return found;
 }
 
+std::uint32_t members_of(const hmcs::Tree &tree, std::uint32_t domain) {
+    std::uint32_t children = 0;
+    for (std::uint32_t child = domain + 1; child < tree.words().domains; ++child) {
+        children += tree.words().parents[child] == domain ? 1 : 0;
+    }
+    return children != 0 ? children : static_cast<std::uint32_t>(threads_at_home(tree, domain).size());
+}
+
 std::string ranges(const std::vector<std::uint32_t> &numbers) {
     std::string text;
     for (std::size_t from = 0, to = 0; from < numbers.size(); from = to + 1) {
@@ -77,8 +85,10 @@ Table tree_table(const hmcs::Tree &tree) {
     table.column("level");
     table.column("threshold");
     table.column("allowance");
+    table.column("longest wait");
     table.column("threads", Side::left);
     const std::vector<std::uint64_t> allowances = hmcs::allowances(tree).domains;
+    const std::vector<std::uint64_t> waits = hmcs::wait_bounds(tree).threads;
     for (const Domain &domain : domains_in_order(tree)) {
         const bool is_root = domain.number == 0;
         const std::string root_name = tree.root() == hmcs::RootKind::ticket ? "0, the root, a ticket lock" : "0, the root, a queue";
@@ -92,7 +102,14 @@ Table tree_table(const hmcs::Tree &tree) {
             table.cell(tree.words().thresholds[domain.number]);
             table.cell(capped(allowances.at(domain.number)), Value(allowances.at(domain.number)));
         }
-        table.cell(ranges(threads_at_home(tree, domain.number)));
+        const std::vector<std::uint32_t> at_home = threads_at_home(tree, domain.number);
+        if (at_home.empty()) {
+            table.cell("", Value());
+        } else {
+            const std::uint64_t wait = waits.at(at_home.front()); // the same for all threads of a home
+            table.cell(capped(wait), Value(wait));
+        }
+        table.cell(ranges(at_home));
     }
     return table;
 }

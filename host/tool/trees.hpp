@@ -16,6 +16,8 @@ struct Domain {
 
 std::vector<Domain> domains_in_order(const hmcs::Tree &tree);
 std::vector<std::uint32_t> threads_at_home(const hmcs::Tree &tree, std::uint32_t domain);
+// How many members a domain has: its child domains, or the threads at home in it.
+std::uint32_t members_of(const hmcs::Tree &tree, std::uint32_t domain);
 // Numbers, with consecutive ones as a range: "0-3 8".
 std::string ranges(const std::vector<std::uint32_t> &numbers);
 // The text that reads as this tree, where there is one: a queue root, domains in the order of their opening parentheses, threads leaf by leaf.

@@ -65,9 +65,7 @@ void add_time(Table &table, const std::optional<double> &time) {
         table.cell("-", Value());
         return;
     }
-    char text[64];
-    std::snprintf(text, sizeof text, "%.4f", *time);
-    table.cell(text, Value::of_decimal(shortest(*time)));
+    table.cell(four_digits(*time), Value::of_decimal(shortest(*time)));
 }
 
 } // namespace
@@ -106,6 +104,7 @@ Trial try_tree(const hmcs::Tree &tree, const Schedule &schedule, const std::opti
         first = false;
     }
     trial.allowance = largest_allowance(tree);
+    trial.possible_wait = hmcs::wait_bounds(tree).largest();
     if (times) {
         trial.time = time_per_entry(trial.counts, *times);
         trial.proved_time = proved_time(tree, *times);
@@ -126,6 +125,12 @@ std::string shortest(double number) {
     char text[400]; // enough for the largest and the smallest number without an exponent
     const auto written = std::to_chars(text, text + sizeof text, number, std::chars_format::fixed);
     return std::string(text, written.ptr);
+}
+
+std::string four_digits(double number) {
+    char text[64];
+    std::snprintf(text, sizeof text, "%.4f", number);
+    return text;
 }
 
 std::optional<hmcs::PassingTimes> times_of(const Words &words) {
@@ -150,6 +155,7 @@ void add_trial_columns(Table &table, const Shown &shown) {
     if (shown.seeds) {
         table.column("least by seed");
     }
+    table.column("longest possible wait");
     table.mean_column("mean wait");
     for (const char *name : {"never entered", "fewest entries", "under way", "longest under way"}) {
         table.column(name);
@@ -171,6 +177,7 @@ void add_trial(Table &table, const Trial &trial, const Shown &shown) {
     if (shown.seeds) {
         table.cell(trial.least_wait);
     }
+    table.cell(capped(trial.possible_wait), Value(trial.possible_wait));
     if (comparable) {
         table.mean(trial.waits.numerator, trial.waits.denominator);
     } else {

@@ -20,6 +20,7 @@ struct Trial {
     std::uint64_t least_wait = 0;       // the smallest of the largest waits, where several seeds were run
     std::vector<std::uint64_t> longest; // of each domain, its longest tenure
     std::uint64_t allowance = 0;        // the largest of the root's members
+    std::uint64_t possible_wait = 0;    // the longest that any thread can wait while nobody stalls, whatever the schedule
     std::optional<double> time;         // per entry, where passing times are given
     std::optional<double> proved_time;  // the same by the proved rate, in an even tree of two or three levels
 };
@@ -31,8 +32,9 @@ Trial try_tree(const hmcs::Tree &tree, const Schedule &schedule, const std::opti
 std::optional<hmcs::PassingTimes> times_of(const Words &words);
 // A number that is not a whole one, as the command reads it.
 double real_number(const std::string &name, const std::string &word);
-// The shortest digits that read back as the same number.
+// The shortest digits that read back as the same number; for people, four after the point.
 std::string shortest(double number);
+std::string four_digits(double number);
 
 // The columns from the entries to the waits and times, and the cells of a row there.
 struct Shown {

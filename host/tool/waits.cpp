@@ -2,6 +2,7 @@
 #include "waits.hpp"
 
 #include "tool.hpp"
+#include "trees.hpp"
 
 namespace tool {
 
@@ -46,7 +47,9 @@ Table waits_table(const hmcs::Tree &tree, const Measured &measured) {
     table.column("largest wait");
     table.mean_column("mean wait");
     table.column("under way");
+    table.column("longest possible wait");
     table.column("entered", Side::left);
+    const hmcs::WaitBoundsResult bounds = hmcs::wait_bounds(tree);
     for (std::size_t thread = 0; thread < measured.threads.size(); ++thread) {
         const bool entered = measured.threads[thread].attempts != 0;
         const std::uint64_t under_way = measured.under_way[thread];
@@ -55,6 +58,7 @@ Table waits_table(const hmcs::Tree &tree, const Measured &measured) {
         table.cell(tree.words().homes[thread]);
         add(table, measured.threads[thread]);
         add_under_way(table, under_way != 0, under_way - 1);
+        table.cell(capped(bounds.threads[thread]), Value(bounds.threads[thread]));
         table.cell(entered ? "yes" : "NEVER", Value::of_truth(entered));
         if (!entered) {
             table.mark();
@@ -66,6 +70,7 @@ Table waits_table(const hmcs::Tree &tree, const Measured &measured) {
     table.cell("", Value());
     add(table, measured.all);
     add_under_way(table, missing.under_way != 0, missing.longest_under_way);
+    table.cell(capped(bounds.largest()), Value(bounds.largest()));
     table.cell(missing.never_entered == 0 ? "yes" : "all but " + std::to_string(missing.never_entered), Value::of_truth(missing.never_entered == 0));
     return table;
 }
@@ -79,7 +84,9 @@ Command waits_command() {
             "the total, the largest, and the mean as an exact fraction and as a decimal. An attempt begins\n"
             "when the thread joins the queue of its home and ends when it is inside. One that had not ended is\n"
             "not among them: the column `under way` says how long it has waited so far. A thread that never\n"
-            "entered has no wait at all, and is marked NEVER.\n"
+            "entered has no wait at all, and is marked NEVER. The longest possible wait is proved: no schedule makes\n"
+            "an attempt wait for more entries as long as nobody stalls. On schedules in which a thread that could\n"
+            "move is passed over, more entries may be seen.\n"
             "\n"
             "  --csv, --json  for programs, the mean as numerator, denominator and decimal\n"
             +

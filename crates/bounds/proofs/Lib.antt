@@ -2,3 +2,4 @@
 pub mod Law
 pub mod RoundsLaw
 pub mod Cases
+pub mod WaitBoundsLaw

@@ -1,4 +1,4 @@
--- What the calls answer, for every tree: document 01's allowances, and the rounds of a fair schedule in which every thread enters, each cut at the largest number of 64 bits. Assumes nothing: these are definitions.
+-- What the calls answer, for every tree: document 01's allowances, the rounds of a fair schedule in which every thread enters, and W of every thread, each cut at the largest number of 64 bits. Assumes nothing: these are definitions.
 use mathlib.Core.Bool.{_&&_, not, cond}
 use mathlib.Core.List.{List, [], _∷_}
 use Prim.Native.Nat.{ℕ, zero, suc, _+_, _*_, min}
@@ -7,6 +7,7 @@ use Rattle.model.specs.declared.TreeWords.{TreeWords}
 use Rattle.model.specs.Trees.{Tree, tree-of, allowance}
 use Rattle.model.specs.Refusals.{Refusal, tree-refusal}
 use Rattle.starvation_freedom.specs.Bounds.{everyone-bound}
+use Rattle.longest_wait.specs.Bounds.{wait-bound}
 use Rattle.bounds.specs.declared.RoundsReply.{RoundsReply}
 
 -- a number, or the largest of 64 bits where it is larger
@@ -37,3 +38,15 @@ rounds-answer w =
     let everyone = everyone-bound (tree-of w) in
     let answered : ℕ → ℕ = λ n. cond (eqb (r .number) 0) (capped n) 0 in
     record { number = r .number; place = r .place; rounds = answered everyone; turns = answered (everyone * w .threads) }
+
+-- of a thread of the tree W, the entries of others that it waits for at most while nobody stalls; 0 elsewhere
+unfoldable pub wait-word : Tree → (thread : ℕ) → ℕ
+wait-word t i = cond (ltb i (t .threads)) (capped (wait-bound t i)) 0
+
+-- number and place: those of a fresh lock
+unfoldable pub wait-bounds-answer : TreeWords → Refusal
+wait-bounds-answer w = tree-refusal (tree-of w)
+
+-- the buffer, with room for 256 threads; refused, as it came
+unfoldable pub wait-bounds-left : TreeWords → (buffer : List ℕ) → List ℕ
+wait-bounds-left w b = cond (eqb (wait-bounds-answer w .number) 0) (words-from (wait-word (tree-of w)) 256 0) b

@@ -1,4 +1,4 @@
--- Cases of the calls, each in one list. Of allowances: leaves, levels, the largest child, words that are cut, the root and room that the tree lacks. Of rounds: threads in the root, leaves, levels, numbers that are cut, a refused tree. Assumes nothing: these are definitions.
+-- Cases of the calls, each in one list. Of wait bounds: threads in the root, thresholds below, at and above the members, one member, numbers that are cut, after the last thread, a refused tree. Of allowances: leaves, levels, the largest child, words that are cut, the root and room that the tree lacks. Of rounds: threads in the root, leaves, levels, numbers that are cut, a refused tree. Assumes nothing: these are definitions.
 use mathlib.Core.Bool.{Bool, _&&_}
 use mathlib.Core.List.{List, [], _∷_}
 use Prim.Native.Nat.{ℕ}
@@ -6,7 +6,7 @@ use lib.Dec.{eqb}
 use lib.ListN.{replicate}
 use Rattle.model.specs.declared.TreeWords.{TreeWords}
 use Rattle.model.specs.Cases.{same-numbers}
-use Rattle.bounds.specs.Answers.{allowances-answer, allowances-left, rounds-answer}
+use Rattle.bounds.specs.Answers.{allowances-answer, allowances-left, rounds-answer, wait-bounds-answer, wait-bounds-left}
 
 abbrev pub tree : (domains threads : ℕ) → (parents thresholds homes : List ℕ) → TreeWords
 tree n m ps ts hs = record { domains = n; threads = m; parents = ps; thresholds = ts; homes = hs; «ticket_root» = 0 }
@@ -61,3 +61,34 @@ rounds-cases =
     ∷ tells 0 0 18446744073709551615 18446744073709551615 deep-beside-leaf
     ∷ tells 0 0 16140162203956224052 18446744073709551615 less-deep
     ∷ tells 16 2 0 0 (tree 3 1 (0 ∷ 0 ∷ 0 ∷ []) (0 ∷ 2 ∷ 2 ∷ []) (1 ∷ [])) ∷ []
+
+-- two domains of two threads, of thresholds 3 and 2
+abbrev pub two-pairs : TreeWords
+two-pairs = tree 3 4 (0 ∷ 0 ∷ 0 ∷ []) (0 ∷ 3 ∷ 2 ∷ []) (1 ∷ 1 ∷ 2 ∷ 2 ∷ [])
+
+-- a domain of three threads and threshold 2, beside one of one thread and threshold 9
+abbrev pub not-divided : TreeWords
+not-divided = tree 3 4 (0 ∷ 0 ∷ 0 ∷ []) (0 ∷ 2 ∷ 9 ∷ []) (1 ∷ 1 ∷ 1 ∷ 2 ∷ [])
+
+-- five domains below one another, all of the largest threshold and each but the last beside a leaf with a thread
+abbrev pub deep-with-leaves : TreeWords
+deep-with-leaves =
+    tree 11 7 (0 ∷ 0 ∷ 1 ∷ 2 ∷ 3 ∷ 4 ∷ 4 ∷ 3 ∷ 2 ∷ 1 ∷ 0 ∷ []) (0 ∷ 65535 ∷ 65535 ∷ 65535 ∷ 65535 ∷ 65535 ∷ 1 ∷ 1 ∷ 1 ∷ 1 ∷ 1 ∷ [])
+    (5 ∷ 5 ∷ 6 ∷ 7 ∷ 8 ∷ 9 ∷ 10 ∷ [])
+
+abbrev pub waits : (words : List ℕ) → TreeWords → Bool
+waits ws w = eqb (wait-bounds-answer w .number) 0 && same-numbers (wait-bounds-left w []) ws
+
+unfoldable pub wait-cases : List Bool
+wait-cases =
+    waits (2 ∷ 2 ∷ 2 ∷ replicate 253 0) (tree 1 3 [] [] (0 ∷ 0 ∷ 0 ∷ []))
+    -- the thresholds of one member count as 1
+    ∷ waits (2 ∷ 2 ∷ 2 ∷ replicate 253 0) example
+    ∷ waits (3 ∷ 3 ∷ 4 ∷ 4 ∷ replicate 252 0) two-pairs
+    -- two tenures for three members
+    ∷ waits (4 ∷ 4 ∷ 4 ∷ 2 ∷ replicate 252 0) not-divided
+    ∷ waits
+    (6 ∷ 6 ∷ 65539 ∷ 4294836228 ∷ 281462092005377 ∷ 18445618199572250626 ∷ 18446744073709551615 ∷ replicate 249 0) deep-with-leaves
+    -- refused, by 16 of domain 2: the buffer as it came
+    ∷ (eqb (wait-bounds-answer (tree 3 1 (0 ∷ 0 ∷ 0 ∷ []) (0 ∷ 2 ∷ 2 ∷ []) (1 ∷ [])) .number) 16
+    && same-numbers (wait-bounds-left (tree 3 1 (0 ∷ 0 ∷ 0 ∷ []) (0 ∷ 2 ∷ 2 ∷ []) (1 ∷ [])) (7 ∷ 8 ∷ [])) (7 ∷ 8 ∷ [])) ∷ []

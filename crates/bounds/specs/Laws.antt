@@ -11,7 +11,8 @@ use Rattle.model.specs.Runs.{run, occurrences}
 use Rattle.model.specs.Laws.{All-threads}
 use Rattle.starvation_freedom.specs.Bounds.{everyone-bound}
 use Rattle.starvation_freedom.specs.Laws.{Rounds, round-robin}
-use Rattle.bounds.specs.Answers.{allowances-answer, allowances-left, rounds-answer}
+use Rattle.longest_wait.specs.Bounds.{wait-bound}
+use Rattle.bounds.specs.Answers.{allowances-answer, allowances-left, rounds-answer, wait-bounds-answer, wait-bounds-left}
 
 -- ALLOWANCES. Accepted, the word of a domain other than the root is its allowance wherever that is a number of 64 bits, and else 2 ^ 64 less 1
 pub record Tells-allowances (w : TreeWords) (buffer : List ℕ) : Type 0 where
@@ -47,3 +48,12 @@ unfoldable pub Entering-law : Type 0
 Entering-law =
     (w : TreeWords) → rounds-answer w .number ≡ 0 → (start : ℕ) (before : List ℕ) → All-threads (tree-of w) before →
     Enters-as-answered w (run (tree-of w) before (fresh-state (tree-of w) start) .state)
+
+-- THE LONGEST WAIT. Accepted, the word of a thread is its W wherever that is a number of 64 bits, and else 2 ^ 64 less 1; after the last thread it is 0
+pub record Tells-wait-bounds (w : TreeWords) (buffer : List ℕ) : Type 0 where
+  pub exact : (i : ℕ) → i < w .threads → wait-bound (tree-of w) i < 2 ^ 64 → getD (wait-bounds-left w buffer) i 0 ≡ wait-bound (tree-of w) i
+  pub cut : (i : ℕ) → i < w .threads → 2 ^ 64 ≤ wait-bound (tree-of w) i → getD (wait-bounds-left w buffer) i 0 + 1 ≡ 2 ^ 64
+  pub after : (i : ℕ) → w .threads ≤ i → getD (wait-bounds-left w buffer) i 0 ≡ 0
+
+unfoldable pub Wait-bounds-law : Type 0
+Wait-bounds-law = (w : TreeWords) (buffer : List ℕ) → wait-bounds-answer w .number ≡ 0 → Tells-wait-bounds w buffer

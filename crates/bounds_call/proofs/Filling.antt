@@ -61,7 +61,7 @@ pub largest-all : (n m : ℕ) (f : ℕ → ℕ) (a : ℕ) → n ≡ m → a ≡ 
 largest-all n m f a e g = rw (← e) g
 
 -- a list by its words
-listed : (f : ℕ → ℕ) (ws : List ℕ) (k d : ℕ) → length ws ≡ k → ((x : ℕ) → x < k → getD ws x 0 ≡ f (d + x)) → ws ≡ words-from f k d
+pub listed : (f : ℕ → ℕ) (ws : List ℕ) (k d : ℕ) → length ws ≡ k → ((x : ℕ) → x < k → getD ws x 0 ≡ f (d + x)) → ws ≡ words-from f k d
 unfolding words-from
 listed f [] zero d l e = refl
 listed f [] (suc k) d l e = absurd (omega arith)

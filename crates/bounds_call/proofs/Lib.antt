@@ -4,3 +4,5 @@ pub mod Words
 pub mod Capped
 pub mod RoundWords
 pub mod RoundAnswers
+pub mod WaitSums
+pub mod WaitWords

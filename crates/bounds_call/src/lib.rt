@@ -12,6 +12,7 @@ ghost use Rattle.bounds.specs.Answers.{capped, allowances-answer, allowances-le
 ghost use Rattle.bounds_call.specs.Arrays.{Allowed, Acquired};
 
 mod domain_members;
+pub mod wait_bounds;
 
 use bounds::RoundsReply;
 use model::TreeWords;

@@ -1,6 +1,6 @@
 // What a C or C++ host calls; host/include/hmcs.h declares it there. Numbers, arrays and structs of them alone cross.
 ghost use mathlib.Core.Path.{_≡_};
-ghost use Rattle.bounds.specs.Answers.{allowances-answer, allowances-left, rounds-answer};
+ghost use Rattle.bounds.specs.Answers.{allowances-answer, allowances-left, rounds-answer, wait-bounds-answer, wait-bounds-left};
 ghost use Rattle.chain.specs.Answers.{chain-answer, buffer-answer};
 ghost use Rattle.model.specs.Answers.{fresh-answer, step-answer, run-answer, trace-answer};
 ghost use Rattle.host.specs.Answers.{answer-of};
@@ -280,4 +280,17 @@ pub extern "C" fn hmcs_rounds(tree: TreeWords) -> RoundsReply
     ensures { λ r. ⌜ r ≡ rounds-answer tree ⌝ }
 {
     bounds_call::rounds(tree)
+}
+
+// The longest wait of each thread while nobody stalls, in entries of others, cut at the largest number of 64 bits, and 0 after the last thread; refused, the buffer as it came.
+#[no_mangle]
+pub extern "C" fn hmcs_wait_bounds(tree: TreeWords, bounds: &mut [u64; 256]) -> Answer
+    ensures { λ r. ⌜ r ≡ answer-of (wait-bounds-answer tree) ⌝ }
+    ensures { λ r. ⌜ now (bounds .exit) ≡ wait-bounds-left tree (now (bounds .entry)) ⌝ }
+{
+    let r = bounds_call::wait_bounds::wait_bounds(tree, bounds);
+    Answer {
+        number: r.number,
+        place: r.place,
+    }
 }

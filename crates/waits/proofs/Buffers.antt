@@ -155,7 +155,7 @@ module _ (w : TreeWords) (s : LockState) (is b rs : List ℕ) where
 
   -- the run's part
   module _ (n : refused-by w s is b rs .number ≢ 18) where
-    same-refusal : refused-by w s is b rs ≡ run-refusal t s is (length b)
+    pub same-refusal : refused-by w s is b rs ≡ run-refusal t s is (length b)
     unfolding Waits-refusal-law refusal refused-by
     same-refusal =
         elim (ℕ-discrete (first-refusal (run-tests-before-19 t s is (length b)) .number) 0) [

@@ -30,13 +30,13 @@ use Rattle.waits.specs.Laws.{Entry-law}
 use Rattle.waits.proofs.Phases.{on-way, Phase, rests, goes, sets-out, arrives, at-once, phase}
 
 -- PLACES after a step of thread j: its own, and the others as they were
-place-own : (s : State) (ps : List PlaceWords) (j : ℕ) (q : Place) → ps ≡ set (s .places) j (words-of q) → j < length (s .places) → place-of (getD ps j (place-words 0 0 0 0)) ≡ q
+pub place-own : (s : State) (ps : List PlaceWords) (j : ℕ) (q : Place) → ps ≡ set (s .places) j (words-of q) → j < length (s .places) → place-of (getD ps j (place-words 0 0 0 0)) ≡ q
 place-own s ps j q e h = ap (λ v. place-of (getD v j (place-words 0 0 0 0))) e ∙ place-stored j q s h
 
 place-other : (s : State) (ps : List PlaceWords) (i j : ℕ) (q : Place) → ps ≡ set (s .places) j (words-of q) → i ≢ j → place-of (getD ps i (place-words 0 0 0 0)) ≡ place s i
 place-other s ps i j q e n = ap (λ v. place-of (getD v i (place-words 0 0 0 0))) e ∙ ap place-of (getD-set-other (s .places) j i (words-of q) (place-words 0 0 0 0) n)
 
-others-kept : (t : Tree) (j : ℕ) (s : State) (p : Place) (x : Row-result) → Phase t j s p x → (i : ℕ) → i ≢ j → place (x .state) i ≡ place s i
+pub others-kept : (t : Tree) (j : ℕ) (s : State) (p : Place) (x : Row-result) → Phase t j s p x → (i : ℕ) → i ≢ j → place (x .state) i ≡ place s i
 others-kept t j s p x (rests e st b) i n = ap (λ v. place v i) st
 others-kept t j s p x (goes q e pl b w) i n = place-other s (x .state .places) i j q pl n
 others-kept t j s p x (sets-out q e pl b w v) i n = place-other s (x .state .places) i j q pl n
@@ -44,7 +44,7 @@ others-kept t j s p x (arrives e pl b w) i n = place-other s (x .state .places) 
 others-kept t j s p x (at-once e pl b w) i n = place-other s (x .state .places) i j Inside pl n
 
 -- of attempts: none under way where the thread is not on its way, one where it is
-abbrev Mode : Bool → ℕ → Type 0
+abbrev pub Mode : Bool → ℕ → Type 0
 Mode o a = ((o ≡ false) × (a ≡ 0)) ⊎ ((o ≡ true) × (0 < a))
 
 module _ (i : ℕ) where
@@ -65,18 +65,18 @@ module _ (i : ℕ) where
       by false f = rw f
 
   module _ (t : Tree) where
-    waits-own :
+    pub waits-own :
         (x : Step) (xs : List Step) (a : ℕ) (b e : Bool) → x .thread ≡ i → begins-from t i (x .place) ≡ b → is-entry (x .kind) ≡ e →
         waits-from t i a (x ∷ xs) ≡ cond e (finished (cond b 1 a)) [] ++ waits-from t i (cond e 0 (counted x (cond b 1 a))) xs
     unfolding waits-from finished-by under-way-after enters begun begins
     waits-own x xs a b e m f g = rw (eq-eqb (x .thread) i m, f, g)
 
-    waits-other : (x : Step) (xs : List Step) (a : ℕ) → x .thread ≢ i → waits-from t i a (x ∷ xs) ≡ waits-from t i (counted x a) xs
+    pub waits-other : (x : Step) (xs : List Step) (a : ℕ) → x .thread ≢ i → waits-from t i a (x ∷ xs) ≡ waits-from t i (counted x a) xs
     unfolding waits-from finished-by under-way-after enters begun begins
     waits-other x xs a n = rw (ne-eqb (x .thread) i n)
 
     -- counting another thread's entry keeps whether an attempt is under way
-    mode-counted : (x : Step) (o : Bool) (a : ℕ) → Mode o a → Mode o (counted x a)
+    pub mode-counted : (x : Step) (o : Bool) (a : ℕ) → Mode o a → Mode o (counted x a)
     unfolding counted
     mode-counted x o zero (inl m) = inl (m .0, refl)
     mode-counted x o zero (inr m) = absurd (omega (arith, m .1))
@@ -149,14 +149,14 @@ module _ (i : ℕ) where
       abbrev valid : Accepted t
       valid = accepted t ok
 
-      phase-of : (j : ℕ) (s : State) → j < t .threads → Formed t s → Phase t j s (place s j) (row t j (place s j) s)
+      pub phase-of : (j : ℕ) (s : State) → j < t .threads → Formed t s → Phase t j s (place s j) (row t j (place s j) s)
       phase-of j s l f = phase t valid j l s (place s j) (well-formed-facts t s f .places j .used l)
 
-      formed-next : (j : ℕ) (s : State) → j < t .threads → Formed t s → Formed t (step t j s .state)
+      pub formed-next : (j : ℕ) (s : State) → j < t .threads → Formed t s → Formed t (step t j s .state)
       unfolding Form-law
       formed-next j s l f = form-law t sixteen ok .of-step j s l f
 
-      room-for : (s : State) → Formed t s → i < length (s .places)
+      pub room-for : (s : State) → Formed t s → i < length (s .places)
       room-for s f = omega (arith, f .typed .places-room, valid .few-threads)
 
       pub exact : (is : List ℕ) (s : State) (a : ℕ) → All-threads t is → Formed t s → Mode (on-way t i (place s i)) a → E (steps t is s) ≡ length (waits-from t i a (steps t is s))
@@ -204,7 +204,7 @@ idle-words zero i = refl
 idle-words (suc n) zero = refl
 idle-words (suc n) (suc i) = idle-words n i
 
-fresh-idle : (t : Tree) (v i : ℕ) → on-way t i (place (fresh-state t v) i) ≡ false
+pub fresh-idle : (t : Tree) (v i : ℕ) → on-way t i (place (fresh-state t v) i) ≡ false
 unfolding fresh-state on-way fresh-words place-of
 fresh-idle t v i = ap (λ (q : PlaceWords). on-way t i (place-of q)) (idle-words 256 i)
 

@@ -7,7 +7,11 @@ pub mod RefusingOn
 pub mod Buffers
 pub mod Phases
 pub mod Entering
+pub mod Beginning
 pub mod Bounds
 pub mod Zeros
+pub mod BuffersOn
+pub mod CallsJoining
 pub mod Measuring
 pub mod Cases
+pub mod CasesOn

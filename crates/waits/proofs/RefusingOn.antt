@@ -66,7 +66,7 @@ module _ (t : Tree) (s : LockState) (is : List ℕ) (room n : ℕ) (us : List �
   waits-decide = first-decides (waits-tests-before-19 t s is room n) (under-way-tests t us)
 
   module _ (passes : early t s is room n .number ≡ 0) where
-    numbers-decide : on-early ≡ first-refusal (under-way-tests t us)
+    pub numbers-decide : on-early ≡ first-refusal (under-way-tests t us)
     numbers-decide = other-decides (waits-tests-before-19 t s is room n) (under-way-tests t us) (early-numbered t s is room n) passes
 
     pub number-refuses : (p : ℕ) → Lowest 256 (bad-under-way t us) p → p < 256 → on-early ≡ refusal 27 p

@@ -7,3 +7,4 @@ pub mod Laws
 pub mod GoingOn
 pub mod Meanings
 pub mod Cases
+pub mod CasesOn

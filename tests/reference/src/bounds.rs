@@ -1,4 +1,4 @@
-//! The calls of allowances, which are document 01's, and of the rounds in which every thread enters, each cut at the largest number of 64 bits.
+//! The calls of allowances, which are document 01's, of the rounds in which every thread enters and of the longest waits, each number cut at the largest of 64 bits.
 
 use crate::refusals::{accept_tree, leaves};
 use crate::standing::allowance;
@@ -71,4 +71,40 @@ pub fn rounds(words: &TreeWords) -> RoundsReply {
     let everyone = (0..tree.domains).filter(|&domain| leaves(&tree)[domain]).map(of_home).max().unwrap_or(0);
     let capped = |number: u128| number.min(u64::MAX as u128) as u64;
     RoundsReply { number: 0, place: 0, rounds: capped(everyone), turns: capped(everyone * tree.threads as u128) }
+}
+
+/// The form of the call, the reference's and the library's: number and place.
+pub type WaitBounds = fn(&TreeWords, &mut [u64; THREAD_ROOM]) -> (u32, u32);
+
+/// How many entries of threads under a member may be in line while another member of its domain waits once.
+fn passes(tree: &Tree, member: usize) -> u128 {
+    if member < THREAD_ROOM {
+        return 1;
+    }
+    let domain = member - THREAD_ROOM;
+    let inner = members(tree, domain);
+    let threshold = if inner.len() > 1 { tree.thresholds[domain] as u128 } else { 1 };
+    threshold.saturating_mul(inner.iter().map(|&one| passes(tree, one)).max().unwrap_or(0))
+}
+
+/// The longest wait of a member of a domain: the passes of the others there, and the wait of the domain itself once for each tenure that its members need.
+fn longest_wait(tree: &Tree, domain: usize, member: usize) -> u128 {
+    let all = members(tree, domain);
+    let others = all.iter().filter(|&&other| other != member).fold(0u128, |sum, &other| sum.saturating_add(passes(tree, other)));
+    if domain == ROOT {
+        return others;
+    }
+    let tenures = (all.len() as u128).div_ceil(tree.thresholds[domain] as u128);
+    others.saturating_add(tenures.saturating_mul(longest_wait(tree, tree.parent(domain), domain_record(domain))))
+}
+
+/// 0 after the last thread; a refused call leaves the buffer as it came.
+pub fn wait_bounds(words: &TreeWords, buffer: &mut [u64; THREAD_ROOM]) -> (u32, u32) {
+    let tree = words.tree();
+    if let Err(refusal) = accept_tree(&tree) {
+        return (refusal.number, refusal.place);
+    }
+    let bound = |thread| longest_wait(&tree, tree.home(thread), thread).min(u64::MAX as u128) as u64;
+    *buffer = std::array::from_fn(|thread| if thread < tree.threads { bound(thread) } else { 0 });
+    (0, 0)
 }

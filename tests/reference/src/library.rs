@@ -1,6 +1,6 @@
 //! The entries of the static library; no other Rust file declares one, and nothing checks the declarations but the comparison.
 
-use crate::bounds::{Allowances, Rounds};
+use crate::bounds::{Allowances, Rounds, WaitBounds};
 use crate::calls::Calls;
 use crate::chain::ChainCall;
 use crate::file_writer::WriteFile;
@@ -9,7 +9,7 @@ use crate::lock_file::{FileAnswer, ReadFile};
 use crate::many::RunMany;
 use crate::rate::RateCall;
 use crate::text_tree::TextAnswer;
-use crate::waits::RunWaits;
+use crate::waits::{RunWaits, RunWaitsOn};
 
 /// The form of the file call, the step table's and the library's.
 pub type RunFile = fn(&[u8], &mut [u8]) -> FileAnswer;
@@ -158,16 +158,17 @@ mod many_entry {
     struct Answer {
         number: u32,
         place: u32,
+        rows: usize,
     }
 
     extern "C" {
         fn hmcs_run_many(tree: TreeWords, lengths: *const u32, lengths_len: usize, entries: *const u16, entries_len: usize, rows: *mut u32, rows_len: usize) -> Answer;
     }
 
-    pub fn run_many(tree: &TreeWords, lengths: &[u32], entries: &[u16], rows: &mut [u32]) -> (u32, u32) {
+    pub fn run_many(tree: &TreeWords, lengths: &[u32], entries: &[u16], rows: &mut [u32]) -> (u32, u32, usize) {
         // The pointers are valid for their lengths, and nothing else uses what they point to during the call.
         let answer = unsafe { hmcs_run_many(*tree, lengths.as_ptr(), lengths.len(), entries.as_ptr(), entries.len(), rows.as_mut_ptr(), rows.len()) };
-        (answer.number, answer.place)
+        (answer.number, answer.place, answer.rows)
     }
 }
 
@@ -269,18 +270,35 @@ pub fn check_journal() -> Option<CheckJournal> {
     None
 }
 
-/// A run with waits, built where the calls on a caller's tree are.
+/// A run with waits, and one that goes on, built where the calls on a caller's tree are.
 #[cfg(calls)]
 mod waits_entry {
+    use crate::waits::{UnderWay, WaitsReply};
     use crate::words::*;
 
     extern "C" {
-        fn hmcs_run_waits(tree: TreeWords, state: StateWords, schedule: *const u16, schedule_len: usize, trace: *mut u16, trace_len: usize, rows: *mut u64, rows_len: usize) -> RunReply;
+        fn hmcs_run_waits(tree: TreeWords, state: StateWords, schedule: *const u16, schedule_len: usize, trace: *mut u16, trace_len: usize, rows: *mut u64, rows_len: usize) -> WaitsReply;
+        fn hmcs_run_waits_on(
+            tree: TreeWords,
+            state: StateWords,
+            schedule: *const u16,
+            schedule_len: usize,
+            trace: *mut u16,
+            trace_len: usize,
+            rows: *mut u64,
+            rows_len: usize,
+            under_way: *mut u64,
+        ) -> WaitsReply;
     }
 
-    pub fn run_waits(tree: &TreeWords, state: &StateWords, schedule: &[u16], trace: &mut [u16], rows: &mut [u64]) -> RunReply {
+    pub fn run_waits(tree: &TreeWords, state: &StateWords, schedule: &[u16], trace: &mut [u16], rows: &mut [u64]) -> WaitsReply {
         // The pointers are valid for their lengths, and nothing else uses what they point to during the call.
         unsafe { hmcs_run_waits(*tree, *state, schedule.as_ptr(), schedule.len(), trace.as_mut_ptr(), trace.len(), rows.as_mut_ptr(), rows.len()) }
+    }
+
+    pub fn run_waits_on(tree: &TreeWords, state: &StateWords, schedule: &[u16], trace: &mut [u16], rows: &mut [u64], under_way: &mut UnderWay) -> WaitsReply {
+        // The pointers are valid for their lengths, and nothing else uses what they point to during the call.
+        unsafe { hmcs_run_waits_on(*tree, *state, schedule.as_ptr(), schedule.len(), trace.as_mut_ptr(), trace.len(), rows.as_mut_ptr(), rows.len(), under_way.as_mut_ptr()) }
     }
 }
 
@@ -292,6 +310,17 @@ pub fn run_waits() -> Option<RunWaits> {
 
 #[cfg(not(calls))]
 pub fn run_waits() -> Option<RunWaits> {
+    None
+}
+
+/// The library's run with waits that goes on, if the program was built with the calls.
+#[cfg(calls)]
+pub fn run_waits_on() -> Option<RunWaitsOn> {
+    Some(waits_entry::run_waits_on)
+}
+
+#[cfg(not(calls))]
+pub fn run_waits_on() -> Option<RunWaitsOn> {
     None
 }
 
@@ -325,7 +354,7 @@ pub fn read_file() -> Option<ReadFile> {
 #[cfg(calls)]
 mod bounds_entry {
     use crate::bounds::RoundsReply;
-    use crate::table::DOMAIN_ROOM;
+    use crate::table::{DOMAIN_ROOM, THREAD_ROOM};
     use crate::words::TreeWords;
 
     #[repr(C)]
@@ -336,7 +365,14 @@ mod bounds_entry {
 
     extern "C" {
         fn hmcs_allowances(tree: TreeWords, allowances: *mut u64) -> Answer;
+        fn hmcs_wait_bounds(tree: TreeWords, bounds: *mut u64) -> Answer;
         fn hmcs_rounds(tree: TreeWords) -> RoundsReply;
+    }
+
+    pub fn wait_bounds(tree: &TreeWords, buffer: &mut [u64; THREAD_ROOM]) -> (u32, u32) {
+        // The buffer has room for all threads, and nothing else uses it during the call.
+        let answer = unsafe { hmcs_wait_bounds(*tree, buffer.as_mut_ptr()) };
+        (answer.number, answer.place)
     }
 
     pub fn allowances(tree: &TreeWords, buffer: &mut [u64; DOMAIN_ROOM]) -> (u32, u32) {
@@ -369,5 +405,16 @@ pub fn rounds() -> Option<Rounds> {
 
 #[cfg(not(calls))]
 pub fn rounds() -> Option<Rounds> {
+    None
+}
+
+/// The library's call of longest waits, if the program was built with the calls.
+#[cfg(calls)]
+pub fn wait_bounds() -> Option<WaitBounds> {
+    Some(bounds_entry::wait_bounds)
+}
+
+#[cfg(not(calls))]
+pub fn wait_bounds() -> Option<WaitBounds> {
     None
 }

@@ -7,8 +7,8 @@ use crate::words::TreeWords;
 /// Numbers of a row: number, place, steps, entries, stays, root, passed, crossed.
 pub const ROW: usize = 8;
 
-/// The form of the call, the step table's and the library's: number and place.
-pub type RunMany = fn(&TreeWords, &[u32], &[u16], &mut [u32]) -> (u32, u32);
+/// The form of the call, the step table's and the library's: number and place, and how many rows were written.
+pub type RunMany = fn(&TreeWords, &[u32], &[u16], &mut [u32]) -> (u32, u32, usize);
 
 /// 4 to 9 and 16, then 22, then 23. The sum is made in 128 bits.
 fn accept_many(tree: &Tree, lengths: &[u32], entries: usize, rows: usize) -> Outcome<()> {
@@ -33,10 +33,10 @@ fn row(outcome: Outcome<Counts>) -> [u32; ROW] {
 }
 
 /// Rows in the order of the schedules, at the front of the buffer; a refused call leaves the buffer as it came.
-pub fn run_many(words: &TreeWords, lengths: &[u32], entries: &[u16], rows: &mut [u32]) -> (u32, u32) {
+pub fn run_many(words: &TreeWords, lengths: &[u32], entries: &[u16], rows: &mut [u32]) -> (u32, u32, usize) {
     let tree = words.tree();
     if let Err(refusal) = accept_many(&tree, lengths, entries.len(), rows.len() / ROW) {
-        return (refusal.number, refusal.place);
+        return (refusal.number, refusal.place, 0);
     }
     let mut rest = entries;
     let mut trace = Vec::new();
@@ -45,5 +45,5 @@ pub fn run_many(words: &TreeWords, lengths: &[u32], entries: &[u16], rows: &mut 
         place.copy_from_slice(&row(run_alone(&tree, schedule, &mut trace)));
         rest = behind;
     }
-    (0, 0)
+    (0, 0, lengths.len())
 }

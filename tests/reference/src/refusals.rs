@@ -19,7 +19,7 @@ pub fn refuse<T>(number: u32, place: usize) -> Outcome<T> {
 }
 
 /// Refused with the lowest place that the test is true of.
-fn refuse_first(number: u32, mut places: impl Iterator<Item = usize>, bad: impl Fn(usize) -> bool) -> Outcome<()> {
+pub fn refuse_first(number: u32, mut places: impl Iterator<Item = usize>, bad: impl Fn(usize) -> bool) -> Outcome<()> {
     match places.find(|&place| bad(place)) {
         Some(place) => refuse(number, place),
         None => Ok(()),

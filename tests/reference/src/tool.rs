@@ -34,7 +34,7 @@ pub fn waited(tree: &Tree, schedule: &[u16]) -> Waited {
     let mut trace = vec![0; schedule.len()];
     let mut numbers = vec![0; ROW * (tree.threads + 1)];
     let fresh = State::fresh_at(tree, 0);
-    let reply = run_waits(&TreeWords::of(tree), &StateWords::of(&fresh), schedule, &mut trace, &mut numbers);
+    let reply = run_waits(&TreeWords::of(tree), &StateWords::of(&fresh), schedule, &mut trace, &mut numbers).run;
     assert_eq!(reply.number, 0, "a run of what was accepted");
     let rows = numbers.chunks_exact(ROW).map(|row| row.try_into().expect("a row")).collect();
     let steps = seen(tree, &fresh, schedule);
@@ -73,6 +73,13 @@ impl Missing {
             comparable: never_entered == 0 && longest_under_way.map_or(true, |so_far| so_far <= run.rows[threads][2]),
         }
     }
+}
+
+/// The longest wait of each thread, as the call gives it.
+fn longest_waits(tree: &Tree) -> Vec<u64> {
+    let mut bounds = [0; THREAD_ROOM];
+    assert_eq!(bounds::wait_bounds(&TreeWords::of(tree), &mut bounds).0, 0, "a tree that was accepted");
+    bounds[..tree.threads].to_vec()
 }
 
 /// A number, or nothing.
@@ -126,14 +133,16 @@ fn share(part: u64, whole: u64) -> String {
 pub fn waits_table(accepted: &Accepted) -> String {
     let run = waited(&accepted.tree, &accepted.schedule);
     let missing = Missing::of(&run);
-    let mut table = "thread,home,attempts,total wait,largest wait,mean wait numerator,mean wait denominator,mean wait,under way,entered\n".to_string();
+    let bounds = longest_waits(&accepted.tree);
+    let mut table = "thread,home,attempts,total wait,largest wait,mean wait numerator,mean wait denominator,mean wait,under way,longest possible wait,entered\n".to_string();
     for (thread, &[attempts, total, largest, numerator, denominator]) in run.rows.iter().enumerate() {
         let is_all = thread == accepted.tree.threads;
         let (name, home) = if is_all { ("all".to_string(), String::new()) } else { (thread.to_string(), accepted.tree.home(thread).to_string()) };
         let under_way = if is_all { missing.longest_under_way } else { run.under_way[thread] };
         let entered = if is_all { missing.never_entered == 0 } else { attempts > 0 };
         let mean = mean_fields(numerator, denominator);
-        table += &format!("{name},{home},{attempts},{total},{largest},{mean},{},{entered}\n", field(under_way));
+        let possible = if is_all { bounds.iter().copied().max().unwrap_or(0) } else { bounds[thread] };
+        table += &format!("{name},{home},{attempts},{total},{largest},{mean},{},{possible},{entered}\n", field(under_way));
     }
     table
 }
@@ -182,7 +191,8 @@ pub fn sweep_rows(tree: &Tree, swept: &Swept, domains: &[usize], thresholds: &[u
         let allowance = (1..tree.domains).filter(|&domain| tree.parent(domain) == ROOT).map(|domain| bounds::capped_allowance(&tree, domain)).max().unwrap_or(0);
         let missing = format!("{never_entered},{fewest_entries},{under_way},{}", field(longest_under_way));
         let timed = times.map_or(String::new(), |times| time_fields(&tree, times, &run.reply));
-        format!("{threshold},{entries},{root},{crossed},{passed},{stays},{largest},{mean},{missing}{timed},{longest},{allowance},{comparable}")
+        let possible = longest_waits(&tree).into_iter().max().unwrap_or(0);
+        format!("{threshold},{entries},{root},{crossed},{passed},{stays},{largest},{possible},{mean},{missing}{timed},{longest},{allowance},{comparable}")
     };
     thresholds.iter().map(row).collect()
 }
@@ -225,12 +235,17 @@ pub fn tree_rows(tree: &Tree) -> Vec<String> {
 fn push_domain(tree: &Tree, domain: usize, level: usize, rows: &mut Vec<String>) {
     let threshold = tree.thresholds[domain];
     rows.push(match (domain, tree.ticket_root) {
-        (ROOT, _) => "0,1,,,".to_string(),
-        _ => format!("{domain},{level},{threshold},{},", bounds::capped_allowance(tree, domain)),
+        (ROOT, _) => format!("0,1,,,{},", home_wait(tree, ROOT)),
+        _ => format!("{domain},{level},{threshold},{},{},", bounds::capped_allowance(tree, domain), home_wait(tree, domain)),
     });
     for child in (1..tree.domains).filter(|&child| tree.parent(child) == domain) {
         push_domain(tree, child, level + 1, rows);
     }
+}
+
+/// The longest wait of the threads that are at home in a domain, or nothing.
+fn home_wait(tree: &Tree, domain: usize) -> String {
+    field((0..tree.threads).find(|&thread| tree.home(thread) == domain).map(|thread| longest_waits(tree)[thread]))
 }
 
 /// One line a step: turn, thread, domain and row in front, who is inside at the end, and the kind of the step.

@@ -1,4 +1,4 @@
-//! A run with waits, written from document 02, request (vi).
+//! A run with waits, written from document 02, request (vi), and one that goes on from attempts under way.
 
 use crate::calls::{read_state, run_reply};
 use crate::refusals::*;
@@ -8,8 +8,22 @@ use crate::words::*;
 /// Numbers of a row: attempts, total, largest, numerator and denominator of the mean.
 pub const ROW: usize = 5;
 
+/// What the run returns, and how many rows were written.
+#[repr(C)]
+#[derive(Clone, Copy, Debug, PartialEq, Eq)]
+pub struct WaitsReply {
+    pub run: RunReply,
+    pub rows: u32,
+}
+
+/// Of each thread 0 where no attempt is under way, else one more than the other threads' entries since it began.
+pub type UnderWay = [u64; 256];
+
 /// The form of the call, the step table's and the library's.
-pub type RunWaits = fn(&TreeWords, &StateWords, &[u16], &mut [u16], &mut [u64]) -> RunReply;
+pub type RunWaits = fn(&TreeWords, &StateWords, &[u16], &mut [u16], &mut [u64]) -> WaitsReply;
+
+/// The same of the call that goes on.
+pub type RunWaitsOn = fn(&TreeWords, &StateWords, &[u16], &mut [u16], &mut [u64], &mut UnderWay) -> WaitsReply;
 
 /// What a step was, as far as waits look at it.
 #[derive(Clone, Copy)]
@@ -63,24 +77,27 @@ impl Sum {
     }
 }
 
-/// Takes the steps; each thread's attempt under way is the number of entries before it began.
-fn take(tree: &Tree, state: &mut State, schedule: &[u16], trace: &mut [u16], sums: &mut [Sum]) -> Counts {
+/// Takes the steps; each thread's attempt under way is the number of entries before it began, which for one from before the run is below 0.
+fn take(tree: &Tree, state: &mut State, schedule: &[u16], trace: &mut [u16], sums: &mut [Sum], under_way: &mut UnderWay) -> Counts {
     let mut counts = Counts::default();
-    let mut began: Vec<Option<u32>> = vec![None; tree.threads];
+    let mut began: Vec<Option<u64>> = under_way[..tree.threads].iter().map(|&number| (number != 0).then(|| 1u64.wrapping_sub(number))).collect();
     for &thread in schedule {
         let at = thread as usize;
         let place = state.places[at];
         let kind = step(tree, state, at);
         if begins(tree, place, at) {
-            began[at] = Some(counts.entries);
+            began[at] = Some(counts.entries as u64);
         }
         if kind.is_entry() {
             trace[counts.entries as usize] = thread;
             if let Some(before) = began[at].take() {
-                sums[at].add((counts.entries - before) as u64);
+                sums[at].add((counts.entries as u64).wrapping_sub(before));
             }
         }
         counts.count(kind);
+    }
+    for (number, before) in under_way.iter_mut().zip(&began) {
+        *number = before.map_or(0, |before| (counts.entries as u64).wrapping_sub(before) + 1);
     }
     counts
 }
@@ -90,25 +107,37 @@ fn write(sums: &[Sum], rows: &mut [u64]) {
     for (sum, row) in sums.iter().zip(rows.chunks_exact_mut(ROW)) {
         row.copy_from_slice(&sum.row());
         all.attempts += sum.attempts;
-        all.total += sum.total;
+        all.total = all.total.saturating_add(sum.total);
         all.largest = all.largest.max(sum.largest);
     }
     rows[ROW * sums.len()..][..ROW].copy_from_slice(&all.row());
 }
 
-/// A refused call leaves state, trace and rows as they came.
-pub fn run_waits(words: &TreeWords, state: &StateWords, schedule: &[u16], trace: &mut [u16], rows: &mut [u64]) -> RunReply {
+/// 27: above 2^63, or not 0 after the last thread.
+fn accept_under_way(tree: &Tree, under_way: &UnderWay) -> Outcome<()> {
+    refuse_first(27, 0..under_way.len(), |thread| under_way[thread] > 1 << 63 || (thread >= tree.threads && under_way[thread] != 0))
+}
+
+/// A refused call leaves state, trace, rows and numbers as they came.
+pub fn run_waits_on(words: &TreeWords, state: &StateWords, schedule: &[u16], trace: &mut [u16], rows: &mut [u64], under_way: &mut UnderWay) -> WaitsReply {
     let tree = words.tree();
     let outcome = read_state(&tree, state).and_then(|mut taken| {
         accept_before_counters(&tree, &taken, schedule, trace)?;
         refuse_if(18, rows.len() / ROW < tree.threads + 1)?;
+        accept_under_way(&tree, under_way)?;
         accept_counters(&tree, &taken, schedule)?;
         let mut sums = vec![Sum::default(); tree.threads];
-        let counts = take(&tree, &mut taken, schedule, trace, &mut sums);
+        let counts = take(&tree, &mut taken, schedule, trace, &mut sums, under_way);
         write(&sums, rows);
         Ok((counts, StateWords::of(&taken)))
     });
-    run_reply(outcome, state)
+    let rows = if outcome.is_ok() { tree.threads as u32 + 1 } else { 0 };
+    WaitsReply { run: run_reply(outcome, state), rows }
+}
+
+/// Attempts that begin and finish within the run: none is under way before it.
+pub fn run_waits(words: &TreeWords, state: &StateWords, schedule: &[u16], trace: &mut [u16], rows: &mut [u64]) -> WaitsReply {
+    run_waits_on(words, state, schedule, trace, rows, &mut [0; 256])
 }
 
 /// The steps of a schedule from a state, as waits see them.
@@ -126,10 +155,31 @@ pub fn seen(tree: &Tree, state: &State, schedule: &[u16]) -> Vec<Seen> {
 
 /// A thread's waits, each looked for from where its attempt begins: the other threads' entries up to its own next one.
 pub fn waits(steps: &[Seen], thread: u16) -> Vec<u64> {
-    let own = |step: &Seen| step.thread == thread;
-    let wait = |from: usize| {
-        let end = from + steps[from..].iter().position(|step| own(step) && step.enters)?;
-        Some(steps[from..end].iter().filter(|step| !own(step) && step.enters).count() as u64)
+    (0..steps.len()).filter(|&at| steps[at].thread == thread && steps[at].begins).filter_map(|from| Some(others(steps, thread, from, own_entry(steps, thread, from)?))).collect()
+}
+
+/// The same from an attempt under way, whose wait comes first where it finishes before another begins; and the number of the attempt under way after the steps,
+/// looked for from the thread's last beginning or entry.
+pub fn waits_from(steps: &[Seen], thread: u16, number: u64) -> (Vec<u64>, u64) {
+    let own = |step: &&Seen| step.thread == thread && (step.begins || step.enters);
+    let first = (number != 0).then(|| steps.iter().find(own)).flatten().filter(|step| !step.begins);
+    let from_before = first.and_then(|_| Some(number - 1 + others(steps, thread, 0, own_entry(steps, thread, 0)?)));
+    let last = steps.iter().rposition(|step| own(&step));
+    let left = match last {
+        None if number == 0 => 0,
+        None => number + others(steps, thread, 0, steps.len()),
+        Some(at) if steps[at].enters => 0,
+        Some(at) => 1 + others(steps, thread, at, steps.len()),
     };
-    (0..steps.len()).filter(|&at| own(&steps[at]) && steps[at].begins).filter_map(wait).collect()
+    (from_before.into_iter().chain(waits(steps, thread)).collect(), left)
+}
+
+/// Where the thread enters next, from a step on.
+fn own_entry(steps: &[Seen], thread: u16, from: usize) -> Option<usize> {
+    Some(from + steps[from..].iter().position(|step| step.thread == thread && step.enters)?)
+}
+
+/// Other threads' entries between two steps.
+fn others(steps: &[Seen], thread: u16, from: usize, end: usize) -> u64 {
+    steps[from..end].iter().filter(|step| step.thread != thread && step.enters).count() as u64
 }

@@ -72,7 +72,7 @@ fn random_case(random: &mut Random) -> Case {
     Case { tree, lengths, entries, rows }
 }
 
-fn make(call: RunMany, case: &Case) -> ((u32, u32), Vec<u32>) {
+fn make(call: RunMany, case: &Case) -> ((u32, u32, usize), Vec<u32>) {
     let mut rows = case.rows.clone();
     let end = rows.len() - CANARY;
     let answer = call(&case.tree, &case.lengths, &case.entries, &mut rows[CANARY..end]);

@@ -1,5 +1,6 @@
-//! Compares the library's run with waits with the step table's, and the rows with waits that are looked for from each beginning of an attempt;
-//! without the library it only counts what the cases meet.
+//! Compares the library's runs with waits, from no attempt under way and from some, with the step table's, and rows and numbers with waits that are looked for
+//! from each beginning of an attempt; then the same schedule cut at random places, each piece going on where the one before ended. Without the library it only
+//! counts what the cases meet.
 
 use reference::library;
 use reference::met::Met;
@@ -10,13 +11,13 @@ use reference::random_state::{late_state, random_state, spoil, tree_words};
 use reference::refusals::{accept_tree, LONGEST_SCHEDULE};
 use reference::state_met::{StateMet, Told};
 use reference::table::State;
-use reference::waits::{run_waits, seen, waits, RunWaits, ROW};
+use reference::waits::{run_waits, run_waits_on, seen, waits, waits_from, RunWaits, RunWaitsOn, UnderWay, WaitsReply, ROW};
 use reference::words::*;
 use std::process::exit;
 
 const CANARY: usize = 16;
 
-/// What one call is given; both buffers stand between canaries.
+/// What the calls are given; trace and rows stand between canaries.
 struct Case {
     tree: TreeWords,
     state: StateWords,
@@ -24,6 +25,8 @@ struct Case {
     schedule: Vec<u16>,
     trace: Vec<u16>,
     rows: Vec<u64>,
+    under_way: UnderWay,
+    cuts: Vec<usize>,
 }
 
 /// At times too long, at times with an entry that names no thread; often a few threads in turn, so that they wait for one another.
@@ -60,6 +63,33 @@ fn case_state(random: &mut Random, words: &TreeWords, length: usize) -> (StateWo
     (state, false)
 }
 
+/// Numbers of attempts under way, for some of the threads; at times one that cannot be.
+fn random_numbers(random: &mut Random, threads: usize) -> UnderWay {
+    let mut numbers = [0; 256];
+    let some = random.below(3);
+    for number in numbers.iter_mut().take(threads).filter(|_| some > 0) {
+        *number = match random.below(6) {
+            0..=1 => 0,
+            2..=4 => random.between(1, 40) as u64,
+            _ => random.word() >> random.between(1, 63),
+        };
+        if some == 2 && random.one_in(9) {
+            *number = 1 << 63;
+        }
+    }
+    if random.one_in(12) {
+        numbers[random.below(256)] = random.pick(&[1, (1 << 63) + 1, u64::MAX]);
+    }
+    numbers
+}
+
+/// Up to four places of a schedule, in their order.
+fn random_cuts(random: &mut Random, length: usize) -> Vec<usize> {
+    let mut cuts: Vec<usize> = (0..random.between(1, 4)).map(|_| random.below(length + 1)).collect();
+    cuts.sort_unstable();
+    cuts
+}
+
 fn random_case(random: &mut Random) -> Case {
     let draft = if random.one_in(8) { broken_draft(random) } else { valid_draft(random) };
     let tree = tree_words(random, &draft);
@@ -77,14 +107,69 @@ fn random_case(random: &mut Random) -> Case {
     };
     let trace = (0..CANARY + room + CANARY).map(|_| random.below(65_536) as u16).collect();
     let rows = (0..CANARY + row_room + CANARY).map(|_| random.word()).collect();
-    Case { tree, state, from_fresh, schedule, trace, rows }
+    let under_way = random_numbers(random, tree.threads.min(256) as usize);
+    let cuts = random_cuts(random, schedule.len());
+    Case { tree, state, from_fresh, schedule, trace, rows, under_way, cuts }
 }
 
-fn make(call: RunWaits, case: &Case) -> (RunReply, Vec<u16>, Vec<u64>) {
+fn make(call: RunWaits, case: &Case) -> (WaitsReply, Vec<u16>, Vec<u64>) {
     let (mut trace, mut rows) = (case.trace.clone(), case.rows.clone());
     let (trace_end, rows_end) = (trace.len() - CANARY, rows.len() - CANARY);
     let reply = call(&case.tree, &case.state, &case.schedule, &mut trace[CANARY..trace_end], &mut rows[CANARY..rows_end]);
     (reply, trace, rows)
+}
+
+fn make_on(call: RunWaitsOn, case: &Case) -> (WaitsReply, Vec<u16>, Vec<u64>, UnderWay) {
+    let (mut trace, mut rows, mut numbers) = (case.trace.clone(), case.rows.clone(), case.under_way);
+    let (trace_end, rows_end) = (trace.len() - CANARY, rows.len() - CANARY);
+    let reply = call(&case.tree, &case.state, &case.schedule, &mut trace[CANARY..trace_end], &mut rows[CANARY..rows_end], &mut numbers);
+    (reply, trace, rows, numbers)
+}
+
+/// The pieces of the schedule one after another: the rows of all, added up, the numbers and the state after the last; none where a piece is refused.
+fn in_pieces(call: RunWaitsOn, case: &Case) -> Option<(Vec<[u128; 3]>, UnderWay, StateWords)> {
+    let threads = case.tree.threads as usize;
+    let (mut numbers, mut state, mut from) = (case.under_way, case.state, 0);
+    let mut sums = vec![[0; 3]; threads + 1];
+    for end in case.cuts.iter().copied().chain([case.schedule.len()]) {
+        let piece = &case.schedule[from..end];
+        let (mut trace, mut rows) = (vec![0; piece.len()], vec![0; ROW * (threads + 1)]);
+        let reply = call(&case.tree, &state, piece, &mut trace, &mut rows, &mut numbers);
+        if reply.run.number != 0 {
+            return None;
+        }
+        for (sum, row) in sums.iter_mut().zip(rows.chunks_exact(ROW)) {
+            *sum = [sum[0] + row[0] as u128, sum[1] + row[1] as u128, sum[2].max(row[2] as u128)];
+        }
+        state = reply.run.state;
+        from = end;
+    }
+    Some((sums, numbers, state))
+}
+
+/// What is wrong with the rows and the numbers of an accepted call that went on, by the steps themselves.
+fn wrong_row_on(case: &Case, rows: &[u64], numbers: &UnderWay) -> Option<String> {
+    let tree = case.tree.tree();
+    let steps = seen(&tree, &case.state.state()?, &case.schedule);
+    let mut all = Vec::new();
+    for thread in 0..tree.threads {
+        let (waits, left) = waits_from(&steps, thread as u16, case.under_way[thread]);
+        if !unlike(&waits, &rows[ROW * thread..][..ROW]).is_empty() || numbers[thread] != left {
+            return Some(format!("row {thread} is not that of the waits {waits:?}, or the number {} is not {left}", numbers[thread]));
+        }
+        all.extend(waits);
+    }
+    let last = &rows[ROW * tree.threads..][..ROW];
+    let zeros = numbers[tree.threads..].iter().all(|&number| number == 0);
+    (!unlike(&all, last).is_empty() || !zeros).then(|| "the last row is not that of all waits, or a number after the last thread is not 0".to_string())
+}
+
+/// What is wrong with the pieces of an accepted call, by what the whole call said.
+fn wrong_pieces(call: RunWaitsOn, case: &Case, reply: &WaitsReply, rows: &[u64], numbers: &UnderWay) -> Option<String> {
+    let (sums, left, state) = in_pieces(call, case)?;
+    let cut = |total: u128| total.min(u64::MAX as u128);
+    let same = sums.iter().zip(rows.chunks_exact(ROW)).all(|(sum, row)| [sum[0], cut(sum[1]), sum[2]] == [row[0] as u128, row[1] as u128, row[2] as u128]);
+    (!same || left != *numbers || state != reply.run.state).then(|| format!("pieces cut at {:?} do not give what the whole run gives", case.cuts))
 }
 
 /// What is wrong with the rows of an accepted call, by the steps themselves.
@@ -106,17 +191,17 @@ fn wrong_row(case: &Case, rows: &[u64]) -> Option<String> {
     (!unlike(&all, &rows[ROW * tree.threads..][..ROW]).is_empty()).then(|| "the last row is not that of all waits".to_string())
 }
 
-/// The columns that are not those of some waits.
+/// The columns that are not those of some waits; a total that needs more than 64 bits is cut, and the mean is that of what stands there.
 fn unlike(waits: &[u64], row: &[u64]) -> Vec<usize> {
-    let total: u64 = waits.iter().sum();
+    let total = waits.iter().map(|&wait| wait as u128).sum::<u128>().min(u64::MAX as u128);
     let (attempts, numerator, denominator) = (waits.len() as u64, row[3], row[4]);
     let in_lowest_terms = (2..=numerator.min(denominator)).all(|d| numerator % d != 0 || denominator % d != 0);
     let mean = match (attempts, total) {
         (0, _) => numerator == 0 && denominator == 0,
         (_, 0) => numerator == 0 && denominator == 1,
-        _ => numerator * attempts == total * denominator && in_lowest_terms,
+        _ => numerator as u128 * attempts as u128 == total * denominator as u128 && in_lowest_terms,
     };
-    let right = [row[0] == attempts, row[1] == total, row[2] == waits.iter().copied().max().unwrap_or(0), mean];
+    let right = [row[0] == attempts, row[1] as u128 == total, row[2] == waits.iter().copied().max().unwrap_or(0), mean];
     (0..4).filter(|&column| !right[column]).collect()
 }
 
@@ -126,52 +211,97 @@ fn fail(number: usize, case: &Case, text: String) -> ! {
     exit(1)
 }
 
+/// What the calls that go on said, counted.
+#[derive(Default)]
+struct WentOn {
+    calls: usize,
+    from_before: usize,
+    left: usize,
+    cut: usize,
+    pieces: usize,
+}
+
+/// The call that goes on: the library's answer is the step table's, and what it says is what the steps say, whole and in pieces.
+fn compare_on(number: usize, case: &Case, library: Option<RunWaitsOn>, met: &mut Met, went_on: &mut WentOn) {
+    let (reply, trace, rows, numbers) = make_on(run_waits_on, case);
+    if library.is_some_and(|call| make_on(call, case) != (reply, trace, rows.clone(), numbers)) {
+        fail(number, case, format!("step table {}, and the library says something else where it goes on", reply.run.number));
+    }
+    met.count(reply.run.number);
+    if reply.run.number != 0 {
+        return;
+    }
+    let written = &rows[CANARY..];
+    let subject = library.unwrap_or(run_waits_on);
+    if let Some(text) = wrong_row_on(case, written, &numbers).or_else(|| wrong_pieces(subject, case, &reply, written, &numbers)) {
+        fail(number, case, text);
+    }
+    went_on.calls += 1;
+    went_on.from_before += (case.under_way != [0; 256]) as usize;
+    went_on.left += (numbers != [0; 256]) as usize;
+    went_on.cut += (written[ROW * case.tree.threads as usize + 1] == u64::MAX) as usize;
+    went_on.pieces += in_pieces(run_waits_on, case).is_some() as usize;
+}
+
+/// What the rows of all threads said, counted.
+#[derive(Default)]
+struct Waited {
+    attempts: u64,
+    entries: u64,
+    reduced: usize,
+}
+
+/// The call from no attempt under way: the library's answer is the step table's, and the rows are those of the steps. Returns the answer.
+fn compare_plain(number: usize, case: &Case, waited: &mut Waited) -> WaitsReply {
+    let (reply, trace, rows) = make(run_waits, case);
+    if let Some(call) = library::run_waits() {
+        let (other, other_trace, other_rows) = make(call, case);
+        if other != reply || other_trace != trace || other_rows != rows {
+            let same = if rows == other_rows { "the same" } else { "not the same" };
+            fail(number, case, format!("step table {}, library {}, rows {same}", reply.run.number, other.run.number));
+        }
+    }
+    if reply.run.number == 0 {
+        let written = &rows[CANARY..];
+        if let Some(text) = wrong_row(case, written) {
+            fail(number, case, text);
+        }
+        let last = &written[ROW * case.tree.threads as usize..][..ROW];
+        waited.attempts += last[0];
+        waited.entries += last[1];
+        waited.reduced += (last[4] != last[0] && last[1] != 0) as usize;
+    }
+    reply
+}
+
 fn main() {
     let options = Options::read(100_000, 1_000_000);
-    let library = library::run_waits();
+    let library = library::run_waits_on();
     let subject = if library.is_some() {
-        "the library's run with waits against the step table"
+        "the library's runs with waits against the step table"
     } else {
         "no library with these calls named, cases only counted"
     };
     println!("{subject}: {} cases, seed {}", options.count, options.seed);
     let mut random = Random::new(options.seed);
     let mut met = Met::new(&[4, 5, 6, 7, 8, 9, 16, 10, 11, 12, 13, 18, 19]);
+    let mut on_met = Met::new(&[4, 5, 6, 7, 8, 9, 16, 10, 11, 12, 13, 18, 27, 19]);
     let mut state_met = StateMet::default();
-    let (mut attempts, mut waited, mut reduced) = (0, 0, 0);
+    let (mut waited, mut went_on) = (Waited::default(), WentOn::default());
     for number in 0..options.count {
         let case = random_case(&mut random);
-        let (reply, trace, rows) = make(run_waits, &case);
-        if let Some(call) = library {
-            let (other, other_trace, other_rows) = make(call, &case);
-            if other != reply || other_trace != trace || other_rows != rows {
-                fail(
-                    number,
-                    &case,
-                    format!(
-                        "step table {}, library {}, rows {}",
-                        reply.number,
-                        other.number,
-                        if rows == other_rows { "the same" } else { "not the same" }
-                    ),
-                );
-            }
-        }
+        let reply = compare_plain(number, &case, &mut waited).run;
+        compare_on(number, &case, library, &mut on_met, &mut went_on);
         met.count(reply.number);
         state_met.count(&case.tree, &case.state, Told { number: reply.number, place: reply.place, schedule: &case.schedule });
-        if reply.number == 0 {
-            let written = &rows[CANARY..];
-            if let Some(text) = wrong_row(&case, written) {
-                fail(number, &case, text);
-            }
-            let last = &written[ROW * case.tree.threads as usize..][..ROW];
-            attempts += last[0];
-            waited += last[1];
-            reduced += (last[4] != last[0] && last[1] != 0) as usize;
-        }
     }
     met.print();
     state_met.print();
-    println!("{attempts} attempts, of other threads' entries {waited}, means that reduce {reduced}");
-    conclude(met.complete() && state_met.complete() && waited > 0 && reduced > 0, library.is_some(), &["HMCS_LIBRARY", "HMCS_CALLS"]);
+    let Waited { attempts, entries, reduced } = waited;
+    println!("{attempts} attempts, of other threads' entries {entries}, means that reduce {reduced}");
+    on_met.print();
+    let WentOn { calls, from_before, left, cut, pieces } = went_on;
+    println!("going on: {calls} calls, {from_before} from attempts under way, {left} that left some, {cut} with a total that is cut, {pieces} in pieces too");
+    let all_met = met.complete() && on_met.complete() && state_met.complete();
+    conclude(all_met && entries > 0 && [reduced, from_before, left, cut, pieces].iter().all(|&times| times > 0), library.is_some(), &["HMCS_LIBRARY", "HMCS_CALLS"]);
 }

@@ -1,0 +1,83 @@
+-- `wait_bounds::sums_before` meets its contract: for the records passed, the passes of those before each in its domain.
+use mathlib.Core.Path.{_≡_, refl, sym, ap, _∙_}
+use native.Mathlib.Omega.{arith}
+use Prim.Native.Nat.{_≤_, _-_}
+use Rattle.model.specs.Trees.{tree-of}
+use Rattle.model.specs.Refusals.{tree-refusal}
+use Rattle.longest_wait.specs.Bounds.{effective, passes}
+use Rattle.bounds_call.specs.Arrays.{Allowed}
+use Rattle.bounds_call.proofs.WaitWords.{passes-word}
+use Rattle.bounds_call.proofs.WaitSums.{Summed, summed-none, summed-next, Before-so-far, before-none, before-next, before-all}
+use borrow.Author.Needs.{needs}
+use Rattle.bounds_call.proofs.wait_bounds.sums_before.Statement.{statement}
+use Rattle.bounds_call.proofs.wait_bounds.sums_before.Tie as tie
+
+abbrev Inv-loop : tie.InvT-loop
+Inv-loop tree words before₀ sums₀ m₀ before sums m =
+    (tree-refusal (tree-of tree) .number ≡ 0) × (m ≤ 320) × Allowed (effective (tree-of tree)) words × Summed (tree-of tree) (passes (tree-of tree)) m sums × Before-so-far (tree-of tree) m before
+
+abbrev μ-loop : tie.MeasureT-loop
+μ-loop tree words before₀ sums₀ m₀ before sums m = 320 - m
+
+loop-holds : tie.Need-loop-holds Inv-loop μ-loop
+loop-holds c = (c .pre .0, omega arith, c .pre .1, summed-none _ _, before-none _)
+
+owner-of-requires : tie.Need-owner-of-requires Inv-loop μ-loop
+owner-of-requires c κs = search needs
+
+cast-at : tie.Need-cast-at Inv-loop μ-loop
+cast-at c = omega arith
+
+sum-at-requires : tie.Need-sum-at-requires Inv-loop μ-loop
+sum-at-requires c κs = search needs
+
+mul-before : tie.Need-mul-before Inv-loop μ-loop
+mul-before c = omega arith
+
+array-write-before : tie.Need-array-write-before Inv-loop μ-loop
+array-write-before c = omega arith
+
+word-of-requires : tie.Need-word-of-requires Inv-loop μ-loop
+word-of-requires c κs = search needs
+
+add-at-requires : tie.Need-add-at-requires Inv-loop μ-loop
+add-at-requires c κs = search needs
+
+add-m : tie.Need-add-m Inv-loop μ-loop
+add-m c = omega arith
+
+loop-less : tie.Need-loop-less Inv-loop μ-loop
+loop-less c = omega arith
+
+loop-again : tie.Need-loop-again Inv-loop μ-loop
+loop-again c =
+    let v = c .before .before .before .before .before .before .before .loop .inv in
+    let owned = c .before .before .before .before .before .owner-of .ensures in (
+      v .0,
+      omega arith,
+      v .2,
+      summed-next _ _ _ _ _ _ _ _ (omega arith) (v .3) owned (passes-word _ (v .0) _ (v .2) _ _ (c .before .word-of .ensures)) (c .add-at .ensures),
+      before-next _ _ _ _ _ _ _ (omega arith) (omega arith) (v .4) (v .3) owned (c .before .before .before .sum-at .ensures),
+    )
+
+returns : tie.Need-returns Inv-loop μ-loop
+returns c = before-all _ _ _ (omega arith) (c .before .loop .inv .4)
+
+pub sums-before-spec : {M : Type 1} → statement M
+sums-before-spec =
+    tie.close
+    (tie.spec
+    Inv-loop
+    μ-loop
+    loop-holds
+    owner-of-requires
+    cast-at
+    sum-at-requires
+    mul-before
+    array-write-before
+    word-of-requires
+    add-at-requires
+    add-m
+    loop-less
+    loop-again
+    returns)

@@ -1,0 +1,311 @@
+// `choose`: thresholds for which no thread can wait too long, and among these the ones that pass the lock on in the least time.
+#include "choose.hpp"
+
+#include "html.hpp"
+#include "tool.hpp"
+#include "trees.hpp"
+
+#include <cmath>
+#include <map>
+
+namespace tool {
+
+namespace {
+
+constexpr std::uint64_t most_candidates = 4000000;
+
+// The levels whose thresholds are chosen, and for each its domains and the largest number of members that one of them has.
+std::vector<Level> levels_of(const Words &words, const hmcs::Tree &tree) {
+    std::map<std::uint32_t, Level> found;
+    for (const Domain &domain : domains_in_order(tree)) {
+        if (domain.level > 1) {
+            Level &level = found[domain.level];
+            level.number = domain.level;
+            level.domains.push_back(domain.number);
+            level.members = std::max(level.members, members_of(tree, domain.number));
+        }
+    }
+    if (found.empty()) {
+        fail("choose: this tree has no domain below the root, so it has no threshold to choose");
+    }
+    std::vector<Level> levels;
+    for (const std::string &word : words.values("--level")) {
+        const auto level = found.find(static_cast<std::uint32_t>(number("--level", word, UINT32_MAX)));
+        if (level == found.end()) {
+            fail("--level: " + word + " is not a level below the root; the tree's are 2 to " + std::to_string(found.rbegin()->first));
+        }
+        levels.push_back(level->second);
+        found.erase(level);
+    }
+    if (levels.empty()) {
+        for (const auto &[number, level] : found) {
+            levels.push_back(level);
+        }
+    }
+    return levels;
+}
+
+hmcs::Tree with_thresholds(const hmcs::Tree &tree, const std::vector<Level> &levels, const std::vector<std::uint16_t> &thresholds) {
+    hmcs_tree words = tree.words();
+    for (std::size_t k = 0; k < levels.size(); ++k) {
+        for (const std::uint32_t domain : levels[k].domains) {
+            words.thresholds[domain] = thresholds[k];
+        }
+    }
+    return hmcs::Tree::of(words);
+}
+
+// What a busy lock is expected to pay for an entry, which decides only what is run: of every tenure of a domain below the root all but the first
+// entry stay below it. Without times root entries count first, then crossed ones.
+double expected_cost(const hmcs::Tree &tree, const std::optional<hmcs::PassingTimes> &times) {
+    const hmcs_tree &words = tree.words();
+    double root = 0, kept = 0;
+    for (std::uint32_t thread = 0; thread < words.threads; ++thread) {
+        double tenures = 1;
+        const std::uint32_t home = words.homes[thread];
+        for (std::uint32_t domain = home; domain != 0; domain = words.parents[domain]) {
+            tenures *= words.thresholds[domain];
+        }
+        root += 1 / tenures;
+        kept += home == 0 ? 0 : 1 / static_cast<double>(words.thresholds[home]);
+    }
+    const double crossed = kept - root, passed = words.threads - kept;
+    const hmcs::PassingTimes costs = times ? *times : hmcs::PassingTimes{0, 1e-6, 1};
+    return (costs.p1 * passed + costs.p2 * crossed + costs.p3 * root) / words.threads;
+}
+
+// All thresholds from 1 to the number of members of each level, and beyond it as far as the limit allows.
+class Search {
+public:
+    Search(const hmcs::Tree &tree, const std::vector<Level> &levels, std::uint64_t limit, const std::optional<hmcs::PassingTimes> &times)
+        : tree_(tree), levels_(levels), limit_(limit), times_(times), thresholds_(levels.size(), 1) {
+        descend(0);
+    }
+
+    std::vector<Candidate> candidates;
+    std::uint64_t smallest = UINT64_MAX; // of all longest waits that were met
+
+private:
+    // A threshold above the number of members only makes longer waits, so the search of a level ends where the limit is passed there.
+    void descend(std::size_t level) {
+        for (std::uint32_t threshold = 1; threshold <= 65535; ++threshold) {
+            thresholds_[level] = static_cast<std::uint16_t>(threshold);
+            const bool within = level + 1 == levels_.size() ? add() : least_below(level) <= limit_;
+            if (level + 1 < levels_.size() && within) {
+                descend(level + 1);
+            }
+            if (!within && threshold >= levels_[level].members) {
+                break;
+            }
+            if (threshold >= levels_[level].members && threshold >= most_useful_) {
+                break;
+            }
+        }
+        thresholds_[level] = 1;
+    }
+
+    bool add() {
+        const hmcs::Tree tree = with_thresholds(tree_, levels_, thresholds_);
+        const std::uint64_t wait = hmcs::wait_bounds(tree).largest();
+        smallest = std::min(smallest, wait);
+        candidates.push_back({thresholds_, wait, expected_cost(tree, times_), {}});
+        if (candidates.size() > most_candidates) {
+            fail("choose: more than " + std::to_string(most_candidates) + " thresholds to try; name fewer levels or a smaller --max-wait");
+        }
+        return wait <= limit_;
+    }
+
+    // The shortest longest wait with the thresholds chosen so far and, on the levels below, the numbers of members or less.
+    std::uint64_t least_below(std::size_t level) {
+        std::vector<std::uint16_t> thresholds = thresholds_;
+        std::uint64_t least = UINT64_MAX;
+        for (const bool full : {false, true}) {
+            for (std::size_t k = level + 1; k < levels_.size(); ++k) {
+                thresholds[k] = full ? static_cast<std::uint16_t>(levels_[k].members) : 1;
+            }
+            least = std::min(least, hmcs::wait_bounds(with_thresholds(tree_, levels_, thresholds)).largest());
+        }
+        smallest = std::min(smallest, least);
+        return least;
+    }
+
+    const hmcs::Tree &tree_;
+    const std::vector<Level> &levels_;
+    std::uint64_t limit_;
+    const std::optional<hmcs::PassingTimes> &times_;
+    std::vector<std::uint16_t> thresholds_;
+    static constexpr std::uint32_t most_useful_ = 1024; // larger thresholds differ by less than a thousandth of the entries
+};
+
+// Those that no other beats in both the wait and the expected cost, by their waits; of many that hardly differ in cost every one that is
+// cheaper by a hundredth.
+std::vector<Candidate> unbeaten(std::vector<Candidate> candidates) {
+    std::sort(candidates.begin(), candidates.end(), [](const Candidate &a, const Candidate &b) {
+        return a.possible_wait != b.possible_wait ? a.possible_wait < b.possible_wait : a.expected < b.expected;
+    });
+    std::vector<Candidate> kept;
+    for (std::size_t k = 0; k < candidates.size(); ++k) {
+        const bool cheaper = kept.empty() || candidates[k].expected < 0.99 * kept.back().expected;
+        if (cheaper) {
+            kept.push_back(candidates[k]);
+        }
+    }
+    return kept;
+}
+
+double cost_of(const Trial &trial) {
+    if (trial.time) {
+        return *trial.time;
+    }
+    const double entries = std::max<double>(1, static_cast<double>(trial.counts.entries));
+    return (static_cast<double>(trial.counts.root) + 1e-6 * static_cast<double>(trial.counts.crossed)) / entries;
+}
+
+std::string name_of(const Choice &choice, const Candidate &candidate) {
+    std::string name;
+    for (std::size_t k = 0; k < choice.levels.size(); ++k) {
+        name += (k == 0 ? "level " : ", level ") + std::to_string(choice.levels[k].number) + ": " + std::to_string(candidate.thresholds[k]);
+    }
+    return name;
+}
+
+std::string against(const Choice &choice, const Candidate &other) {
+    const double mine = cost_of(choice.tried[choice.chosen].trial), theirs = cost_of(other.trial);
+    char text[64];
+    std::snprintf(text, sizeof text, "%.0f %%", std::abs(100 * (1 - theirs / mine)));
+    return std::string(text) + (theirs <= mine ? " less " : " more ") + (choice.times ? "time per entry" : "root entries");
+}
+
+std::string advice(const Choice &choice) {
+    const Candidate &best = choice.tried[choice.chosen];
+    const std::optional<std::string> text = text_of(with_thresholds(choice.tree, choice.levels, best.thresholds));
+    std::string words = "Take " + name_of(choice, best) + (text ? ", that is " + *text : "") + ": no thread waits for more than " +
+                        std::to_string(best.possible_wait) + " entries of others as long as nobody stalls, and " +
+                        (choice.times ? "an entry takes " + four_digits(cost_of(best.trial)) + " on average.\n"
+                                      : percent(best.trial.counts.root, best.trial.counts.entries) + " of the entries go through the root.\n");
+    for (const Candidate &other : choice.above) {
+        words += name_of(choice, other) + ": " + against(choice, other) + ", longest possible wait " + std::to_string(other.possible_wait) + ", above " +
+                 std::to_string(choice.limit) + "\n";
+    }
+    return words;
+}
+
+Choice choose_for(const Words &words, const Input &input) {
+    Choice choice;
+    choice.tree = input.tree;
+    choice.limit = number("--max-wait", words.value("--max-wait", ""), UINT64_MAX - 1);
+    choice.times = times_of(words);
+    choice.levels = levels_of(words, input.tree);
+    choice.schedule = words.value("--schedule", usual_schedule);
+    const Search search(choice.tree, choice.levels, choice.limit, choice.times);
+    std::vector<Candidate> within, beyond;
+    for (const Candidate &candidate : search.candidates) {
+        (candidate.possible_wait <= choice.limit ? within : beyond).push_back(candidate);
+    }
+    if (within.empty()) {
+        fail("choose: no thresholds keep every wait to " + std::to_string(choice.limit) + " entries; the smallest longest wait of this tree is " +
+             std::to_string(search.smallest));
+    }
+    const Schedule schedule(choice.schedule);
+    choice.tried = unbeaten(within);
+    for (Candidate &candidate : choice.tried) {
+        candidate.trial = try_tree(with_thresholds(choice.tree, choice.levels, candidate.thresholds), schedule, choice.times);
+    }
+    for (std::size_t k = 0; k < choice.tried.size(); ++k) {
+        const bool comparable = choice.tried[k].trial.missing.comparable();
+        if (comparable && (choice.chosen == SIZE_MAX || cost_of(choice.tried[k].trial) < cost_of(choice.tried[choice.chosen].trial))) {
+            choice.chosen = k;
+        }
+    }
+    if (choice.chosen == SIZE_MAX) {
+        fail("choose: on " + choice.schedule + " no run lets every thread enter; give it more turns");
+    }
+    for (Candidate candidate : unbeaten(beyond)) {
+        if (choice.above.size() < 3 && candidate.expected < choice.tried[choice.chosen].expected) {
+            candidate.trial = try_tree(with_thresholds(choice.tree, choice.levels, candidate.thresholds), schedule, choice.times);
+            choice.above.push_back(candidate);
+        }
+    }
+    return choice;
+}
+
+std::string choose(const Words &words) {
+    if (!words.has("--max-wait")) {
+        fail("choose: --max-wait N says for how many entries of others a thread may wait at most");
+    }
+    const Choice choice = choose_for(words, read_tree(words.others()[0], words.has("--ticket")));
+    if (words.has("--page")) {
+        const std::string said = write_bytes(words.value("--page", ""), choice_page(choice), words.others());
+        if (words.value("--page", "") == "-") {
+            return said;
+        }
+    }
+    const bool for_people = !words.has("--csv") && !words.has("--json");
+    return (for_people ? advice(choice) + "\n" : "") + printed(words, choice_table(choice));
+}
+
+} // namespace
+
+Table choice_table(const Choice &choice) {
+    Table table;
+    for (const Level &level : choice.levels) {
+        table.column("threshold of level " + std::to_string(level.number));
+    }
+    const Shown shown{choice.times.has_value(), false};
+    add_trial_columns(table, shown);
+    table.column("choice", Side::left);
+    const auto add = [&](const Candidate &candidate, const char *said) {
+        table.row();
+        for (const std::uint16_t threshold : candidate.thresholds) {
+            table.cell(threshold);
+        }
+        add_trial(table, candidate.trial, shown);
+        table.cell(said, *said == '\0' ? Value() : Value::of_text(said));
+        if (!candidate.trial.missing.comparable()) {
+            table.mark();
+        }
+    };
+    for (std::size_t k = 0; k < choice.tried.size(); ++k) {
+        add(choice.tried[k], k == choice.chosen ? "chosen" : "");
+    }
+    for (const Candidate &candidate : choice.above) {
+        add(candidate, "waits too long");
+    }
+    return table;
+}
+
+std::string choice_page(const Choice &choice) {
+    return page_of("Which thresholds?", advice(choice),
+                   "Every row is a run of " + choice.schedule + " from a fresh lock. The longest possible wait is proved for every schedule as long as nobody stalls; "
+                   "the other figures are those of the run.",
+                   section("Time against the longest wait", "Each dot is a row of the table; the chosen one is filled.", choice_picture(choice)) +
+                       section("The rows that nothing else beats", "", "<div class=\"scroll\">" + choice_table(choice).html("One row for each choice of thresholds") + "</div>\n") +
+                       section("The tree", "", "<div class=\"scroll\">" + tree_table(choice.tree).html("The domains, each below its parent") + "</div>\n"));
+}
+
+Command choose_command() {
+    return {"choose", "which thresholds, so that nobody waits too long?",
+            "usage: hmcs choose TREE --max-wait N [--times P1,P2,P3] [--level L ..] [--schedule S]\n"
+            "                        [--csv | --json] [--page OUT.html] [--ticket]\n"
+            "Finds a threshold for each level so that no thread can wait for more than N entries of others, on\n"
+            "any schedule, as long as nobody stalls, which is proved; and among these the one with the least\n"
+            "time per entry on the schedule S (busy:65536:1 if none is named). Without --times it is the one\n"
+            "with the fewest root and then crossed entries. Prints the choice, what the next ones would cost,\n"
+            "and a row for each choice that nothing else beats.\n"
+            "\n"
+            "  --max-wait N      how many entries of others a thread may wait for\n"
+            "  --times P1,P2,P3  how long it takes to pass the lock on at home, between homes and across the root\n"
+            "  --level L         chooses for these levels only and leaves the others as they are\n"
+            "  --schedule S      what is run\n"
+            "  --csv, --json     the table for programs\n"
+            "  --page OUT.html   writes a page as well\n"
+            "  --ticket          the root of a text is a ticket lock\n"
+            "\n"
+            "  hmcs choose \"$(hmcs machine)\" --max-wait 200 --times 0.05,0.2,1\n",
+            with_table_options({{"--max-wait", true}, {"--times", true}, {"--level", true}, {"--schedule", true}, {"--page", true}, {"--ticket", false}}),
+            1,
+            1,
+            choose};
+}
+
+} // namespace tool
