@@ -2,6 +2,7 @@
 #include "choose.hpp"
 
 #include "html.hpp"
+#include "parallel.hpp"
 #include "tool.hpp"
 #include "trees.hpp"
 
@@ -24,9 +25,6 @@ std::vector<Level> levels_of(const Words &words, const hmcs::Tree &tree) {
             level.domains.push_back(domain.number);
             level.members = std::max(level.members, members_of(tree, domain.number));
         }
-    }
-    if (found.empty()) {
-        fail("choose: this tree has no domain below the root, so it has no threshold to choose");
     }
     std::vector<Level> levels;
     for (const std::string &word : words.values("--level")) {
@@ -56,18 +54,19 @@ hmcs::Tree with_thresholds(const hmcs::Tree &tree, const std::vector<Level> &lev
 }
 
 // What a busy lock is expected to pay for an entry, which decides only what is run: of every tenure of a domain below the root all but the first
-// entry stay below it. Without times root entries count first, then crossed ones.
-double expected_cost(const hmcs::Tree &tree, const std::optional<hmcs::PassingTimes> &times) {
+// entry stay below it, and a domain of one member passes nothing on. Without times root entries count first, then crossed ones.
+double expected_cost(const hmcs::Tree &tree, const std::vector<bool> &passes_on, const std::optional<hmcs::PassingTimes> &times) {
     const hmcs_tree &words = tree.words();
+    const auto passes = [&](std::uint32_t domain) { return passes_on[domain] ? static_cast<double>(words.thresholds[domain]) : 1.0; };
     double root = 0, kept = 0;
     for (std::uint32_t thread = 0; thread < words.threads; ++thread) {
-        double tenures = 1;
+        double entries = 1;
         const std::uint32_t home = words.homes[thread];
         for (std::uint32_t domain = home; domain != 0; domain = words.parents[domain]) {
-            tenures *= words.thresholds[domain];
+            entries *= passes(domain);
         }
-        root += 1 / tenures;
-        kept += home == 0 ? 0 : 1 / static_cast<double>(words.thresholds[home]);
+        root += 1 / entries;
+        kept += home == 0 ? 0 : 1 / passes(home);
     }
     const double crossed = kept - root, passed = words.threads - kept;
     const hmcs::PassingTimes costs = times ? *times : hmcs::PassingTimes{0, 1e-6, 1};
@@ -79,6 +78,9 @@ class Search {
 public:
     Search(const hmcs::Tree &tree, const std::vector<Level> &levels, std::uint64_t limit, const std::optional<hmcs::PassingTimes> &times)
         : tree_(tree), levels_(levels), limit_(limit), times_(times), thresholds_(levels.size(), 1) {
+        for (std::uint32_t domain = 0; domain < tree.words().domains; ++domain) {
+            passes_on_.push_back(members_of(tree, domain) > 1);
+        }
         descend(0);
     }
 
@@ -108,7 +110,7 @@ private:
         const hmcs::Tree tree = with_thresholds(tree_, levels_, thresholds_);
         const std::uint64_t wait = hmcs::wait_bounds(tree).largest();
         smallest = std::min(smallest, wait);
-        candidates.push_back({thresholds_, wait, expected_cost(tree, times_), {}});
+        candidates.push_back({thresholds_, wait, expected_cost(tree, passes_on_, times_), {}});
         if (candidates.size() > most_candidates) {
             fail("choose: more than " + std::to_string(most_candidates) + " thresholds to try; name fewer levels or a smaller --max-wait");
         }
@@ -134,20 +136,40 @@ private:
     std::uint64_t limit_;
     const std::optional<hmcs::PassingTimes> &times_;
     std::vector<std::uint16_t> thresholds_;
+    std::vector<bool> passes_on_; // of each domain, whether it has more than one member
     static constexpr std::uint32_t most_useful_ = 1024; // larger thresholds differ by less than a thousandth of the entries
 };
 
-// Those that no other beats in both the wait and the expected cost, by their waits; of many that hardly differ in cost every one that is
-// cheaper by a hundredth.
+bool dominates(const Candidate &a, const Candidate &b) {
+    return a.thresholds != b.thresholds && std::equal(a.thresholds.begin(), a.thresholds.end(), b.thresholds.begin(), std::greater_equal<std::uint16_t>());
+}
+
+// Those of which no threshold can be raised within the limit: a larger threshold passes the lock on below it more often. They are run, but for those
+// that are expected to cost half as much again as the cheapest.
+std::vector<Candidate> worth_running(std::vector<Candidate> candidates) {
+    constexpr std::size_t most_runs = 120;
+    std::sort(candidates.begin(), candidates.end(), [](const Candidate &a, const Candidate &b) { return a.expected < b.expected; });
+    std::vector<Candidate> kept;
+    for (const Candidate &candidate : candidates) {
+        const bool is_cheap = kept.empty() || candidate.expected <= 1.5 * kept.front().expected;
+        const bool is_beaten = std::any_of(kept.begin(), kept.end(), [&](const Candidate &other) { return dominates(other, candidate); });
+        if (is_cheap && !is_beaten && kept.size() < most_runs) {
+            kept.push_back(candidate);
+        }
+    }
+    return kept;
+}
+
+// Of those that are expected to be unbeaten in both wait and cost, by their waits, every one that is cheaper by a twentieth: what a shorter wait
+// would cost, and what a longer one would bring.
 std::vector<Candidate> unbeaten(std::vector<Candidate> candidates) {
     std::sort(candidates.begin(), candidates.end(), [](const Candidate &a, const Candidate &b) {
         return a.possible_wait != b.possible_wait ? a.possible_wait < b.possible_wait : a.expected < b.expected;
     });
     std::vector<Candidate> kept;
-    for (std::size_t k = 0; k < candidates.size(); ++k) {
-        const bool cheaper = kept.empty() || candidates[k].expected < 0.99 * kept.back().expected;
-        if (cheaper) {
-            kept.push_back(candidates[k]);
+    for (const Candidate &candidate : candidates) {
+        if (kept.empty() || candidate.expected < 0.95 * kept.back().expected) {
+            kept.push_back(candidate);
         }
     }
     return kept;
@@ -159,6 +181,20 @@ double cost_of(const Trial &trial) {
     }
     const double entries = std::max<double>(1, static_cast<double>(trial.counts.entries));
     return (static_cast<double>(trial.counts.root) + 1e-6 * static_cast<double>(trial.counts.crossed)) / entries;
+}
+
+// The runs that can be compared and that no other beats in both wait and cost as they were measured, by their waits; the last costs least.
+std::vector<Candidate> measured_best(std::vector<Candidate> tried) {
+    std::sort(tried.begin(), tried.end(), [](const Candidate &a, const Candidate &b) {
+        return a.possible_wait != b.possible_wait ? a.possible_wait < b.possible_wait : cost_of(a.trial) < cost_of(b.trial);
+    });
+    std::vector<Candidate> kept;
+    for (const Candidate &candidate : tried) {
+        if (candidate.trial.missing.comparable() && (kept.empty() || cost_of(candidate.trial) < cost_of(kept.back().trial))) {
+            kept.push_back(candidate);
+        }
+    }
+    return kept;
 }
 
 std::string name_of(const Choice &choice, const Candidate &candidate) {
@@ -195,9 +231,11 @@ Choice choose_for(const Words &words, const Input &input) {
     choice.tree = input.tree;
     choice.limit = number("--max-wait", words.value("--max-wait", ""), UINT64_MAX - 1);
     choice.times = times_of(words);
+    choice.hold = hold_of(words, choice.times);
     choice.levels = levels_of(words, input.tree);
     choice.schedule = words.value("--schedule", usual_schedule);
-    const Search search(choice.tree, choice.levels, choice.limit, choice.times);
+    const std::uint64_t searched = choice.limit > UINT64_MAX / 4 ? choice.limit : 2 * choice.limit; // to say what a longer wait would bring
+    const Search search(choice.tree, choice.levels, searched, choice.times);
     std::vector<Candidate> within, beyond;
     for (const Candidate &candidate : search.candidates) {
         (candidate.possible_wait <= choice.limit ? within : beyond).push_back(candidate);
@@ -206,34 +244,54 @@ Choice choose_for(const Words &words, const Input &input) {
         fail("choose: no thresholds keep every wait to " + std::to_string(choice.limit) + " entries; the smallest longest wait of this tree is " +
              std::to_string(search.smallest));
     }
-    const Schedule schedule(choice.schedule);
-    choice.tried = unbeaten(within);
-    for (Candidate &candidate : choice.tried) {
-        candidate.trial = try_tree(with_thresholds(choice.tree, choice.levels, candidate.thresholds), schedule, choice.times);
-    }
-    for (std::size_t k = 0; k < choice.tried.size(); ++k) {
-        const bool comparable = choice.tried[k].trial.missing.comparable();
-        if (comparable && (choice.chosen == SIZE_MAX || cost_of(choice.tried[k].trial) < cost_of(choice.tried[choice.chosen].trial))) {
-            choice.chosen = k;
+    std::vector<Candidate> tried = worth_running(within), above = unbeaten(beyond);
+    for (const Candidate &candidate : unbeaten(within)) {
+        const auto same = [&](const Candidate &other) { return other.thresholds == candidate.thresholds; };
+        if (std::none_of(tried.begin(), tried.end(), same)) {
+            tried.push_back(candidate);
         }
     }
-    if (choice.chosen == SIZE_MAX) {
+    above.resize(std::min<std::size_t>(above.size(), 3));
+    const Schedule schedule(choice.schedule);
+    run_each(tried.size() + above.size(), jobs_of(words), [&](std::size_t k) {
+        Candidate &one = k < tried.size() ? tried[k] : above[k - tried.size()];
+        one.trial = try_tree(with_thresholds(choice.tree, choice.levels, one.thresholds), schedule, choice.times, choice.hold);
+    });
+    choice.tried = measured_best(tried);
+    if (choice.tried.empty()) {
         fail("choose: on " + choice.schedule + " no run lets every thread enter; give it more turns");
     }
-    for (Candidate candidate : unbeaten(beyond)) {
-        if (choice.above.size() < 3 && candidate.expected < choice.tried[choice.chosen].expected) {
-            candidate.trial = try_tree(with_thresholds(choice.tree, choice.levels, candidate.thresholds), schedule, choice.times);
+    choice.chosen = choice.tried.size() - 1;
+    for (const Candidate &candidate : above) {
+        if (cost_of(candidate.trial) < cost_of(choice.tried.back().trial)) {
             choice.above.push_back(candidate);
         }
     }
     return choice;
 }
 
+// A tree of the root alone has no threshold, and a wait that is what it is.
+std::string nothing_to_choose(const Words &words, const hmcs::Tree &tree) {
+    const std::uint64_t limit = number("--max-wait", words.value("--max-wait", ""), UINT64_MAX - 1), wait = hmcs::wait_bounds(tree).largest();
+    if (wait > limit) {
+        fail("choose: this tree has no domain below the root, so no threshold; its longest wait is " + std::to_string(wait) + ", above " + std::to_string(limit));
+    }
+    if (words.has("--csv") || words.has("--json") || words.has("--page")) {
+        fail("choose: this tree has no domain below the root, so no threshold to choose and no table");
+    }
+    return "This tree has no domain below the root, so there is no threshold to choose: no thread waits for more than " + std::to_string(wait) +
+           " entries of others as long as nobody stalls.\n";
+}
+
 std::string choose(const Words &words) {
     if (!words.has("--max-wait")) {
         fail("choose: --max-wait N says for how many entries of others a thread may wait at most");
     }
-    const Choice choice = choose_for(words, read_tree(words.others()[0], words.has("--ticket")));
+    const Input input = read_tree(words.others()[0], words.has("--ticket"));
+    if (input.tree.words().domains == 1) {
+        return nothing_to_choose(words, input.tree);
+    }
+    const Choice choice = choose_for(words, input);
     if (words.has("--page")) {
         const std::string said = write_bytes(words.value("--page", ""), choice_page(choice), words.others());
         if (words.value("--page", "") == "-") {
@@ -251,7 +309,7 @@ Table choice_table(const Choice &choice) {
     for (const Level &level : choice.levels) {
         table.column("threshold of level " + std::to_string(level.number));
     }
-    const Shown shown{choice.times.has_value(), false};
+    const Shown shown{choice.times.has_value(), false, choice.hold.has_value()};
     add_trial_columns(table, shown);
     table.column("choice", Side::left);
     const auto add = [&](const Candidate &candidate, const char *said) {
@@ -285,7 +343,7 @@ std::string choice_page(const Choice &choice) {
 
 Command choose_command() {
     return {"choose", "which thresholds, so that nobody waits too long?",
-            "usage: hmcs choose TREE --max-wait N [--times P1,P2,P3] [--level L ..] [--schedule S]\n"
+            "usage: hmcs choose TREE --max-wait N [--times P1,P2,P3 [--hold H]] [--level L ..] [--schedule S]\n"
             "                        [--csv | --json] [--page OUT.html] [--ticket]\n"
             "Finds a threshold for each level so that no thread can wait for more than N entries of others, on\n"
             "any schedule, as long as nobody stalls, which is proved; and among these the one with the least\n"
@@ -295,14 +353,16 @@ Command choose_command() {
             "\n"
             "  --max-wait N      how many entries of others a thread may wait for\n"
             "  --times P1,P2,P3  how long it takes to pass the lock on at home, between homes and across the root\n"
+            "  --hold H          how long a thread keeps the lock: adds what the longest wait is in time at most\n"
             "  --level L         chooses for these levels only and leaves the others as they are\n"
             "  --schedule S      what is run\n"
+            "  --jobs N          how many runs at a time, by default as many as there are processors\n"
             "  --csv, --json     the table for programs\n"
             "  --page OUT.html   writes a page as well\n"
             "  --ticket          the root of a text is a ticket lock\n"
             "\n"
             "  hmcs choose \"$(hmcs machine)\" --max-wait 200 --times 0.05,0.2,1\n",
-            with_table_options({{"--max-wait", true}, {"--times", true}, {"--level", true}, {"--schedule", true}, {"--page", true}, {"--ticket", false}}),
+            with_table_options({{"--max-wait", true}, {"--times", true}, {"--hold", true}, {"--level", true}, {"--schedule", true}, {"--jobs", true}, {"--page", true}, {"--ticket", false}}),
             1,
             1,
             choose};

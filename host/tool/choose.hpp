@@ -23,6 +23,7 @@ struct Choice {
     hmcs::Tree tree;
     std::uint64_t limit = 0;
     std::optional<hmcs::PassingTimes> times;
+    std::optional<double> hold;
     std::string schedule;
     std::vector<Level> levels;
     std::vector<Candidate> tried; // within the limit, by their longest waits

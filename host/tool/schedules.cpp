@@ -17,6 +17,7 @@ const char *const schedule_help =
     "  random:COUNT:SEED         any thread, also one that can only wait\n"
     "  bursts:COUNT:SEED:LENGTH  any thread, for 1 to LENGTH turns in a row\n"
     "  turns:COUNT               the threads in turn, 0, 1, 2 and so on\n"
+    "  journal:FILE              the turns that a plugin's journal recorded\n"
     "  FILE                      thread numbers with white space between them\n";
 
 namespace {
@@ -25,7 +26,7 @@ constexpr std::uint64_t most_turns = 100000000; // 200 MB
 constexpr std::uint64_t most_work = 1000000000;
 constexpr std::uint64_t most_seeds = 10000;
 
-const char *const forms = "busy:COUNT:SEED[:WORK], random:COUNT:SEED, bursts:COUNT:SEED:LENGTH or turns:COUNT";
+const char *const forms = "busy:COUNT:SEED[:WORK], random:COUNT:SEED, bursts:COUNT:SEED:LENGTH, turns:COUNT or journal:FILE";
 
 std::vector<std::uint16_t> bursts(std::uint64_t count, std::uint64_t seed, std::uint64_t length, std::uint32_t threads) {
     Random random(seed);
@@ -46,10 +47,36 @@ std::vector<std::uint16_t> in_turn(std::uint64_t count, std::uint32_t threads) {
     return schedule;
 }
 
+// The threads of a journal's entries, in their order. What is cut off or has another bit set is refused by the place of its entry.
+std::vector<std::uint16_t> turns_of_journal(const std::string &path) {
+    const std::string bytes = read_bytes(path, SIZE_MAX);
+    const auto byte = [&](std::size_t at) { return static_cast<std::uint8_t>(bytes[at]); };
+    std::vector<std::uint16_t> turns;
+    std::uint16_t thread = 0;
+    for (std::size_t at = 0; at < bytes.size();) {
+        const unsigned bits = byte(at);
+        const std::size_t length = 1 + ((bits & HMCS_JOURNAL_THREAD) != 0 ? 2 : 0) + ((bits & HMCS_JOURNAL_KIND) != 0 ? 1 : 0);
+        if (bits > (HMCS_JOURNAL_THREAD | HMCS_JOURNAL_KIND) || at + length > bytes.size()) {
+            refuse(path, hmcs::Refusal{HMCS_JOURNAL_BROKEN, at});
+        }
+        if ((bits & HMCS_JOURNAL_THREAD) != 0) {
+            thread = static_cast<std::uint16_t>(byte(at + 1) + 256 * byte(at + 2));
+        }
+        turns.push_back(thread);
+        at += length;
+    }
+    warn(path + ": a recording depends on the thresholds of the lock that made it; with others the threads would have come in another order");
+    return turns;
+}
+
 } // namespace
 
 Schedule::Schedule(const std::string &word) : name_(word), kind_(Kind::given) {
     const std::vector<std::string> parts = split(word, ':');
+    if (parts.size() > 1 && parts[0] == "journal") {
+        given_ = turns_of_journal(word.substr(8));
+        return;
+    }
     const std::pair<const char *, Kind> names[] = {{"turns", Kind::turns}, {"random", Kind::random}, {"bursts", Kind::bursts}, {"busy", Kind::busy}};
     for (const auto &[name, kind] : names) {
         kind_ = parts.size() > 1 && parts[0] == name ? kind : kind_;

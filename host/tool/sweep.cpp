@@ -1,4 +1,5 @@
 // `sweep`: which threshold? One row for each that is tried.
+#include "parallel.hpp"
 #include "sweep.hpp"
 #include "tool.hpp"
 #include "trees.hpp"
@@ -135,6 +136,16 @@ std::vector<SweepRow> rows_of(const Sweep &sweep) {
     return rows;
 }
 
+void run_row(const Sweep &sweep, SweepRow &row) {
+    hmcs_tree words = sweep.tree.words();
+    for (std::size_t a = 0; a < sweep.axes.size(); ++a) {
+        for (const std::uint32_t domain : sweep.axes[a].domains) {
+            words.thresholds[domain] = row.thresholds[a];
+        }
+    }
+    row.trial = try_tree(hmcs::Tree::of(words), sweep.schedules[row.schedule], sweep.times, sweep.hold);
+}
+
 std::string sweep(const Words &words) {
     const Input input = read_tree(words.others()[0], words.has("--ticket"));
     Sweep sweep;
@@ -142,12 +153,9 @@ std::string sweep(const Words &words) {
     sweep.axes = axes_of(words, input.tree);
     sweep.schedules = schedules_of(words, input);
     sweep.times = times_of(words);
+    sweep.hold = hold_of(words, sweep.times);
     sweep.rows = rows_of(sweep);
-    const std::uint64_t jobs = number("--jobs", words.value("--jobs", "1"), 1024);
-    if (jobs == 0) {
-        fail("--jobs must be at least 1");
-    }
-    run_rows(sweep, jobs);
+    run_each(sweep.rows.size(), jobs_of(words), [&](std::size_t k) { run_row(sweep, sweep.rows[k]); });
     for (const SweepRow &row : sweep.rows) {
         if (row.trial.refusal.refused()) {
             refuse(name_of(sweep, row), row.trial.refusal);
@@ -200,7 +208,7 @@ Table sweep_table(const Sweep &sweep) {
     for (const Axis &axis : sweep.axes) {
         table.column(several ? "threshold of " + axis.name : "threshold");
     }
-    const Shown shown{sweep.times.has_value(), std::any_of(sweep.schedules.begin(), sweep.schedules.end(), [](const Schedule &s) { return s.has_seeds(); })};
+    const Shown shown{sweep.times.has_value(), std::any_of(sweep.schedules.begin(), sweep.schedules.end(), [](const Schedule &s) { return s.has_seeds(); }), sweep.hold.has_value()};
     add_trial_columns(table, shown);
     for (const Axis &axis : sweep.axes) {
         table.column(several ? "longest tenure of " + axis.name : "longest tenure");
@@ -232,7 +240,7 @@ Table sweep_table(const Sweep &sweep) {
 Command sweep_command() {
     return {"sweep", "which threshold? one row for each that is tried",
             "usage: hmcs sweep TREE (--level L | --domain D[,D..]).. --thresholds T [--schedule S ..]\n"
-            "                       [--times P1,P2,P3] [--jobs N] [--csv | --json] [--page OUT.html] [--ticket]\n"
+            "                       [--times P1,P2,P3 [--hold H]] [--jobs N] [--csv | --json] [--page OUT.html] [--ticket]\n"
             "Runs schedules on a tree with one threshold after another, each from a fresh lock, and prints a\n"
             "row for each: entries and how they split (root, crossed, passed), stays, the largest and the mean\n"
             "wait of all threads, in other threads' entries, the longest tenure of the domains, and the largest\n"
@@ -259,7 +267,10 @@ Command sweep_command() {
             "                     adds the time per entry, (P1*passed + P2*crossed + P3*root) / entries, and in an\n"
             "                     even tree of two or three levels that of `hmcs rate`; where all threads are\n"
             "                     busy, the two should agree\n"
-            "  --jobs N           how many runs at a time\n"
+            "  --hold H           how long a thread keeps the lock: adds what the longest possible wait is in time at\n"
+            "                     most, (wait + 1) * (H + the longest passing time). This is arithmetic on your own\n"
+            "                     figures, not proved\n"
+            "  --jobs N           how many runs at a time, by default as many as there are processors\n"
             "  --csv, --json      for programs\n"
             "  --page OUT.html    writes a page with charts as well\n"
             "  --ticket           the root of a text is a ticket lock\n"
@@ -269,7 +280,7 @@ Command sweep_command() {
             "\n"
             "  hmcs sweep '(16(4(#4) 4(#4)) 16(4(#4) 4(#4)))' --level 2 --thresholds 1..64x2\n",
             with_table_options(
-                {{"--domain", true}, {"--level", true}, {"--thresholds", true}, {"--schedule", true}, {"--each-seed", false}, {"--times", true}, {"--jobs", true}, {"--page", true}, {"--ticket", false}}),
+                {{"--domain", true}, {"--level", true}, {"--thresholds", true}, {"--schedule", true}, {"--each-seed", false}, {"--times", true}, {"--hold", true}, {"--jobs", true}, {"--page", true}, {"--ticket", false}}),
             1,
             1,
             sweep};

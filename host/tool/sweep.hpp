@@ -25,13 +25,12 @@ struct Sweep {
     std::vector<Axis> axes;
     std::vector<Schedule> schedules;
     std::optional<hmcs::PassingTimes> times;
+    std::optional<double> hold;
     std::vector<SweepRow> rows; // schedule by schedule, the last axis fastest
 };
 
 // "threshold 16", or with the schedule where there are several.
 std::string name_of(const Sweep &sweep, const SweepRow &row);
-// Runs every row, several at a time; on a terminal it says how far it is where it takes long.
-void run_rows(Sweep &sweep, std::size_t jobs);
 Table sweep_table(const Sweep &sweep);
 std::string sweep_page(const Sweep &sweep);
 

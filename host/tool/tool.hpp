@@ -72,6 +72,7 @@ Command tenures_command();
 Command chain_command();
 Command sweep_command();
 Command choose_command();
+Command compare_command();
 Command page_command();
 Command rate_command();
 Command journal_command();

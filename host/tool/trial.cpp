@@ -87,7 +87,7 @@ void join(Trial &trial, const Measured &measured, bool first) {
 
 } // namespace
 
-Trial try_tree(const hmcs::Tree &tree, const Schedule &schedule, const std::optional<hmcs::PassingTimes> &times) {
+Trial try_tree(const hmcs::Tree &tree, const Schedule &schedule, const std::optional<hmcs::PassingTimes> &times, const std::optional<double> &hold) {
     Trial trial;
     trial.refusal = hmcs::Lock(tree).refusal();
     if (trial.refusal.refused()) {
@@ -108,6 +108,10 @@ Trial try_tree(const hmcs::Tree &tree, const Schedule &schedule, const std::opti
     if (times) {
         trial.time = time_per_entry(trial.counts, *times);
         trial.proved_time = proved_time(tree, *times);
+    }
+    if (times && hold) { // who is inside at the start leaves, then each entry of the wait is passed on and held, and then the own one is passed on
+        const double slowest = std::max({times->p1, times->p2, times->p3});
+        trial.longest_time = (static_cast<double>(trial.possible_wait) + 1) * (slowest + *hold);
     }
     return trial;
 }
@@ -148,6 +152,17 @@ std::optional<hmcs::PassingTimes> times_of(const Words &words) {
     return times;
 }
 
+std::optional<double> hold_of(const Words &words, const std::optional<hmcs::PassingTimes> &times) {
+    if (!words.has("--hold")) {
+        return std::nullopt;
+    }
+    const double hold = real_number("--hold", words.value("--hold", ""));
+    if (!times || !(hold >= 0 && hold <= 1e9)) {
+        fail(times ? "--hold: expected a time from 0 to 1,000,000,000" : "--hold goes with --times, in the same unit");
+    }
+    return hold;
+}
+
 void add_trial_columns(Table &table, const Shown &shown) {
     for (const char *name : {"entries", "root", "crossed", "passed", "stays", "largest wait"}) {
         table.column(name);
@@ -163,6 +178,9 @@ void add_trial_columns(Table &table, const Shown &shown) {
     if (shown.timed) {
         table.column("time per entry");
         table.column("time by rate");
+    }
+    if (shown.held) {
+        table.column("longest wait in time");
     }
 }
 
@@ -194,6 +212,9 @@ void add_trial(Table &table, const Trial &trial, const Shown &shown) {
     if (shown.timed) {
         add_time(table, trial.time);
         add_time(table, trial.proved_time);
+    }
+    if (shown.held) {
+        add_time(table, trial.longest_time);
     }
 }
 

@@ -22,14 +22,17 @@ struct Trial {
     std::uint64_t allowance = 0;        // the largest of the root's members
     std::uint64_t possible_wait = 0;    // the longest that any thread can wait while nobody stalls, whatever the schedule
     std::optional<double> time;         // per entry, where passing times are given
+    std::optional<double> longest_time; // what the longest possible wait is in time at most, where the time inside is given
     std::optional<double> proved_time;  // the same by the proved rate, in an even tree of two or three levels
 };
 
 // Runs the schedule from a fresh lock of the tree; of several seeds each, and then the counts are sums and the waits the worst.
-Trial try_tree(const hmcs::Tree &tree, const Schedule &schedule, const std::optional<hmcs::PassingTimes> &times);
+Trial try_tree(const hmcs::Tree &tree, const Schedule &schedule, const std::optional<hmcs::PassingTimes> &times, const std::optional<double> &hold);
 
 // P1,P2,P3 of the option --times, if it is given; one that `rate` refuses is refused.
 std::optional<hmcs::PassingTimes> times_of(const Words &words);
+// The option --hold, the time inside, which goes with --times.
+std::optional<double> hold_of(const Words &words, const std::optional<hmcs::PassingTimes> &times);
 // A number that is not a whole one, as the command reads it.
 double real_number(const std::string &name, const std::string &word);
 // The shortest digits that read back as the same number; for people, four after the point.
@@ -40,6 +43,7 @@ std::string four_digits(double number);
 struct Shown {
     bool timed = false; // passing times were given
     bool seeds = false; // several seeds were run
+    bool held = false;  // the time inside was given
 };
 
 void add_trial_columns(Table &table, const Shown &shown);

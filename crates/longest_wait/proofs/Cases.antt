@@ -1,6 +1,6 @@
 -- The computed cases hold. Assumes nothing.
 use mathlib.Core.Path.{_≡_, refl, sym, ap, _∙_}
-use mathlib.Core.Bool.{Bool, true, _&&_}
+use mathlib.Core.Bool.{true, _&&_}
 use mathlib.Core.List.{List, [], _∷_, _++_, append-nil}
 use Prim.Native.Nat.{ℕ, _<_}
 use lib.Dec.{eqb, ltb}
@@ -9,7 +9,7 @@ use Rattle.model.specs.Scans.{any-below, all-below, largest-below, filter-below
 use Rattle.model.specs.Trees.{Tree, read-word, tree-of, is-ticket, is-child, is-leaf, depth-from, depth, level, meets, on-path, child-from, child, own-record, is-member, domain-allowance, allowance}
 use Rattle.model.specs.Places.{place-of, is-idle, is-watch}
 use Rattle.model.specs.States.{fresh-words, fresh-state}
-use Rattle.model.specs.Steps.{is-kind, is-entry, prep-row, swap-row, link-row, wait-row, leave-row, check-row, help-row, cas-row, linger-row, grant-row, draw-row, watch-row, is-watched, shown-members, raise-row, row, Step, step}
+use Rattle.model.specs.Steps.{is-kind, is-entry, prep-row, swap-row, link-row, wait-row, leave-row, check-row, help-row, cas-row, linger-row, grant-row, draw-row, watch-row, is-watched, shown-members, raise-row, row, step}
 use Rattle.model.specs.Runs.{steps, state-after, entering, run-of, run, occurrences}
 use Rattle.model.specs.Acts.{sends-inside, acts-at, acts}
 use Rattle.model.specs.Laws.{All-threads}
@@ -25,7 +25,7 @@ use Rattle.starvation_freedom.specs.Bounds.{members}
 use Rattle.starvation_freedom.specs.Cases.{all-threads}
 use Rattle.longest_wait.specs.Bounds.{effective-threshold, effective, passes, others-passes, tenures-for-all, wait-from, member-wait, wait-bound}
 use Rattle.longest_wait.specs.InLine.{ends-at, others-entry, in-line, bypass, prompt, late-entry, count-steps}
-use Rattle.longest_wait.specs.Cases.{bound-holds, all-bounds, two-sockets, bound-cases, Wait-case, state-before, first-step, steps-on, wait-holds, all-waits, all-reach, Decides-attempts, three-and-one, two-below-one, one-below-one, ones, reaching-cases, two-by-three-by-two, rounded-up, equation-19, beyond-equation-19, stalled-case, Cases-hold}
+use Rattle.longest_wait.specs.Cases.{bound-holds, all-bounds, two-sockets, bound-cases, first-step, steps-on, wait-holds, all-waits, all-reach, Decides-attempts, three-and-one, two-below-one, one-below-one, ones, reaching-cases, two-by-three-by-two, rounded-up, equation-19, beyond-equation-19, stalled-case, Cases-hold}
 
 bounds-hold : all-bounds bound-cases ≡ true
 unfolding any-below largest-below filter-below read-word tree-of is-child is-leaf domain-allowance allowance depth-from depth level is-member padded tree at-ticket-root two-homes two-in-root members sum-below effective-threshold effective passes others-passes tenures-for-all wait-from member-wait wait-bound bound-holds all-bounds two-sockets bound-cases

@@ -1,20 +1,17 @@
 -- The tree with the thresholds that have an effect: it is accepted too, and has the same paths and moves. So what is left of a tenure is at most the passes. Assumes nothing.
 use mathlib.Core.Path.{_≡_, refl, sym, ap, _∙_}
 use mathlib.Core.Bool.{Bool, true, false, cond}
-use mathlib.Core.List.{List, [], _∷_}
-use mathlib.Core.Logic.{_≢_}
+use mathlib.Core.List.{List, _∷_}
 use Prim.Native.Nat.{ℕ, zero, suc, _+_, _≤_, _<_}
 use native.Mathlib.Omega.{arith}
 use lib.Dec.{eqb, ltb}
 use lib.ListN.{length}
 use borrow.Author.Tests.{lt-ltb}
-use Rattle.model.specs.Scans.{any-below}
-use Rattle.model.specs.Trees.{Tree, is-child, is-leaf, depth-from, depth, level, allowance}
+use Rattle.model.specs.Trees.{Tree, is-child, is-leaf, depth-from, depth, level}
 use Rattle.model.proofs.Trees.Index.{above, ancestor, height, record-at}
 use Rattle.model.proofs.Trees.Accepted.{Accepted}
-use Rattle.model.proofs.Lists.{put}
 use Rattle.claims.proofs.Queues.Paths.{Laws, laws}
-use Rattle.claims.proofs.Queues.Moves.{Stage, low, acts, State, Event, root, lower, Last, Move, start, join-empty, join-root, join-behind, enter, leave, hand-on, release, let-go}
+use Rattle.claims.proofs.Queues.Moves.{acts, State, Event, root, lower, Last, Move, start, join-empty, join-root, join-behind, enter, leave, hand-on, release, let-go}
 use Rattle.claims.proofs.Queues.Invariant.{Inv}
 use Rattle.claims.proofs.Queues.Keeps.{keeps}
 use Rattle.claims.proofs.Queues.Remaining.{left, left-bound}
@@ -22,7 +19,6 @@ use Rattle.starvation_freedom.specs.Bounds.{members}
 use Rattle.starvation_freedom.proofs.Situations.{Changed, unmoved, moved, begun}
 use Rattle.starvation_freedom.proofs.Positions.{queue-short}
 use Rattle.starvation_freedom.proofs.Left.{hits, Same-first, left-falls}
-use Rattle.tenures.proofs.StepMoves.{started-by}
 use Rattle.longest_wait.specs.Bounds.{effective-threshold, effective, passes}
 
 module _ (t : Tree) where

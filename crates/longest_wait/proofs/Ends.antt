@@ -1,39 +1,36 @@
 -- Where a chain ends: at the thread that enters, it has gone through all who stand before in the queue, each linked to the one before it, and on from the one who acts for the first. Assumes nothing.
 use mathlib.Core.Path.{_≡_, refl, sym, ap, _∙_}
 use mathlib.Core.Bool.{Bool, true, false, false≢true}
-use mathlib.Core.List.{List, [], _∷_, _++_, append-assoc, nil≢cons, head-eq-of-cons-eq}
+use mathlib.Core.List.{List, [], _∷_, _++_, append-assoc, head-eq-of-cons-eq}
 use mathlib.Core.Logic.{_≢_, _⊎_, inl, inr}
-use Prim.Native.Nat.{ℕ, zero, suc, _+_, _-_, _≤_, _<_}
+use Prim.Native.Nat.{ℕ, suc, _+_, _≤_, _<_}
 use native.Mathlib.Omega.{arith}
 use lib.Dec.{eqb}
-use lib.ListN.{length, getD, set}
+use lib.ListN.{length}
 use borrow.Author.Tests.{eqb-true}
 use Rattle.model.specs.declared.Place.{Place}
 use Rattle.model.specs.declared.Place.the-variants.{Idle, Prep, Swap, Link, Wait, Inside, Check, Help, Cas, Linger, Grant, Draw, Watch, Raise, Invalid}
 use Rattle.model.specs.declared.State.{State as WordState}
 use Rattle.model.specs.Trees.{Tree, is-ticket, own-record}
-use Rattle.model.specs.Places.{place-words, words-of, place-of}
 use Rattle.model.specs.States.{next, status, place}
-use Rattle.model.specs.Steps.{is-entry, Row-result, row, step}
+use Rattle.model.specs.Steps.{is-entry, Row-result, step}
 use Rattle.model.specs.Acts.{acts}
 use Rattle.model.specs.Laws.{Sixteen-bit}
 use Rattle.model.proofs.Tests.{and-both}
 use Rattle.model.proofs.Branches.{Branch, idle-draws, idle-prepares, prepares, swap-root, swap-inner, swap-behind, link-writes, wait-root-locked, wait-root-granted, wait-ungranted, wait-acquires, wait-passed, wait-crossed, inside-leaves, check-passes, check-releases, help-alone, help-linked, cas-last, cas-not-last, linger-alone, linger-linked, grant-writes, draw-shown, draw-unshown, watch-shown, watch-unshown, raise-counts, invalid-stays, branch}
 use Rattle.model.proofs.Laws.Kinds.{may-stay}
-use Rattle.model.proofs.Lists.{same-or, less-or, first, rest, first-cons, first-rest, is-same, count, count-append, count-cons}
+use Rattle.model.proofs.Lists.{less-or, first, rest, first-rest, is-same, count, count-append, count-cons}
 use Rattle.model.proofs.Places.{place-stored}
 use Rattle.model.proofs.Trees.Index.{ancestor, height, record-at}
 use Rattle.model.proofs.Trees.Accepted.{Accepted}
 use Rattle.model.proofs.Trees.Tickets.{ticket-yes}
 use Rattle.model.proofs.Trees.Paths.{ancestor-root}
-use Rattle.model.proofs.Trees.Records.{own-record-at, root-record}
-use Rattle.claims.proofs.Queues.Paths.{laws}
-use Rattle.claims.proofs.Queues.Moves.{Stage, out, climb, queued, ready, inside, holding, releasing, down, low, State}
+use Rattle.model.proofs.Trees.Records.{own-record-at}
+use Rattle.claims.proofs.Queues.Moves.{Stage, out, climb, queued, ready, inside, holding, releasing, low, State}
 use Rattle.claims.proofs.Queues.Moves as moves
 use Rattle.claims.proofs.Queues.Invariant.{Inv}
-use Rattle.claims.proofs.Queues.Remaining.{acts-real}
 use Rattle.claims.proofs.Words.Links.{after, after-here, after-past}
-use Rattle.chain.specs.Chain.{stays, acts-ahead, links, acts-holding, ticket-before, looked-to, looks-to, chain}
+use Rattle.chain.specs.Chain.{stays, acts-ahead, links, acts-holding, ticket-before, looked-to, chain}
 use Rattle.chain.specs.Laws.{Chain-on, ends, goes-on, Chain-law}
 use Rattle.chain.proofs.Chains.{looks-small, chain-law}
 use Rattle.chain.proofs.Stays.{stays-at, moves-on}
@@ -41,7 +38,7 @@ use Rattle.chain.proofs.Reached.Actors.{Waits, waits, lingers, watches, stay-wa
 use Rattle.chain.proofs.Reached.Ahead.{link-place, Looked, looked-one, looks-one, watch-before}
 use Rattle.starvation_freedom.proofs.Situations as situations
 use Rattle.starvation_freedom.proofs.Situations.{Situation, queues, next-words, next-change}
-use Rattle.starvation_freedom.proofs.Says.{Says, says, Waiting, stands, woken, granted}
+use Rattle.starvation_freedom.proofs.Says.{Says, says, stands, woken, granted}
 use Rattle.starvation_freedom.proofs.Queues.{tag}
 use Rattle.longest_wait.specs.InLine.{ends-at}
 use Rattle.longest_wait.proofs.Linked.{All-linked, linked-join}
@@ -262,13 +259,13 @@ module _ (t : Tree) (valid : Accepted t) (bits : Sixteen-bit t) (c : Situation t
   standing h k holding a b = absurd (omega arith)
   standing h k (releasing j) a b = absurd (omega arith)
 
-  -- behind the one who acts for the record just before
-  behind :
+  -- after the one who acts for the record just before
+  line-after :
       (i j a l p x : ℕ) → g .stage i ≡ queued j → a < t .threads → l < moves.acts (height t a) (g .stage a) → ancestor t a l ≡ ancestor t i j → record-at t a l ≡ p →
       after (g .queue (ancestor t i j)) p ≡ suc (record-at t i j) → (is-ticket t (ancestor t i j) ≡ false → next s p ≢ 0) → Ends a x → (g .stage a ≡ queued l → Line-ends a l x) →
       Line-ends i j x
   unfolding All-linked
-  behind i j a l p x e ha acting there mine follows named end rec =
+  line-after i j a l p x e ha acting there mine follows named end rec =
       let d = ancestor t i j in
       less-or l (low (height t a) (g .stage a)) _
       (λ h.
@@ -340,7 +337,7 @@ module _ (t : Tree) (valid : Accepted t) (bits : Sixteen-bit t) (c : Situation t
           let named : next s (own-record t a d) ≡ suc (record-at t i k) = eqb-true _ _ (both .1) ∙ (let z : own-record t i d + 1 ≡ suc (record-at t i k) = omega arith in z) in
           let before = stands-before t valid bits s (c .queued) d (record-at t i k) a nt (look .real) (both .0) named in
           let w = acting-there t valid bits s (c .queued) d a (look .real) (both .0) in
-          let all = behind i k a (w .index) (own-record t a d) x q (look .real) (w .within) (w .there) (w .mine) before (λ _ z. omega arith) more (λ z. rec (w .index) z) in
+          let all = line-after i k a (w .index) (own-record t a d) x q (look .real) (w .within) (w .there) (w .mine) before (λ _ z. omega arith) more (λ z. rec (w .index) z) in
           rw (← same-index) at all
       by rec _ looked y (lingers k l b n z) = absurd (let w = says t valid c i h (Linger (ancestor t i k)) y in let o = ap tag (sym e ∙ w .2) in omega (arith, letting-go-tag (height t i) (w .0)))
       by rec _ looked y (watches q root) =
@@ -350,5 +347,5 @@ module _ (t : Tree) (valid : Accepted t) (bits : Sixteen-bit t) (c : Situation t
           let both = and-both (acts t s a 0) (eqb (status s (own-record t a 0)) (ticket-before (status s (own-record t i 0)))) looked in
           let before = watch-before t valid bits s (c .queued) i h q root a (look .real) (both .0) (eqb-true _ _ (both .1)) in
           let w = acting-there t valid bits s (c .queued) 0 a (look .real) (both .0) in
-          let all = behind i k a (w .index) (own-record t a 0) x q (look .real) (w .within) (w .there ∙ sym top) (w .mine) (rw top before) (λ nt. absurd (false≢true (sym nt ∙ ticket-yes t (ancestor t i k) root top))) more (λ z. rec (w .index) z) in
+          let all = line-after i k a (w .index) (own-record t a 0) x q (look .real) (w .within) (w .there ∙ sym top) (w .mine) (rw top before) (λ nt. absurd (false≢true (sym nt ∙ ticket-yes t (ancestor t i k) root top))) more (λ z. rec (w .index) z) in
           rw (← same-index) at all

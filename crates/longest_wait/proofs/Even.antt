@@ -1,42 +1,34 @@
 -- In an even tree all members of a level have the same passes and the same number of threads under them; so W is the number of the other threads. Assumes nothing.
 use mathlib.Core.Path.{_≡_, refl, sym, ap, _∙_}
-use mathlib.Core.Bool.{Bool, true, false, _&&_, not, cond, false≢true, true≢false}
-use mathlib.Core.List.{List, [], _∷_}
-use mathlib.Core.Logic.{_≢_, inl, inr}
-use Prim.Native.Nat.{ℕ, zero, suc, _+_, _*_, _-_, _/_, _≤_, _<_, _∣_}
+use mathlib.Core.Bool.{Bool, true, false, _&&_, not, cond}
+use Prim.Native.Nat.{ℕ, zero, suc, _+_, _*_, _≤_, _<_}
 use native.Mathlib.Omega.{arith}
-use native.Mathlib.Nat.{one-le-mul, div-mul-cancel, div-lt-iff-lt-mul, le-div-iff-mul-le, eq-of-mul-eq-mul-left}
-use lib.Dec.{eqb, ltb, leb}
-use lib.ListN.{length}
-use borrow.Author.Tests.{lt-ltb, le-ltb, ltb-false, eq-eqb, ne-eqb, eqb-true}
-use Rattle.model.specs.Scans.{largest-below, filter-below}
-use Rattle.model.specs.Trees.{Tree, is-child, is-leaf, depth, level, on-path, own-record, is-member, under, allowance}
+use native.Mathlib.Nat.{one-le-mul}
+use lib.Dec.{eqb}
+use Rattle.model.specs.Scans.{largest-below}
+use Rattle.model.specs.Trees.{Tree, is-child, is-leaf, depth, level, on-path, own-record, is-member, allowance}
 use Rattle.model.specs.Refusals.{tree-refusal}
 use Rattle.model.specs.Laws.{Empty-law}
-use Rattle.model.proofs.Tests.{by-test, any-found}
-use Rattle.model.proofs.Lists.{same-or, less-or}
 use Rattle.model.proofs.Laws.Empty.{under-domain, empty-law}
 use Rattle.model.proofs.Trees.Index.{ancestor, height, record-at, member-allowance}
-use Rattle.model.proofs.Trees.Accepted.{Accepted, accepted, child-yes, child-facts}
+use Rattle.model.proofs.Trees.Accepted.{Accepted, accepted, child-facts}
 use Rattle.model.proofs.Trees.Allowances.{thread-allowance, allowance-domain, allowance-member}
-use Rattle.model.proofs.Trees.Paths.{depth-child, depth-zero, ancestor-home, ancestor-real, ancestor-depth, ancestor-inner, ancestor-root, path-index, on-path-at, on-path-root}
-use Rattle.model.proofs.Trees.Records.{Member, a-thread, a-domain, member-facts, member-domain, member-small, record-small, member-at, own-record-member, record-own}
-use Rattle.tenures.specs.Laws.{children-sum}
-use Rattle.tenures.proofs.Children.{one-child}
+use Rattle.model.proofs.Trees.Paths.{depth-child, ancestor-real, ancestor-depth, ancestor-inner, path-index}
+use Rattle.model.proofs.Trees.Records.{Member, a-thread, a-domain, member-facts, member-domain, record-small, member-at, own-record-member}
 use Rattle.starvation_freedom.specs.Bounds.{members}
-use Rattle.longest_wait.specs.Bounds.{sum-below, effective-threshold, effective, passes, others-passes, tenures-for-all, member-wait, wait-bound}
-use Rattle.longest_wait.specs.Laws.{Even, Even-tree-law}
+use Rattle.longest_wait.specs.Bounds.{effective-threshold, effective, passes, others-passes}
+use Rattle.longest_wait.specs.Laws.{Equal-levels}
 use Rattle.longest_wait.proofs.Effective.{effective-accepted}
 use Rattle.longest_wait.proofs.Passes.{same-member}
-use Rattle.longest_wait.proofs.Sums.{sum-same, sum-zero, sum-each, sum-swaps, sum-stretches, sum-of-value, sum-but-one}
-use Rattle.longest_wait.proofs.Waits.{above-wait, above-root, wait-at, above-next, some-members}
+use Rattle.longest_wait.proofs.Sums.{sum-same, sum-of-value, sum-but-one}
+use Rattle.longest_wait.proofs.Waits.{some-members}
 
-largest-within : (n : ℕ) (f : ℕ → ℕ) (v : ℕ) → ((j : ℕ) → j < n → f j ≤ v) → largest-below n f ≤ v
+pub largest-within : (n : ℕ) (f : ℕ → ℕ) (v : ℕ) → ((j : ℕ) → j < n → f j ≤ v) → largest-below n f ≤ v
 unfolding largest-below
 largest-within zero f v h = omega arith
 largest-within (suc n) f v h = let r = largest-within n f v (λ j b. h j (omega arith)) in let x = h n (omega arith) in omega arith
 
-module _ (t : Tree) (ok : tree-refusal t .number ≡ 0) (even : Even t) (i : ℕ) (hi : i < t .threads) where
+module _ (t : Tree) (ok : tree-refusal t .number ≡ 0) (equal : Equal-levels t) (i : ℕ) (hi : i < t .threads) where
   abbrev valid : Accepted t
   valid = accepted t ok
 
@@ -46,7 +38,7 @@ module _ (t : Tree) (ok : tree-refusal t .number ≡ 0) (even : Even t) (i : ℕ
   -- DEPTHS. All homes are equally deep, and every domain has a thread under it
   pub same-home : (j : ℕ) → j < t .threads → height t j ≡ top
   unfolding top height level
-  same-home j h = let x = even .one-level j i h hi in omega arith
+  same-home j h = let x = equal .one-level j i h hi in omega arith
 
   pub record Thread-under (d : ℕ) : Type 0 where
     pub thread : ℕ
@@ -74,40 +66,23 @@ module _ (t : Tree) (ok : tree-refusal t .number ≡ 0) (even : Even t) (i : ℕ
   -- the domains of a level have the members and the threshold of the one on i's path
   pub same-many : (k d : ℕ) → d < t .domains → depth t d + k ≡ top → members t d ≡ members t (ancestor t i k)
   unfolding level
-  same-many k d h e = even .same-members d (ancestor t i k) h (ancestor-real t valid i hi k) (let x = own-depth k (omega arith) in omega arith)
+  same-many k d h e = equal .same-members d (ancestor t i k) h (ancestor-real t valid i hi k) (let x = own-depth k (omega arith) in omega arith)
 
   same-threshold : (k d : ℕ) → 0 < d → d < t .domains → depth t d + k ≡ top → t .threshold d ≡ t .threshold (ancestor t i k)
   unfolding level top
   same-threshold k d p h e =
       let up = depth-child t valid d p h in
-      even .same-threshold d (ancestor t i k) p (ancestor-inner t valid i hi k (omega arith)) h (ancestor-real t valid i hi k) (let x = own-depth k (omega arith) in omega arith)
+      equal .same-threshold d (ancestor t i k) p (ancestor-inner t valid i hi k (omega arith)) h (ancestor-real t valid i hi k) (let x = own-depth k (omega arith) in omega arith)
 
   -- a member of each domain
   some-member : (d : ℕ) → d < t .domains → (q : ℕ) × (is-member t d q ≡ true)
   some-member d h = let x = thread-under d h in (own-record t (x .thread) d, own-record-member t valid (x .thread) (x .real) d (x .on))
 
-  has-members : (d : ℕ) → d < t .domains → 1 ≤ members t d
+  pub has-members : (d : ℕ) → d < t .domains → 1 ≤ members t d
   has-members d h =
       let x = thread-under d h in
       let y = path-index t valid (x .thread) (x .real) d (x .on) in
       rw (y .there) at (some-members t valid (x .thread) (x .real) (y .index) (y .within))
-
-  -- thresholds that divide have their effect
-  effective-same : (d : ℕ) → 0 < d → d < t .domains → effective-threshold t d ≡ t .threshold d
-  unfolding effective-threshold
-  effective-same d p h =
-      by-test (λ v. v ≡ t .threshold d) (ltb 1 (members t d)) (t .threshold d) 1 (λ _. refl)
-      (λ e.
-      let n : members t d ≡ 1 = let x = has-members d h in let y = ltb-false 1 (members t d) e in omega arith in
-      let m = members t d / t .threshold d in
-      let z : m * t .threshold d ≡ members t d = div-mul-cancel (t .threshold d) (even .divides d p h) in
-      one-factor m (t .threshold d) (z ∙ n))
-    where
-      one-factor : (a b : ℕ) → a * b ≡ 1 → 1 ≡ b
-      one-factor zero b e = absurd (omega arith)
-      one-factor (suc a) zero e = absurd (omega arith)
-      one-factor (suc a) (suc zero) e = refl
-      one-factor (suc a) (suc (suc b)) e = absurd (omega arith)
 
   effective-there : (d : ℕ) → effective t .threshold d ≡ effective-threshold t d
   unfolding effective
@@ -116,6 +91,10 @@ module _ (t : Tree) (ok : tree-refusal t .number ≡ 0) (even : Even t) (i : ℕ
   pub home-depth : (j : ℕ) → depth t (t .home j) ≡ height t j
   unfolding height
   home-depth j = refl
+
+  -- thresholds have their effect
+  abbrev pub Have-effect : Type 0
+  Have-effect = (d : ℕ) → 0 < d → d < t .domains → effective-threshold t d ≡ t .threshold d
 
   -- PASSES AND THREADS of a member of the domains at an index of i's path
   unfoldable pub P : ℕ → ℕ
@@ -149,14 +128,14 @@ module _ (t : Tree) (ok : tree-refusal t .number ≡ 0) (even : Even t) (i : ℕ
       not-more false e = rw e (largest-within (t .domains) _ (P k) (λ d u. child-within d u (is-child t c d) refl))
 
   -- all members of a domain at a level have the passes of that level
-  pub passes-at : (k d : ℕ) → d < t .domains → depth t d + k ≡ top → (q : ℕ) → is-member t d q ≡ true → passes t q ≡ P k
+  pub passes-at : Have-effect → (k d : ℕ) → d < t .domains → depth t d + k ≡ top → (q : ℕ) → is-member t d q ≡ true → passes t q ≡ P k
   unfolding passes P
-  passes-at zero d h e q m = by (member-facts t d q m)
+  passes-at effect zero d h e q m = by (member-facts t d q m)
     where
       by : {q : ℕ} → Member t d q → allowance (effective t) q ≡ 1
       by (a-thread j u z) = thread-allowance (effective t) j (omega (arith, valid .few-threads))
       by (a-domain c p u z) = absurd (let x = depth-child t valid c p u in let y : depth t (t .parent c) ≡ depth t d = ap (depth t) z in let w = deep c u in omega arith)
-  passes-at (suc k) d h e q m = by (λ c u f r n. passes-at k c u f r n) (member-facts t d q m)
+  passes-at effect (suc k) d h e q m = by (λ c u f r n. passes-at effect k c u f r n) (member-facts t d q m)
     where
       by : ((c : ℕ) → c < t .domains → depth t c + k ≡ top → (r : ℕ) → is-member t c r ≡ true → passes t r ≡ P k) → {q : ℕ} → Member t d q → allowance (effective t) q ≡ t .threshold (ancestor t i k) * P k
       by rec (a-thread j u z) =
@@ -166,18 +145,18 @@ module _ (t : Tree) (ok : tree-refusal t .number ≡ 0) (even : Even t) (i : ℕ
           let y : depth t (t .parent c) ≡ depth t d = ap (depth t) z in
           let there : depth t c + k ≡ top = omega arith in
           allowance-domain (effective t) (effective-accepted t valid) c
-          ∙ ap (λ v. v * member-allowance (effective t) c) (effective-there c ∙ effective-same c p u ∙ same-threshold k c p u there)
+          ∙ ap (λ v. v * member-allowance (effective t) c) (effective-there c ∙ effect c p u ∙ same-threshold k c p u there)
           ∙ ap (λ v. t .threshold (ancestor t i k) * v) (most-at k c u (omega arith) (λ r n. rec c u there r n))
 
   -- W's own sum
-  pub others-at : (k : ℕ) → k ≤ top → others-passes t (ancestor t i k) (record-at t i k) + P k ≡ members t (ancestor t i k) * P k
+  pub others-at : Have-effect → (k : ℕ) → k ≤ top → others-passes t (ancestor t i k) (record-at t i k) + P k ≡ members t (ancestor t i k) * P k
   unfolding others-passes members top
-  others-at k l =
+  others-at effect k l =
       let d = ancestor t i k in
       let m = record-at t i k in
       let value = sum-same 320 (λ q. cond (is-member t d q && not (eqb q m)) (passes t q) 0) (λ q. cond (is-member t d q && not (eqb q m)) (P k) 0) (λ q b. each q (is-member t d q) refl) in
       omega (arith, sum-but-one 320 (is-member t d) m (P k) (record-small t valid i hi k l) (member-at t valid i hi k l), sum-of-value 320 (is-member t d) (P k))
     where
       each : (q : ℕ) → (b : Bool) → is-member t (ancestor t i k) q ≡ b → cond (is-member t (ancestor t i k) q && not (eqb q (record-at t i k))) (passes t q) 0 ≡ cond (is-member t (ancestor t i k) q && not (eqb q (record-at t i k))) (P k) 0
-      each q true e = ap (λ v. cond (is-member t (ancestor t i k) q && not (eqb q (record-at t i k))) v 0) (passes-at k (ancestor t i k) (ancestor-real t valid i hi k) (own-depth k l) q e)
+      each q true e = ap (λ v. cond (is-member t (ancestor t i k) q && not (eqb q (record-at t i k))) v 0) (passes-at effect k (ancestor t i k) (ancestor-real t valid i hi k) (own-depth k l) q e)
       each q false e = rw e refl

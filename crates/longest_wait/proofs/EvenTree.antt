@@ -1,19 +1,16 @@
 -- In an even tree W is the number of the other threads: the threads of the tree, counted level by level, and the sums of W. Assumes nothing.
 use mathlib.Core.Path.{_≡_, refl, sym, ap, _∙_}
-use mathlib.Core.Bool.{Bool, true, false, _&&_, not, cond, false≢true, true≢false}
-use mathlib.Core.List.{List, [], _∷_}
-use mathlib.Core.Logic.{_≢_, inl, inr}
-use Prim.Native.Nat.{ℕ, zero, suc, _+_, _*_, _-_, _/_, _≤_, _<_, _∣_}
+use mathlib.Core.Bool.{Bool, true, false, cond, true≢false}
+use Prim.Native.Nat.{ℕ, zero, suc, _+_, _*_, _-_, _/_, _≤_, _<_}
 use native.Mathlib.Omega.{arith}
 use native.Mathlib.Nat.{div-mul-cancel, div-lt-iff-lt-mul, le-div-iff-mul-le, eq-of-mul-eq-mul-left}
-use lib.Dec.{eqb, ltb}
+use lib.Dec.{ltb}
 use lib.ListN.{length}
-use borrow.Author.Tests.{lt-ltb, le-ltb}
-use Rattle.model.specs.Scans.{any-below, filter-below}
+use borrow.Author.Tests.{ltb-false}
+use Rattle.model.specs.Scans.{filter-below}
 use Rattle.model.specs.Trees.{Tree, is-child, is-leaf, depth, on-path, is-member}
 use Rattle.model.specs.Refusals.{tree-refusal}
-use Rattle.model.proofs.Tests.{any-found}
-use Rattle.model.proofs.Lists.{same-or, less-or}
+use Rattle.model.proofs.Tests.{by-test, any-found}
 use Rattle.model.proofs.Trees.Index.{ancestor, height, record-at}
 use Rattle.model.proofs.Trees.Accepted.{Accepted, accepted, child-yes, child-facts}
 use Rattle.model.proofs.Trees.Paths.{depth-child, depth-zero, ancestor-home, ancestor-real, ancestor-depth, ancestor-inner, ancestor-parent-of, ancestor-root, path-index, on-path-home, on-path-root}
@@ -21,11 +18,11 @@ use Rattle.model.proofs.Trees.Records.{Member, a-thread, a-domain, member-facts
 use Rattle.tenures.specs.Laws.{children-sum}
 use Rattle.tenures.proofs.Children.{one-child}
 use Rattle.starvation_freedom.specs.Bounds.{members}
-use Rattle.longest_wait.specs.Bounds.{sum-below, others-passes, tenures-for-all, member-wait, wait-bound}
+use Rattle.longest_wait.specs.Bounds.{sum-below, effective-threshold, others-passes, tenures-for-all, member-wait, wait-bound}
 use Rattle.longest_wait.specs.Laws.{Even, Even-tree-law}
 use Rattle.longest_wait.proofs.Sums.{sum-same, sum-zero, sum-each, sum-swaps, sum-stretches, sum-of-value}
 use Rattle.longest_wait.proofs.Waits.{above-wait, above-root, wait-at, above-next}
-use Rattle.longest_wait.proofs.Even.{top, same-home, home-depth, Thread-under, thread-under, deep, own-depth, same-many, P, N, others-at}
+use Rattle.longest_wait.proofs.Even.{top, same-home, home-depth, thread-under, deep, same-many, has-members, P, N, others-at}
 
 not-true-false : (b : Bool) → (b ≡ true → ⊥) → b ≡ false
 not-true-false true n = absurd (n refl)
@@ -45,8 +42,25 @@ module _ (t : Tree) (ok : tree-refusal t .number ≡ 0) (even : Even t) (i : ℕ
   valid : Accepted t
   valid = accepted t ok
 
+  -- thresholds that divide have their effect
+  effective-same : (d : ℕ) → 0 < d → d < t .domains → effective-threshold t d ≡ t .threshold d
+  unfolding effective-threshold
+  effective-same d p h =
+      by-test (λ v. v ≡ t .threshold d) (ltb 1 (members t d)) (t .threshold d) 1 (λ _. refl)
+      (λ e.
+      let n : members t d ≡ 1 = let x = has-members t ok (even .levels) i hi d h in let y = ltb-false 1 (members t d) e in omega arith in
+      let m = members t d / t .threshold d in
+      let z : m * t .threshold d ≡ members t d = div-mul-cancel (t .threshold d) (even .divides d p h) in
+      one-factor m (t .threshold d) (z ∙ n))
+    where
+      one-factor : (a b : ℕ) → a * b ≡ 1 → 1 ≡ b
+      one-factor zero b e = absurd (omega arith)
+      one-factor (suc a) zero e = absurd (omega arith)
+      one-factor (suc a) (suc zero) e = refl
+      one-factor (suc a) (suc (suc b)) e = absurd (omega arith)
+
   abbrev H : ℕ
-  H = top t ok even i hi
+  H = top t ok (even .levels) i hi
 
   abbrev one-if : Bool → ℕ
   one-if b = cond b 1 0
@@ -61,14 +75,14 @@ module _ (t : Tree) (ok : tree-refusal t .number ≡ 0) (even : Even t) (i : ℕ
       let y = path-index t valid j h d e in
       let z = ancestor-depth t valid j h (y .index) (y .within) in
       let w : depth t (ancestor t j (y .index)) ≡ depth t d = ap (depth t) (y .there) in
-      (y .index, y .within, y .there, omega (arith, same-home t ok even i hi j h))
+      (y .index, y .within, y .there, omega (arith, same-home t ok (even .levels) i hi j h))
 
   -- AT THE LOWEST LEVEL the members are the threads
   module _ (d : ℕ) (h : d < t .domains) (lowest : depth t d ≡ H) where
     only-threads : {q : ℕ} → Member t d q → q < t .threads
     only-threads (a-thread j u z) = u
     only-threads (a-domain c p u z) =
-        absurd (let x = depth-child t valid c p u in let y : depth t (t .parent c) ≡ depth t d = ap (depth t) z in let w = deep t ok even i hi c u in omega arith)
+        absurd (let x = depth-child t valid c p u in let y : depth t (t .parent c) ≡ depth t d = ap (depth t) z in let w = deep t ok (even .levels) i hi c u in omega arith)
 
     member-home : {q : ℕ} → Member t d q → q < t .threads → on-path t q d ≡ true
     member-home (a-thread j u z) b = rw (← z) (on-path-home t valid j u)
@@ -100,7 +114,7 @@ module _ (t : Tree) (ok : tree-refusal t .number ≡ 0) (even : Even t) (i : ℕ
   module _ (k d : ℕ) (h : d < t .domains) (above : depth t d + suc k ≡ H) where
     no-thread : {q : ℕ} → Member t d q → 256 ≤ q
     no-thread (a-thread j u z) =
-        absurd (let x = same-home t ok even i hi j u in let y : depth t (t .home j) ≡ depth t d = ap (depth t) z in let w = home-depth t ok even i hi j in omega arith)
+        absurd (let x = same-home t ok (even .levels) i hi j u in let y : depth t (t .home j) ≡ depth t d = ap (depth t) z in let w = home-depth t ok (even .levels) i hi j in omega arith)
     no-thread (a-domain c p u z) = omega arith
 
     child-there : {q : ℕ} → Member t d q → (c : ℕ) → q ≡ 256 + c → (is-child t d c ≡ true) × (c < t .domains)
@@ -110,7 +124,7 @@ module _ (t : Tree) (ok : tree-refusal t .number ≡ 0) (even : Even t) (i : ℕ
     inner : is-leaf t d ≡ false
     unfolding is-leaf
     inner =
-        let x = thread-under t ok even i hi d h in
+        let x = thread-under t ok (even .levels) i hi d h in
         let y = index-there (x .thread) d (x .real) (x .on) in
         let one-lower : y .0 ≡ suc k = let w = y .3 in omega arith in
         let below : k < height t (x .thread) = let w = y .1 in omega arith in
@@ -157,12 +171,12 @@ module _ (t : Tree) (ok : tree-refusal t .number ≡ 0) (even : Even t) (i : ℕ
         of-child c u false e = rw e (sum-zero (t .threads) (λ j. 0) (λ j b. refl))
 
   -- the threads under each domain of a level
-  count-at : (k d : ℕ) → d < t .domains → depth t d + k ≡ H → threads-under d ≡ N t ok even i hi (suc k)
+  count-at : (k d : ℕ) → d < t .domains → depth t d + k ≡ H → threads-under d ≡ N t ok (even .levels) i hi (suc k)
   unfolding N
-  count-at zero d h e = let x = count-lowest d h (omega arith) in let y = same-many t ok even i hi 0 d h e in omega arith
+  count-at zero d h e = let x = count-lowest d h (omega arith) in let y = same-many t ok (even .levels) i hi 0 d h e in omega arith
   count-at (suc k) d h e =
-      let x = count-higher k d h e (N t ok even i hi (suc k)) (λ c m u. count-at k c u (lower c m u)) in
-      x ∙ ap (λ m. m * N t ok even i hi (suc k)) (same-many t ok even i hi (suc k) d h e)
+      let x = count-higher k d h e (N t ok (even .levels) i hi (suc k)) (λ c m u. count-at k c u (lower c m u)) in
+      x ∙ ap (λ m. m * N t ok (even .levels) i hi (suc k)) (same-many t ok (even .levels) i hi (suc k) d h e)
     where
       lower : (c : ℕ) → is-child t d c ≡ true → c < t .domains → depth t c + k ≡ H
       lower c m u =
@@ -171,7 +185,7 @@ module _ (t : Tree) (ok : tree-refusal t .number ≡ 0) (even : Even t) (i : ℕ
           let y : depth t (t .parent c) ≡ depth t d = ap (depth t) (f .hangs) in
           omega arith
 
-  all-threads : N t ok even i hi (suc H) ≡ t .threads
+  all-threads : N t ok (even .levels) i hi (suc H) ≡ t .threads
   all-threads =
       let x = count-at H 0 (valid .some-domain) (let z = depth-zero t valid 0 refl in omega arith) in
       let y = sum-each (t .threads) (λ j. one-if (on-path t j 0)) (λ j b. let z = on-path-root t valid j b in rw z refl) in
@@ -182,10 +196,10 @@ module _ (t : Tree) (ok : tree-refusal t .number ≡ 0) (even : Even t) (i : ℕ
   W k = member-wait t (ancestor t i k) (record-at t i k)
 
   abbrev p : ℕ → ℕ
-  p = P t ok even i hi
+  p = P t ok (even .levels) i hi
 
   abbrev n : ℕ → ℕ
-  n = N t ok even i hi
+  n = N t ok (even .levels) i hi
 
   -- a threshold that divides: as many tenures as the quotient
   exact-quotient : (m v q : ℕ) → 0 < v → q * v ≡ m → (m + v - 1) / v ≡ q
@@ -201,7 +215,7 @@ module _ (t : Tree) (ok : tree-refusal t .number ≡ 0) (even : Even t) (i : ℕ
       let root : ancestor t i k ≡ 0 = ap (ancestor t i) z ∙ ancestor-root t valid i hi in
       let w = wait-at t valid (ancestor t i k) (record-at t i k) (ancestor-real t valid i hi k) in
       let none : tenures-for-all t (ancestor t i k) * above-wait t (ancestor t i k) ≡ 0 = let a = above-root t (ancestor t i k) root in rw a (omega arith) in
-      let o = others-at t ok even i hi k (omega arith) in
+      let o = others-at t ok (even .levels) i hi effective-same k (omega arith) in
       let c = all-threads in
       let c′ : members t (ancestor t i k) * n k ≡ t .threads = rw (← z) at c in
       let both : W k + p k ≡ members t (ancestor t i k) * p k = omega arith in
@@ -219,7 +233,7 @@ module _ (t : Tree) (ok : tree-refusal t .number ≡ 0) (even : Even t) (i : ℕ
       let w = wait-at t valid d (record-at t i k) real in
       let up = above-next t valid i hi k below in
       let w′ : W k ≡ others-passes t d (record-at t i k) + q * W (suc k) = w ∙ ap (λ x. others-passes t d (record-at t i k) + x) (ap (λ x. x * above-wait t d) tenures ∙ ap (λ x. q * x) up) in
-      lower-sum (W k) (W (suc k)) (others-passes t d (record-at t i k)) (p k) (n k) (members t d) v q (t .threads) some divides (others-at t ok even i hi k (omega arith)) w′ (sums m (suc k) (omega arith))
+      lower-sum (W k) (W (suc k)) (others-passes t d (record-at t i k)) (p k) (n k) (members t d) v q (t .threads) some divides (others-at t ok (even .levels) i hi effective-same k (omega arith)) w′ (sums m (suc k) (omega arith))
 
   even-wait : wait-bound t i + 1 ≡ t .threads
   unfolding N P wait-bound

@@ -1,27 +1,26 @@
 -- One step leaves no more to see in line, and an entry in line leaves less: where whoever is first has the lock. Assumes nothing.
 use mathlib.Core.Path.{_≡_, refl, sym, ap, _∙_}
-use mathlib.Core.Bool.{false}
 use mathlib.Core.List.{List, [], _∷_, _++_, nil≢cons, head-eq-of-cons-eq, tail-eq-of-cons-eq}
 use mathlib.Core.Logic.{_≢_, _⊎_, inl, inr}
-use Prim.Native.Nat.{ℕ, zero, suc, _+_, _*_, _/_, _≤_, _<_}
+use Prim.Native.Nat.{ℕ, suc, _+_, _*_, _/_, _≤_, _<_}
 use native.Mathlib.Omega.{arith}
 use lib.ListN.{length}
-use Rattle.model.specs.Trees.{Tree, is-ticket}
+use Rattle.model.specs.Trees.{Tree}
 use Rattle.model.specs.States.{next, place}
 use Rattle.model.specs.Laws.{Sixteen-bit}
-use Rattle.model.proofs.Lists.{same-or, less-or, first, first-cons, is, is-same, count, count-cons}
+use Rattle.model.proofs.Lists.{same-or, first, first-cons, is, is-same, count, count-cons}
 use Rattle.model.proofs.Trees.Index.{ancestor, height, record-at}
 use Rattle.model.proofs.Trees.Accepted.{Accepted}
 use Rattle.model.proofs.Trees.Tickets.{ticket-lower}
 use Rattle.model.proofs.Trees.Paths.{ancestor-real, ancestor-inner, ancestor-not-root}
 use Rattle.claims.proofs.Queues.Paths.{Laws, laws}
-use Rattle.claims.proofs.Queues.Moves.{Stage, climb, queued, ready, inside, releasing, low, acts, reach, pending, State}
+use Rattle.claims.proofs.Queues.Moves.{climb, queued, ready, inside, releasing, low, acts, reach, pending, State}
 use Rattle.claims.proofs.Queues.Invariant.{low-acts, Thread, Inv, unique}
 use Rattle.starvation_freedom.proofs.Situations as situations
 use Rattle.starvation_freedom.proofs.Situations.{Situation, queues, next-change, place-other, Changed}
 use Rattle.starvation_freedom.proofs.Queues.{tag}
 use Rattle.starvation_freedom.proofs.Left.{hits, entry-hits}
-use Rattle.longest_wait.specs.Bounds.{passes, member-wait}
+use Rattle.longest_wait.specs.Bounds.{passes}
 use Rattle.longest_wait.proofs.Arithmetic.{tenure-over}
 use Rattle.longest_wait.proofs.Weights.{weight}
 use Rattle.longest_wait.proofs.Effective.{left-there, left-within, left-less}
@@ -32,7 +31,7 @@ use Rattle.longest_wait.proofs.Over.{Over, not-over, releasing-over, ov
 use Rattle.longest_wait.proofs.Linked.{All-linked}
 use Rattle.longest_wait.proofs.Ends.{Line, Enters, entry-inside, enters-pending}
 use Rattle.longest_wait.proofs.Lines.{low-real, stands-real, line-kept, line-next}
-use Rattle.longest_wait.proofs.Owes.{Sound, sound-next, W, tenures-left, rest-there, Held, held-left, Owes, free, climbs, stands, held, waits}
+use Rattle.longest_wait.proofs.Owes.{Sound, sound-next, W, tenures-left, Held, held-left, Owes, free, climbs, held, waits}
 
 nil-append : (xs ys : List ℕ) (m : ℕ) → [] ≡ xs ++ (m ∷ ys) → ⊥
 nil-append [] ys m e = nil≢cons e

@@ -2,14 +2,14 @@
 use mathlib.Core.Path.{_≡_, refl, sym, ap, _∙_}
 use mathlib.Core.List.{List, [], _∷_}
 use mathlib.Core.Logic.{_≢_, _⊎_, inl, inr}
-use Prim.Native.Nat.{ℕ, zero, suc, _+_, _-_, _≤_, _<_}
+use Prim.Native.Nat.{ℕ, suc, _+_, _-_, _≤_, _<_}
 use native.Mathlib.Omega.{arith}
 use Rattle.model.specs.Trees.{Tree}
 use Rattle.model.proofs.Trees.Index.{ancestor, height, record-at}
-use Rattle.model.proofs.Lists.{same-or, less-or, put, put-same, put-other, first, first-in, count}
+use Rattle.model.proofs.Lists.{same-or, less-or, put, put-same, put-other, first-in, count}
 use Rattle.claims.proofs.Queues.Paths.{Laws}
 use Rattle.claims.proofs.Queues.Meeting.{follow, follow-record-at, same-height}
-use Rattle.claims.proofs.Queues.Moves.{Stage, out, climb, queued, ready, inside, holding, releasing, down, low, acts, reach, State, Event, Last, Move, start, join-empty, join-root, join-behind, enter, leave, hand-on, release, let-go}
+use Rattle.claims.proofs.Queues.Moves.{Stage, out, climb, queued, ready, inside, holding, releasing, down, low, acts, reach, State, Event, Move, start, join-empty, join-root, join-behind, enter, leave, hand-on, release, let-go}
 use Rattle.claims.proofs.Queues.Invariant.{low-acts, low-down, Thread, Inv, unique, fresh}
 use Rattle.claims.proofs.Queues.Keeps.{last-low, standing-not, keeps}
 use Rattle.claims.proofs.Queues.Remaining.{acts-real}

@@ -2,8 +2,8 @@
 use mathlib.Core.Path.{_≡_, refl, sym, ap, _∙_}
 use mathlib.Core.Bool.{Bool, true, false, _&&_, not, cond, false≢true}
 use mathlib.Core.List.{List, [], _∷_, _++_, nil≢cons, head-eq-of-cons-eq, tail-eq-of-cons-eq}
-use mathlib.Core.Logic.{_≢_, _⊎_, inl, inr}
-use Prim.Native.Nat.{ℕ, zero, suc, _+_, _≤_, _<_}
+use mathlib.Core.Logic.{_≢_, inl, inr}
+use Prim.Native.Nat.{ℕ, _+_, _≤_, _<_}
 use native.Mathlib.Omega.{arith}
 use lib.Dec.{eqb}
 use borrow.Author.Tests.{eqb-true, eqb-false, eq-eqb, not-true}
@@ -14,7 +14,7 @@ use Rattle.model.specs.Trees.{Tree, is-ticket}
 use Rattle.model.specs.Places.{words-of}
 use Rattle.model.specs.States.{place, fresh-state}
 use Rattle.model.specs.Steps.{is-entry, Step, step, row}
-use Rattle.model.specs.Runs.{steps, state-after, how-many, entering, occurrences}
+use Rattle.model.specs.Runs.{steps, state-after, entering, occurrences}
 use Rattle.model.specs.Refusals.{tree-refusal}
 use Rattle.model.specs.Laws.{All-threads, Sixteen-bit, Kind-law}
 use Rattle.model.proofs.Tests.{and-both}
@@ -22,12 +22,12 @@ use Rattle.model.proofs.Lists.{same-or}
 use Rattle.model.proofs.Counted.{occurrences-join}
 use Rattle.model.proofs.Laws.Facts.{facts-well-formed}
 use Rattle.model.proofs.Laws.Kinds.{kind-law}
-use Rattle.model.proofs.Trees.Index.{ancestor, height, record-at}
+use Rattle.model.proofs.Trees.Index.{ancestor, height}
 use Rattle.model.proofs.Trees.Accepted.{Accepted, accepted}
 use Rattle.model.proofs.Trees.Tickets.{ticket-facts}
 use Rattle.model.proofs.Trees.Paths.{ancestor-home, ancestor-zero, ancestor-injective}
 use Rattle.model.proofs.Trees.Records.{record-own}
-use Rattle.claims.proofs.Queues.Moves.{Stage, out, climb, queued, ready, inside, holding, State, Event, empty, Run, done, silent, more}
+use Rattle.claims.proofs.Queues.Moves.{climb, queued, inside, State, Event, Run, done, silent, more}
 use Rattle.claims.proofs.Queues.Invariant.{Inv, inv-empty}
 use Rattle.claims.proofs.Queues.Paths.{laws}
 use Rattle.claims.proofs.Queues.Keeps.{keeps}
@@ -37,17 +37,17 @@ use Rattle.waits.specs.Attempts.{swaps-at, draws, begins-from, begins as begins
 use Rattle.starvation_freedom.proofs.Situations as situations
 use Rattle.starvation_freedom.proofs.Situations.{Situation, queues, next-words, place-other, moved}
 use Rattle.starvation_freedom.proofs.Queues.{tag}
-use Rattle.starvation_freedom.proofs.Says.{Says, says, Waiting, stands, woken, granted, Granting, pass, release}
+use Rattle.starvation_freedom.proofs.Says.{Says, says, stands, woken, granted, pass, release}
 use Rattle.starvation_freedom.proofs.Turns.{From-idle, to-swap, drawn-inside, drawn-watch, idle-turn}
-use Rattle.longest_wait.specs.Bounds.{effective, member-wait, wait-bound}
+use Rattle.longest_wait.specs.Bounds.{effective, wait-bound}
 use Rattle.longest_wait.specs.InLine.{ends-at, others-entry, in-line, bypass, prompt, late-entry, count-steps}
-use Rattle.longest_wait.specs.Laws.{Attempt, Bounded-wait, Wait-bound-law}
+use Rattle.longest_wait.specs.Laws.{Bounded-wait, Wait-bound-law}
 use Rattle.longest_wait.proofs.Stages.{Ones, ones-empty, ones-step}
 use Rattle.longest_wait.proofs.Effective.{effective-keeps}
 use Rattle.longest_wait.proofs.Over.{letting-go-tag}
-use Rattle.longest_wait.proofs.Ends.{Enters, chain-ends}
+use Rattle.longest_wait.proofs.Ends.{chain-ends}
 use Rattle.longest_wait.proofs.Owes as owes
-use Rattle.longest_wait.proofs.Owes.{Sound, sound-next, W, Owes, Held}
+use Rattle.longest_wait.proofs.Owes.{Sound, sound-next, W, Owes}
 use Rattle.longest_wait.proofs.Falls.{Owed}
 use Rattle.longest_wait.proofs.Steps.{Counts, none, one, owes-step}
 use Rattle.longest_wait.proofs.Prompt.{later-none, either-way, prompt-ends}
@@ -349,11 +349,8 @@ module _ (t : Tree) (ok : tree-refusal t .number ≡ 0) (bits : Sixteen-bit t) w
         let bound = bound-is in
         let in-line-bound : count-steps (in-line t i) (x .state) meanwhile ≤ wait-bound t i = (let e = same-count (in-line t i) in omega arith) in
         let split = either-way t i (x .state) meanwhile (later-none i x meanwhile o) in
-        record {
-          in-line-entries = in-line-bound;
-          wait = omega arith;
-          prompt-wait = λ q. (let none-passed : count-steps (bypass t i) (x .state) meanwhile ≡ 0 = sym (same-count (bypass t i)) ∙ all .prompted (same-count (late-entry t i) ∙ q) in omega arith);
-        }
+        let no-bypass : count-steps (late-entry t i) (x .state) meanwhile ≡ 0 → count-steps (bypass t i) (x .state) meanwhile ≡ 0 = λ q. sym (same-count (bypass t i)) ∙ all .prompted (same-count (late-entry t i) ∙ q) in
+        record { in-line-entries = in-line-bound; wait = omega arith; no-bypass = no-bypass; prompt-wait = λ q. omega (arith, no-bypass q) }
 
 pub wait-bound-law : Wait-bound-law
 unfolding Wait-bound-law

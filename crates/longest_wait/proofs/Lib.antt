@@ -1,5 +1,6 @@
 -- The proofs.
 pub mod Arithmetic
+pub mod Sums
 pub mod Weights
 pub mod Effective
 pub mod Waits
@@ -14,8 +15,10 @@ pub mod Falls
 pub mod Steps
 pub mod Prompt
 pub mod Law
+pub mod Waited
 pub mod Passes
-pub mod Sums
 pub mod Even
 pub mod EvenTree
+pub mod Equation18
+pub mod Numbers
 pub mod Cases

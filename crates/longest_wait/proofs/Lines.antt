@@ -1,21 +1,21 @@
 -- A thread that stands, and who stands before it, through one step. Assumes nothing.
 use mathlib.Core.Path.{_≡_, refl, sym, ap, _∙_}
-use mathlib.Core.Bool.{true, false}
+use mathlib.Core.Bool.{true}
 use mathlib.Core.List.{List, [], _∷_, _++_, append-assoc, nil≢cons, head-eq-of-cons-eq, tail-eq-of-cons-eq}
-use mathlib.Core.Logic.{_≢_, _⊎_, inl, inr}
-use Prim.Native.Nat.{ℕ, zero, suc, _+_, _≤_, _<_}
+use mathlib.Core.Logic.{_≢_, inl, inr}
+use Prim.Native.Nat.{ℕ, suc, _+_, _≤_, _<_}
 use native.Mathlib.Omega.{arith}
 use lib.ListN.{length, length-append}
-use Rattle.model.specs.Trees.{Tree, is-ticket, is-member}
+use Rattle.model.specs.Trees.{Tree, is-member}
 use Rattle.model.specs.States.{place}
 use Rattle.model.specs.Laws.{Sixteen-bit}
-use Rattle.model.proofs.Lists.{same-or, first, rest, first-cons, first-snoc, is, is-same, count, count-append, count-cons, count-nil, first-nil}
+use Rattle.model.proofs.Lists.{first, first-cons, is, is-same, count, count-append, count-cons, first-nil}
 use Rattle.model.proofs.Trees.Index.{ancestor, height, record-at}
 use Rattle.model.proofs.Trees.Accepted.{Accepted}
 use Rattle.model.proofs.Trees.Records.{member-at, member-small}
 use Rattle.claims.proofs.Queues.Paths.{Laws, laws}
-use Rattle.claims.proofs.Queues.Moves.{Stage, climb, queued, ready, low, acts, reach, State, Event}
-use Rattle.claims.proofs.Queues.Invariant.{low-acts, acts-reach, Thread, Inv, unique}
+use Rattle.claims.proofs.Queues.Moves.{climb, queued, low, acts, reach, State, Event}
+use Rattle.claims.proofs.Queues.Invariant.{low-acts, Thread, Inv}
 use Rattle.claims.proofs.Queues.Order.{Change, stays, opens, grows, moves, closes}
 use Rattle.claims.proofs.Queues.Remaining.{acts-real}
 use Rattle.starvation_freedom.specs.Bounds.{members}

@@ -2,7 +2,7 @@
 use mathlib.Core.Path.{_≡_, refl, sym, ap, _∙_}
 use mathlib.Core.List.{List, [], _∷_, _++_}
 use mathlib.Core.Logic.{_≢_}
-use Prim.Native.Nat.{ℕ, zero, suc, _+_, _-_, _≤_, _<_}
+use Prim.Native.Nat.{ℕ, _+_, _≤_, _<_}
 use native.Mathlib.Omega.{arith}
 use lib.ListN.{length, getD, set}
 use lib.Seq.{getD-set-same, getD-set-other}
@@ -15,12 +15,12 @@ use Rattle.model.specs.Steps.{Row-result, row}
 use Rattle.model.specs.Laws.{Sixteen-bit}
 use Rattle.model.proofs.Branches.{Branch, idle-draws, idle-prepares, prepares, swap-root, swap-inner, swap-behind, link-writes, wait-root-locked, wait-root-granted, wait-ungranted, wait-acquires, wait-passed, wait-crossed, inside-leaves, check-passes, check-releases, help-alone, help-linked, cas-last, cas-not-last, linger-alone, linger-linked, grant-writes, draw-shown, draw-unshown, watch-shown, watch-unshown, raise-counts, invalid-stays, branch}
 use Rattle.model.proofs.Lists.{same-or, is-same, count, count-cons}
-use Rattle.model.proofs.Trees.Index.{ancestor, height, record-at}
+use Rattle.model.proofs.Trees.Index.{record-at}
 use Rattle.model.proofs.Trees.Accepted.{Accepted}
 use Rattle.model.proofs.Trees.Paths.{ancestor-home}
 use Rattle.model.proofs.Trees.Records.{own-record-at}
 use Rattle.claims.proofs.Queues.Paths.{laws}
-use Rattle.claims.proofs.Queues.Moves.{out, climb, down}
+use Rattle.claims.proofs.Queues.Moves.{down}
 use Rattle.claims.proofs.Queues.Invariant.{fresh}
 use Rattle.claims.proofs.Words.Outcome.{member-small}
 use Rattle.starvation_freedom.proofs.Situations as situations

@@ -1,33 +1,33 @@
 -- Who is first in a domain and has the lock: whether its Check there is over. It comes to be over only where the count is the threshold or nobody is linked after it. Assumes nothing.
-use mathlib.Core.Path.{_≡_, refl, sym, ap, _∙_}
+use mathlib.Core.Path.{_≡_, sym, ap, _∙_}
 use mathlib.Core.Bool.{Bool, true, false, cond}
 use mathlib.Core.Logic.{_≢_, _⊎_, inl, inr}
-use Prim.Native.Nat.{ℕ, zero, suc, _+_, _-_, _≤_, _<_}
+use Prim.Native.Nat.{ℕ, suc, _+_, _-_, _≤_, _<_}
 use native.Mathlib.Omega.{arith}
 use lib.Dec.{eqb}
-use borrow.Author.Tests.{ne-eqb, eq-eqb, eqb-true}
+use borrow.Author.Tests.{ne-eqb}
 use Rattle.model.specs.declared.Place.{Place}
 use Rattle.model.specs.declared.Place.the-variants.{Idle, Prep, Swap, Link, Wait, Inside, Check, Help, Cas, Linger, Grant, Draw, Watch, Raise, Invalid}
 use Rattle.model.specs.declared.State.{State as WordState}
 use Rattle.model.specs.Trees.{Tree, own-record}
 use Rattle.model.specs.Places.{words-of}
 use Rattle.model.specs.States.{acquire-parent, next, status, place}
-use Rattle.model.specs.Steps.{Row-result, release-word, row}
+use Rattle.model.specs.Steps.{Row-result, row}
 use Rattle.model.specs.Laws.{Sixteen-bit}
 use Rattle.model.proofs.Branches.{Branch, check-passes, check-releases, branch}
 use Rattle.model.proofs.Lists.{same-or, less-or}
 use Rattle.model.proofs.Trees.Index.{ancestor, height, record-at}
 use Rattle.model.proofs.Trees.Accepted.{Accepted}
-use Rattle.model.proofs.Trees.Paths.{ancestor-root, ancestor-inner, ancestor-zero, ancestor-strict}
+use Rattle.model.proofs.Trees.Paths.{ancestor-inner, ancestor-strict}
 use Rattle.model.proofs.Trees.Records.{own-record-at}
 use Rattle.model.proofs.Places.{place-stored}
-use Rattle.claims.proofs.Queues.Moves.{Stage, out, climb, queued, ready, inside, holding, releasing, down, low}
+use Rattle.claims.proofs.Queues.Moves.{Stage, queued, holding, releasing, low}
 use Rattle.claims.proofs.Queues.Invariant.{low-down}
-use Rattle.claims.proofs.Words.View.{Words, words-in}
+use Rattle.claims.proofs.Words.View.{words-in}
 use Rattle.claims.proofs.Words.Represents.{letting-go, Fits, at-idle, at-prep, at-swap, at-link, at-wait, at-woken, at-ready, at-inside, at-check, at-pass, at-help, at-cas, at-linger, at-grant, at-draw, at-watch, at-shown, at-raise}
 use Rattle.starvation_freedom.proofs.Situations as situations
 use Rattle.starvation_freedom.proofs.Situations.{Situation, queues, next-words}
-use Rattle.starvation_freedom.proofs.Says.{Says, says, Waiting, stands, woken, granted, Granting, pass, release, done-stage}
+use Rattle.starvation_freedom.proofs.Says.{Says, says, stands, woken, granted, pass, release, done-stage}
 use Rattle.starvation_freedom.proofs.Turns.{Releases, by-check, by-help, by-raise, From-check, passes, goes-up, inside-turn, check-turn, grant-turn}
 use Rattle.starvation_freedom.proofs.Ready.{ready-enters}
 use Rattle.starvation_freedom.proofs.Queues.{tag}

@@ -1,25 +1,24 @@
 -- How many entries a thread may still see in line: so many at most, by the members before it in its queue, by whoever is first there, and by what that one in turn may still see. Assumes nothing.
-use mathlib.Core.Path.{_≡_, refl, sym, ap, _∙_}
-use mathlib.Core.List.{List, [], _∷_}
-use mathlib.Core.Logic.{_≢_, _⊎_, inl, inr}
-use Prim.Native.Nat.{ℕ, zero, suc, _+_, _*_, _/_, _≤_, _<_}
+use mathlib.Core.Path.{_≡_, refl, ap, _∙_}
+use mathlib.Core.List.{List, _∷_}
+use mathlib.Core.Logic.{_≢_, inl, inr}
+use Prim.Native.Nat.{ℕ, _+_, _*_, _/_, _≤_, _<_}
 use native.Mathlib.Omega.{arith}
 use lib.ListN.{length}
 use Rattle.model.specs.Trees.{Tree}
 use Rattle.model.specs.States.{place}
 use Rattle.model.specs.Laws.{Sixteen-bit}
-use Rattle.model.proofs.Lists.{same-or, less-or}
+use Rattle.model.proofs.Lists.{same-or}
 use Rattle.model.proofs.Trees.Index.{ancestor, height, record-at}
 use Rattle.model.proofs.Trees.Accepted.{Accepted}
-use Rattle.model.proofs.Trees.Paths.{ancestor-real, ancestor-inner, ancestor-zero}
-use Rattle.claims.proofs.Queues.Paths.{Laws, laws}
-use Rattle.claims.proofs.Queues.Moves.{Stage, climb, queued, ready, low, State}
+use Rattle.model.proofs.Trees.Paths.{ancestor-real, ancestor-inner}
+use Rattle.claims.proofs.Queues.Moves.{climb, queued, ready, State}
 use Rattle.claims.proofs.Queues.Invariant.{low-acts, Inv}
 use Rattle.starvation_freedom.proofs.Situations as situations
 use Rattle.starvation_freedom.proofs.Situations.{Situation, queues, next-change}
 use Rattle.starvation_freedom.proofs.Queues.{tag}
 use Rattle.longest_wait.specs.Bounds.{effective, passes, others-passes, tenures-for-all, member-wait}
-use Rattle.longest_wait.proofs.Arithmetic.{tenure-over, one-tenure}
+use Rattle.longest_wait.proofs.Arithmetic.{one-tenure}
 use Rattle.longest_wait.proofs.Weights.{weight}
 use Rattle.longest_wait.proofs.Effective.{effective-keeps, left-there, left-within}
 use Rattle.longest_wait.proofs.Waits.{above-wait, above-root, wait-at, tenures-enough, above-enough}

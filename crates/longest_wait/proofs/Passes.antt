@@ -1,22 +1,20 @@
 -- Passes are at most the allowance, and bound the entries under a member while another stands ungranted. Assumes nothing.
-use mathlib.Core.Path.{_≡_, refl, sym, ap, _∙_}
-use mathlib.Core.Bool.{Bool, true, false, _&&_, not, cond}
-use mathlib.Core.List.{List, [], _∷_, _++_}
-use Prim.Native.Nat.{ℕ, zero, suc, _+_, _*_, _-_, _≤_, _<_, max}
+use mathlib.Core.Path.{_≡_, refl, ap, _∙_}
+use mathlib.Core.Bool.{Bool, true, false, not, cond}
+use mathlib.Core.List.{List, [], _∷_}
+use Prim.Native.Nat.{ℕ, zero, suc, _+_, _*_, _-_, _≤_, _<_}
 use native.Mathlib.Omega.{arith}
 use native.Mathlib.Nat.{mul-le-mul}
 use lib.Dec.{eqb, ltb}
-use borrow.Author.Tests.{lt-ltb, ltb-true, ltb-false, eqb-false, not-true}
-use Rattle.model.specs.Scans.{any-below, largest-below}
+use borrow.Author.Tests.{ltb-true, eqb-false, not-true}
+use Rattle.model.specs.Scans.{largest-below}
 use Rattle.model.specs.Trees.{Tree, is-child, is-leaf, meets, on-path, is-record, is-member, under, domain-allowance, allowance}
-use Rattle.model.specs.Steps.{is-entry, begins, Step}
-use Rattle.model.specs.Runs.{entries-under, occurrences}
-use Rattle.model.specs.Refusals.{tree-refusal}
-use Rattle.model.specs.Laws.{All-threads, Sixteen-bit}
+use Rattle.model.specs.Steps.{is-entry, Step}
+use Rattle.model.specs.Runs.{entries-under}
 use Rattle.model.proofs.Tests.{and-both, by-test}
 use Rattle.model.proofs.Trees.Accepted.{Accepted, accepted, child-facts}
 use Rattle.claims.proofs.Queues.Paths.{laws}
-use Rattle.claims.proofs.Queues.Moves.{State, Event, empty, Run, done, silent, more}
+use Rattle.claims.proofs.Queues.Moves.{State, Event, Run, done, silent, more}
 use Rattle.claims.proofs.Queues.Invariant.{Inv, inv-empty}
 use Rattle.claims.proofs.Queues.Keeps.{keeps}
 use Rattle.claims.proofs.Claims.Reached.{All-real, from-fresh}

@@ -1,9 +1,9 @@
 -- The entries of others in an attempt are in line or bypasses, and a prompt entry is in line. Assumes nothing.
 use mathlib.Core.Path.{_≡_, refl, sym, ap, _∙_}
-use mathlib.Core.Bool.{Bool, true, false, _&&_, _||_, not, cond, false≢true}
-use mathlib.Core.List.{List, [], _∷_, _++_}
-use mathlib.Core.Logic.{_≢_, _⊎_, inl, inr}
-use Prim.Native.Nat.{ℕ, zero, suc, _+_, _≤_, _<_}
+use mathlib.Core.Bool.{Bool, true, false, _||_, cond, false≢true}
+use mathlib.Core.List.{List, [], _∷_}
+use mathlib.Core.Logic.{_≢_, inl, inr}
+use Prim.Native.Nat.{ℕ, _+_, _<_}
 use native.Mathlib.Omega.{arith}
 use lib.Dec.{eqb}
 use borrow.Author.Tests.{eqb-true, eq-eqb}
@@ -22,11 +22,10 @@ use Rattle.model.proofs.Tests.{and-both, and-false, or-cases, all-each}
 use Rattle.model.proofs.Counted.{occurrences-join}
 use Rattle.model.proofs.Trees.Accepted.{Accepted, accepted}
 use Rattle.chain.specs.Chain.{stays, acts-ahead, links, ticket-before, acts-holding, looked-to, chain}
-use Rattle.chain.proofs.Reached.Ahead.{Looked}
 use Rattle.chain.proofs.Reached.Actors.{row-stays}
 use Rattle.chain.proofs.Reached.Waiting.{explains}
 use Rattle.starvation_freedom.proofs.Situations.{Situation}
-use Rattle.longest_wait.specs.InLine.{ends-at, others-entry, in-line, bypass, prompt, late-entry, count-steps}
+use Rattle.longest_wait.specs.InLine.{ends-at, others-entry, in-line, bypass, prompt, count-steps}
 use Rattle.longest_wait.proofs.Ends.{ends-last, Ends, here, onward, chain-ends}
 
 -- IN LINE OR A BYPASS: an entry in which the thread does not enter is of another

@@ -1,22 +1,21 @@
 -- What one step does to the stage of a thread on its way up; and that a domain which it has acquired counts 1 until it has the lock. Assumes nothing.
-use mathlib.Core.Path.{_≡_, refl, sym, ap, _∙_}
-use mathlib.Core.List.{List, [], _∷_}
+use mathlib.Core.Path.{_≡_, refl, ap, _∙_}
+use mathlib.Core.List.{List}
 use mathlib.Core.Logic.{_≢_, _⊎_, inl, inr}
-use Prim.Native.Nat.{ℕ, zero, suc, _+_, _-_, _≤_, _<_}
+use Prim.Native.Nat.{ℕ, zero, suc, _≤_, _<_}
 use native.Mathlib.Omega.{arith}
 use Rattle.model.specs.Trees.{Tree}
-use Rattle.model.proofs.Trees.Index.{ancestor, height, record-at}
+use Rattle.model.proofs.Trees.Index.{height, record-at}
 use Rattle.model.proofs.Trees.Accepted.{Accepted}
 use Rattle.model.proofs.Trees.Records.{record-injective}
-use Rattle.model.proofs.Lists.{same-or, less-or, put, put-same, put-other, first, first-in, count}
+use Rattle.model.proofs.Lists.{same-or, put, put-same, put-other}
 use Rattle.claims.proofs.Queues.Paths.{Laws, laws}
-use Rattle.claims.proofs.Queues.Moves.{Stage, out, climb, queued, ready, inside, holding, releasing, down, low, acts, reach, pending, State, empty, Event, Last, root, lower, Move, start, join-empty, join-root, join-behind, enter, leave, hand-on, release, let-go}
-use Rattle.claims.proofs.Queues.Invariant.{low-acts, Thread, Inv}
+use Rattle.claims.proofs.Queues.Moves.{Stage, out, climb, queued, ready, inside, holding, releasing, down, low, acts, reach, pending, State, empty, Event, root, lower, Move, start, join-empty, join-root, join-behind, enter, leave, hand-on, release, let-go}
+use Rattle.claims.proofs.Queues.Invariant.{Thread, Inv}
 use Rattle.claims.proofs.Queues.Keeps.{keeps}
 use Rattle.claims.proofs.Queues.Remaining.{acts-real}
 use Rattle.starvation_freedom.proofs.Situations.{Changed, unmoved, moved, begun}
 use Rattle.starvation_freedom.proofs.Queues.{tag}
-use Rattle.tenures.proofs.StepMoves.{started-by}
 use Rattle.longest_wait.proofs.Heads.{not-joining, not-standing}
 
 -- a thread's way: where a stage leads in one move

@@ -1,32 +1,29 @@
 -- One step leaves no more to see in line, and an entry in line leaves less: in every case, by the levels above. Assumes nothing.
 use mathlib.Core.Path.{_≡_, refl, sym, ap, _∙_}
-use mathlib.Core.List.{List, [], _∷_, head-eq-of-cons-eq}
-use mathlib.Core.Logic.{_≢_, _⊎_, inl, inr}
-use Prim.Native.Nat.{ℕ, zero, suc, _+_, _*_, _/_, _≤_, _<_}
+use mathlib.Core.List.{List, head-eq-of-cons-eq}
+use mathlib.Core.Logic.{_≢_, inl, inr}
+use Prim.Native.Nat.{ℕ, zero, suc, _+_, _≤_, _<_}
 use native.Mathlib.Omega.{arith}
-use lib.ListN.{length}
 use Rattle.model.specs.Trees.{Tree}
 use Rattle.model.specs.States.{place}
 use Rattle.model.specs.Laws.{Sixteen-bit}
 use Rattle.model.proofs.Lists.{same-or, less-or}
-use Rattle.model.proofs.Trees.Index.{ancestor, height, record-at}
+use Rattle.model.proofs.Trees.Index.{ancestor, height}
 use Rattle.model.proofs.Trees.Accepted.{Accepted}
 use Rattle.claims.proofs.Queues.Paths.{Laws, laws}
 use Rattle.claims.proofs.Queues.Meeting.{same-height}
-use Rattle.claims.proofs.Queues.Moves.{Stage, climb, queued, ready, inside, low, acts, pending, State}
+use Rattle.claims.proofs.Queues.Moves.{climb, queued, ready, inside, low, pending, State}
 use Rattle.claims.proofs.Queues.Invariant.{low-acts, Inv, unique}
 use Rattle.starvation_freedom.proofs.Situations as situations
 use Rattle.starvation_freedom.proofs.Situations.{Situation, queues, next-change, Changed}
 use Rattle.starvation_freedom.proofs.Queues.{tag}
 use Rattle.starvation_freedom.proofs.Left.{hits, entry-hits}
-use Rattle.longest_wait.specs.Bounds.{member-wait}
-use Rattle.longest_wait.proofs.Effective.{left-there}
 use Rattle.longest_wait.proofs.Waits.{wait-less}
 use Rattle.longest_wait.proofs.Stages.{steps-on, from-queued, from-climb, from-ready, way-lasts, way-pending, inside-stage}
-use Rattle.longest_wait.proofs.Over.{Over, not-over}
+use Rattle.longest_wait.proofs.Over.{not-over}
 use Rattle.longest_wait.proofs.Ends.{Line, Enters, entry-inside, Ends, own-end, Line-ends, line-ends}
 use Rattle.longest_wait.proofs.Lines.{low-real, stands-real, climbs-real}
-use Rattle.longest_wait.proofs.Owes.{Sound, sound-next, W, Held, held-left, Owes, free, climbs, stands, held, waits, held-enough, waits-enough}
+use Rattle.longest_wait.proofs.Owes.{Sound, W, Held, held-left, Owes, free, climbs, stands, held, waits, held-enough, waits-enough}
 use Rattle.longest_wait.proofs.Falls.{Owed, same-tally, itself-kept, rest-less, held-falls, held-enters}
 
 module _ (t : Tree) (valid : Accepted t) (bits : Sixteen-bit t) (c : Situation t) (sound : Sound t valid bits c) (x : ℕ) (hx : x < t .threads) where

@@ -1,22 +1,26 @@
 -- Sums over all numbers below a bound. Assumes nothing.
-use mathlib.Core.Path.{_≡_, refl, sym, ap, _∙_}
+use mathlib.Core.Path.{_≡_, refl, sym, ap}
 use mathlib.Core.Bool.{Bool, true, false, _&&_, not, cond}
-use mathlib.Core.List.{List, [], _∷_, _++_}
-use mathlib.Core.Logic.{_≢_}
+use mathlib.Core.List.{[], _∷_, _++_}
 use Prim.Native.Nat.{ℕ, zero, suc, _+_, _*_, _≤_, _<_}
 use native.Mathlib.Omega.{arith}
 use lib.Dec.{eqb}
 use lib.ListN.{length, length-append}
 use borrow.Author.Tests.{eq-eqb, ne-eqb}
 use Rattle.model.specs.Scans.{filter-below}
-use Rattle.model.proofs.Tests.{and-true, and-false}
-use Rattle.model.proofs.Lists.{same-or}
+use Rattle.model.proofs.Tests.{and-true}
+use Rattle.model.proofs.Lists.{same-or, is, is-same, is-other}
 use Rattle.longest_wait.specs.Bounds.{sum-below}
 
 pub sum-same : (n : ℕ) (f g : ℕ → ℕ) → ((a : ℕ) → a < n → f a ≡ g a) → sum-below n f ≡ sum-below n g
 unfolding sum-below
 sum-same zero f g h = refl
 sum-same (suc n) f g h = let r = sum-same n f g (λ a b. h a (omega arith)) in let x = h n (omega arith) in omega arith
+
+pub sum-grows : (n : ℕ) (f g : ℕ → ℕ) → ((a : ℕ) → a < n → f a ≤ g a) → sum-below n f ≤ sum-below n g
+unfolding sum-below
+sum-grows zero f g h = omega arith
+sum-grows (suc n) f g h = let r = sum-grows n f g (λ a b. h a (omega arith)) in let x = h n (omega arith) in omega arith
 
 pub sum-zero : (n : ℕ) (f : ℕ → ℕ) → ((a : ℕ) → a < n → f a ≡ 0) → sum-below n f ≡ 0
 unfolding sum-below
@@ -32,6 +36,21 @@ pub sum-adds : (n : ℕ) (f g : ℕ → ℕ) → sum-below n (λ a. f a + g a) �
 unfolding sum-below
 sum-adds zero f g = refl
 sum-adds (suc n) f g = let r = sum-adds n f g in omega arith
+
+-- one value alone
+pub sum-one : (n : ℕ) (f : ℕ → ℕ) (x : ℕ) → x < n → sum-below n (λ a. is a x * f a) ≡ f x
+unfolding sum-below
+sum-one zero f x h = absurd (omega arith)
+sum-one (suc n) f x h =
+    same-or x n _
+    (λ e.
+    let z = sum-zero n (λ a. is a x * f a) (λ a b. let o = is-other a x (λ y. omega arith) in rw o (omega arith)) in
+    let o = is-same n x (sym e) in
+    rw o (let y : f x ≡ f n = ap f e in omega arith))
+    (λ e.
+    let z = sum-one n f x (omega arith) in
+    let o = is-other n x (λ y. e (sym y)) in
+    rw o (omega arith))
 
 -- in either order
 pub sum-swaps : (n m : ℕ) (f : ℕ → ℕ → ℕ) → sum-below n (λ a. sum-below m (λ b. f a b)) ≡ sum-below m (λ b. sum-below n (λ a. f a b))

@@ -310,3 +310,16 @@ pub fn busy(tree: &Tree, count: usize, seed: u64, work: u64) -> Vec<u16> {
     }
     schedule
 }
+
+/// What an entry costs on the busy schedule that a choice runs, where no thread can wait for more than the limit: the thresholds are those of the
+/// levels below the root, the times 0.05, 0.2 and 1.
+pub fn cost_within(tree: &Tree, thresholds: &[u16], limit: u64) -> Option<f64> {
+    let level = |domain: usize| std::iter::successors(Some(domain), |&above| (above != ROOT).then(|| tree.parent(above))).count();
+    let mut tree = tree.clone();
+    (1..tree.domains).for_each(|domain| tree.thresholds[domain] = thresholds[level(domain) - 2]);
+    if longest_waits(&tree).into_iter().max()? > limit {
+        return None;
+    }
+    let RunReply { entries, root, passed, crossed, .. } = waited(&tree, &busy(&tree, 3000, 1, 0)).reply;
+    Some((0.05 * passed as f64 + 0.2 * crossed as f64 + root as f64) / entries as f64)
+}

@@ -6,6 +6,7 @@ use reference::random::Random;
 use reference::rate::PassingTimes;
 use reference::random_file::{random_file, valid_draft};
 use reference::table::{Kind, Tree};
+use reference::text_tree::read_text;
 use reference::tool::*;
 use std::env;
 use std::fs;
@@ -123,6 +124,47 @@ fn compare_made(tool: &Tool, random: &mut Random, tree: &Tree) -> Result<(), Str
     (made == expected).then_some(()).ok_or_else(|| format!("make of {word} writes {made:?}, and it is {expected:?}"))
 }
 
+/// An even tree of two or three levels as text, and how many members a domain of each level below the root has.
+fn even_tree(random: &mut Random) -> (String, Vec<usize>) {
+    let sizes: Vec<usize> = (0..random.between(1, 2)).map(|_| random.between(2, 3)).collect();
+    let mut text = format!("#{}", sizes[sizes.len() - 1]);
+    for level in (0..sizes.len()).rev() {
+        let count = if level == 0 { random.between(2, 3) } else { sizes[level - 1] };
+        text = vec![format!("1({text})"); count].join(" ");
+    }
+    (format!("({text})"), sizes)
+}
+
+/// The thresholds that are chosen keep every wait within the limit, and no thresholds that do are faster by more than what two runs of a busy lock
+/// differ by.
+fn compare_choice(tool: &Tool, random: &mut Random) -> Result<(), String> {
+    let (text, sizes) = even_tree(random);
+    let limit = random.between(2, 24) as u64;
+    let (limit_word, schedule) = (limit.to_string(), "busy:3000:1");
+    let words = ["choose", &text, "--max-wait", &limit_word, "--times", "0.05,0.2,1", "--schedule", schedule, "--csv"];
+    let output = tool.run(&words);
+    let tree = read_text(text.as_bytes()).tree.tree();
+    let mut best: Option<f64> = None;
+    let most = limit as usize + 3;
+    for first in 1..=most {
+        for second in 1..=(if sizes.len() == 2 { most } else { 1 }) {
+            if let Some(cost) = cost_within(&tree, &[first as u16, second as u16], limit) {
+                best = Some(best.map_or(cost, |other: f64| other.min(cost)));
+            }
+        }
+    }
+    let Some(best) = best else {
+        let said = String::from_utf8_lossy(&output.stderr).into_owned();
+        return (output.status.code() == Some(2)).then_some(()).ok_or_else(|| format!("{words:?} says {said}, and no thresholds keep to the limit"));
+    };
+    let printed = String::from_utf8_lossy(&output.stdout).into_owned();
+    let chosen = printed.lines().find(|line| line.ends_with(",chosen")).ok_or_else(|| format!("{words:?} chooses nothing: {printed}"))?;
+    let fields: Vec<&str> = chosen.split(',').collect();
+    let thresholds: Vec<u16> = fields[..sizes.len()].iter().map(|field| field.parse().expect("a threshold")).collect();
+    let cost = cost_within(&tree, &thresholds, limit).ok_or_else(|| format!("{words:?} chooses {thresholds:?}, which let a thread wait longer"))?;
+    (cost <= 1.03 * best).then_some(()).ok_or_else(|| format!("{words:?} chooses {thresholds:?} with {cost} for an entry, and the least is {best}"))
+}
+
 /// What is shown of a file makes the shortest file of its tree and schedule.
 fn compare_shown(tool: &Tool, accepted: &Accepted) -> Result<(), String> {
     let shown = tool.printed(&["show", "a.lock"])?;
@@ -147,6 +189,9 @@ fn compare_file(tool: &Tool, random: &mut Random, file: &[u8]) -> Result<bool, S
     compare_sweep(tool, random, &accepted)?;
     compare_made(tool, random, &accepted.tree)?;
     compare_shown(tool, &accepted)?;
+    if random.one_in(8) {
+        compare_choice(tool, random)?;
+    }
     Ok(true)
 }
 

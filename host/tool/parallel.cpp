@@ -1,5 +1,5 @@
-// The runs of a sweep, several at a time.
-#include "sweep.hpp"
+#include "parallel.hpp"
+
 #include "tool.hpp"
 
 #include <atomic>
@@ -16,29 +16,19 @@ namespace tool {
 
 namespace {
 
-void run_row(const Sweep &sweep, SweepRow &row) {
-    hmcs_tree words = sweep.tree.words();
-    for (std::size_t a = 0; a < sweep.axes.size(); ++a) {
-        for (const std::uint32_t domain : sweep.axes[a].domains) {
-            words.thresholds[domain] = row.thresholds[a];
-        }
-    }
-    row.trial = try_tree(hmcs::Tree::of(words), sweep.schedules[row.schedule], sweep.times);
-}
-
-// Rows that wait to be run, and how many are done. The first exception of a job ends them all.
+// Runs that wait, and how many are done. The first exception of a job ends them all.
 class Jobs {
 public:
-    explicit Jobs(Sweep &sweep) : sweep_(sweep) {}
+    Jobs(std::size_t count, const std::function<void(std::size_t)> &run) : count_(count), run_(run) {}
 
     void work() {
         try {
-            for (std::size_t k = next_++; k < sweep_.rows.size(); k = next_++) {
-                run_row(sweep_, sweep_.rows[k]);
+            for (std::size_t k = next_++; k < count_; k = next_++) {
+                run_(k);
                 ++done_;
             }
         } catch (...) {
-            next_ = sweep_.rows.size();
+            next_ = count_;
             const std::lock_guard<std::mutex> held(mutex_);
             failure_ = std::current_exception();
         }
@@ -55,7 +45,7 @@ public:
         for (auto pause = std::chrono::milliseconds(2000); !changed_.wait_for(held, pause, [&] { return ended_ == jobs; });
              pause = std::chrono::milliseconds(200)) {
             if (shown) {
-                std::fprintf(stderr, "\r%zu of %zu runs", done_.load(), sweep_.rows.size());
+                std::fprintf(stderr, "\r%zu of %zu runs", done_.load(), count_);
                 said = true;
             }
         }
@@ -71,7 +61,8 @@ public:
     }
 
 private:
-    Sweep &sweep_;
+    std::size_t count_;
+    const std::function<void(std::size_t)> &run_;
     std::atomic<std::size_t> next_{0}, done_{0};
     std::mutex mutex_;
     std::condition_variable changed_;
@@ -81,24 +72,33 @@ private:
 
 } // namespace
 
-void run_rows(Sweep &sweep, std::size_t count) {
-    Jobs jobs(sweep);
+void run_each(std::size_t count, std::size_t jobs, const std::function<void(std::size_t)> &run) {
+    Jobs all(count, run);
     std::vector<std::thread> threads;
-    for (std::size_t k = 0; k < std::min(count, sweep.rows.size()); ++k) {
+    for (std::size_t k = 0; k < std::min(jobs, count); ++k) {
         try {
-            threads.emplace_back([&] { jobs.work(); });
+            threads.emplace_back([&] { all.work(); });
         } catch (const std::system_error &) {
             break; // the system gives no more threads, and those that there are do the work
         }
     }
-    if (threads.empty()) {
-        fail("sweep: the system gives no thread to run it");
+    if (threads.empty() && count > 0) {
+        fail("the system gives no thread to run it");
     }
-    jobs.await(threads.size());
+    all.await(threads.size());
     for (std::thread &thread : threads) {
         thread.join();
     }
-    jobs.rethrow();
+    all.rethrow();
+}
+
+std::size_t jobs_of(const Words &words) {
+    const std::string usual = std::to_string(std::max(1u, std::thread::hardware_concurrency()));
+    const std::uint64_t jobs = number("--jobs", words.value("--jobs", usual), 1024);
+    if (jobs == 0) {
+        fail("--jobs must be at least 1");
+    }
+    return jobs;
 }
 
 } // namespace tool
