@@ -6,8 +6,8 @@
  *
  * Pointers are the one thing that no function can test. A buffer must be valid for its length, and may be null where the length is 0; the
  * pointers to a state, a place, a length, allowances or numbers under way must be valid, aligned and not null. The buffers of one call must not overlap. Two calls
- * may run at once unless one writes what the other reads or writes. hmcs_run_file and hmcs_run_many need 200 KB of stack, every other function at most
- * 72 KB besides its arguments and its result, which take up to 19 KB in the caller.
+ * may run at once unless one writes what the other reads or writes. hmcs_run_file and hmcs_run_many need 200 KB of stack, hmcs_run_waits and
+ * hmcs_run_waits_on 96 KB, every other function at most 72 KB, besides its arguments and its result, which take up to 19 KB in the caller.
  *
  * Compare two states field by field, never by memcmp: struct hmcs_place and struct hmcs_state have padding, and so do struct hmcs_text_reply,
  * struct hmcs_journal_answer and struct hmcs_waits_reply.
@@ -255,8 +255,16 @@ enum { HMCS_WAIT_NUMBERS = 5 };
 
 /* What a run with waits returns: what hmcs_run returns, and how many rows were written, one more than there are threads; 0 if refused. */
 typedef struct hmcs_waits_reply {
-    hmcs_run_reply run;
+    uint32_t number;
+    uint32_t place;
+    uint32_t steps;
+    uint32_t entries;
+    uint32_t stays;
+    uint32_t root;
+    uint32_t passed;
+    uint32_t crossed;
     uint32_t rows;
+    hmcs_state state;
 } hmcs_waits_reply;
 
 /* The steps of a schedule as hmcs_run takes them, and the waits of the attempts that begin and finish within the run. An attempt of a thread begins
@@ -460,7 +468,8 @@ HMCS_LAYOUT(hmcs_run_reply, 9000, 8);
 HMCS_OFFSET(hmcs_run_reply, crossed, 28);
 HMCS_OFFSET(hmcs_run_reply, state, 32);
 HMCS_LAYOUT(hmcs_waits_reply, 9008, 8);
-HMCS_OFFSET(hmcs_waits_reply, rows, 9000);
+HMCS_OFFSET(hmcs_waits_reply, rows, 32);
+HMCS_OFFSET(hmcs_waits_reply, state, 40);
 HMCS_LAYOUT(hmcs_many_reply, 16, 8);
 HMCS_OFFSET(hmcs_many_reply, place, 4);
 HMCS_OFFSET(hmcs_many_reply, rows, 8);

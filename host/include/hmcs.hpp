@@ -155,7 +155,7 @@ struct WaitsSoFar {
 namespace detail {
 
 // The state after a run, and what the run said.
-inline void keep(const hmcs_run_reply &reply, hmcs_state &state, RunResult &result) {
+template <typename Reply> void keep(const Reply &reply, hmcs_state &state, RunResult &result) {
     state = reply.state;
     result.refusal = Refusal{reply.number, reply.place};
     result.counts = Counts{reply.steps, reply.entries, reply.stays, reply.root, reply.passed, reply.crossed};
@@ -172,7 +172,7 @@ inline WaitsResult run_waits(const Tree &tree, hmcs_state &state, UnderWay &unde
     result.run.trace.resize(std::min<std::size_t>(length, 65536)); // a longer schedule is refused (11) before the trace is looked at
     const hmcs_waits_reply reply = hmcs_run_waits_on(tree.words(), state, schedule, length, result.run.trace.data(), result.run.trace.size(), numbers.data(),
                                                      numbers.size(), under_way.data());
-    detail::keep(reply.run, state, result.run);
+    detail::keep(reply, state, result.run);
     for (std::size_t row = 0; row < reply.rows; ++row) {
         const std::uint64_t *n = numbers.data() + row * HMCS_WAIT_NUMBERS;
         result.threads.push_back(Waits{n[0], n[1], n[2], n[3], n[4]});

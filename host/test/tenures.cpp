@@ -106,7 +106,7 @@ std::uint32_t number_of(const hmcs_tree &tree, const hmcs_state &state) {
     const hmcs_run_reply run = hmcs_run(tree, state, schedule, 1, trace, 1);
     CHECK(run.number == step.number && run.place == 0 && same(run.state, step.state) && run.steps == (step.number == 0 ? 1U : 0U));
     CHECK(step.number == 0 || trace[0] == 77);
-    const hmcs_run_reply waits = hmcs_run_waits(tree, state, schedule, 1, trace, 1, rows, 20).run;
+    const hmcs_waits_reply waits = hmcs_run_waits(tree, state, schedule, 1, trace, 1, rows, 20);
     CHECK(waits.number == step.number && waits.place == 0 && same(waits.state, step.state));
     // a chain takes no step, so that 10 alone refuses it
     const bool bad = step.number == HMCS_BAD_STATE;
@@ -159,7 +159,7 @@ void positions() {
         CHECK(run.number == (accepted ? 0U : HMCS_COUNTER_FULL + 0U) && run.place == (accepted ? 0 : c.place) && run.steps == (accepted ? 22U : 0U));
         CHECK(accepted ? (run.state.*c.counter)[c.domain] == HMCS_MOST_COUNTED : same(run.state, state) && trace == std::vector<std::uint16_t>(22, 77));
         trace.assign(22, 77);
-        const hmcs_run_reply waits = hmcs_run_waits(tree, state, schedule22.data(), 22, trace.data(), 22, rows.data(), 20).run;
+        const hmcs_waits_reply waits = hmcs_run_waits(tree, state, schedule22.data(), 22, trace.data(), 22, rows.data(), 20);
         CHECK(waits.number == run.number && waits.place == run.place && same(waits.state, run.state));
         CHECK(accepted || (rows == std::vector<std::uint64_t>(20, 77) && trace == std::vector<std::uint16_t>(22, 77)));
         auto kept = std::make_unique<hmcs_state>(state);
@@ -186,9 +186,9 @@ void order() {
     std::vector<std::uint64_t> rows(20, 77);
     CHECK(hmcs_run(tree, state, late.data(), 23, trace.data(), 22).number == HMCS_BAD_ENTRY);
     CHECK(hmcs_run(tree, state, schedule22.data(), 22, trace.data(), 21).number == HMCS_TRACE_SHORT);
-    CHECK(hmcs_run_waits(tree, state, schedule22.data(), 22, trace.data(), 21, rows.data(), 19).run.number == HMCS_TRACE_SHORT);
-    CHECK(hmcs_run_waits(tree, state, schedule22.data(), 22, trace.data(), 22, rows.data(), 19).run.number == HMCS_WAITS_SHORT);
-    CHECK(hmcs_run_waits(tree, state, schedule22.data(), 22, trace.data(), 22, rows.data(), 20).run.number == HMCS_COUNTER_FULL);
+    CHECK(hmcs_run_waits(tree, state, schedule22.data(), 22, trace.data(), 21, rows.data(), 19).number == HMCS_TRACE_SHORT);
+    CHECK(hmcs_run_waits(tree, state, schedule22.data(), 22, trace.data(), 22, rows.data(), 19).number == HMCS_WAITS_SHORT);
+    CHECK(hmcs_run_waits(tree, state, schedule22.data(), 22, trace.data(), 22, rows.data(), 20).number == HMCS_COUNTER_FULL);
     // threads 0, 0 .. alone: an entry of domain 1 each ten steps, so that the 5,000th is at position 4999 * 10 + 3
     hmcs_state near{};
     near.entries[1] = HMCS_MOST_COUNTED - 4999;

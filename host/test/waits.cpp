@@ -65,11 +65,10 @@ void buffers() {
                 std::memcpy(schedule.as<void>(), schedule22.data(), schedule22.size() * 2);
                 std::memset(trace.as<void>(), 0x33, length * 2);
                 std::memset(rows.as<void>(), 0x33, room * 8);
-                const hmcs_waits_reply reply = hmcs_run_waits(tree.words(), fresh, schedule.as<std::uint16_t>(), schedule22.size(), trace.as<std::uint16_t>(), length,
+                const hmcs_waits_reply r = hmcs_run_waits(tree.words(), fresh, schedule.as<std::uint16_t>(), schedule22.size(), trace.as<std::uint16_t>(), length,
                                                         rows.as<std::uint64_t>(), room);
-                const hmcs_run_reply &r = reply.run;
                 const std::uint32_t number = length < schedule22.size() ? HMCS_TRACE_SHORT : room < 20 ? HMCS_WAITS_SHORT : HMCS_ACCEPTED;
-                CHECK(r.number == number && r.place == 0 && r.entries == (number == 0 ? 3U : 0U) && reply.rows == (number == 0 ? 4U : 0U));
+                CHECK(r.number == number && r.place == 0 && r.entries == (number == 0 ? 3U : 0U) && r.rows == (number == 0 ? 4U : 0U));
                 CHECK(number == 0 || same(r.state, fresh));
                 for (std::size_t k = 0; k < length; ++k) {
                     CHECK(trace.as<std::uint16_t>()[k] == (number == 0 && k < 3 ? k : 0x3333));
@@ -81,7 +80,28 @@ void buffers() {
             }
         }
     }
-    CHECK(hmcs_run_waits(tree.words(), fresh, nullptr, 0, nullptr, 0, nullptr, 0).run.number == HMCS_WAITS_SHORT);
+    CHECK(hmcs_run_waits(tree.words(), fresh, nullptr, 0, nullptr, 0, nullptr, 0).number == HMCS_WAITS_SHORT);
+}
+
+// The numbers between guard pages: thread 1 is left waiting, and a number that cannot be leaves everything.
+void guarded_numbers() {
+    const hmcs::Tree tree = example_tree();
+    const hmcs_state fresh = hmcs_fresh(tree.words(), 0).state;
+    for (bool at_end : {false, true}) {
+        Guarded numbers(HMCS_THREADS * 8, at_end), rows(20 * 8, at_end);
+        std::memset(numbers.as<void>(), 0, HMCS_THREADS * 8);
+        std::uint64_t *under_way = numbers.as<std::uint64_t>();
+        const std::array<std::uint16_t, 7> turns = {0, 0, 0, 0, 1, 1, 1};
+        std::array<std::uint16_t, 7> trace{};
+        const auto run = [&] {
+            std::memset(rows.as<void>(), 0x33, 20 * 8);
+            return hmcs_run_waits_on(tree.words(), fresh, turns.data(), turns.size(), trace.data(), trace.size(), rows.as<std::uint64_t>(), 20, under_way);
+        };
+        CHECK(run().rows == 4 && under_way[0] == 0 && under_way[1] == 1 && under_way[2] == 0 && rows.as<std::uint64_t>()[15] == 1);
+        under_way[HMCS_THREADS - 1] = 1;
+        CHECK(run().place == HMCS_THREADS - 1 && under_way[1] == 1 && under_way[HMCS_THREADS - 1] == 1);
+        CHECK(rows.as<std::uint64_t>()[0] == UINT64_C(0x3333333333333333) && rows.as<std::uint64_t>()[19] == UINT64_C(0x3333333333333333));
+    }
 }
 
 bool same_waits(const hmcs::Waits &a, const hmcs::Waits &b) { return numbers_of(a) == numbers_of(b); }
@@ -125,21 +145,23 @@ void kept() {
 
 // Numbers that a host hands in: large ones, totals that are cut, 27 with its place, and 18 before it.
 void numbers() {
-    const hmcs::Tree tree = root_alone(hmcs::RootKind::queue, 3);
-    // thread 0 is inside, and threads 1 and 2 wait in the queue
+    const hmcs::Tree tree = root_alone(hmcs::RootKind::queue, 4);
+    // thread 0 is inside, and threads 1 to 3 wait in the queue
     hmcs_state state = hmcs::Lock(tree).state();
     hmcs::UnderWay under_way{};
-    CHECK(hmcs::run_waits(tree, state, under_way, Schedule{0, 0, 1, 1, 1, 2, 2, 2}).accepted() && under_way[1] == 1 && under_way[2] == 1);
+    CHECK(hmcs::run_waits(tree, state, under_way, Schedule{0, 0, 1, 1, 1, 2, 2, 2, 3, 3, 3}).accepted() && under_way[1] == 1 && under_way[3] == 1);
     const hmcs_state waiting = state;
-    const Schedule go_on = {0, 0, 0, 1, 1, 1, 1, 2};
+    const Schedule go_on = {0, 0, 0, 1, 1, 1, 1, 2, 2, 2, 2, 3};
     under_way[1] = HMCS_MOST_COUNTED;
     under_way[2] = HMCS_MOST_COUNTED;
+    under_way[3] = HMCS_MOST_COUNTED;
     const hmcs::WaitsResult result = hmcs::run_waits(tree, state, under_way, go_on);
     CHECK((numbers_of(result.threads[1]) == Numbers{1, HMCS_MOST_COUNTED - 1, HMCS_MOST_COUNTED - 1, HMCS_MOST_COUNTED - 1, 1}));
     CHECK((numbers_of(result.threads[2]) == Numbers{1, HMCS_MOST_COUNTED, HMCS_MOST_COUNTED, HMCS_MOST_COUNTED, 1}));
-    CHECK(result.all.total == UINT64_MAX && result.all.largest == HMCS_MOST_COUNTED && result.all.numerator == UINT64_MAX && result.all.denominator == 2);
+    // the three add up to more than 64 bits hold
+    CHECK((numbers_of(result.all) == Numbers{3, UINT64_MAX, HMCS_MOST_COUNTED + 1, UINT64_MAX / 3, 1}));
     CHECK(under_way == hmcs::UnderWay{});
-    for (const std::size_t at : {std::size_t{1}, std::size_t{3}, std::size_t{255}}) {
+    for (const std::size_t at : {std::size_t{1}, std::size_t{4}, std::size_t{255}}) {
         under_way = {};
         under_way[at] = at == 1 ? HMCS_MOST_COUNTED + 1 : 1;
         const hmcs::UnderWay before = under_way;
@@ -156,7 +178,7 @@ void numbers() {
     CHECK(hmcs::run_waits(tree, state, under_way, Schedule{}).run.refusal.number == HMCS_BAD_UNDER_WAY);
     // 18 before 27
     const hmcs_waits_reply few = hmcs_run_waits_on(tree.words(), state, nullptr, 0, nullptr, 0, nullptr, 0, under_way.data());
-    CHECK(few.run.number == HMCS_WAITS_SHORT && few.rows == 0 && under_way[2] == HMCS_MOST_COUNTED + 1);
+    CHECK(few.number == HMCS_WAITS_SHORT && few.rows == 0 && under_way[2] == HMCS_MOST_COUNTED + 1);
 }
 
 } // namespace
@@ -167,6 +189,7 @@ int main() {
     kept();
     numbers();
     buffers();
+    guarded_numbers();
     std::printf("waits: %d checks, %d failures\n", checks, failures);
     return failures == 0 ? 0 : 1;
 }

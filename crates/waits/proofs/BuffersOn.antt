@@ -16,12 +16,11 @@ use Rattle.model.specs.Runs.{steps, counts-of, run-of, run}
 use Rattle.model.specs.Refusals.{Refusal, refusal, accepted, lowest-bad, first-refusal, run-refusal}
 use Rattle.model.specs.Answers.{counters-behind, run-reply, run-buffer, run-answer, trace-answer}
 use Rattle.model.proofs.Trees.Accepted as trees
-use Rattle.model.proofs.Laws.Calls.{Good-run, run-facts}
-use Rattle.schedules.specs.Rows.{total}
+use Rattle.model.proofs.Laws.Calls.{run-facts}
 use Rattle.schedules.specs.Answers.{row-buffer}
 use Rattle.waits.specs.Attempts.{under-way-from, under-way-below, waits-below-from}
-use Rattle.waits.specs.Rows.{row-with, rows-below-from, capped, row-of-all, all-rows-from}
-use Rattle.waits.specs.Refusals.{waits-refusal, bad-under-way, under-way-tests}
+use Rattle.waits.specs.Rows.{rows-below-from, row-of-all, all-rows-from}
+use Rattle.waits.specs.Refusals.{bad-under-way}
 use Rattle.waits.specs.Answers.{waits-reply, refused-by, refused-on, waits-on-answer, waits-on-trace, waits-on-rows, waits-on-under-way}
 use Rattle.waits.specs.Laws.{Waits-refusal-law, row-at}
 use Rattle.waits.specs.GoingOn.{Runs-on-as, Waits-on-run-law, Says-on, Row-on-law, Keeps-rest-on, Buffers-on-law}
@@ -103,28 +102,26 @@ module _ (w : TreeWords) (s : LockState) (is b rs us : List ℕ) where
       let long = numbers-long t us xs (t .threads) in
       record {
         long = ap length (rows-accepted e) ∙ front-long (5 * (t .threads + 1)) (all-rows-from t us xs) rs l (passes e .1);
-        behind = ap (drop (5 * (t .threads + 1))) (rows-accepted e) ∙ front-rest (5 * (t .threads + 1)) (all-rows-from t us xs) rs l;
+        after = ap (drop (5 * (t .threads + 1))) (rows-accepted e) ∙ front-rest (5 * (t .threads + 1)) (all-rows-from t us xs) rs l;
         as-many = λ _.
             (ap length (numbers-accepted e) ∙ length-append (under-way-below t us (t .threads) xs) (replicate (256 - t .threads) 0)
             ∙ omega (arith, long, few-threads e, length-replicate {A = ℕ} (256 - t .threads) 0));
         zeros = λ _ i h. ap (λ v. getD v i 0) (numbers-accepted e) ∙ after-front (under-way-below t us (t .threads) xs) (256 - t .threads) i (omega (arith, long, h));
-        refused = λ n. absurd (n e);
         told = λ _. rw (eq-eqb (met .number) 0 e);
-        none-told = λ n. absurd (n e);
+        refused = λ n. absurd (n e);
       }
 
   rest-refused : met .number ≢ 0 → Keeps-rest-on w s is b rs us
-  unfolding waits-on-answer waits-reply waits-on-rows row-buffer waits-on-under-way
+  unfolding waits-on-answer waits-reply run-reply waits-on-trace run-buffer waits-on-rows row-buffer waits-on-under-way
   rest-refused n =
       let z = ne-eqb (met .number) 0 n in
       record {
         long = rw z;
-        behind = rw z;
+        after = rw z;
         as-many = λ e. absurd (n e);
         zeros = λ e i h. absurd (n e);
-        refused = λ _. (rw z, rw z);
         told = λ e. absurd (n e);
-        none-told = λ _. rw z;
+        refused = λ _. record { reply = rw z; traced = rw z; written = rw z; numbers = rw z };
       }
 
   -- the run's part

@@ -1,12 +1,11 @@
 -- Two calls one after another give what one call on the joined schedule gives. Assumes nothing.
 use mathlib.Core.Path.{_≡_, refl, sym, ap, _∙_}
-use mathlib.Core.List.{List, [], _∷_, _++_}
+use mathlib.Core.List.{List, _++_}
 use Prim.Native.Nat.{ℕ, zero, suc, _+_, _-_, _≤_, _<_, max}
 use native.Mathlib.Omega.{arith}
 use lib.ListN.{length, getD, replicate, length-append}
 use borrow.Author.Tests.{eq-eqb}
 use Rattle.model.specs.declared.TreeWords.{TreeWords}
-use Rattle.model.specs.declared.State.{State}
 use Rattle.model.specs.declared.LockState.{LockState}
 use Rattle.model.specs.Trees.{Tree, tree-of}
 use Rattle.model.specs.Steps.{Step}
@@ -18,7 +17,7 @@ use Rattle.model.proofs.Laws.Runs.{steps-join, state-after-join}
 use Rattle.schedules.specs.Rows.{total}
 use Rattle.waits.specs.Attempts.{waits-from, under-way-from, waits-below-from, under-way-below}
 use Rattle.waits.specs.Rows.{largest, row-with, row-of, capped, row-of-all}
-use Rattle.waits.specs.Answers.{waits-reply, refused-on, waits-on-answer, waits-on-rows, waits-on-under-way}
+use Rattle.waits.specs.Answers.{waits-reply, refused-on, waits-on-answer, waits-on-rows}
 use Rattle.waits.specs.Laws.{row-at}
 use Rattle.waits.specs.GoingOn.{joined-row, joined-last-row, left-by, Calls-join, Waits-join-law, Row-on-law}
 use Rattle.waits.proofs.Sums.{total-join, largest-join}

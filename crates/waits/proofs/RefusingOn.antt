@@ -2,13 +2,13 @@
 use mathlib.Core.Path.{_≡_, refl, sym, ap, _∙_}
 use mathlib.Core.Bool.{Bool, true, false, _&&_, not}
 use mathlib.Core.List.{List, []}
-use mathlib.Core.Logic.{_≢_, inl, inr}
-use Prim.Native.Nat.{ℕ, _+_, _*_, _≤_, _<_}
-use native.Mathlib.Omega.{arith, by-contra}
+use mathlib.Core.Logic.{_≢_}
+use Prim.Native.Nat.{ℕ, _≤_, _<_}
+use native.Mathlib.Omega.{arith}
 use native.Mathlib.Decide.{ℕ-discrete}
 use lib.Dec.{eqb, ltb, leb}
 use lib.ListN.{getD}
-use borrow.Author.Tests.{lt-ltb, le-ltb, ltb-true, ltb-false, le-leb, lt-leb, leb-true, eq-eqb, ne-eqb, eqb-true, eqb-false, not-true, not-false}
+use borrow.Author.Tests.{lt-ltb, le-ltb, ltb-false, le-leb, leb-true, eq-eqb, ne-eqb, eqb-true, not-false}
 use Rattle.model.specs.declared.LockState.{LockState}
 use Rattle.model.specs.Trees.{Tree}
 use Rattle.model.specs.Counters.{most-counted}
@@ -16,12 +16,12 @@ use Rattle.model.specs.Refusals as model
 use Rattle.model.specs.Refusals.{refusal, accepted, first-refusal, tree-tests, counter-tests, has-number}
 use Rattle.model.specs.Laws.{Numbered, Refusal-law, Refuses-exactly}
 use Rattle.model.proofs.Refusing.{tests-pass, numbered}
-use Rattle.model.proofs.Tests.{or-cases, or-neither, and-both, or-right, and-false}
+use Rattle.model.proofs.Tests.{or-neither, or-right}
 use Rattle.model.proofs.Laws.Refusals.{accepted-number, refusal-law}
 use Rattle.refusals.specs.Lowest.{Lowest}
 use Rattle.refusals.proofs.Joining.{first-decides, other-decides}
 use Rattle.refusals.proofs.Scanning.{test-hit, test-missed}
-use Rattle.waits.specs.Refusals.{waits-tests-before-19, waits-tests, waits-refusal, bad-under-way, under-way-tests, waits-on-tests-before-19, waits-on-tests, waits-on-refusal}
+use Rattle.waits.specs.Refusals.{waits-tests-before-19, waits-refusal, bad-under-way, under-way-tests, waits-on-tests-before-19, waits-on-tests, waits-on-refusal}
 use Rattle.waits.specs.GoingOn.{Number-fits, Waits-on-refusal-law}
 use Rattle.waits.proofs.Refusing.{early, early-numbered, early-decides, counters-decide}
 

@@ -1,21 +1,17 @@
 -- Numbers that are all 0 are none, and then no total is cut. Assumes nothing.
 use mathlib.Core.Path.{_≡_, refl, sym, ap, _∙_}
-use mathlib.Core.List.{List, [], _∷_, _++_}
-use mathlib.Core.Logic.{_≢_}
-use Prim.Native.Nat.{ℕ, zero, suc, _+_, _*_, _≤_, _<_}
+use mathlib.Core.List.{List, []}
+use Prim.Native.Nat.{ℕ, zero, suc, _*_, _≤_}
 use native.Mathlib.Omega.{arith}
 use native.Mathlib.Nat.{suc-mul}
 use native.Mathlib.Decide.{ℕ-discrete}
 use lib.ListN.{length, getD, replicate}
 use borrow.Author.Tests.{eq-eqb, ne-eqb}
 use Rattle.model.specs.declared.TreeWords.{TreeWords}
-use Rattle.model.specs.declared.State.{State}
 use Rattle.model.specs.declared.LockState.{LockState}
 use Rattle.model.specs.Trees.{Tree, tree-of}
 use Rattle.model.specs.Steps.{is-entry, Step}
-use Rattle.model.specs.Runs.{steps, how-many, run}
-use Rattle.model.specs.Counters.{most-counted}
-use Rattle.model.specs.Refusals.{Refusal, first-refusal}
+use Rattle.model.specs.Runs.{steps, run}
 use Rattle.model.specs.Answers.{counters-behind, run-buffer}
 use Rattle.model.proofs.Counted.{how-many-most}
 use Rattle.model.proofs.Trees.Accepted.{accepted}
@@ -23,12 +19,11 @@ use Rattle.model.proofs.Laws.Runs.{steps-length}
 use Rattle.model.proofs.Laws.Calls.{run-facts}
 use Rattle.schedules.specs.Rows.{total}
 use Rattle.schedules.specs.Answers.{row-buffer}
-use Rattle.waits.specs.Attempts.{waits-below-from, waits-below, under-way-below}
+use Rattle.waits.specs.Attempts.{waits-below-from, waits-below}
 use Rattle.waits.specs.Rows.{row-of, rows-below-from, rows-below, all-rows, capped, row-of-all, all-rows-from}
-use Rattle.waits.specs.Refusals.{waits-refusal, waits-on-refusal}
 use Rattle.waits.specs.Answers.{waits-reply, refused-by, waits-answer, waits-trace, waits-rows, refused-on, waits-on-answer, waits-on-trace, waits-on-rows}
 use Rattle.waits.specs.Laws.{Waits-refusal-law}
-use Rattle.waits.specs.GoingOn.{Number-fits, As-waits, Zeros-law}
+use Rattle.waits.specs.GoingOn.{Number-fits, Zeros-law}
 use Rattle.waits.proofs.Bounds.{entries-in, totals-few}
 use Rattle.waits.proofs.Refusing.{early, early-passes, early-zero, waits-refusal-law}
 use Rattle.waits.proofs.RefusingOn.{waits-refused, numbers-fit}

@@ -7,6 +7,7 @@ use lib.ListN.{length, replicate}
 use Rattle.model.specs.declared.TreeWords.{TreeWords}
 use Rattle.model.specs.declared.LockState.{LockState}
 use Rattle.model.specs.declared.Counters.{Counters}
+use Rattle.model.specs.declared.RunReply.{RunReply}
 use Rattle.model.specs.Trees.{tree-of}
 use Rattle.model.specs.Runs.{steps, Run, run}
 use Rattle.model.specs.Refusals.{Refusal}
@@ -17,9 +18,17 @@ use Rattle.waits.specs.Attempts.{under-way-below}
 use Rattle.waits.specs.Rows.{all-rows, all-rows-from}
 use Rattle.waits.specs.Refusals.{waits-refusal, waits-on-refusal}
 
+-- what a run returns, with so many rows written
+abbrev pub with-rows : RunReply → (rows : ℕ) → WaitsReply
+with-rows y n = record { number = y .number; place = y .place; counts = y .counts; rows = n; state = y .state }
+
+-- the run's part of it
+abbrev pub run-part : WaitsReply → RunReply
+run-part r = record { number = r .number; place = r .place; counts = r .counts; state = r .state }
+
 -- what the run returns, and how many rows are written: one for each thread and one for all; refused, none
 unfoldable pub waits-reply : Refusal → LockState → Run → Counters → (threads : ℕ) → WaitsReply
-waits-reply r s x c n = record { run = run-reply r s x c; rows = cond (eqb (r .number) 0) (n + 1) 0 }
+waits-reply r s x c n = with-rows (run-reply r s x c) (cond (eqb (r .number) 0) (n + 1) 0)
 
 -- A RUN WITH WAITS. Number and place
 unfoldable pub refused-by : TreeWords → LockState → (schedule trace rows : List ℕ) → Refusal

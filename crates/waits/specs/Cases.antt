@@ -14,7 +14,7 @@ use Rattle.model.specs.Runs.{steps, state-after}
 use Rattle.model.specs.Counters.{lock-state, fresh-lock, most-counted}
 use Rattle.model.specs.Cases.{tree, at-ticket-root, two-homes, first-entries, two-in-root, three-levels, same-numbers, same-counts, same-lock, uncounted}
 use Rattle.model.specs.Answers.{no-counts}
-use Rattle.waits.specs.Answers.{waits-answer, waits-trace, waits-rows}
+use Rattle.waits.specs.Answers.{run-part, waits-answer, waits-trace, waits-rows}
 
 -- a call, number and place that it is to answer, and the row buffer after it
 pub record Case : Type 0 where
@@ -117,7 +117,7 @@ answered r tr xs c =
 
 unfoldable pub holds : Case → Bool
 holds c =
-    answered (waits-answer (c .words) (c .state) (c .schedule) (c .trace) (c .rows) .run) (waits-trace (c .words) (c .state) (c .schedule) (c .trace) (c .rows))
+    answered (run-part (waits-answer (c .words) (c .state) (c .schedule) (c .trace) (c .rows))) (waits-trace (c .words) (c .state) (c .schedule) (c .trace) (c .rows))
     (waits-rows (c .words) (c .state) (c .schedule) (c .trace) (c .rows)) c
 
 unfoldable pub all-hold : List Case → Bool

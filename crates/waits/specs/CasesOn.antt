@@ -113,7 +113,7 @@ on-cases =
 
 -- WHEN A LINE HOLDS, of the reply and of the three buffers after it. Refused, zero counts, no rows, and state and trace as they came
 abbrev pub nothing-done : WaitsReply → (traced : List ℕ) → On-case → Bool
-nothing-done r tr c = ((same-counts (r .run .counts) no-counts && same-lock (r .run .state) (c .state)) && eqb (r .rows) 0) && same-numbers tr (c .trace)
+nothing-done r tr c = ((same-counts (r .counts) no-counts && same-lock (r .state) (c .state)) && eqb (r .rows) 0) && same-numbers tr (c .trace)
 
 -- accepted, a row for each thread and one more
 abbrev pub told : WaitsReply → On-case → Bool
@@ -121,7 +121,7 @@ told r c = eqb (5 * r .rows + 2) (length (c .rows))
 
 abbrev pub answered : WaitsReply → (traced rows left : List ℕ) → On-case → Bool
 answered r tr xs us c =
-    ((eqb (r .run .number) (c .number) && eqb (r .run .place) (c .place)) && ((eqb (r .run .number) 0 && told r c) || nothing-done r tr c))
+    ((eqb (r .number) (c .number) && eqb (r .place) (c .place)) && ((eqb (r .number) 0 && told r c) || nothing-done r tr c))
     && (same-numbers xs (c .after) && same-numbers us (c .left))
 
 unfoldable pub holds : On-case → Bool

@@ -15,14 +15,13 @@ use Rattle.model.specs.Steps.{Step}
 use Rattle.model.specs.Runs.{steps}
 use Rattle.model.specs.Counters.{most-counted}
 use Rattle.model.specs.Refusals.{refusal, first-refusal, tree-refusal}
-use Rattle.model.specs.Answers.{run-answer, trace-answer}
+use Rattle.model.specs.Answers.{run-refused, run-answer, trace-answer}
 use Rattle.model.specs.Laws.{All-threads, Refuses-exactly, Sixteen-bit}
 use Rattle.schedules.specs.Rows.{total}
-use Rattle.waits.specs.declared.WaitsReply.{WaitsReply}
-use Rattle.waits.specs.Attempts.{begins, waits-from, under-way-from, waits, waits-below-from}
+use Rattle.waits.specs.Attempts.{begins, waits-from, under-way-from, waits}
 use Rattle.waits.specs.Rows.{largest, row-with, row-of, capped}
 use Rattle.waits.specs.Refusals.{waits-tests-before-19, waits-refusal, waits-on-tests, waits-on-refusal}
-use Rattle.waits.specs.Answers.{waits-answer, waits-trace, waits-rows, refused-on, waits-on-answer, waits-on-trace, waits-on-rows, waits-on-under-way}
+use Rattle.waits.specs.Answers.{with-rows, run-part, waits-answer, waits-trace, waits-rows, refused-on, waits-on-answer, waits-on-trace, waits-on-rows, waits-on-under-way}
 use Rattle.waits.specs.Laws.{row-at, column, entered}
 
 -- 1. REFUSALS. The tests are a list that the one law of refusals covers; in plain numbers, one of these three holds of every call: a test before 27 refuses it as a run with waits; 27 refuses, before 19 is tested, at the lowest number that cannot be; or the answer of a run with waits stands, 19 or accepted
@@ -56,7 +55,7 @@ Zeros-law = (w : TreeWords) (s : LockState) (schedule trace rows : List ℕ) →
 
 -- 3. THE RUN. Where neither 18 nor 27 refuses, the run's reply and the trace are those of the run itself
 pub record Runs-on-as (w : TreeWords) (s : LockState) (schedule trace rows under-way : List ℕ) : Type 0 where
-  pub reply : waits-on-answer w s schedule trace rows under-way .run ≡ run-answer w s schedule trace
+  pub reply : run-part (waits-on-answer w s schedule trace rows under-way) ≡ run-answer w s schedule trace
   pub traced : waits-on-trace w s schedule trace rows under-way ≡ trace-answer w s schedule trace
 
 unfoldable pub Waits-on-run-law : Type 0
@@ -86,18 +85,21 @@ Row-on-law =
     (w : TreeWords) (s : LockState) (schedule trace rows under-way : List ℕ) → refused-on w s schedule trace rows under-way .number ≡ 0 →
     Says-on w s schedule trace rows under-way
 
--- 5. THE BUFFERS. That of the rows keeps its length and what is after them; accepted, there are 256 numbers, 0 after the last thread; refused, both are as they came. The reply says how many rows stand at the front
+-- 5. THE BUFFERS. That of the rows keeps its length and what is after them; accepted, there are 256 numbers, 0 after the last thread, and the reply says how many rows stand at the front. Refused, zero counts, no rows, and state, trace, rows and numbers are as they came
+pub record Untouched (w : TreeWords) (s : LockState) (schedule trace rows under-way : List ℕ) : Type 0 where
+  pub reply : waits-on-answer w s schedule trace rows under-way ≡ with-rows (run-refused (refused-on w s schedule trace rows under-way) s) 0
+  pub traced : waits-on-trace w s schedule trace rows under-way ≡ trace
+  pub written : waits-on-rows w s schedule trace rows under-way ≡ rows
+  pub numbers : waits-on-under-way w s schedule trace rows under-way ≡ under-way
+
 pub record Keeps-rest-on (w : TreeWords) (s : LockState) (schedule trace rows under-way : List ℕ) : Type 0 where
   pub long : length (waits-on-rows w s schedule trace rows under-way) ≡ length rows
-  pub behind : drop (5 * (tree-of w .threads + 1)) (waits-on-rows w s schedule trace rows under-way) ≡ drop (5 * (tree-of w .threads + 1)) rows
+  pub after : drop (5 * (tree-of w .threads + 1)) (waits-on-rows w s schedule trace rows under-way) ≡ drop (5 * (tree-of w .threads + 1)) rows
   pub as-many : refused-on w s schedule trace rows under-way .number ≡ 0 → length (waits-on-under-way w s schedule trace rows under-way) ≡ 256
   pub zeros :
       refused-on w s schedule trace rows under-way .number ≡ 0 → (i : ℕ) → tree-of w .threads ≤ i → getD (waits-on-under-way w s schedule trace rows under-way) i 0 ≡ 0
-  pub refused :
-      refused-on w s schedule trace rows under-way .number ≢ 0 →
-      (waits-on-rows w s schedule trace rows under-way ≡ rows) × (waits-on-under-way w s schedule trace rows under-way ≡ under-way)
   pub told : refused-on w s schedule trace rows under-way .number ≡ 0 → waits-on-answer w s schedule trace rows under-way .rows ≡ tree-of w .threads + 1
-  pub none-told : refused-on w s schedule trace rows under-way .number ≢ 0 → waits-on-answer w s schedule trace rows under-way .rows ≡ 0
+  pub refused : refused-on w s schedule trace rows under-way .number ≢ 0 → Untouched w s schedule trace rows under-way
 
 unfoldable pub Buffers-on-law : Type 0
 Buffers-on-law = (w : TreeWords) (s : LockState) (schedule trace rows under-way : List ℕ) → Keeps-rest-on w s schedule trace rows under-way
@@ -124,7 +126,7 @@ pub record Left : Type 0 where
   pub under-way : List ℕ
 
 abbrev pub left-by : TreeWords → LockState → (schedule trace rows under-way : List ℕ) → Left
-left-by w s is b rs us = record { state = waits-on-answer w s is b rs us .run .state; rows = waits-on-rows w s is b rs us; under-way = waits-on-under-way w s is b rs us }
+left-by w s is b rs us = record { state = waits-on-answer w s is b rs us .state; rows = waits-on-rows w s is b rs us; under-way = waits-on-under-way w s is b rs us }
 
 -- what two calls leave, and what one leaves
 pub record Calls-join (threads : ℕ) (first second whole : Left) : Type 0 where

@@ -18,7 +18,7 @@ use Rattle.waits.specs.declared.Fraction.{Fraction}
 use Rattle.waits.specs.Attempts.{waits, waits-below}
 use Rattle.waits.specs.Rows.{largest, mean, row-with, row-of}
 use Rattle.waits.specs.Refusals.{waits-tests, waits-refusal}
-use Rattle.waits.specs.Answers.{refused-by, waits-answer, waits-trace, waits-rows}
+use Rattle.waits.specs.Answers.{run-part, refused-by, waits-answer, waits-trace, waits-rows}
 
 -- 1. REFUSALS. The tests are a list that the one law of refusals covers; in plain numbers, one of these three holds of every call: a test before 18 refuses the run; 18 refuses, before 19 is tested; or the run's own answer stands, 19 or accepted
 pub record Refuses-waits (t : Tree) (s : LockState) (schedule : List ℕ) (room row-room : ℕ) : Type 0 where
@@ -37,7 +37,7 @@ Waits-refusal-law = (t : Tree) (s : LockState) (schedule : List ℕ) (room row-r
 
 -- 2. THE RUN. Where 18 does not refuse, the run's reply and the trace are those of the run itself
 pub record Runs-as (w : TreeWords) (s : LockState) (schedule trace rows : List ℕ) : Type 0 where
-  pub reply : waits-answer w s schedule trace rows .run ≡ run-answer w s schedule trace
+  pub reply : run-part (waits-answer w s schedule trace rows) ≡ run-answer w s schedule trace
   pub traced : waits-trace w s schedule trace rows ≡ trace-answer w s schedule trace
 
 unfoldable pub Waits-run-law : Type 0

@@ -1,5 +1,6 @@
 // What a run with waits returns, and a mean.
-use model::RunReply;
+use model::Counts;
+use model::LockState;
 
 // A mean in lowest terms.
 pub struct Fraction {
@@ -7,9 +8,12 @@ pub struct Fraction {
     pub denominator: u64,
 }
 
-// What the run returns, and how many rows were written.
+// What the run returns, and how many rows were written. Number 0 is accepted.
 #[repr(C)]
 pub struct WaitsReply {
-    pub run: RunReply,
+    pub number: u32,
+    pub place: u32,
+    pub counts: Counts,
     pub rows: u32,
+    pub state: LockState,
 }

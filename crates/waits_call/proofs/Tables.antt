@@ -2,7 +2,7 @@
 use mathlib.Core.Path.{_≡_, refl, sym, ap, _∙_}
 use mathlib.Core.Bool.{Bool, true, false, cond}
 use mathlib.Core.List.{List, [], _∷_, _++_}
-use mathlib.Core.Logic.{_≢_, inl, ⊎-elim}
+use mathlib.Core.Logic.{_≢_, ⊎-elim}
 use Prim.Native.Nat.{ℕ, zero, suc, _+_, _≤_, _<_, max}
 use native.Mathlib.Omega.{arith}
 use native.Mathlib.Decide.{ℕ-discrete}
@@ -14,8 +14,8 @@ use Rattle.model.specs.Steps.{is-entry, Step}
 use Rattle.model.specs.Runs.{how-many}
 use Rattle.schedules.specs.Rows.{total}
 use Rattle.waits.specs.Attempts.{begins-from, waits-from, under-way-from, waits-below-from, under-way-below}
-use Rattle.waits.specs.Rows.{largest, row-of, rows-below-from, capped, row-of-all, all-rows-from}
-use Rattle.waits_call.specs.Tallies.{first, mark-with, mark-of, number-of, finishes, wait-of, noted, Tallied, Tallies, table-rows, sum-below, rows-by, numbers-by}
+use Rattle.waits.specs.Rows.{largest, row-of, rows-below-from, row-of-all, all-rows-from}
+use Rattle.waits_call.specs.Tallies.{first, mark-with, mark-of, finishes, wait-of, noted, Tallied, Tallies, table-rows, sum-below, rows-by, numbers-by}
 use Rattle.waits.proofs.Sums.{total-join, largest-join}
 use Rattle.waits.proofs.Bounds.{bounded}
 use Rattle.waits_call.specs.Waiting.{mark-at, Marks-of, Handed-in}

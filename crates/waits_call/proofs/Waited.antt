@@ -12,11 +12,10 @@ use Rattle.model.specs.declared.Counters.{Counters}
 use Rattle.model.specs.declared.LockState.{LockState}
 use Rattle.model.specs.Counters.{lock-state, counters-after}
 use Rattle.model.specs.declared.Counts.{Counts}
-use Rattle.model.specs.declared.RunReply.{RunReply}
 use Rattle.model.specs.Trees.{Tree, tree-of}
 use Rattle.model.specs.Runs.{steps, counts-of, run-of, run}
 use Rattle.model.specs.Refusals.{refusal, run-refusal}
-use Rattle.model.specs.Answers.{counters-behind, run-refused, run-reply, run-buffer}
+use Rattle.model.specs.Answers.{counters-behind, no-counts, run-reply, run-buffer}
 use Rattle.model.proofs.Laws.Runs.{steps-length}
 use Rattle.model.proofs.Laws.Calls.{run-facts}
 use Rattle.refusals.specs.declared.Refusal.{Refusal}
@@ -59,12 +58,11 @@ module _ (w : TreeWords) (s : LockState) (is b rs us : List ℕ) (r : Refusal) (
   Answers y b′ rs′ us′ =
       (y ≡ waits-on-answer w s is b rs us) × ((b′ ≡ waits-on-trace w s is b rs us) × ((rs′ ≡ waits-on-rows w s is b rs us) × (us′ ≡ waits-on-under-way w s is b rs us)))
 
-  pub waits-refuse :
-      (y : RunReply) → (r .number ≡ 0 → ⊥) → y ≡ run-refused (refusal (r .number) (r .place)) s → Answers (record { run = y; rows = 0 }) b rs us
+  pub waits-refuse : (r .number ≡ 0 → ⊥) → Answers (record { number = r .number; place = r .place; counts = no-counts; rows = 0; state = s }) b rs us
   unfolding waits-on-answer waits-reply run-reply waits-on-trace run-buffer waits-on-rows row-buffer waits-on-under-way refused-on refusal
-  waits-refuse y n f =
+  waits-refuse n =
       let m = ne-eqb (waits-on-refusal (tree-of w) s is (length b) (length rs) us .number) 0 (refusal-words-not r _ e n) in
-      (rw (f, e, m), (rw m, (rw m, rw m)))
+      (rw (e, m), (rw m, (rw m, rw m)))
 
   module _ (z : r .number ≡ 0) where
     pub waits-pass : (run-refusal (tree-of w) s is (length b) .number ≡ 0) × ((5 * (tree-of w .threads + 1) ≤ length rs) × Handed-in us)
@@ -90,7 +88,7 @@ module _ (w : TreeWords) (s : LockState) (is b rs us : List ℕ) (r : Refusal) (
         kinds ≡ kinds-of (steps (tree-of w) is (s .words)) → counts ≡ counts-by kinds → rs′ ≡ sets rs 0 (all-rows-from (tree-of w) us (steps (tree-of w) is (s .words))) →
         us′ ≡ sets (replicate 256 0) 0 (under-way-below (tree-of w) us (tree-of w .threads) (steps (tree-of w) is (s .words))) →
         c ≡ counters-after (tree-of w) (s .counters) (steps (tree-of w) is (s .words)) →
-        Answers (record { run = record { number = 0; place = 0; counts = counts; state = lock-state n c }; rows = tree-of w .threads + 1 }) b′ rs′ us′
+        Answers (record { number = 0; place = 0; counts = counts; rows = tree-of w .threads + 1; state = lock-state n c }) b′ rs′ us′
     unfolding waits-on-answer waits-reply run-reply waits-on-trace run-buffer waits-on-rows row-buffer waits-on-under-way refused-on counters-behind run run-of
     waits-answered n b′ kinds counts rs′ us′ c g h k y f u counted =
         let xs = steps (tree-of w) is (s .words) in

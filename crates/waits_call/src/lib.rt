@@ -8,14 +8,14 @@ ghost use Rattle.refusals.specs.Lowest.{Lowest};
 ghost use Rattle.run_refusals.specs.Counts.{counters-in};
 ghost use Rattle.waits.specs.Rows.{greatest-divisor, mean};
 ghost use Rattle.waits.specs.Refusals.{waits-tests-before-19, bad-under-way, waits-on-refusal};
-ghost use Rattle.waits.specs.Answers.{waits-answer, waits-trace, waits-rows, waits-on-answer, waits-on-trace, waits-on-rows, waits-on-under-way};
+ghost use Rattle.waits.specs.Answers.{waits-on-answer, waits-on-trace, waits-on-rows, waits-on-under-way};
 ghost use Rattle.waits_call.specs.Waiting.{bad-number};
 
 mod waiting;
 
 use model::Counters;
+use model::Counts;
 use model::LockState;
-use model::RunReply;
 use model::State;
 use model::TreeWords;
 use refusals::Refusal;
@@ -178,10 +178,19 @@ pub fn run_waits_on(
         under_way,
     );
     if r.number != 0 {
-        let refused = steps::refused(r.number, r.place, state);
         return WaitsReply {
-            run: refused,
+            number: r.number,
+            place: r.place,
+            counts: Counts {
+                steps: 0,
+                entries: 0,
+                stays: 0,
+                root: 0,
+                passed: 0,
+                crossed: 0,
+            },
             rows: 0,
+            state,
         };
     }
     let mut kinds = [0u32; 6];
@@ -207,30 +216,12 @@ pub fn run_waits_on(
         words: after,
         counters: counted,
     };
-    let ran = RunReply {
+    let written = tree.threads + 1;
+    WaitsReply {
         number: 0,
         place: 0,
         counts,
+        rows: written,
         state: left,
-    };
-    WaitsReply {
-        run: ran,
-        rows: tree.threads + 1,
     }
-}
-
-// The same of attempts that begin and finish within the run: none is under way before it.
-pub fn run_waits(
-    tree: TreeWords,
-    state: LockState,
-    schedule: &[u16],
-    trace: &mut [u16],
-    rows: &mut [u64],
-) -> WaitsReply
-    ensures { λ r. ⌜ r ≡ waits-answer tree state (now (schedule .entry)) (now (trace .entry)) (now (rows .entry)) ⌝ }
-    ensures { λ r. ⌜ now (trace .exit) ≡ waits-trace tree state (now (schedule .entry)) (now (trace .entry)) (now (rows .entry)) ⌝ }
-    ensures { λ r. ⌜ now (rows .exit) ≡ waits-rows tree state (now (schedule .entry)) (now (trace .entry)) (now (rows .entry)) ⌝ }
-{
-    let mut under_way = [0u64; 256];
-    run_waits_on(tree, state, schedule, trace, rows, &mut under_way)
 }

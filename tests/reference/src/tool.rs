@@ -34,7 +34,7 @@ pub fn waited(tree: &Tree, schedule: &[u16]) -> Waited {
     let mut trace = vec![0; schedule.len()];
     let mut numbers = vec![0; ROW * (tree.threads + 1)];
     let fresh = State::fresh_at(tree, 0);
-    let reply = run_waits(&TreeWords::of(tree), &StateWords::of(&fresh), schedule, &mut trace, &mut numbers).run;
+    let reply = run_waits(&TreeWords::of(tree), &StateWords::of(&fresh), schedule, &mut trace, &mut numbers).run();
     assert_eq!(reply.number, 0, "a run of what was accepted");
     let rows = numbers.chunks_exact(ROW).map(|row| row.try_into().expect("a row")).collect();
     let steps = seen(tree, &fresh, schedule);

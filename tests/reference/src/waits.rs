@@ -12,8 +12,29 @@ pub const ROW: usize = 5;
 #[repr(C)]
 #[derive(Clone, Copy, Debug, PartialEq, Eq)]
 pub struct WaitsReply {
-    pub run: RunReply,
+    pub number: u32,
+    pub place: u32,
+    pub steps: u32,
+    pub entries: u32,
+    pub stays: u32,
+    pub root: u32,
+    pub passed: u32,
+    pub crossed: u32,
     pub rows: u32,
+    pub state: StateWords,
+}
+
+impl WaitsReply {
+    fn of(run: RunReply, rows: u32) -> WaitsReply {
+        let RunReply { number, place, steps, entries, stays, root, passed, crossed, state } = run;
+        WaitsReply { number, place, steps, entries, stays, root, passed, crossed, rows, state }
+    }
+
+    /// The run's part.
+    pub fn run(self) -> RunReply {
+        let WaitsReply { number, place, steps, entries, stays, root, passed, crossed, rows: _, state } = self;
+        RunReply { number, place, steps, entries, stays, root, passed, crossed, state }
+    }
 }
 
 /// Of each thread 0 where no attempt is under way, else one more than the other threads' entries since it began.
@@ -132,7 +153,7 @@ pub fn run_waits_on(words: &TreeWords, state: &StateWords, schedule: &[u16], tra
         Ok((counts, StateWords::of(&taken)))
     });
     let rows = if outcome.is_ok() { tree.threads as u32 + 1 } else { 0 };
-    WaitsReply { run: run_reply(outcome, state), rows }
+    WaitsReply::of(run_reply(outcome, state), rows)
 }
 
 /// Attempts that begin and finish within the run: none is under way before it.

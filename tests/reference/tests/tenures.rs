@@ -245,7 +245,7 @@ fn order_of_19() {
     let (words, state) = (TreeWords::of(&tree), StateWords::of(&state));
     let waits = |room: usize, rows: usize| {
         let (mut trace, mut rows) = (vec![9; room], vec![7; rows]);
-        let reply = run_waits(&words, &state, &[1, 0], &mut trace, &mut rows).run;
+        let reply = run_waits(&words, &state, &[1, 0], &mut trace, &mut rows);
         assert!(reply.state == state && trace.iter().all(|&thread| thread == 9) && rows.iter().all(|&number| number == 7));
         (reply.number, reply.place)
     };

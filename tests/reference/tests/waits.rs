@@ -13,8 +13,8 @@ fn rows_of(ticket_root: u32, before: &[u16], schedule: &[u16]) -> Vec<u64> {
     let tree = two_in_root(ticket_root);
     let fresh = StateWords::of(&State::fresh());
     let mut rows = vec![7; 17];
-    let state = run_waits(&tree, &fresh, before, &mut vec![0; before.len()], &mut rows.clone()).run.state;
-    assert_eq!(run_waits(&tree, &state, schedule, &mut vec![0; schedule.len()], &mut rows).run.number, 0);
+    let state = run_waits(&tree, &fresh, before, &mut vec![0; before.len()], &mut rows.clone()).state;
+    assert_eq!(run_waits(&tree, &state, schedule, &mut vec![0; schedule.len()], &mut rows).number, 0);
     assert_eq!(rows[15..], [7, 7]);
     rows.truncate(15);
     rows
@@ -49,8 +49,8 @@ fn refusals_leave_everything() {
     for (schedule, room, row_room, number) in [(&[0, 0][..], 2, 14, 18), (&[], 0, 0, 18), (&[0, 0], 1, 0, 13), (&[2], 0, 14, 12)] {
         let (mut trace, mut rows) = (vec![9; room], vec![7; row_room]);
         let reply = run_waits(&two_in_root(0), &fresh, schedule, &mut trace, &mut rows);
-        assert_eq!((reply.run.number, reply.run.place, reply.run.steps, reply.run.entries, reply.rows), (number, 0, 0, 0, 0));
-        assert!(reply.run.state == fresh && trace == vec![9; room] && rows == vec![7; row_room]);
+        assert_eq!((reply.number, reply.place, reply.steps, reply.entries, reply.rows), (number, 0, 0, 0, 0));
+        assert!(reply.state == fresh && trace == vec![9; room] && rows == vec![7; row_room]);
     }
 }
 
@@ -59,10 +59,10 @@ fn goes_on(ticket_root: u32, before: &[u16], schedule: &[u16], numbers: [u64; 2]
     let tree = two_in_root(ticket_root);
     let fresh = StateWords::of(&State::fresh());
     let (mut rows, mut under_way) = (vec![7; 15], [0; 256]);
-    let state = run_waits(&tree, &fresh, before, &mut vec![0; before.len()], &mut rows).run.state;
+    let state = run_waits(&tree, &fresh, before, &mut vec![0; before.len()], &mut rows).state;
     under_way[..2].copy_from_slice(&numbers);
     let reply = run_waits_on(&tree, &state, schedule, &mut vec![0; schedule.len()], &mut rows, &mut under_way);
-    assert_eq!((reply.run.number, reply.rows), (0, 3));
+    assert_eq!((reply.number, reply.rows), (0, 3));
     assert!(under_way[2..].iter().all(|&number| number == 0));
     (rows, [under_way[0], under_way[1]])
 }
@@ -88,9 +88,9 @@ fn numbers_that_cannot_be() {
         under_way[thread] = number;
         let before = under_way;
         let reply = run_waits_on(&two_in_root(0), &fresh, &[], &mut [], &mut rows, &mut under_way);
-        assert_eq!((reply.run.number, reply.run.place), (refused, if refused == 0 { 0 } else { thread as u32 }));
+        assert_eq!((reply.number, reply.place), (refused, if refused == 0 { 0 } else { thread as u32 }));
         assert!(under_way == before && (refused == 0 || rows == vec![7; 15]));
         let reply = run_waits_on(&two_in_root(0), &fresh, &[], &mut [], &mut rows[..14], &mut under_way);
-        assert_eq!((reply.run.number, reply.rows), (18, 0));
+        assert_eq!((reply.number, reply.rows), (18, 0));
     }
 }

@@ -16,14 +16,11 @@ accepted ran = ran .before .before .before .before .before .before .before .befo
 refusal-of-requires : tie.Need-refusal-of-requires
 refusal-of-requires c κs = search needs
 
-refused-requires : tie.Need-refused-requires
-refused-requires c κs = search needs
-
 returns : tie.Need-returns
 returns c =
-    let told = c .before .before .before in
+    let told = c .before .before in
     let a = start told .args in
-    waits-refuse (a .tree) (a .state) (a .schedule .now) (a .trace .now) (a .rows .now) (a .under-way .now) _ (told .refusal-of .ensures) _ (c .before .if1 .taken) (c .refused .ensures)
+    waits-refuse (a .tree) (a .state) (a .schedule .now) (a .trace .now) (a .rows .now) (a .under-way .now) _ (told .refusal-of .ensures) (c .if1 .taken)
 
 run-counted-requires : tie.Need-run-counted-requires
 run-counted-requires c κs =
@@ -40,9 +37,9 @@ counts-of-requires c κs =
     let a = start told .args in
     waits-kinds-few (a .tree) (a .state) (a .schedule .now) (a .trace .now) (a .rows .now) (a .under-way .now) _ (told .refusal-of .ensures) (passed .if1 .left) _ (ran .run-counted .ensures .1 .1 .0)
 
-add-t40 : tie.Need-add-t40
+add-written : tie.Need-add-written
 unfolding tree-of
-add-t40 c =
+add-written c =
     let passed = accepted (c .before .before .before .before .before .before .before) in
     let told = passed .before .before in
     let a = start told .args in
@@ -70,11 +67,10 @@ run-waits-on-spec =
     tie.close
     (tie.spec
     refusal-of-requires
-    refused-requires
     returns
     run-counted-requires
     counts-of-requires
-    add-t40
+    add-written
     same-length
     same-length-2
     returns-2)

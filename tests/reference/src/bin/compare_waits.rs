@@ -135,13 +135,13 @@ fn in_pieces(call: RunWaitsOn, case: &Case) -> Option<(Vec<[u128; 3]>, UnderWay,
         let piece = &case.schedule[from..end];
         let (mut trace, mut rows) = (vec![0; piece.len()], vec![0; ROW * (threads + 1)]);
         let reply = call(&case.tree, &state, piece, &mut trace, &mut rows, &mut numbers);
-        if reply.run.number != 0 {
+        if reply.number != 0 {
             return None;
         }
         for (sum, row) in sums.iter_mut().zip(rows.chunks_exact(ROW)) {
             *sum = [sum[0] + row[0] as u128, sum[1] + row[1] as u128, sum[2].max(row[2] as u128)];
         }
-        state = reply.run.state;
+        state = reply.state;
         from = end;
     }
     Some((sums, numbers, state))
@@ -169,7 +169,7 @@ fn wrong_pieces(call: RunWaitsOn, case: &Case, reply: &WaitsReply, rows: &[u64],
     let (sums, left, state) = in_pieces(call, case)?;
     let cut = |total: u128| total.min(u64::MAX as u128);
     let same = sums.iter().zip(rows.chunks_exact(ROW)).all(|(sum, row)| [sum[0], cut(sum[1]), sum[2]] == [row[0] as u128, row[1] as u128, row[2] as u128]);
-    (!same || left != *numbers || state != reply.run.state).then(|| format!("pieces cut at {:?} do not give what the whole run gives", case.cuts))
+    (!same || left != *numbers || state != reply.state).then(|| format!("pieces cut at {:?} do not give what the whole run gives", case.cuts))
 }
 
 /// What is wrong with the rows of an accepted call, by the steps themselves.
@@ -225,10 +225,10 @@ struct WentOn {
 fn compare_on(number: usize, case: &Case, library: Option<RunWaitsOn>, met: &mut Met, went_on: &mut WentOn) {
     let (reply, trace, rows, numbers) = make_on(run_waits_on, case);
     if library.is_some_and(|call| make_on(call, case) != (reply, trace, rows.clone(), numbers)) {
-        fail(number, case, format!("step table {}, and the library says something else where it goes on", reply.run.number));
+        fail(number, case, format!("step table {}, and the library says something else where it goes on", reply.number));
     }
-    met.count(reply.run.number);
-    if reply.run.number != 0 {
+    met.count(reply.number);
+    if reply.number != 0 {
         return;
     }
     let written = &rows[CANARY..];
@@ -258,10 +258,10 @@ fn compare_plain(number: usize, case: &Case, waited: &mut Waited) -> WaitsReply 
         let (other, other_trace, other_rows) = make(call, case);
         if other != reply || other_trace != trace || other_rows != rows {
             let same = if rows == other_rows { "the same" } else { "not the same" };
-            fail(number, case, format!("step table {}, library {}, rows {same}", reply.run.number, other.run.number));
+            fail(number, case, format!("step table {}, library {}, rows {same}", reply.number, other.number));
         }
     }
-    if reply.run.number == 0 {
+    if reply.number == 0 {
         let written = &rows[CANARY..];
         if let Some(text) = wrong_row(case, written) {
             fail(number, case, text);
@@ -290,7 +290,7 @@ fn main() {
     let (mut waited, mut went_on) = (Waited::default(), WentOn::default());
     for number in 0..options.count {
         let case = random_case(&mut random);
-        let reply = compare_plain(number, &case, &mut waited).run;
+        let reply = compare_plain(number, &case, &mut waited);
         compare_on(number, &case, library, &mut on_met, &mut went_on);
         met.count(reply.number);
         state_met.count(&case.tree, &case.state, Told { number: reply.number, place: reply.place, schedule: &case.schedule });

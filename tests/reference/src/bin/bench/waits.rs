@@ -16,7 +16,7 @@ fn costs(programs: &[RunWaits], tree: &TreeWords, schedule: &[u16]) -> Vec<f64> 
     let mut best = vec![f64::MAX; programs.len()];
     for _ in 0..ROUNDS {
         for (call, cost) in programs.iter().zip(&mut best) {
-            *cost = cost.min(time(|| assert_eq!(call(tree, &fresh, opaque(schedule), &mut trace, &mut rows).run.number, 0)));
+            *cost = cost.min(time(|| assert_eq!(call(tree, &fresh, opaque(schedule), &mut trace, &mut rows).number, 0)));
         }
     }
     best
@@ -27,12 +27,12 @@ fn costs_on(programs: &[RunWaitsOn], tree: &TreeWords, schedule: &[u16]) -> Vec<
     let mut rows = vec![0; ROW * (tree.threads as usize + 1)];
     let mut trace = vec![0; schedule.len()];
     let mut numbers = [0; 256];
-    let state = run_waits_on(tree, &StateWords::fresh(), schedule, &mut trace, &mut rows, &mut numbers).run.state;
+    let state = run_waits_on(tree, &StateWords::fresh(), schedule, &mut trace, &mut rows, &mut numbers).state;
     let mut best = vec![f64::MAX; programs.len()];
     for _ in 0..ROUNDS {
         for (call, cost) in programs.iter().zip(&mut best) {
             let mut under_way = numbers;
-            *cost = cost.min(time(|| assert_eq!(call(tree, &state, opaque(schedule), &mut trace, &mut rows, &mut under_way).run.number, 0)));
+            *cost = cost.min(time(|| assert_eq!(call(tree, &state, opaque(schedule), &mut trace, &mut rows, &mut under_way).number, 0)));
         }
     }
     best
