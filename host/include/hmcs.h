@@ -5,12 +5,12 @@
  * globals, no locks. Link it so that a plugin does not export it: the CMake target hmcs::hmcs and the flags of pkg-config do.
  *
  * Pointers are the one thing that no function can test. A buffer must be valid for its length, and may be null where the length is 0; the
- * pointers to a state, a place, a length, allowances or numbers under way must be valid, aligned and not null. The buffers of one call must not overlap. Two calls
+ * pointers to a state, a place, a length, allowances or numbers under way must be valid, aligned and not null. No two things that the pointers of one call name may overlap. Two calls
  * may run at once unless one writes what the other reads or writes. hmcs_run_file and hmcs_run_many need 200 KB of stack, hmcs_run_waits and
  * hmcs_run_waits_on 96 KB, every other function at most 72 KB, besides its arguments and its result, which take up to 19 KB in the caller.
  *
- * Compare two states field by field, never by memcmp: struct hmcs_place and struct hmcs_state have padding, and so do struct hmcs_text_reply,
- * struct hmcs_journal_answer and struct hmcs_waits_reply.
+ * Compare two states field by field, never by memcmp: struct hmcs_state has padding, and so do struct hmcs_text_reply, struct hmcs_journal_answer
+ * and struct hmcs_waits_reply.
  */
 #ifndef HMCS_H
 #define HMCS_H
@@ -66,13 +66,13 @@ enum hmcs_row {
     HMCS_RAISE = 13  /* shows the next ticket */
 };
 
-/* Where a thread stands. A part that the row does not have is 0. */
-typedef struct hmcs_place {
-    uint8_t row;    /* enum hmcs_row */
-    uint8_t domain; /* 0 for Idle and Inside, and for Draw, Watch and Raise, which are at the root */
-    uint16_t peer;  /* Link: the record before; Grant: the record that is granted. The record's number itself, not + 1 */
-    uint64_t word;  /* Grant: the word that is granted */
-} hmcs_place;
+/* Where the threads stand: an array for each part of a place, by the thread's number. A part that the row does not have is 0. */
+typedef struct hmcs_places {
+    uint8_t rows[HMCS_THREADS];    /* enum hmcs_row */
+    uint8_t domains[HMCS_THREADS]; /* 0 for Idle and Inside, and for Draw, Watch and Raise, which are at the root */
+    uint16_t peers[HMCS_THREADS];  /* Link: the record before; Grant: the record that is granted. The record's number itself, not + 1 */
+    uint64_t words[HMCS_THREADS];  /* Grant: the word that is granted */
+} hmcs_places;
 
 /* The most that a counter of a lock state may be, 2^63. */
 #define HMCS_MOST_COUNTED (UINT64_C(1) << 63)
@@ -86,7 +86,7 @@ typedef struct hmcs_state {
     uint16_t tails[HMCS_DOMAINS];
     uint16_t nexts[HMCS_RECORDS];
     uint64_t statuses[HMCS_RECORDS];
-    hmcs_place places[HMCS_THREADS];
+    hmcs_places places;
     uint16_t ticket; /* the next ticket to be drawn; the one after 65,535 is 0 */
     uint16_t grant;  /* the ticket that may enter */
     uint64_t entries[HMCS_DOMAINS]; /* of each domain but the root, the entries of the threads under it */
@@ -442,32 +442,32 @@ HMCS_OFFSET(hmcs_tree, parents, 8);
 HMCS_OFFSET(hmcs_tree, thresholds, 72);
 HMCS_OFFSET(hmcs_tree, homes, 200);
 HMCS_OFFSET(hmcs_tree, ticket_root, 456);
-HMCS_LAYOUT(hmcs_place, 16, 8);
-HMCS_OFFSET(hmcs_place, domain, 1);
-HMCS_OFFSET(hmcs_place, peer, 2);
-HMCS_OFFSET(hmcs_place, word, 8);
-HMCS_LAYOUT(hmcs_state, 8968, 8);
+HMCS_LAYOUT(hmcs_places, 3072, 8);
+HMCS_OFFSET(hmcs_places, domains, 256);
+HMCS_OFFSET(hmcs_places, peers, 512);
+HMCS_OFFSET(hmcs_places, words, 1024);
+HMCS_LAYOUT(hmcs_state, 7944, 8);
 HMCS_OFFSET(hmcs_state, nexts, 128);
 HMCS_OFFSET(hmcs_state, statuses, 768);
 HMCS_OFFSET(hmcs_state, places, 3328);
-HMCS_OFFSET(hmcs_state, ticket, 7424);
-HMCS_OFFSET(hmcs_state, grant, 7426);
-HMCS_OFFSET(hmcs_state, entries, 7432);
-HMCS_OFFSET(hmcs_state, tenures, 7944);
-HMCS_OFFSET(hmcs_state, longest, 8456);
+HMCS_OFFSET(hmcs_state, ticket, 6400);
+HMCS_OFFSET(hmcs_state, grant, 6402);
+HMCS_OFFSET(hmcs_state, entries, 6408);
+HMCS_OFFSET(hmcs_state, tenures, 6920);
+HMCS_OFFSET(hmcs_state, longest, 7432);
 HMCS_LAYOUT(hmcs_answer, 8, 4);
 HMCS_OFFSET(hmcs_answer, place, 4);
 HMCS_LAYOUT(hmcs_step_answer, 16, 4);
 HMCS_OFFSET(hmcs_step_answer, domain, 12);
-HMCS_LAYOUT(hmcs_fresh_reply, 8976, 8);
+HMCS_LAYOUT(hmcs_fresh_reply, 7952, 8);
 HMCS_OFFSET(hmcs_fresh_reply, state, 8);
-HMCS_LAYOUT(hmcs_step_reply, 8984, 8);
+HMCS_LAYOUT(hmcs_step_reply, 7960, 8);
 HMCS_OFFSET(hmcs_step_reply, domain, 12);
 HMCS_OFFSET(hmcs_step_reply, state, 16);
-HMCS_LAYOUT(hmcs_run_reply, 9000, 8);
+HMCS_LAYOUT(hmcs_run_reply, 7976, 8);
 HMCS_OFFSET(hmcs_run_reply, crossed, 28);
 HMCS_OFFSET(hmcs_run_reply, state, 32);
-HMCS_LAYOUT(hmcs_waits_reply, 9008, 8);
+HMCS_LAYOUT(hmcs_waits_reply, 7984, 8);
 HMCS_OFFSET(hmcs_waits_reply, rows, 32);
 HMCS_OFFSET(hmcs_waits_reply, state, 40);
 HMCS_LAYOUT(hmcs_many_reply, 16, 8);

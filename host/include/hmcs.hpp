@@ -35,19 +35,88 @@ struct [[nodiscard]] Result {
     bool refused() const { return refusal.refused(); }
 };
 
+// Where a thread stands: a row of the step table (enum hmcs_row) and the parts that it has; the others are 0.
+struct Place {
+    std::uint8_t row = HMCS_IDLE;
+    std::uint8_t domain = 0;
+    std::uint16_t peer = 0;
+    std::uint64_t word = 0;
+};
+
+// The place of a thread, which is below HMCS_THREADS.
+inline Place place(const hmcs_state &state, std::size_t thread) {
+    return Place{state.places.rows[thread], state.places.domains[thread], state.places.peers[thread], state.places.words[thread]};
+}
+
+inline void set_place(hmcs_state &state, std::size_t thread, const Place &place) {
+    state.places.rows[thread] = place.row;
+    state.places.domains[thread] = place.domain;
+    state.places.peers[thread] = place.peer;
+    state.places.words[thread] = place.word;
+}
+
+// A state as versions 2.x of hmcs.h laid it out, for what a host saved then; its places were an array of structs.
+struct StateOfVersion2 {
+    struct PlaceOfVersion2 {
+        std::uint8_t row;
+        std::uint8_t domain;
+        std::uint16_t peer;
+        std::uint64_t word;
+    };
+    std::uint16_t tails[HMCS_DOMAINS];
+    std::uint16_t nexts[HMCS_RECORDS];
+    std::uint64_t statuses[HMCS_RECORDS];
+    PlaceOfVersion2 places[HMCS_THREADS];
+    std::uint16_t ticket;
+    std::uint16_t grant;
+    std::uint64_t entries[HMCS_DOMAINS];
+    std::uint64_t tenures[HMCS_DOMAINS];
+    std::uint64_t longest[HMCS_DOMAINS];
+};
+static_assert(sizeof(StateOfVersion2) == 8968, "the layout of version 2");
+
+// The same state as it is laid out now. Any state is read; the calls refuse by 10 what is not well formed.
+inline hmcs_state from_version_2(const StateOfVersion2 &saved) {
+    hmcs_state state{};
+    std::copy(std::begin(saved.tails), std::end(saved.tails), std::begin(state.tails));
+    std::copy(std::begin(saved.nexts), std::end(saved.nexts), std::begin(state.nexts));
+    std::copy(std::begin(saved.statuses), std::end(saved.statuses), std::begin(state.statuses));
+    for (std::size_t i = 0; i < HMCS_THREADS; ++i) {
+        const StateOfVersion2::PlaceOfVersion2 &p = saved.places[i];
+        set_place(state, i, Place{p.row, p.domain, p.peer, p.word});
+    }
+    state.ticket = saved.ticket;
+    state.grant = saved.grant;
+    std::copy(std::begin(saved.entries), std::end(saved.entries), std::begin(state.entries));
+    std::copy(std::begin(saved.tenures), std::end(saved.tenures), std::begin(state.tenures));
+    std::copy(std::begin(saved.longest), std::end(saved.longest), std::begin(state.longest));
+    return state;
+}
+
 // Whether two states are the same, field by field: their padding may differ.
 inline bool same(const hmcs_state &a, const hmcs_state &b) {
-    const auto same_place = [](const hmcs_place &p, const hmcs_place &q) {
-        return p.row == q.row && p.domain == q.domain && p.peer == q.peer && p.word == q.word;
-    };
     return std::equal(std::begin(a.tails), std::end(a.tails), std::begin(b.tails)) &&
            std::equal(std::begin(a.nexts), std::end(a.nexts), std::begin(b.nexts)) &&
            std::equal(std::begin(a.statuses), std::end(a.statuses), std::begin(b.statuses)) &&
-           std::equal(std::begin(a.places), std::end(a.places), std::begin(b.places), same_place) && a.ticket == b.ticket && a.grant == b.grant &&
+           std::equal(std::begin(a.places.rows), std::end(a.places.rows), std::begin(b.places.rows)) &&
+           std::equal(std::begin(a.places.domains), std::end(a.places.domains), std::begin(b.places.domains)) &&
+           std::equal(std::begin(a.places.peers), std::end(a.places.peers), std::begin(b.places.peers)) &&
+           std::equal(std::begin(a.places.words), std::end(a.places.words), std::begin(b.places.words)) && a.ticket == b.ticket &&
+           a.grant == b.grant &&
            std::equal(std::begin(a.entries), std::end(a.entries), std::begin(b.entries)) &&
            std::equal(std::begin(a.tenures), std::end(a.tenures), std::begin(b.tenures)) &&
            std::equal(std::begin(a.longest), std::end(a.longest), std::begin(b.longest));
 }
+
+namespace detail {
+
+// A threshold, or 0, which is refused (8), where it does not fit.
+inline std::uint16_t threshold_of(std::uint32_t threshold) { return static_cast<std::uint16_t>(threshold <= 65535 ? threshold : 0); }
+
+// A thread number, or 65,535, which is refused (12), where it does not fit.
+inline std::uint16_t thread_of(std::uint32_t thread) { return static_cast<std::uint16_t>(std::min<std::uint32_t>(thread, 65535)); }
+
+} // namespace detail
 
 // What stands at the root of a tree.
 enum class RootKind { queue, ticket };
@@ -65,13 +134,13 @@ public:
 
     RootKind root() const { return words_.ticket_root != 0 ? RootKind::ticket : RootKind::queue; }
 
-    // Adds a domain below another and returns its number. A parent above 255 is refused as 255 is (6), and a domain that gets no
-    // thread, in it or below it, by 16.
-    std::uint32_t add_domain(std::uint32_t parent, std::uint16_t threshold) {
+    // Adds a domain below another and returns its number. What does not fit is refused and never cut: a parent above 255 as 255 is (6), a threshold
+    // above 65,535 as 0 is (8). A domain that gets no thread, in it or below it, is refused by 16.
+    std::uint32_t add_domain(std::uint32_t parent, std::uint32_t threshold) {
         const std::uint32_t d = words_.domains++;
         if (d < HMCS_DOMAINS) {
             words_.parents[d] = byte_of(parent);
-            words_.thresholds[d] = threshold;
+            words_.thresholds[d] = detail::threshold_of(threshold);
         }
         return d;
     }
@@ -169,6 +238,7 @@ template <typename Reply> void keep(const Reply &reply, hmcs_state &state, RunRe
 inline WaitsResult run_waits(const Tree &tree, hmcs_state &state, UnderWay &under_way, const std::uint16_t *schedule, std::size_t length) {
     WaitsResult result;
     std::vector<std::uint64_t> numbers((HMCS_THREADS + 1) * HMCS_WAIT_NUMBERS);
+    result.threads.reserve(HMCS_THREADS + 1); // after the call nothing allocates, so that no result is lost
     result.run.trace.resize(std::min<std::size_t>(length, 65536)); // a longer schedule is refused (11) before the trace is looked at
     const hmcs_waits_reply reply = hmcs_run_waits_on(tree.words(), state, schedule, length, result.run.trace.data(), result.run.trace.size(), numbers.data(),
                                                      numbers.size(), under_way.data());
@@ -246,7 +316,7 @@ public:
 
     // One step of a thread. If refused, the state is as it was. A number above 65,535 is refused as 65,535 is.
     StepResult step(std::uint32_t thread) {
-        const hmcs_step_answer a = hmcs_step_in_place(tree_, &state_, static_cast<std::uint16_t>(std::min<std::uint32_t>(thread, 65535)));
+        const hmcs_step_answer a = hmcs_step_in_place(tree_, &state_, detail::thread_of(thread));
         under_way_known_ = under_way_known_ && a.number != 0;
         return StepResult{{Refusal{a.number, a.place}}, static_cast<Kind>(a.kind), a.domain};
     }
@@ -271,9 +341,9 @@ public:
             under_way_.fill(0);
             under_way_known_ = true;
         }
+        waits_.resize(threads()); // before the call, so that nothing allocates after it
         WaitsResult result = hmcs::run_waits(Tree::of(tree_), state_, under_way_, schedule, length);
         if (result.accepted()) {
-            waits_.resize(result.threads.size());
             std::transform(result.threads.begin(), result.threads.end(), waits_.begin(), waits_.begin(), joined);
             all_waits_ = joined(result.all, all_waits_);
         }
@@ -300,7 +370,7 @@ public:
         result.threads.resize(HMCS_THREADS);
         std::uint32_t place = 0;
         std::uint32_t length = 0;
-        const std::uint16_t number = static_cast<std::uint16_t>(std::min<std::uint32_t>(thread, 65535));
+        const std::uint16_t number = detail::thread_of(thread);
         result.refusal.number = hmcs_chain(tree_, state_, number, result.threads.data(), result.threads.size(), &place, &length);
         result.refusal.place = place;
         result.threads.resize(length);
@@ -318,7 +388,7 @@ public:
     // The thread that is Inside, if there is one.
     std::optional<std::uint16_t> holder() const {
         for (std::size_t i = 0; i < HMCS_THREADS; ++i) {
-            if (state_.places[i].row == HMCS_INSIDE) {
+            if (state_.places.rows[i] == HMCS_INSIDE) {
                 return static_cast<std::uint16_t>(i);
             }
         }
@@ -432,18 +502,22 @@ inline Refusal check_journal(const Tree &tree, const std::vector<std::uint8_t> &
 // fresh lock.
 class JournalWriter {
 public:
-    void add(std::uint16_t thread, Kind kind) {
-        const bool other_thread = thread != thread_;
+    // Adds a journal entry, or nothing if memory runs out. A thread above 65,535 is refused by the check as 65,535 is.
+    void add(std::uint32_t thread, Kind kind) {
+        const std::uint16_t number = detail::thread_of(thread);
+        const bool other_thread = number != thread_;
         const bool moved = kind != Kind::stay;
-        bytes_.push_back(static_cast<std::uint8_t>((other_thread ? HMCS_JOURNAL_THREAD : 0) | (moved ? HMCS_JOURNAL_KIND : 0)));
+        std::uint8_t entry[4] = {static_cast<std::uint8_t>((other_thread ? HMCS_JOURNAL_THREAD : 0) | (moved ? HMCS_JOURNAL_KIND : 0))};
+        std::size_t length = 1;
         if (other_thread) {
-            bytes_.push_back(static_cast<std::uint8_t>(thread & 255));
-            bytes_.push_back(static_cast<std::uint8_t>(thread >> 8));
-            thread_ = thread;
+            entry[length++] = static_cast<std::uint8_t>(number & 255);
+            entry[length++] = static_cast<std::uint8_t>(number >> 8);
         }
         if (moved) {
-            bytes_.push_back(static_cast<std::uint8_t>(kind));
+            entry[length++] = static_cast<std::uint8_t>(kind);
         }
+        bytes_.insert(bytes_.end(), entry, entry + length);
+        thread_ = number;
     }
 
     const std::vector<std::uint8_t> &bytes() const { return bytes_; }
@@ -514,9 +588,10 @@ struct [[nodiscard]] RateResult : Result {
     double rate = 0; // entries per unit of the times; 0 if refused
 };
 
-// The rate of a busy three-level lock whose threads' homes have threshold h1 and the domains between them and the root h2.
-inline RateResult rate(std::uint16_t h1, std::uint16_t h2, const PassingTimes &times) {
-    const hmcs_rate_reply reply = hmcs_rate(h1, h2, times);
+// The rate of a busy three-level lock whose threads' homes have threshold h1 and the domains between them and the root h2. A threshold above 65,535
+// is refused as 0 is (8).
+inline RateResult rate(std::uint32_t h1, std::uint32_t h2, const PassingTimes &times) {
+    const hmcs_rate_reply reply = hmcs_rate(detail::threshold_of(h1), detail::threshold_of(h2), times);
     return RateResult{{Refusal{reply.number, reply.place}}, reply.rate};
 }
 

@@ -70,7 +70,7 @@ void acquire_parent() {
     tree.add_thread(second);
     hmcs::Lock lock(tree);
     CHECK(lock.run({0, 0, 0, 0, 0, 0, 1, 1, 1, 1, 1, 0, 0, 0, 0, 0, 0}).accepted());
-    CHECK(lock.state().places[0].row == HMCS_GRANT && lock.state().places[0].word == HMCS_ACQUIRE_PARENT && lock.state().places[0].peer == 256 + second);
+    CHECK(lock.state().places.rows[0] == HMCS_GRANT && lock.state().places.words[0] == HMCS_ACQUIRE_PARENT && lock.state().places.peers[0] == 256 + second);
     CHECK((three(lock, socket) == Three{1, 1, 1}) && (three(lock, first) == Three{1, 1, 1}) && (three(lock, second) == Three{0, 0, 0}));
     CHECK(lock.step(0).accepted() && (three(lock, second) == Three{0, 1, 1}) && (three(lock, socket) == Three{1, 1, 1}));
     CHECK(lock.run({1, 1, 1}).counts.root == 1);
@@ -85,8 +85,8 @@ void ticket_root() {
     CHECK(lock.step(0).accepted() && (three(lock, 2) == Three{0, 1, 1}));
     CHECK(lock.step(2).kind == hmcs::Kind::root_entry && (three(lock, 2) == Three{1, 1, 1}));
     hmcs_state several{};
-    several.places[0].row = several.places[1].row = HMCS_WATCH;
-    several.places[2].row = HMCS_RAISE;
+    several.places.rows[0] = several.places.rows[1] = HMCS_WATCH;
+    several.places.rows[2] = HMCS_RAISE;
     several.statuses[257] = several.statuses[258] = 1;
     hmcs::Lock handed = hmcs::Lock::saved(two_domains(hmcs::RootKind::ticket), several);
     CHECK(handed.step(2).accepted() && (three(handed, 1) == Three{0, 1, 1}) && (three(handed, 2) == Three{0, 0, 0}));

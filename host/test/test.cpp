@@ -39,10 +39,10 @@ void layouts() {
         state->statuses[r] = UINT64_C(0x0102030405060000) + static_cast<std::uint64_t>(r);
     }
     for (int i = 0; i < HMCS_THREADS; ++i) {
-        state->places[i].row = static_cast<std::uint8_t>(i);
-        state->places[i].domain = static_cast<std::uint8_t>(255 - i);
-        state->places[i].peer = static_cast<std::uint16_t>(3000 + i);
-        state->places[i].word = UINT64_C(0xf0e0d0c0b0a00000) + static_cast<std::uint64_t>(i);
+        state->places.rows[i] = static_cast<std::uint8_t>(i);
+        state->places.domains[i] = static_cast<std::uint8_t>(255 - i);
+        state->places.peers[i] = static_cast<std::uint16_t>(3000 + i);
+        state->places.words[i] = UINT64_C(0xf0e0d0c0b0a00000) + static_cast<std::uint64_t>(i);
     }
     state->ticket = 4000;
     state->grant = 5000;
@@ -169,10 +169,10 @@ void saved_states() {
     std::memcpy(kept.nexts, now.nexts, sizeof kept.nexts);
     std::memcpy(kept.statuses, now.statuses, sizeof kept.statuses);
     for (int i = 0; i < HMCS_THREADS; ++i) {
-        kept.places[i].row = now.places[i].row;
-        kept.places[i].domain = now.places[i].domain;
-        kept.places[i].peer = now.places[i].peer;
-        kept.places[i].word = now.places[i].word;
+        kept.places.rows[i] = now.places.rows[i];
+        kept.places.domains[i] = now.places.domains[i];
+        kept.places.peers[i] = now.places.peers[i];
+        kept.places.words[i] = now.places.words[i];
     }
     kept.ticket = now.ticket;
     kept.grant = now.grant;
@@ -190,8 +190,8 @@ void saved_states() {
     CHECK(again.step(1).kind == lock.step(1).kind && same(again.state(), lock.state()));
 
     hmcs_state spoilt = kept;
-    spoilt.places[0].row = HMCS_CHECK;
-    spoilt.places[0].domain = 0;
+    spoilt.places.rows[0] = HMCS_CHECK;
+    spoilt.places.domains[0] = 0;
     CHECK(!same(spoilt, kept));
     hmcs::Lock refused = hmcs::Lock::saved(example_tree(), spoilt);
     CHECK(refused.refused() && refused.refusal().number == HMCS_BAD_STATE && same(refused.state(), spoilt));
@@ -236,9 +236,6 @@ void files() {
     std::uint32_t place = 9, length = 9;
     CHECK(hmcs_run_file(longest.as<std::uint8_t>(), 65537, nullptr, 0, &place, &length) == HMCS_FILE_TOO_LONG && place == 0 && length == 0);
 }
-
-// A threshold is a 16-bit number: the compiler warns of a constant that is none.
-static_assert(std::is_same_v<decltype(&hmcs::Tree::add_domain), std::uint32_t (hmcs::Tree::*)(std::uint32_t, std::uint16_t)>);
 
 // Numbers that do not fit a word are refused, not cut.
 void wide_numbers() {
@@ -300,7 +297,7 @@ void kinds(hmcs::RootKind root) {
         for (std::uint32_t k = 0; k < 3000; ++k) {
             const auto thread = static_cast<std::uint16_t>(random(tree.words().threads));
             schedule.push_back(thread);
-            const hmcs_place place = by_value.places[thread];
+            const hmcs::Place place = hmcs::place(by_value, thread);
             const bool at_home = place.row == HMCS_IDLE || place.row == HMCS_INSIDE;
             const hmcs_step_reply step = hmcs_step(tree.words(), by_value, thread);
             const hmcs::StepResult kept = lock.step(thread);
@@ -322,8 +319,33 @@ void kinds(hmcs::RootKind root) {
     }
 }
 
+// A state that was saved under version 2 is read word by word.
+static void states_of_version_2() {
+    const hmcs::Tree tree = example_tree();
+    hmcs_state now{};
+    CHECK(hmcs_fresh_in_place(tree.words(), &now, 0).number == HMCS_ACCEPTED);
+    hmcs::StateOfVersion2 saved{};
+    for (int turn = 0; turn < 200; ++turn) {
+        CHECK(hmcs_step_in_place(tree.words(), &now, static_cast<std::uint16_t>(turn * 7 % 3)).number == HMCS_ACCEPTED);
+        std::copy(std::begin(now.tails), std::end(now.tails), std::begin(saved.tails));
+        std::copy(std::begin(now.nexts), std::end(now.nexts), std::begin(saved.nexts));
+        std::copy(std::begin(now.statuses), std::end(now.statuses), std::begin(saved.statuses));
+        for (std::size_t i = 0; i < HMCS_THREADS; ++i) {
+            const hmcs::Place place = hmcs::place(now, i);
+            saved.places[i] = {place.row, place.domain, place.peer, place.word};
+        }
+        saved.ticket = now.ticket;
+        saved.grant = now.grant;
+        std::copy(std::begin(now.entries), std::end(now.entries), std::begin(saved.entries));
+        std::copy(std::begin(now.tenures), std::end(now.tenures), std::begin(saved.tenures));
+        std::copy(std::begin(now.longest), std::end(now.longest), std::begin(saved.longest));
+        CHECK(hmcs::same(hmcs::from_version_2(saved), now));
+    }
+}
+
 int main() {
     layouts();
+    states_of_version_2();
     kinds(hmcs::RootKind::queue);
     kinds(hmcs::RootKind::ticket);
     tree_layout();

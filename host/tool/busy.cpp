@@ -13,10 +13,10 @@ public:
     explicit Movers(const hmcs::Tree &tree) : lock_(tree), moving_(tree.words().threads, true), workers_(HMCS_RECORDS), ticket_holders_(65536) {}
 
     bool can_move(std::size_t thread) const { return moving_[thread]; }
-    bool is_idle(std::size_t thread) const { return lock_.state().places[thread].row == HMCS_IDLE; }
+    bool is_idle(std::size_t thread) const { return lock_.state().places.rows[thread] == HMCS_IDLE; }
 
     void step(std::uint16_t thread) {
-        const hmcs_place before = lock_.state().places[thread];
+        const hmcs::Place before = hmcs::place(lock_.state(), thread);
         if (lock_.step(thread).refused()) {
             return;
         }
@@ -32,7 +32,7 @@ private:
     // A thread that waits in a queue or for a link is remembered by its record, and one at a ticket root by its ticket.
     void look_at(std::uint16_t thread) {
         const hmcs_state &state = lock_.state();
-        const hmcs_place &place = state.places[thread];
+        const hmcs::Place place = hmcs::place(state, thread);
         const std::size_t own = record_of(thread, place.domain);
         moving_[thread] = true;
         if (place.row == HMCS_WAIT) {

@@ -8,7 +8,7 @@ namespace {
 
 // Where a thread stands, in words.
 std::string standing(const hmcs::Lock &lock, std::uint16_t thread) {
-    const hmcs_place &place = lock.state().places[thread];
+    const hmcs::Place place = hmcs::place(lock.state(), thread);
     if (place.row == HMCS_IDLE || place.row == HMCS_INSIDE) {
         return place.row == HMCS_IDLE ? "is idle" : "is inside";
     }

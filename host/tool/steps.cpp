@@ -25,7 +25,7 @@ std::string steps(const Words &words) {
     table.column("inside", Side::left);
     for (std::size_t k = 0; k < input.schedule.size() && k < from + count; ++k) {
         const std::uint16_t thread = input.schedule[k];
-        const std::uint8_t row = lock.state().places[thread].row;
+        const std::uint8_t row = lock.state().places.rows[thread];
         const hmcs::StepResult step = lock.step(thread);
         if (k < from) {
             continue;

@@ -158,7 +158,7 @@ Recording record(const hmcs::Tree &tree, const std::vector<std::uint16_t> &sched
         const std::uint16_t thread = schedule[turn];
         const hmcs::Kind kind = lock.step(thread).kind;
         std::vector<Change> &changes = recording.threads[thread];
-        const Doing doing = doing_at(lock.state().places[thread].row);
+        const Doing doing = doing_at(lock.state().places.rows[thread]);
         if (doing != (changes.empty() ? idle : changes.back().doing)) {
             changes.push_back({turn, doing});
         }

@@ -18,5 +18,6 @@ fn main() {
     println!("cargo:rustc-link-arg={library}");
     if env::var("HMCS_CALLS").is_ok() {
         println!("cargo:rustc-cfg=calls");
+        println!("cargo:rustc-link-arg-bin=copies=-Wl,--wrap=memcpy");
     }
 }

@@ -9,7 +9,7 @@ use Rattle.model.specs.declared.LockState.{LockState}
 use Rattle.model.specs.Scans.{any-below, all-below, filter-below}
 use Rattle.model.specs.Trees.{Tree, read-word, tree-of, is-ticket, is-child, is-leaf, depth-from, depth, level, meets, on-path, child-from, child, own-record, is-record, is-member, owner-domain, under}
 use Rattle.model.specs.Places.{place-of, is-idle, is-watch}
-use Rattle.model.specs.States.{fresh-words}
+use Rattle.model.specs.States.{fresh-words, numbers-at, store-numbers}
 use Rattle.model.specs.Steps.{is-kind, prep-row, swap-row, link-row, wait-row, leave-row, check-row, help-row, cas-row, linger-row, grant-row, draw-row, watch-row, is-watched, shown-members, raise-row, row, step}
 use Rattle.model.specs.Runs.{steps, state-after, run-of, run, occurrences}
 use Rattle.model.specs.Acts.{sends-inside, acts-at, acts}
@@ -21,7 +21,7 @@ use Rattle.chain.specs.Chain.{stays, acts-ahead, acts-holding, looked-to
 use Rattle.chain.specs.Answers.{bad-buffer, bad-chain, chain-tests, chain-refusal, chain-reply, chain-buffer, chain-answer, buffer-answer}
 use Rattle.chain.specs.Cases.{Case, gives, refuses, refuses-at, breaks, counted, sevens, roomy, gave, refused-at, refused, holds, all-hold, three-in-root, three-in-ticket, cases}
 use Rattle.model.proofs.Tests.{and-both}
-use Rattle.model.proofs.Walks.{walked, zero-from, first-pass, formed-by-walks, same-formed, counts-by-walks}
+use Rattle.model.proofs.Walks.{walked, zero-from, first-pass, formed-by-walks, same-formed, counts-by-walks, zipped}
 use Rattle.model.proofs.Computing.{refusal-by, same-lock-formed, state-sized, sized}
 
 -- the tests behind 10
@@ -95,7 +95,7 @@ same-cases (c ∷ cs) e =
 
 cases-sized : all-sized cases ≡ true
 unfolding any-below all-below filter-below read-word tree-of is-ticket is-child is-leaf depth-from depth level meets on-path child-from child own-record
-    is-record is-member owner-domain under place-of is-idle is-watch fresh-words is-kind prep-row swap-row link-row wait-row leave-row check-row help-row
+    is-record is-member owner-domain under place-of is-idle is-watch numbers-at store-numbers fresh-words is-kind prep-row swap-row link-row wait-row leave-row check-row help-row
     cas-row linger-row grant-row draw-row watch-row is-watched shown-members raise-row row step steps state-after run-of run occurrences sends-inside acts-at
     acts good-tail queue-on-path good-place good-counters refusal accepted bad-domains bad-threads bad-parent too-deep no-threshold bad-home empty-domain
     tree-tests bad-entry padded tree at-ticket-root counters two-homes root-alone two-in-root same-numbers stays acts-ahead acts-holding looked-to looks-to
@@ -104,10 +104,10 @@ cases-sized = refl
 
 pub cases-hold : all-hold cases ≡ true
 unfolding fresh-counters good-count zero-from first-pass counts-by-walks any-below all-below filter-below read-word tree-of is-ticket is-child is-leaf depth-from depth level meets
-    on-path child-from child own-record is-record is-member owner-domain under place-of is-idle is-watch fresh-words is-kind prep-row swap-row link-row
+    on-path child-from child own-record is-record is-member owner-domain under place-of is-idle is-watch numbers-at store-numbers fresh-words is-kind prep-row swap-row link-row
     wait-row leave-row check-row help-row cas-row linger-row grant-row draw-row watch-row is-watched shown-members raise-row row step steps state-after run-of
     run occurrences sends-inside acts-at acts good-tail queue-on-path good-place good-counters refusal accepted lowest-bad first-refusal bad-domains
     bad-threads bad-parent too-deep no-threshold bad-home empty-domain tree-tests bad-entry padded tree at-ticket-root counters two-homes root-alone
     two-in-root same-numbers stays acts-ahead acts-holding looked-to looks-to only among chain-from chain bad-buffer bad-chain chain-reply chain-buffer
-    three-in-root three-in-ticket cases walked formed-by-walks walked-refusal holds-by-walks all-hold-by-walks
+    three-in-root three-in-ticket cases walked zipped formed-by-walks walked-refusal holds-by-walks all-hold-by-walks
 cases-hold = same-cases cases cases-sized ∙ refl

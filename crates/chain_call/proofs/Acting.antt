@@ -10,8 +10,8 @@ use Rattle.model.specs.declared.Place.{Place}
 use Rattle.model.specs.declared.Place.the-variants.{Idle, Prep, Swap, Link, Wait, Inside, Check, Help, Cas, Linger, Grant, Draw, Watch, Raise, Invalid}
 use Rattle.model.specs.declared.State.{State}
 use Rattle.model.specs.Trees.{Tree, on-path, own-record, is-member, owner-domain}
-use Rattle.model.specs.Places.{place-words, words-of}
-use Rattle.model.specs.States.{acquire-parent, next, status, place}
+use Rattle.model.specs.Places.{words-of}
+use Rattle.model.specs.States.{acquire-parent, next, status, place, numbers-at}
 use Rattle.model.specs.Acts.{sends-inside, acts-at, acts}
 use Rattle.model.specs.WellFormed.{good-place}
 use Rattle.model.proofs.Tests.{and-both, or-true, or-false, any-one, any-found}
@@ -65,10 +65,10 @@ module _ (t : Tree) (s : State) (i : ℕ) where
 
   module _ (valid : Accepted t) (real : i < t .threads) (good : good-place t i (place s i) ≡ true) where
     abbrev pub from : ℕ
-    from = let q = getD (s .places) i (place-words 0 0 0 0) in acts-from q (there (q .domain))
+    from = let q = numbers-at (s .places) i in acts-from q (there (q .domain))
 
     pub acts-test : (d : ℕ) → d < 256 → acts-at t s i (place s i) d ≡ leb from d
-    acts-test d h = rw (words-of-place (getD (s .places) i (place-words 0 0 0 0)) (not-invalid t i (place s i) good)) at (acts-words (place s i) good d h)
+    acts-test d h = rw (words-of-place (numbers-at (s .places) i) (not-invalid t i (place s i) good)) at (acts-words (place s i) good d h)
 
     -- a thread acts for a record whose next names r exactly where a domain of its path does
     module _ (own : Owned-nexts t (s .nexts)) where

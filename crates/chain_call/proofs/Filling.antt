@@ -11,8 +11,8 @@ use Rattle.model.specs.declared.TreeWords.{TreeWords}
 use Rattle.model.specs.declared.State.{State}
 use Rattle.model.specs.declared.PlaceWords.{PlaceWords}
 use Rattle.model.specs.Trees.{Tree, tree-of, on-path, own-record, owner-domain}
-use Rattle.model.specs.Places.{place-words, words-of}
-use Rattle.model.specs.States.{status, place}
+use Rattle.model.specs.Places.{words-of}
+use Rattle.model.specs.States.{status, place, numbers-at}
 use Rattle.model.specs.Acts.{acts}
 use Rattle.model.specs.WellFormed.{queue-on-path, good-place, well-formed}
 use Rattle.model.specs.Refusals.{tree-refusal}
@@ -63,7 +63,7 @@ module _ (w : TreeWords) (ok : tree-refusal (tree-of w) .number ≡ 0) (s : Stat
   real = rw (threads-read w) h
 
   abbrev pub words : PlaceWords
-  words = getD (s .places) n (place-words 0 0 0 0)
+  words = numbers-at (s .places) n
 
   abbrev pub from : ℕ
   from = acts-from words (status s (own-record t n (words .domain)))
@@ -112,7 +112,7 @@ module _ (w : TreeWords) (ok : tree-refusal (tree-of w) .number ≡ 0) (s : Stat
         ahead-counts = λ r b. y .count r b
             ∙ ap (λ z. more-if z (getD a r 0) n) (names-ahead t s n valid real g (owned-nexts t valid s form) r)
             ∙ ap (λ z. more-if (acts-ahead t s (owner-domain t r) r n) z n) (x .ahead-counts r b);
-        linking-keys = stored l n (λ j. link-key (getD (s .places) j (place-words 0 0 0 0))) (link-key words) (omega (arith, x .linking-room, real)) refl (x .linking-keys);
+        linking-keys = stored l n (λ j. link-key (numbers-at (s .places) j)) (link-key words) (omega (arith, x .linking-room, real)) refl (x .linking-keys);
         ticket-keys = stored k n (λ j. cond (acts t s j 0 && ltb (status s (own-record t j 0)) 65536) (status s (own-record t j 0) + 1) 0) (ticket-key from root-status)
             (omega (arith, x .tickets-room, real)) (ticket-there t s n valid real g root-status) (x .ticket-keys);
       }

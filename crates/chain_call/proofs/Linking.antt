@@ -14,8 +14,8 @@ use Rattle.model.specs.declared.PlaceWords.{PlaceWords}
 use Rattle.model.specs.declared.State.{State}
 use Rattle.model.specs.Scans.{filter-below}
 use Rattle.model.specs.Trees.{Tree, on-path, own-record}
-use Rattle.model.specs.Places.{place-words, words-of}
-use Rattle.model.specs.States.{status, place}
+use Rattle.model.specs.Places.{words-of}
+use Rattle.model.specs.States.{status, place, numbers-at}
 use Rattle.model.specs.Steps.{stay, is-kind, row}
 use Rattle.model.specs.Acts.{acts}
 use Rattle.model.specs.WellFormed.{good-place, well-formed}
@@ -68,7 +68,7 @@ module _ (t : Tree) (valid : Accepted t) (s : State) (form : well-formed t s ≡
   few = valid .few-threads
 
   abbrev words : ℕ → PlaceWords
-  words j = getD (s .places) j (place-words 0 0 0 0)
+  words j = numbers-at (s .places) j
 
   same-words : (j : ℕ) → j < t .threads → words-of (place s j) ≡ words j
   same-words j b = words-of-place (words j) (not-invalid t j (place s j) (place-good t valid s form j b))

@@ -9,9 +9,9 @@ use lib.ListN.{getD, set, replicate}
 use Rattle.model.specs.declared.TreeWords.{TreeWords}
 use Rattle.model.specs.declared.State.{State}
 use Rattle.model.specs.Trees.{Tree, tree-of}
-use Rattle.model.specs.Places.{place-words}
 use Rattle.model.specs.WellFormed.{well-formed}
 use Rattle.model.specs.Refusals.{tree-refusal}
+use Rattle.model.specs.States.{numbers-at}
 use Rattle.model.proofs.Trees.Accepted.{Accepted, accepted}
 use Rattle.model.proofs.Trees.Reading.{threads-read}
 use Rattle.chain.specs.Chain.{looks-to, only, chain}
@@ -45,10 +45,10 @@ module _ (w : TreeWords) (ok : tree-refusal (tree-of w) .number ≡ 0) (s : Stat
     pub turn-within : n ≤ w .threads
     turn-within = rw (threads-read w) at (x .within)
 
-    pub turn-sound : Sound-place t (s .statuses) i (getD (s .places) i (place-words 0 0 0 0))
+    pub turn-sound : Sound-place t (s .statuses) i (numbers-at (s .places) i)
     turn-sound = sound-place t valid s form xs ks vs all-tables i (x .real) (on-its-path w ok s form i turn-real)
 
-    module _ (one : ℕ) (e : one ≡ link-by t (s .nexts) (s .statuses) xs ks vs (s .grant) (getD (s .places) i (place-words 0 0 0 0)) i) where
+    module _ (one : ℕ) (e : one ≡ link-by t (s .nexts) (s .statuses) xs ks vs (s .grant) (numbers-at (s .places) i) i) where
       is-link : one ≡ link t s i
       is-link = e ∙ link-is t valid s form xs ks vs all-tables i (x .real) (on-its-path w ok s form i turn-real)
 

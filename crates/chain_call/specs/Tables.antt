@@ -10,8 +10,7 @@ use Rattle.model.specs.declared.PlaceWords.{PlaceWords}
 use Rattle.model.specs.declared.State.{State}
 use Rattle.model.specs.Scans.{any-below}
 use Rattle.model.specs.Trees.{Tree, tree-of, on-path, own-record, owner-domain, is-member}
-use Rattle.model.specs.Places.{place-words}
-use Rattle.model.specs.States.{acquire-parent, status}
+use Rattle.model.specs.States.{acquire-parent, status, numbers-at}
 use Rattle.model.specs.Acts.{sends-inside, acts}
 use Rattle.model.proofs.Trees.Index.{ancestor, record-at}
 use Rattle.chain.specs.Chain.{stays, acts-ahead, ticket-before, looks-to, only}
@@ -82,7 +81,7 @@ pub record Tables (t : Tree) (s : State) (n : ℕ) (ahead linking tickets : List
   pub linking-room : length linking ≡ 256
   pub tickets-room : length tickets ≡ 256
   pub ahead-counts : (r : ℕ) → r < 320 → getD ahead r 0 ≡ count-below n (acts-ahead t s (owner-domain t r) r)
-  pub linking-keys : (j : ℕ) → j < n → getD linking j 0 ≡ link-key (getD (s .places) j (place-words 0 0 0 0))
+  pub linking-keys : (j : ℕ) → j < n → getD linking j 0 ≡ link-key (numbers-at (s .places) j)
   pub ticket-keys : (j : ℕ) → j < n → getD tickets j 0 ≡ cond (acts t s j 0 && ltb (status s (own-record t j 0)) 65536) (status s (own-record t j 0) + 1) 0
 
 -- A LINK: 400 where the next step is not a stay, else one more than the only thread looked to, or 0

@@ -14,6 +14,7 @@ use crate::tables;
 use model::PlaceWords;
 use model::State;
 use model::TreeWords;
+use run_refusals::places;
 
 fn more_if_at(hit: bool, count: u16, j: u16) -> u16
     requires { ⌜ j < 256 ⌝ }
@@ -175,7 +176,13 @@ fn follow_links<'a>(
     let mut n: u32 = 1;
     while n <= threads {
         let at = i as usize;
-        let q = state.places[at];
+        let q = places::place_at(
+            &state.places.rows,
+            &state.places.domains,
+            &state.places.peers,
+            &state.places.words,
+            at,
+        );
         let one = link_of(
             &tree.parents,
             &tree.thresholds,

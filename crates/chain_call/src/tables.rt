@@ -12,6 +12,7 @@ ghost use Rattle.model.proofs.Trees.Index.{height};
 use model::PlaceWords;
 use model::State;
 use model::TreeWords;
+use run_refusals::places;
 
 // A count of threads with one more: 0 is none, one more than its number the only one, 300 several.
 pub(crate) fn more_at(count: u16, j: u16) -> u16
@@ -201,7 +202,13 @@ pub(crate) fn fill_tables(
     let mut j: u16 = 0;
     while (j as u32) < threads {
         let at = j as usize;
-        let q = state.places[at];
+        let q = places::place_at(
+            &state.places.rows,
+            &state.places.domains,
+            &state.places.peers,
+            &state.places.words,
+            at,
+        );
         let l = q.domain;
         let r = own_record_at(
             &tree.parents,

@@ -8,7 +8,7 @@ use Rattle.model.specs.declared.State.{State}
 use Rattle.model.specs.Scans.{any-below, all-below, filter-below}
 use Rattle.model.specs.Trees.{Tree, read-word, tree-of, is-ticket, is-child, is-leaf, depth-from, depth, level, meets, on-path, child-from, child, own-record, is-record, is-member, owner-domain, under}
 use Rattle.model.specs.Places.{place-of, is-idle, is-watch}
-use Rattle.model.specs.States.{place, fresh-words, fresh-state}
+use Rattle.model.specs.States.{place, fresh-words, fresh-state, numbers-at, store-numbers}
 use Rattle.model.specs.Steps.{stay, is-kind, is-entry, prep-row, swap-row, link-row, wait-row, leave-row, check-row, help-row, cas-row, linger-row, grant-row, draw-row, watch-row, is-watched, shown-members, raise-row, row, step}
 use Rattle.model.specs.Runs.{steps, state-after, run-of, run, ended-in, entries-under, occurrences}
 use Rattle.model.specs.Tenures.{finds-none, taken-from, given, starts, checks-at, word-to-grant, tenure-length, domain-entries, domain-tenures, longest-tenure}
@@ -26,7 +26,7 @@ use Rattle.model.proofs.Laws.Kinds.{stay-named}
 
 -- each line is computed
 pub move-cases-hold : all-move move-cases ≡ true
-unfolding any-below filter-below read-word tree-of is-ticket meets on-path child-from child own-record place-of is-watch is-idle fresh-words fresh-state
+unfolding any-below filter-below read-word tree-of is-ticket meets on-path child-from child own-record place-of is-watch is-idle numbers-at store-numbers fresh-words fresh-state
     is-kind prep-row swap-row link-row wait-row leave-row check-row help-row cas-row linger-row grant-row draw-row watch-row is-watched shown-members raise-row
     row step steps state-after run-of run padded tree at-ticket-root two-homes one-home three-in-ticket busy-threads moving-threads three-in-root
     until-lingering until-woken move-cases move-holds all-move same-numbers
@@ -61,7 +61,7 @@ of-queue : Nobody-moves three-in-root dead-queue
 unfolding occurrences ended-in entries-under finds-none taken-from given starts checks-at word-to-grant tenure-length domain-entries domain-tenures
     longest-tenure fresh-counters each-with-index counters-after good-count good-counts count-above any-above bad-counter counters-behind is-entry any-below
     all-below filter-below read-word tree-of is-ticket is-child is-leaf depth-from depth level meets on-path child-from child own-record is-record is-member
-    owner-domain under place-of is-watch is-idle fresh-words is-kind wait-row linger-row watch-row row step steps state-after good-tail good-next good-status
+    owner-domain under place-of is-watch is-idle numbers-at store-numbers fresh-words is-kind wait-row linger-row watch-row row step steps state-after good-tail good-next good-status
     queue-on-path good-place good-watch good-thread good-counters well-formed refusal accepted lowest-bad first-refusal bad-domains bad-threads bad-parent
     too-deep no-threshold bad-home empty-domain tree-tests bad-state bad-entry step-tests tree-refusal step-refusal first-kind first-domain step-reply
     step-answer padded tree three-in-root moving-threads dead-queue
@@ -71,7 +71,7 @@ of-ticket : Nobody-moves two-in-ticket dead-ticket
 unfolding occurrences ended-in entries-under finds-none taken-from given starts checks-at word-to-grant tenure-length domain-entries domain-tenures
     longest-tenure fresh-counters each-with-index counters-after good-count good-counts count-above any-above bad-counter counters-behind is-entry any-below
     all-below filter-below read-word tree-of is-ticket is-child is-leaf depth-from depth level meets on-path child-from child own-record is-record is-member
-    owner-domain under place-of is-watch is-idle fresh-words is-kind wait-row linger-row watch-row row step steps state-after good-tail good-next good-status
+    owner-domain under place-of is-watch is-idle numbers-at store-numbers fresh-words is-kind wait-row linger-row watch-row row step steps state-after good-tail good-next good-status
     queue-on-path good-place good-watch good-thread good-counters well-formed refusal accepted lowest-bad first-refusal bad-domains bad-threads bad-parent
     too-deep no-threshold bad-home empty-domain tree-tests bad-state bad-entry step-tests tree-refusal step-refusal first-kind first-domain step-reply
     step-answer padded tree at-ticket-root two-in-root two-in-ticket moving-threads dead-ticket

@@ -4,7 +4,7 @@ use mathlib.Core.Bool.{true}
 use Rattle.model.specs.Scans.{all, any-below, filter-below}
 use Rattle.model.specs.Trees.{read-word, tree-of, is-ticket, is-child, is-leaf, depth-from, depth, level, meets, on-path, child-from, child, own-record, is-record, is-member, under}
 use Rattle.model.specs.Places.{place-of, is-idle, is-watch}
-use Rattle.model.specs.States.{fresh-words}
+use Rattle.model.specs.States.{fresh-words, numbers-at, store-numbers}
 use Rattle.model.specs.Steps.{is-kind, is-entry, prep-row, swap-row, link-row, wait-row, leave-row, check-row, help-row, cas-row, linger-row, grant-row, draw-row, watch-row, is-watched, shown-members, raise-row, row, step}
 use Rattle.model.specs.Runs.{steps, state-after, how-many, entering, counts-of, run-of, run}
 use Rattle.model.specs.Refusals.{refusal, accepted, lowest-bad, first-refusal, bad-domains, bad-threads, bad-parent, too-deep, no-threshold, bad-home, empty-domain, tree-tests, bad-length, bad-entry, bad-room}
@@ -18,7 +18,7 @@ use Rattle.file_answers.proofs.Computing.{quick-refusal, quick-run, qui
 
 pub cases-hold : all cases ≡ true
 unfolding same-numbers any-below filter-below read-word tree-of is-ticket is-child is-leaf depth-from depth level meets on-path child-from child own-record
-    is-record is-member under place-of is-watch is-idle fresh-words is-kind is-entry prep-row swap-row link-row wait-row leave-row check-row help-row
+    is-record is-member under place-of is-watch is-idle numbers-at store-numbers fresh-words is-kind is-entry prep-row swap-row link-row wait-row leave-row check-row help-row
     cas-row linger-row grant-row draw-row watch-row is-watched shown-members raise-row row step steps state-after how-many entering counts-of run-of run
     refusal accepted lowest-bad first-refusal bad-domains bad-threads bad-parent too-deep no-threshold bad-home empty-domain tree-tests bad-length
     bad-entry bad-room run-reply reached-refusal field-end entry-end domain-size domain-end parent-at threshold-at stored domains-from domains-read

@@ -110,7 +110,7 @@ pub extern "C" fn hmcs_step_in_place(
 ) -> StepAnswer
     ensures { λ r. ⌜ (r ≡ step-without-state (step-answer tree (now (state .entry)) thread)) × (now (state .exit) ≡ step-answer tree (now (state .entry)) thread .state) ⌝ }
 {
-    let r = hmcs_step(tree, *state, thread);
+    let r = lock::step_lock(tree, *state, thread);
     *state = r.state;
     StepAnswer {
         number: r.number,

@@ -10,14 +10,12 @@ ghost use Rattle.model.specs.Counters.{lock-state, fresh-counters};
 ghost use Rattle.model.specs.Refusals.{refusal, first-refusal, tree-refusal, run-tests-before-19};
 ghost use Rattle.refusals.specs.Lowest.{Lowest};
 ghost use Rattle.model.specs.Laws.{Typed};
-ghost use Rattle.taking.specs.Taking.{state-in};
+ghost use Rattle.refusals.specs.Arrays.{lent-state};
 ghost use Rattle.steps.specs.Running.{codes-front};
 ghost use Rattle.journal_call.specs.Kinds.{other-kind, All-same-kinds};
 ghost use Rattle.journal.specs.Answers.{replied, journal-answer};
 use journal::JournalReply;
-use model::PlaceWords;
 use model::TreeWords;
-use steps::run::Places;
 
 // The mark 1 where a kind is not what the run's loop told of a step; else the mark as it was.
 fn marked(mark: u16, kind: u8, code: u16) -> u16
@@ -80,25 +78,28 @@ fn answer_at(number: u32, place: usize) -> JournalReply
     JournalReply { number, place }
 }
 
-// The steps of a piece's threads, on the arrays that are lent; the places alone, which cannot be lent, are taken and returned. What each step was is told. The counters of the domains, which no step reads, start at 0 for each piece, so that no journal is too long for them.
+// The steps of a piece's threads, on the arrays that are lent. What each step was is told. The counters of the domains, which no step reads, start at 0 for each piece, so that no journal is too long for them.
 fn run_piece(
     tree: TreeWords,
     tails: &mut [u16; 64],
     nexts: &mut [u16; 320],
     statuses: &mut [u64; 320],
-    places: [PlaceWords; 256],
+    rows: &mut [u8; 256],
+    domains: &mut [u8; 256],
+    peers: &mut [u16; 256],
+    words: &mut [u64; 256],
     ticket: &mut u16,
     granted: &mut u16,
     threads: &[u16],
     count: usize,
     trace: &mut [u16],
     codes: &mut [u16],
-) -> Places
+)
     requires { ⌜ count ≤ length (now threads) ⌝ }
-    requires { ⌜ Typed (state-in (now tails) (now nexts) (now statuses) (now ticket) (now granted) places) ⌝ }
-    requires { ⌜ first-refusal (run-tests-before-19 (tree-of tree) (lock-state (state-in (now tails) (now nexts) (now statuses) (now ticket) (now granted) places) fresh-counters) (take count (now threads)) (length (now trace))) .number ≡ 0 ⌝ }
-    ensures { λ r. ⌜ state-in (now (tails .exit)) (now (nexts .exit)) (now (statuses .exit)) (now (ticket .exit)) (now (granted .exit)) (r .places) ≡ run (tree-of tree) (take count (now (threads .entry))) (state-in (now (tails .entry)) (now (nexts .entry)) (now (statuses .entry)) (now (ticket .entry)) (now (granted .entry)) places) .state ⌝ }
-    ensures { λ r. ⌜ now (codes .exit) ≡ codes-front (now (codes .entry)) (steps (tree-of tree) (take count (now (threads .entry))) (state-in (now (tails .entry)) (now (nexts .entry)) (now (statuses .entry)) (now (ticket .entry)) (now (granted .entry)) places)) ⌝ }
+    requires { ⌜ Typed (lent-state (now tails) (now nexts) (now statuses) (now rows) (now domains) (now peers) (now words) (now ticket) (now granted)) ⌝ }
+    requires { ⌜ first-refusal (run-tests-before-19 (tree-of tree) (lock-state (lent-state (now tails) (now nexts) (now statuses) (now rows) (now domains) (now peers) (now words) (now ticket) (now granted)) fresh-counters) (take count (now threads)) (length (now trace))) .number ≡ 0 ⌝ }
+    ensures { λ r. ⌜ lent-state (now (tails .exit)) (now (nexts .exit)) (now (statuses .exit)) (now (rows .exit)) (now (domains .exit)) (now (peers .exit)) (now (words .exit)) (now (ticket .exit)) (now (granted .exit)) ≡ run (tree-of tree) (take count (now (threads .entry))) (lent-state (now (tails .entry)) (now (nexts .entry)) (now (statuses .entry)) (now (rows .entry)) (now (domains .entry)) (now (peers .entry)) (now (words .entry)) (now (ticket .entry)) (now (granted .entry))) .state ⌝ }
+    ensures { λ r. ⌜ now (codes .exit) ≡ codes-front (now (codes .entry)) (steps (tree-of tree) (take count (now (threads .entry))) (lent-state (now (tails .entry)) (now (nexts .entry)) (now (statuses .entry)) (now (rows .entry)) (now (domains .entry)) (now (peers .entry)) (now (words .entry)) (now (ticket .entry)) (now (granted .entry)))) ⌝ }
 {
     let mut counts = [0u32; 6];
     let mut entries = [0u64; 64];
@@ -109,7 +110,10 @@ fn run_piece(
         tails,
         nexts,
         statuses,
-        places,
+        rows,
+        domains,
+        peers,
+        words,
         ticket,
         granted,
         &threads[0..count],
@@ -119,7 +123,7 @@ fn run_piece(
         &mut entries,
         &mut tenures,
         &mut longest,
-    )
+    );
 }
 
 // The entries of a journal, with room for as many of them as the lent buffers hold at a time. Each piece goes on from the state that the one before it left, in arrays that are lent to all of them.
@@ -142,7 +146,10 @@ pub(crate) fn check_entries(
     let mut tails = fresh.tails;
     let mut nexts = fresh.nexts;
     let mut statuses = fresh.statuses;
-    let mut places = fresh.places;
+    let mut rows = fresh.places.rows;
+    let mut domains = fresh.places.domains;
+    let mut peers = fresh.places.peers;
+    let mut words = fresh.places.words;
     let mut ticket = fresh.ticket;
     let mut granted = fresh.grant;
     let mut position: usize = 0;
@@ -157,12 +164,15 @@ pub(crate) fn check_entries(
             kinds,
         );
         let count = piece.count;
-        let after = run_piece(
+        run_piece(
             tree,
             &mut tails,
             &mut nexts,
             &mut statuses,
-            places,
+            &mut rows,
+            &mut domains,
+            &mut peers,
+            &mut words,
             &mut ticket,
             &mut granted,
             threads,
@@ -181,7 +191,6 @@ pub(crate) fn check_entries(
         if journal.len() <= piece.position {
             return answer_at(0, 0);
         }
-        places = after.places;
         position = piece.position;
         before = piece.before;
     }

@@ -6,15 +6,13 @@ use mathlib.Core.Logic.{_≢_}
 use Prim.Native.Nat.{ℕ, suc, _+_, _-_, _≤_, _<_}
 use native.Mathlib.Omega.{arith}
 use lib.Dec.{eqb}
-use lib.ListN.{length, set}
-use lib.Seq.{getD-set-other}
 use borrow.Author.Tests.{eq-eqb, ne-eqb, lt-ltb, le-ltb}
 use Rattle.model.specs.declared.Place.{Place}
 use Rattle.model.specs.declared.Place.the-variants.{Prep, Swap, Link, Wait, Inside, Draw}
 use Rattle.model.specs.declared.State.{State}
 use Rattle.model.specs.Trees.{Tree, is-ticket, own-record}
-use Rattle.model.specs.Places.{place-words, words-of, place-of}
-use Rattle.model.specs.States.{acquire-parent, wait-word, locked, tail, status, place}
+use Rattle.model.specs.Places.{words-of, place-of}
+use Rattle.model.specs.States.{acquire-parent, wait-word, locked, tail, status, place, store-numbers, Has-room}
 use Rattle.model.specs.Steps.{Kind, passed-entry, crossed-entry, Row-result, enters, acquire-place}
 use Rattle.model.proofs.Branches as branches
 use Rattle.model.proofs.Branches.{stood-behind, Branch, prepares, swap-root, swap-inner, swap-behind, link-writes, wait-root-locked, wait-root-granted, wait-ungranted, wait-acquires, wait-passed, wait-crossed, below-root}
@@ -23,7 +21,7 @@ use Rattle.model.proofs.Trees.Accepted.{Accepted}
 use Rattle.model.proofs.Trees.Tickets.{ticket-facts}
 use Rattle.model.proofs.Trees.Paths.{ancestor-not-root, ancestor-parent-of}
 use Rattle.model.proofs.Trees.Records.{own-record-at}
-use Rattle.model.proofs.Places.{place-stored}
+use Rattle.model.proofs.Places.{place-stored, numbers-other}
 use Rattle.listing.specs.Calls.{After, goes, Control, control, behind-17, acquire-real, outside, critical, line-7, line-9, line-11, line-13, line-66, line-67, line-71, line-72, ticket-lock, line-90}
 use Rattle.listing.specs.Agreement.{entry, memory-of}
 use Rattle.listing.proofs.Entries.{idle-elsewhere, idle-root, prep-elsewhere, prep-root, swap-none, swap-some, swap-root-none, swap-root-some, link-elsewhere, link-root, wait-stays, wait-enters, wait-climbs, wait-root-stays, wait-root-enters}
@@ -42,18 +40,18 @@ standing c s = record { thread = c; memory = memory-of s }
 
 -- what a step does to the places: thread i's is stored, or all stay
 pub data Puts (s n : State) (i : ℕ) (p : Place) : Type 0 where
-  moved : n .places ≡ set (s .places) i (words-of p) → Puts s n i p
+  moved : n .places ≡ store-numbers (s .places) i (words-of p) → Puts s n i p
   stayed : n .places ≡ s .places → place s i ≡ p → Puts s n i p
 
-puts-there : {s n : State} {i : ℕ} {p : Place} → i < length (s .places) → Puts s n i p → place n i ≡ p
+puts-there : {s n : State} {i : ℕ} {p : Place} → Has-room (s .places) i → Puts s n i p → place n i ≡ p
 puts-there {s} {n} {i} {p} b (moved e) = rw e (place-stored i p s b)
 puts-there {s} {n} {i} {p} b (stayed e q) = rw e q
 
 puts-elsewhere : {s n : State} {i : ℕ} {p : Place} → Puts s n i p → (j : ℕ) → j ≢ i → place n j ≡ place s j
-puts-elsewhere {s} {n} {i} {p} (moved e) j d = rw e (ap place-of (getD-set-other (s .places) i j (words-of p) (place-words 0 0 0 0) d))
+puts-elsewhere {s} {n} {i} {p} (moved e) j d = rw e (ap place-of (numbers-other (s .places) i j (words-of p) d))
 puts-elsewhere {s} {n} {i} {p} (stayed e q) j d = rw e
 
-module _ (t : Tree) (valid : Accepted t) (i : ℕ) (h : i < t .threads) (s : State) (room : i < length (s .places)) where
+module _ (t : Tree) (valid : Accepted t) (i : ℕ) (h : i < t .threads) (s : State) (room : Has-room (s .places) i) where
   -- what a domain's lines leave, at the root or elsewhere
   swap-control : (k : ℕ) → k ≤ height t i → Corresponds t i (control (at-root (ancestor t i k) line-67 line-9) (acquire-stack t i k)) (Swap (ancestor t i k))
   swap-control k l = c-swap k l

@@ -11,8 +11,8 @@ use Rattle.model.specs.declared.Place.{Place}
 use Rattle.model.specs.declared.Place.the-variants.{Idle, Prep, Swap, Link, Wait, Check, Help, Cas, Linger, Grant, Draw, Watch}
 use Rattle.model.specs.declared.State.{State}
 use Rattle.model.specs.Trees.{Tree, is-ticket}
-use Rattle.model.specs.Places.{place-words, place-of}
-use Rattle.model.specs.States.{wait-word, status, place, fresh-words, fresh-state}
+use Rattle.model.specs.Places.{place-of}
+use Rattle.model.specs.States.{wait-word, status, place, fresh-words, fresh-state, Has-room}
 use Rattle.model.specs.Steps.{release-word, prep-row, draw-row, row, step}
 use Rattle.model.specs.Runs.{steps, state-after, run-of, run}
 use Rattle.model.specs.Refusals.{tree-refusal}
@@ -24,7 +24,8 @@ use Rattle.model.proofs.Trees.Accepted.{Accepted, accepted}
 use Rattle.model.proofs.Lists.{same-or}
 use Rattle.model.proofs.Trees.Paths.{ancestor-not-root}
 use Rattle.model.proofs.Laws.Facts.{well-formed-facts}
-use Rattle.model.proofs.Laws.Form.{replicate-all, form-law}
+use Rattle.model.proofs.Laws.Form.{form-law}
+use Rattle.model.proofs.Places.{fresh-idle}
 use Rattle.claims.proofs.Claims.Calls.{run-behind, run-one}
 use Rattle.claims.proofs.Claims.Equality.{same-by-equality, equality-law}
 use Rattle.claims.proofs.Claims.Reached.{threads-join}
@@ -38,7 +39,7 @@ use Rattle.listing.proofs.Tickets.{draw-together, idle-draw-together, w
 use Rattle.listing.proofs.Standing.{Acquires, acquires, Releases, releases, Helps, helps, stands, stood}
 
 -- ONE ENTRY, by the place where the thread stands
-module _ (t : Tree) (valid : Accepted t) (i : ℕ) (h : i < t .threads) (s : State) (room : i < length (s .places)) (wide : length (s .statuses) ≡ 320) (small : (r : ℕ) → status s r ≤ wait-word)
+module _ (t : Tree) (valid : Accepted t) (i : ℕ) (h : i < t .threads) (s : State) (room : Has-room (s .places) i) (wide : length (s .statuses) ≡ 320) (small : (r : ℕ) → status s r ≤ wait-word)
     (by-equality : (l : ℕ) → place s i ≡ Check l → row t i (Check l) s ≡ equality-check-row t i l s) where
   idle-by : (c : Bool) → is-ticket t (t .home i) ≡ c → Together t i s (cond c (draw-row t i s) (prep-row t i (t .home i) s)) (entry t i (standing (control outside []) s))
   idle-by true n = idle-draw-together t valid i h s room wide n
@@ -178,7 +179,7 @@ pub entry-law : Entry-law
 unfolding Entry-law step
 entry-law t ok s formed i h =
     let valid = accepted t ok in
-    let room : i < length (s .places) = omega (arith, formed .typed .places-room, valid .few-threads) in
+    let room : Has-room (s .places) i = (formed .typed .places-room, omega (arith, valid .few-threads)) in
     let small : (r : ℕ) → status s r ≤ wait-word = λ r. omega (arith, formed .typed .statuses-fit r) in
     let there = stood t valid i h (place s i) (well-formed-facts t s formed .places i .used h) in
     record {
@@ -229,7 +230,6 @@ module _ (t : Tree) (bits : Sixteen-bit t) (ok : tree-refusal t .number ≡ 0) (
 pub listing-agrees : Listing-agrees
 unfolding Listing-agrees at-first All-threads run run-of steps state-after memory-of fresh-words fresh-state place-of place-of-control place-at
 listing-agrees t bits ok start is all =
-    let idle : (i : ℕ) → place (fresh-state t start) i ≡ Idle = λ i. replicate-all (λ x. place-of x ≡ Idle) 256 i (place-words 0 0 0 0) refl in
-    let first : Together-all t (at-first t start) (fresh-state t start) = record { memory = refl; stands-there = λ i h. rw (idle i) at-idle; placed = λ i h. rw (idle i) } in
+    let first : Together-all t (at-first t start) (fresh-state t start) = record { memory = refl; stands-there = λ i h. rw (fresh-idle t start i) at-idle; placed = λ i h. rw (fresh-idle t start i) } in
     let y = along t bits ok start is [] tt all (at-first t start) first in
     record { memory = y .memory; places = y .placed }

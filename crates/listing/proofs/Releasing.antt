@@ -5,12 +5,11 @@ use mathlib.Core.List.{List, [], _∷_}
 use Prim.Native.Nat.{ℕ, suc, _+_, _-_, _≤_, _<_}
 use native.Mathlib.Omega.{arith}
 use lib.Dec.{eqb}
-use lib.ListN.{length}
 use borrow.Author.Tests.{eqb-false, eq-eqb, ne-eqb}
 use Rattle.model.specs.declared.Place.the-variants.{Inside, Check, Help, Cas, Linger, Grant, Raise}
 use Rattle.model.specs.declared.State.{State}
 use Rattle.model.specs.Trees.{Tree, is-ticket, own-record}
-use Rattle.model.specs.States.{unlocked, none, tail, next, status, place}
+use Rattle.model.specs.States.{unlocked, none, tail, next, status, place, Has-room}
 use Rattle.model.specs.Steps.{Row-result, release-place, release-word}
 use Rattle.claims.specs.Reached.{equality-check-row}
 use Rattle.model.proofs.Branches.{word-is, Branch, inside-leaves, help-alone, help-linked, cas-last, cas-not-last, linger-alone, linger-linked, grant-writes}
@@ -28,7 +27,7 @@ use Rattle.listing.proofs.Entries.{begins}
 use Rattle.listing.proofs.Returning.{released-at, leaves, check-reached, check-alone, check-passes, help-none, help-some, cas-fails, linger-stays, linger-sees, ended}
 use Rattle.listing.proofs.Acquiring.{Together, standing, moved, stayed, together}
 
-module _ (t : Tree) (valid : Accepted t) (i : ℕ) (h : i < t .threads) (s : State) (room : i < length (s .places)) where
+module _ (t : Tree) (valid : Accepted t) (i : ℕ) (h : i < t .threads) (s : State) (room : Has-room (s .places) i) where
   -- a call of ReleaseReal at an index, where it stands
   released :
       (k : ℕ) (b : Return) (fs : List Frame) → k ≤ height t i → Release-stack t i k (frame (ancestor t i k) (record-at t i k) b ∷ fs) → (a c : Bool) → is-ticket t (ancestor t i k) ≡ a → eqb (ancestor t i k) 0 ≡ c →

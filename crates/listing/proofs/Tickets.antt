@@ -11,7 +11,7 @@ use borrow.Author.Tests.{eqb-true, eqb-false, eq-eqb, ne-eqb}
 use Rattle.model.specs.declared.Place.the-variants.{Inside, Draw, Watch, Raise}
 use Rattle.model.specs.declared.State.{State}
 use Rattle.model.specs.Trees.{Tree, is-ticket, own-record}
-use Rattle.model.specs.States.{place, wrap}
+use Rattle.model.specs.States.{place, wrap, Has-room}
 use Rattle.model.specs.Steps.{Row-result, done-place, draw-row}
 use Rattle.model.proofs.Branches.{Branch, draw-shown, draw-unshown, watch-shown, watch-unshown, raise-counts, draw-branch}
 use Rattle.model.proofs.Trees.Index.{ancestor, height, record-at}
@@ -80,7 +80,7 @@ module _ (t : Tree) (i : ℕ) where
       ∙ tests-first (t .home i) i from-acquire [] (taken i m) 5 c e a
 
 -- THE ROWS
-module _ (t : Tree) (valid : Accepted t) (i : ℕ) (h : i < t .threads) (s : State) (room : i < length (s .places)) where
+module _ (t : Tree) (valid : Accepted t) (i : ℕ) (h : i < t .threads) (s : State) (room : Has-room (s .places) i) where
   module _ (k : ℕ) (l : k ≤ height t i) (root : ancestor t i k ≡ 0) where
     root-record-at : own-record t i 0 ≡ record-at t i k
     root-record-at = rw root at (own-record-at t valid i h k l)

@@ -3,10 +3,15 @@ ghost use mathlib.Core.Path.{_≡_};
 ghost use Rattle.model.specs.Counters.{fresh-counters};
 ghost use Rattle.model.specs.Answers.{fresh-answer, step-answer, run-answer, trace-answer};
 ghost use Rattle.steps.specs.Running.{first-number};
+
+mod lent;
+
 use model::Counters;
 use model::FreshReply;
 use model::LockState;
+use model::PlaceArrays;
 use model::RunReply;
+use model::State;
 use model::StepReply;
 use model::TreeWords;
 
@@ -63,54 +68,62 @@ pub fn fresh_lock(tree: TreeWords, start: u16) -> FreshReply
 pub fn step_lock(tree: TreeWords, state: LockState, thread: u16) -> StepReply
     ensures { λ r. ⌜ r ≡ step-answer tree state thread ⌝ }
 {
-    let schedule = [thread];
-    let words = state.words;
-    let counters = state.counters;
-    let mut entries = counters.entries;
-    let mut tenures = counters.tenures;
-    let mut longest = counters.longest;
-    let r = steps::limits::refusal_of(tree, words, &entries, &tenures, &longest, &schedule, 1);
-    if r.number != 0 {
-        return StepReply {
-            number: r.number,
-            place: r.place,
-            kind: 0,
-            domain: 0,
-            state,
-        };
-    }
-    let mut trace = [0u16];
-    let mut kinds = [0u32; 6];
-    let mut codes = [0u16];
-    let after = steps::run::run_steps(
+    let mut tails = state.words.tails;
+    let mut nexts = state.words.nexts;
+    let mut statuses = state.words.statuses;
+    let mut rows = state.words.places.rows;
+    let mut domains = state.words.places.domains;
+    let mut peers = state.words.places.peers;
+    let mut words = state.words.places.words;
+    let mut ticket = state.words.ticket;
+    let mut grant = state.words.grant;
+    let mut entries = state.counters.entries;
+    let mut tenures = state.counters.tenures;
+    let mut longest = state.counters.longest;
+    let r = lent::step_lent(
         tree,
-        words,
-        &schedule,
-        &mut trace,
-        &mut kinds,
-        &mut codes,
+        &mut tails,
+        &mut nexts,
+        &mut statuses,
+        &mut rows,
+        &mut domains,
+        &mut peers,
+        &mut words,
+        &mut ticket,
+        &mut grant,
         &mut entries,
         &mut tenures,
         &mut longest,
+        thread,
     );
-    let code = codes[0];
-    let kind = (code % 8) as u32;
-    let at = thread as usize;
-    let domain = steps::run::domain_of_code(tree.homes[at], code);
-    let counted = Counters {
+    let places = PlaceArrays {
+        rows,
+        domains,
+        peers,
+        words,
+    };
+    let after = State {
+        tails,
+        nexts,
+        statuses,
+        places,
+        ticket,
+        grant,
+    };
+    let counters = Counters {
         entries,
         tenures,
         longest,
     };
     let left = LockState {
         words: after,
-        counters: counted,
+        counters,
     };
     StepReply {
-        number: 0,
-        place: 0,
-        kind,
-        domain,
+        number: r.number,
+        place: r.place,
+        kind: r.kind,
+        domain: r.domain,
         state: left,
     }
 }
@@ -120,49 +133,62 @@ pub fn run_lock(tree: TreeWords, state: LockState, schedule: &[u16], trace: &mut
     ensures { λ r. ⌜ r ≡ run-answer tree state (now (schedule .entry)) (now (trace .entry)) ⌝ }
     ensures { λ r. ⌜ now (trace .exit) ≡ trace-answer tree state (now (schedule .entry)) (now (trace .entry)) ⌝ }
 {
-    let words = state.words;
-    let counters = state.counters;
-    let mut entries = counters.entries;
-    let mut tenures = counters.tenures;
-    let mut longest = counters.longest;
-    let r = steps::limits::refusal_of(
+    let mut tails = state.words.tails;
+    let mut nexts = state.words.nexts;
+    let mut statuses = state.words.statuses;
+    let mut rows = state.words.places.rows;
+    let mut domains = state.words.places.domains;
+    let mut peers = state.words.places.peers;
+    let mut words = state.words.places.words;
+    let mut ticket = state.words.ticket;
+    let mut grant = state.words.grant;
+    let mut entries = state.counters.entries;
+    let mut tenures = state.counters.tenures;
+    let mut longest = state.counters.longest;
+    let r = lent::run_tested(
         tree,
-        words,
-        &entries,
-        &tenures,
-        &longest,
-        schedule,
-        trace.len(),
-    );
-    if r.number != 0 {
-        return steps::refused(r.number, r.place, state);
-    }
-    let mut kinds = [0u32; 6];
-    let mut codes = [0u16; 0];
-    let after = steps::run::run_steps(
-        tree,
-        words,
-        schedule,
-        trace,
-        &mut kinds,
-        &mut codes,
+        &mut tails,
+        &mut nexts,
+        &mut statuses,
+        &mut rows,
+        &mut domains,
+        &mut peers,
+        &mut words,
+        &mut ticket,
+        &mut grant,
         &mut entries,
         &mut tenures,
         &mut longest,
+        schedule,
+        trace,
     );
-    let counts = steps::run::counts_of(&kinds);
-    let counted = Counters {
+    let places = PlaceArrays {
+        rows,
+        domains,
+        peers,
+        words,
+    };
+    let after = State {
+        tails,
+        nexts,
+        statuses,
+        places,
+        ticket,
+        grant,
+    };
+    let counters = Counters {
         entries,
         tenures,
         longest,
     };
     let left = LockState {
         words: after,
-        counters: counted,
+        counters,
     };
+    let counts = r.counts;
     RunReply {
-        number: 0,
-        place: 0,
+        number: r.number,
+        place: r.place,
         counts,
         state: left,
     }

@@ -1,7 +1,7 @@
 // Cases of document 01's ladder that are executed: what the calls answer, one line each.
 use model::Counters;
 use model::LockState;
-use model::PlaceWords;
+use model::PlaceArrays;
 use model::RunReply;
 use model::State;
 use model::TreeWords;
@@ -128,11 +128,11 @@ fn late_entry() {
     show(r, trace[0], trace[1]);
     let left = r.state;
     let s = left.words;
-    let p = s.places[0];
+    let q = s.places;
     put(b"its state's first tail, status and row");
     short(s.tails[1]);
     low(s.statuses[0]);
-    byte(p.row);
+    byte(q.rows[0]);
     put(b"\n");
 }
 
@@ -195,14 +195,14 @@ fn step_line(tree: TreeWords, words: State, thread: u16) {
     let left = r.state;
     let s = left.words;
     let at = (thread % 256) as usize;
-    let p = s.places[at];
+    let q = s.places;
     number(r.number);
     number(r.place);
     put(b"; row");
-    byte(p.row);
-    byte(p.domain);
-    short(p.peer);
-    low(p.word);
+    byte(q.rows[at]);
+    byte(q.domains[at]);
+    short(q.peers[at]);
+    low(q.words[at]);
     put(b"; tail");
     short(s.tails[1]);
     put(b"; next");
@@ -212,12 +212,21 @@ fn step_line(tree: TreeWords, words: State, thread: u16) {
     put(b"\n");
 }
 
-fn place(row: u8, domain: u8, peer: u16, word: u64) -> PlaceWords {
-    PlaceWords {
-        row,
-        domain,
-        peer,
-        word,
+// All threads Idle but the first.
+fn first_at(row: u8, domain: u8, peer: u16, word: u64) -> PlaceArrays {
+    let mut rows = [0u8; 256];
+    let mut domains = [0u8; 256];
+    let mut peers = [0u16; 256];
+    let mut words = [0u64; 256];
+    rows[0] = row;
+    domains[0] = domain;
+    peers[0] = peer;
+    words[0] = word;
+    PlaceArrays {
+        rows,
+        domains,
+        peers,
+        words,
     }
 }
 
@@ -227,26 +236,31 @@ fn handed_in() {
     let mut above = fresh_words(tree);
     above.statuses[0] = 900;
     above.nexts[0] = 2;
-    above.places[0] = place(6, 1, 0, 0);
+    let first = first_at(6, 1, 0, 0);
+    above.places = first;
     put(b"Check with a status above the threshold");
     step_line(tree, above, 0);
     let mut itself = fresh_words(tree);
     itself.tails[1] = 1;
-    itself.places[0] = place(2, 1, 0, 0);
+    let first = first_at(2, 1, 0, 0);
+    itself.places = first;
     put(b"Swap that finds its own record");
     step_line(tree, itself, 0);
     let mut own = fresh_words(tree);
-    own.places[0] = place(3, 1, 0, 0);
+    let first = first_at(3, 1, 0, 0);
+    own.places = first;
     put(b"Link to its own record");
     step_line(tree, own, 0);
     let mut prep = fresh_words(tree);
-    prep.places[0] = place(1, 1, 0, 0);
+    let first = first_at(1, 1, 0, 0);
+    prep.places = first;
     put(b"Prep at home");
     step_line(tree, prep, 0);
     put(b"Idle");
     step_line(tree, fresh_words(tree), 0);
     let mut root = fresh_words(tree);
-    root.places[0] = place(6, 0, 0, 0);
+    let first = first_at(6, 0, 0, 0);
+    root.places = first;
     put(b"Check at the root");
     step_line(tree, root, 0);
     put(b"thread 2 of two");
@@ -259,7 +273,8 @@ fn empty_leaf() {
     tree.domains = 3;
     tree.thresholds[2] = 2;
     let mut root = fresh_words(tree);
-    root.places[0] = place(6, 0, 0, 0);
+    let first = first_at(6, 0, 0, 0);
+    root.places = first;
     put(b"a leaf without threads");
     step_line(tree, root, 0);
 }

@@ -8,7 +8,7 @@ use borrow.Author.Tests.{eqb-true, ltb-true}
 use Rattle.model.specs.Scans.{any-below, all-below, largest-below, filter-below}
 use Rattle.model.specs.Trees.{Tree, read-word, tree-of, is-ticket, is-child, is-leaf, depth-from, depth, level, meets, on-path, child-from, child, own-record, is-member, domain-allowance, allowance}
 use Rattle.model.specs.Places.{place-of, is-idle, is-watch}
-use Rattle.model.specs.States.{fresh-words, fresh-state}
+use Rattle.model.specs.States.{fresh-words, fresh-state, numbers-at, store-numbers}
 use Rattle.model.specs.Steps.{is-kind, is-entry, prep-row, swap-row, link-row, wait-row, leave-row, check-row, help-row, cas-row, linger-row, grant-row, draw-row, watch-row, is-watched, shown-members, raise-row, row, step}
 use Rattle.model.specs.Runs.{steps, state-after, entering, run-of, run, occurrences}
 use Rattle.model.specs.Acts.{sends-inside, acts-at, acts}
@@ -40,7 +40,7 @@ unfolding any-below largest-below filter-below read-word tree-of is-child is-lea
 reached-holds = refl
 
 attempts-hold : all-waits reaching-cases ≡ true
-unfolding any-below all-below filter-below read-word tree-of is-ticket meets on-path child-from child own-record place-of is-idle is-watch fresh-words fresh-state
+unfolding any-below all-below filter-below read-word tree-of is-ticket meets on-path child-from child own-record place-of is-idle is-watch numbers-at store-numbers fresh-words fresh-state
     is-kind is-entry prep-row swap-row link-row wait-row leave-row check-row help-row cas-row linger-row grant-row draw-row watch-row is-watched shown-members
     raise-row row step steps state-after entering run-of run occurrences sends-inside acts-at acts stays acts-ahead acts-holding looked-to looks-to only among chain-from chain
     swaps-at draws begins-from begins all-threads ends-at others-entry in-line bypass prompt late-entry count-steps padded tree at-ticket-root two-homes three-in-root three-in-ticket
@@ -48,14 +48,14 @@ unfolding any-below all-below filter-below read-word tree-of is-ticket meets on-
 attempts-hold = refl
 
 stalled-holds : wait-holds stalled-case ≡ true
-unfolding any-below all-below filter-below read-word tree-of is-ticket meets on-path child-from child own-record place-of is-idle is-watch fresh-words fresh-state
+unfolding any-below all-below filter-below read-word tree-of is-ticket meets on-path child-from child own-record place-of is-idle is-watch numbers-at store-numbers fresh-words fresh-state
     is-kind is-entry prep-row swap-row link-row wait-row leave-row check-row help-row cas-row linger-row grant-row draw-row watch-row is-watched shown-members
     raise-row row step steps state-after entering run-of run occurrences sends-inside acts-at acts stays acts-ahead acts-holding looked-to looks-to only among chain-from chain
     swaps-at draws begins-from begins all-threads ends-at others-entry in-line bypass prompt late-entry count-steps padded tree wait-holds ones stalled-case
 stalled-holds = refl
 
 beyond-holds : wait-holds beyond-equation-19 ≡ true
-unfolding any-below all-below filter-below read-word tree-of is-ticket meets on-path child-from child own-record place-of is-idle is-watch fresh-words fresh-state
+unfolding any-below all-below filter-below read-word tree-of is-ticket meets on-path child-from child own-record place-of is-idle is-watch numbers-at store-numbers fresh-words fresh-state
     is-kind is-entry prep-row swap-row link-row wait-row leave-row check-row help-row cas-row linger-row grant-row draw-row watch-row is-watched shown-members
     raise-row row step steps state-after entering run-of run occurrences sends-inside acts-at acts stays acts-ahead acts-holding looked-to looks-to only among chain-from chain
     swaps-at draws begins-from begins all-threads ends-at others-entry in-line bypass prompt late-entry count-steps padded tree wait-holds two-by-three-by-two beyond-equation-19

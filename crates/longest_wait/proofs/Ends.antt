@@ -12,7 +12,7 @@ use Rattle.model.specs.declared.Place.{Place}
 use Rattle.model.specs.declared.Place.the-variants.{Idle, Prep, Swap, Link, Wait, Inside, Check, Help, Cas, Linger, Grant, Draw, Watch, Raise, Invalid}
 use Rattle.model.specs.declared.State.{State as WordState}
 use Rattle.model.specs.Trees.{Tree, is-ticket, own-record}
-use Rattle.model.specs.States.{next, status, place}
+use Rattle.model.specs.States.{next, status, place, Has-room}
 use Rattle.model.specs.Steps.{is-entry, Row-result, step}
 use Rattle.model.specs.Acts.{acts}
 use Rattle.model.specs.Laws.{Sixteen-bit}
@@ -77,7 +77,7 @@ may-enter Watch = true
 may-enter Raise = false
 may-enter Invalid = false
 
-entry-branch : (t : Tree) (s : WordState) (x : ℕ) → x < length (s .places) → {p : Place} {y : Row-result} → Branch t x s p y → is-entry (y .kind) ≡ true → (place (y .state) x ≡ Inside) × (may-enter p ≡ true)
+entry-branch : (t : Tree) (s : WordState) (x : ℕ) → Has-room (s .places) x → {p : Place} {y : Row-result} → Branch t x s p y → is-entry (y .kind) ≡ true → (place (y .state) x ≡ Inside) × (may-enter p ≡ true)
 unfolding is-entry may-enter
 entry-branch t s x room (idle-draws z (draw-shown e)) f = (place-stored x Inside s room, refl)
 entry-branch t s x room (idle-draws z (draw-unshown e)) f = absurd (false≢true f)
@@ -134,7 +134,7 @@ module _ (t : Tree) (valid : Accepted t) (bits : Sixteen-bit t) (c : Situation t
   pub entry-inside : (x : ℕ) (h : x < t .threads) → Enters x → queues (situations.next t valid bits c x h) .stage x ≡ inside
   unfolding step Says
   entry-inside x h e =
-      let room : x < length (s .places) = omega (arith, c .queued .room .places-room, valid .few-threads) in
+      let room : Has-room (s .places) x = (c .queued .room .places-room, omega (arith, valid .few-threads)) in
       let p : place (situations.next t valid bits c x h .words) x ≡ Inside = ap (λ u. place u x) (next-words t valid bits c x h) ∙ entry-branch t s x room (branch t x s (place s x)) e .0 in
       says t valid (situations.next t valid bits c x h) x h Inside p
 
@@ -165,7 +165,7 @@ module _ (t : Tree) (valid : Accepted t) (bits : Sixteen-bit t) (c : Situation t
   pub enters-pending : (x : ℕ) → x < t .threads → Enters x → moves.pending (g .stage x) ≡ 1
   unfolding step
   enters-pending x h e =
-      let room : x < length (s .places) = omega (arith, c .queued .room .places-room, valid .few-threads) in
+      let room : Has-room (s .places) x = (c .queued .room .places-room, omega (arith, valid .few-threads)) in
       by (place s x) refl (entry-branch t s x room (branch t x s (place s x)) e .1)
     where
       by : (p : Place) → place s x ≡ p → may-enter p ≡ true → moves.pending (g .stage x) ≡ 1

@@ -5,12 +5,11 @@ use mathlib.Core.List.{List}
 use mathlib.Core.Logic.{_≢_}
 use Prim.Native.Nat.{ℕ}
 use lib.Dec.{eqb}
-use lib.ListN.{getD, set}
 use Rattle.model.specs.declared.PlaceWords.{PlaceWords}
 use Rattle.model.specs.declared.State.{State}
-use Rattle.model.specs.Places.{place-words}
 use Rattle.model.specs.Trees.{Tree, child, own-record}
 use Rattle.model.specs.Steps.{kind-number, Row-result}
+use Rattle.model.specs.States.{numbers-at, store-numbers}
 use Rattle.members.specs.declared.Member.{Member}
 use Rattle.members.specs.declared.rows.Moved.{Moved}
 
@@ -28,10 +27,10 @@ abbrev pub with-statuses : List ℕ → State → State
 with-statuses vs s = record { tails = s .tails; nexts = s .nexts; statuses = vs; places = s .places; ticket = s .ticket; grant = s .grant }
 
 abbrev pub with-place-words : (thread : ℕ) → PlaceWords → State → State
-with-place-words i q s = record { tails = s .tails; nexts = s .nexts; statuses = s .statuses; places = set (s .places) i q; ticket = s .ticket; grant = s .grant }
+with-place-words i q s = record { tails = s .tails; nexts = s .nexts; statuses = s .statuses; places = store-numbers (s .places) i q; ticket = s .ticket; grant = s .grant }
 
 abbrev pub place-at : State → (thread : ℕ) → PlaceWords
-place-at s i = getD (s .places) i (place-words 0 0 0 0)
+place-at s i = numbers-at (s .places) i
 
 -- a row is done: what it says is its kind, and the words that it leaves are its state, with the thread's place as it says
 pub record Done (x : Row-result) (i : ℕ) (m : Moved) (left : State) : Type 0 where

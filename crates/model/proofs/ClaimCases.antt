@@ -12,7 +12,7 @@ use Rattle.model.specs.declared.LockState.{LockState}
 use Rattle.model.specs.Scans.{any-below, all-below, largest-below, filter-below}
 use Rattle.model.specs.Trees.{Tree, read-word, tree-of, is-ticket, is-child, is-leaf, depth-from, depth, level, meets, on-path, child-from, child, own-record, is-record, is-member, owner-domain, under, domain-allowance, allowance}
 use Rattle.model.specs.Places.{place-of, is-idle, is-watch}
-use Rattle.model.specs.States.{fresh-words, fresh-state}
+use Rattle.model.specs.States.{fresh-words, fresh-state, numbers-at, store-numbers}
 use Rattle.model.specs.Steps.{is-kind, is-entry, prep-row, swap-row, link-row, wait-row, leave-row, check-row, help-row, cas-row, linger-row, grant-row, draw-row, watch-row, is-watched, shown-members, raise-row, row, step}
 use Rattle.model.specs.Runs.{steps, state-after, how-many, entering, counts-of, run-of, run, begun-in, ended-in, begun, ended, entries-under, occurrences}
 use Rattle.model.specs.WellFormed.{good-tail, queue-on-path, good-place, good-counters}
@@ -25,14 +25,14 @@ use Rattle.model.specs.Calls.{Ask, one-step, a-run, Call, Answer, steppe
 use Rattle.model.specs.Cases.{padded, tree, count-up, same-numbers, two-homes}
 use Rattle.model.specs.ClaimCases.{reaches, one-leaf, thread-allowance-reached, two-leaves-below, until-leaf-stands, while-leaf-stands, inner-allowance-reached, Allowances-reached, too-many-domains, two-homes-again, mixed-calls, mixed-schedule, refusal-in, refusals-in, Mixed-calls-answered}
 use Rattle.model.proofs.Tests.{and-both}
-use Rattle.model.proofs.Walks.{walked, Sized, zero-from, first-pass, formed-by-walks, same-formed, counts-by-walks}
+use Rattle.model.proofs.Walks.{walked, Sized, zero-from, first-pass, formed-by-walks, same-formed, counts-by-walks, zipped}
 use Rattle.model.proofs.Computing.{far-below, have-room, counted-refusal, same-counted-step, same-counted-run, state-sized, sized}
 use Rattle.model.proofs.Laws.Calls.{step-reply-number, run-reply-number}
 use Rattle.model.proofs.Laws.Unread.{unread-law}
 
 pub allowances-reached : Allowances-reached
 unfolding any-below filter-below largest-below read-word tree-of is-ticket is-child is-leaf meets on-path child-from child own-record is-member under
-    domain-allowance allowance place-of is-watch fresh-words fresh-state is-entry prep-row swap-row link-row wait-row leave-row check-row help-row cas-row
+    domain-allowance allowance place-of is-watch numbers-at store-numbers fresh-words fresh-state is-entry prep-row swap-row link-row wait-row leave-row check-row help-row cas-row
     linger-row grant-row draw-row watch-row is-watched shown-members raise-row row step steps state-after run-of run begun-in ended-in begun ended
     entries-under occurrences padded tree same-numbers reaches one-leaf thread-allowance-reached two-leaves-below until-leaf-stands while-leaf-stands
     inner-allowance-reached Allowances-reached
@@ -146,11 +146,11 @@ mixed-walked : walked-refusals mixed-calls fresh-lock ≡ mixed-refusals
 unfolding occurrences ended-in entries-under finds-none taken-from given starts checks-at word-to-grant tenure-length domain-entries domain-tenures
     longest-tenure fresh-counters each-with-index counters-after count-above any-above bad-counter counters-behind any-below filter-below all-below read-word
     tree-of is-ticket is-child is-leaf depth-from depth level meets on-path child-from child own-record is-record is-member owner-domain under place-of
-    is-watch is-idle fresh-words fresh-state is-kind is-entry prep-row swap-row link-row wait-row leave-row check-row help-row cas-row linger-row grant-row
+    is-watch is-idle numbers-at store-numbers fresh-words fresh-state is-kind is-entry prep-row swap-row link-row wait-row leave-row check-row help-row cas-row linger-row grant-row
     draw-row watch-row is-watched shown-members raise-row row step steps state-after how-many entering counts-of run-of run good-tail queue-on-path good-place
     good-counters good-count refusal accepted lowest-bad first-refusal bad-domains bad-threads bad-parent too-deep no-threshold bad-home empty-domain tree-tests
     bad-length bad-entry bad-room step-reply run-reply run-buffer padded tree count-up two-homes state-in asked-entries too-many-domains two-homes-again
-    mixed-calls refusal-in walked formed-by-walks counts-by-walks zero-from first-pass far-below have-room counted-refusal answer-by walked-refusal walked-refusals
+    mixed-calls refusal-in walked zipped formed-by-walks counts-by-walks zero-from first-pass far-below have-room counted-refusal answer-by walked-refusal walked-refusals
 mixed-walked = refl
 
 refused : refusals-in (answers mixed-calls fresh-lock) ≡ mixed-refusals

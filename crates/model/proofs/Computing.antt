@@ -12,6 +12,7 @@ use Rattle.model.specs.declared.State.{State}
 use Rattle.model.specs.declared.Counters.{Counters}
 use Rattle.model.specs.declared.LockState.{LockState}
 use Rattle.model.specs.declared.StepReply.{StepReply}
+use Rattle.model.specs.declared.PlaceArrays.{PlaceArrays}
 use Rattle.model.specs.Trees.{Tree, tree-of}
 use Rattle.model.specs.Runs.{steps, run}
 use Rattle.model.specs.WellFormed.{well-formed}
@@ -20,6 +21,7 @@ use Rattle.model.specs.CounterLaws.{Room-left, Room-law}
 use Rattle.model.specs.Refusals.{Refusal, Test, test, lowest-bad, first-refusal, tree-tests, bad-state, bad-counter, entry-tests, schedule-tests, room-tests, counter-tests, step-tests-before-19, step-tests, run-tests-before-19, run-tests, step-refusal, run-refusal}
 use Rattle.model.specs.Answers.{counters-behind, step-reply, step-answer, run-reply, run-buffer, run-answer, trace-answer}
 use Rattle.model.specs.Cases.{Case, fresh-call, fresh-starts, step-call, step-gives, run-call, trace-room, uncounted, step-holds, step-gave, run-holds, holds, all-hold}
+use Rattle.model.specs.States.{Places-room}
 use Rattle.model.proofs.Tests.{and-both, and-true}
 use Rattle.model.proofs.Refusing.{test-skipped}
 use Rattle.model.proofs.Walks.{Sized, formed-by-walks, same-formed, counts-by-walks, same-counted, above-by-walks, same-above}
@@ -165,8 +167,11 @@ all-hold-by-walks [] = true
 all-hold-by-walks (c ∷ cs) = holds-by-walks c && all-hold-by-walks cs
 
 -- the states that the cases hand in are whole, and their schedules short
+abbrev pub places-sized : PlaceArrays → Bool
+places-sized q = (eqb (length (q .rows)) 256 && eqb (length (q .domains)) 256) && (eqb (length (q .peers)) 256 && eqb (length (q .words)) 256)
+
 abbrev pub state-sized : State → Bool
-state-sized s = eqb (length (s .nexts)) 320 && (eqb (length (s .statuses)) 320 && eqb (length (s .places)) 256)
+state-sized s = eqb (length (s .nexts)) 320 && (eqb (length (s .statuses)) 320 && places-sized (s .places))
 
 unfoldable pub case-sized : Case → Bool
 case-sized (fresh-call w x) = true
@@ -179,11 +184,18 @@ unfoldable pub all-sized : List Case → Bool
 all-sized [] = true
 all-sized (c ∷ cs) = case-sized c && all-sized cs
 
+sized-places : (q : PlaceArrays) → places-sized q ≡ true → Places-room q
+sized-places q e =
+    let a = and-both (eqb (length (q .rows)) 256 && eqb (length (q .domains)) 256) (eqb (length (q .peers)) 256 && eqb (length (q .words)) 256) e in
+    let b = and-both (eqb (length (q .rows)) 256) (eqb (length (q .domains)) 256) (a .0) in
+    let c = and-both (eqb (length (q .peers)) 256) (eqb (length (q .words)) 256) (a .1) in
+    record { rows = eqb-true _ _ (b .0); domains = eqb-true _ _ (b .1); peers = eqb-true _ _ (c .0); words = eqb-true _ _ (c .1) }
+
 pub sized : (s : State) → state-sized s ≡ true → Sized s
 sized s e =
-    let a = and-both (eqb (length (s .nexts)) 320) (eqb (length (s .statuses)) 320 && eqb (length (s .places)) 256) e in
-    let b = and-both (eqb (length (s .statuses)) 320) (eqb (length (s .places)) 256) (a .1) in
-    record { nexts = eqb-true _ _ (a .0); statuses = eqb-true _ _ (b .0); places = eqb-true _ _ (b .1) }
+    let a = and-both (eqb (length (s .nexts)) 320) (eqb (length (s .statuses)) 320 && places-sized (s .places)) e in
+    let b = and-both (eqb (length (s .statuses)) 320) (places-sized (s .places)) (a .1) in
+    record { nexts = eqb-true _ _ (a .0); statuses = eqb-true _ _ (b .0); places = sized-places (s .places) (b .1) }
 
 same-case : (c : Case) → case-sized c ≡ true → holds c ≡ holds-by-walks c
 unfolding holds-by-walks case-sized holds run-answer trace-answer

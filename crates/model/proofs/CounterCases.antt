@@ -12,7 +12,7 @@ use Rattle.model.specs.declared.LockState.{LockState}
 use Rattle.model.specs.Scans.{any-below, all-below, filter-below}
 use Rattle.model.specs.Trees.{read-word, Tree, tree-of, is-ticket, is-child, is-leaf, depth-from, depth, level, meets, on-path, child-from, child, own-record, is-record, is-member, owner-domain, under}
 use Rattle.model.specs.Places.{place-of, is-idle, is-inside, is-watch}
-use Rattle.model.specs.States.{fresh-words, fresh-state}
+use Rattle.model.specs.States.{fresh-words, fresh-state, numbers-at, store-numbers}
 use Rattle.model.specs.Steps.{is-kind, is-entry, prep-row, swap-row, link-row, wait-row, leave-row, check-row, help-row, cas-row, linger-row, grant-row, draw-row, watch-row, is-watched, shown-members, raise-row, row, step}
 use Rattle.model.specs.Runs.{steps, state-after, how-many, entering, counts-of, run-of, run, ended-in, entries-under, occurrences}
 use Rattle.model.specs.Tenures.{finds-none, taken-from, given, starts, checks-at, word-to-grant, tenure-length, domain-entries, domain-tenures, longest-tenure}
@@ -20,11 +20,11 @@ use Rattle.model.specs.WellFormed.{good-tail, queue-on-path, good-place,
 use Rattle.model.specs.Counters.{lock-state, fresh-counters, each-with-index, counters-after, good-count, good-counts, count-above, any-above}
 use Rattle.model.specs.Refusals.{Refusal, refusal, accepted, Test, test, lowest-bad, first-refusal, bad-domains, bad-threads, bad-parent, too-deep, no-threshold, bad-home, empty-domain, tree-tests, bad-state, bad-length, bad-entry, bad-room, bad-counter, entry-tests, schedule-tests, room-tests, counter-tests, step-tests, run-tests, tree-refusal, step-refusal, run-refusal}
 use Rattle.model.specs.Answers.{counters-behind, first-kind, first-domain, step-reply, step-answer, run-reply, run-buffer, run-answer, trace-answer}
-use Rattle.model.specs.Cases.{padded, tree, at-ticket-root, two-homes, first-entries, same-numbers, place-numbers, same-state, same-counters, same-lock, uncounted}
+use Rattle.model.specs.Cases.{padded, tree, at-ticket-root, two-homes, first-entries, same-numbers, same-places, same-state, same-counters, same-lock, uncounted}
 use Rattle.model.specs.CounterCases.{counters, Case, leaves, run-with, step-with, two-below, one-pass, two-leaves, cases, buffer, left-so, refused-so, step-so, holds, all-hold, Counter-cases-hold}
 use Rattle.model.proofs.Tests.{and-both}
 use Rattle.model.proofs.Laws.Form.{fresh-well-formed}
-use Rattle.model.proofs.Walks.{walked, zero-from, first-pass, first-meets, formed-by-walks, same-formed, counts-by-walks, above-by-walks}
+use Rattle.model.proofs.Walks.{walked, zero-from, first-pass, first-meets, formed-by-walks, same-formed, counts-by-walks, above-by-walks, zipped}
 use Rattle.model.proofs.Computing.{far-below, have-room, walked-counter, counted-refusal, same-counted-step, same-counted-run, state-sized, sized}
 
 -- the words of the cases are fresh, which are well formed for every tree, or are walked
@@ -78,19 +78,19 @@ same-cases (c ∷ cs) e =
     rw (same-case c (a .0), same-cases cs (a .1))
 
 cases-sized : all-sized cases ≡ true
-unfolding any-below filter-below read-word tree-of is-ticket is-child is-leaf meets on-path child-from child own-record under place-of is-watch fresh-words
+unfolding any-below filter-below read-word tree-of is-ticket is-child is-leaf meets on-path child-from child own-record under place-of is-watch numbers-at store-numbers fresh-words
     is-entry prep-row swap-row link-row wait-row leave-row check-row help-row cas-row linger-row grant-row draw-row watch-row is-watched shown-members
     raise-row row step steps state-after run-of run fresh-counters counters cases first-entries two-below padded tree case-sized all-sized
 cases-sized = refl
 
 pub counter-cases-hold : Counter-cases-hold
 unfolding Counter-cases-hold any-below filter-below all-below read-word tree-of is-ticket is-child is-leaf depth-from depth level meets on-path child-from
-    child own-record is-record is-member owner-domain under place-of is-watch is-idle is-inside fresh-words fresh-state is-kind is-entry prep-row swap-row
+    child own-record is-record is-member owner-domain under place-of is-watch is-idle is-inside numbers-at store-numbers fresh-words fresh-state is-kind is-entry prep-row swap-row
     link-row wait-row leave-row check-row help-row cas-row linger-row grant-row draw-row watch-row is-watched shown-members raise-row row step steps
     state-after how-many entering counts-of run-of run ended-in entries-under occurrences finds-none taken-from given starts checks-at word-to-grant
     tenure-length domain-entries domain-tenures longest-tenure good-tail queue-on-path good-place good-counters fresh-counters each-with-index counters-after
     good-count good-counts count-above any-above refusal accepted lowest-bad first-refusal bad-domains bad-threads bad-parent too-deep no-threshold bad-home
     empty-domain tree-tests bad-length bad-entry bad-room bad-counter counters-behind first-kind first-domain step-reply run-reply run-buffer padded tree
-    at-ticket-root two-homes first-entries same-numbers place-numbers same-state same-counters same-lock counters two-below one-pass two-leaves cases
-    refused-so step-so walked formed-by-walks counts-by-walks zero-from first-pass first-meets above-by-walks walked-counter far-below have-room counted-refusal holds-by-walks all-hold-by-walks
+    at-ticket-root two-homes first-entries same-numbers same-places same-state same-counters same-lock counters two-below one-pass two-leaves cases
+    refused-so step-so walked zipped formed-by-walks counts-by-walks zero-from first-pass first-meets above-by-walks walked-counter far-below have-room counted-refusal holds-by-walks all-hold-by-walks
 counter-cases-hold = same-cases cases cases-sized ∙ refl

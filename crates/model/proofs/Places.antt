@@ -2,19 +2,21 @@
 use mathlib.Core.Path.{_≡_, refl, sym, ap, _∙_}
 use mathlib.Core.Bool.{Bool, true, false, _&&_, cond, false≢true}
 use mathlib.Core.Logic.{_≢_}
-use Prim.Native.Nat.{ℕ, _≤_, _<_}
+use Prim.Native.Nat.{ℕ, zero, suc, _≤_, _<_}
 use native.Mathlib.Omega.{arith}
 use native.Mathlib.Decide.{ℕ-discrete}
 use lib.Dec.{eqb}
-use lib.ListN.{length, List·getD-eq-default}
-use lib.Seq.{getD-set-same}
+use lib.ListN.{getD, replicate, length-set, List·getD-eq-default}
+use lib.Seq.{getD-set-same, getD-set-other, set-getD}
 use borrow.Author.Tests.{eqb-true, eqb-false, ne-eqb}
 use Rattle.model.specs.declared.PlaceWords.{PlaceWords}
 use Rattle.model.specs.declared.Place.{Place}
 use Rattle.model.specs.declared.Place.the-variants.{Idle, Prep, Swap, Link, Wait, Inside, Check, Help, Cas, Linger, Grant, Draw, Watch, Raise, Invalid}
 use Rattle.model.specs.declared.State.{State}
+use Rattle.model.specs.declared.PlaceArrays.{PlaceArrays}
+use Rattle.model.specs.Trees.{Tree}
 use Rattle.model.specs.Places.{place-words, words-of, no-row, shapes, shape, parts, fits, shaped, place-of, is-idle, is-watch}
-use Rattle.model.specs.States.{place, with-place}
+use Rattle.model.specs.States.{numbers-at, store-numbers, Places-room, Has-room, fresh-words, fresh-state, place, with-place}
 use Rattle.model.proofs.Tests.{by-test, and-both, and-true, and-false}
 
 -- the place of a place's numbers, Invalid as well
@@ -187,5 +189,66 @@ watch-facts Raise e = absurd (false≢true e)
 watch-facts Invalid e = absurd (false≢true e)
 
 -- STORES of a place
-pub place-stored : (i : ℕ) (p : Place) (s : State) → i < length (s .places) → place (with-place i p s) i ≡ p
-place-stored i p s h = rw (getD-set-same (s .places) i (words-of p) (place-words 0 0 0 0) h) (place-of-words p)
+pub numbers-stored : (q : PlaceArrays) (i : ℕ) (x : PlaceWords) → Has-room q i → numbers-at (store-numbers q i x) i ≡ x
+unfolding numbers-at store-numbers
+numbers-stored q i x h =
+    rw (getD-set-same (q .rows) i (x .row) 0 (omega (arith, h .0 .rows, h .1)), getD-set-same (q .domains) i (x .domain) 0 (omega (arith, h .0 .domains, h .1)), getD-set-same (q .peers) i (x .peer) 0 (omega (arith, h .0 .peers, h .1)), getD-set-same (q .words) i (x .word) 0 (omega (arith, h .0 .words, h .1)))
+
+-- another thread's place stays
+pub numbers-other : (q : PlaceArrays) (i j : ℕ) (x : PlaceWords) → j ≢ i → numbers-at (store-numbers q i x) j ≡ numbers-at q j
+unfolding numbers-at store-numbers
+numbers-other q i j x n =
+    rw (getD-set-other (q .rows) i j (x .row) 0 n, getD-set-other (q .domains) i j (x .domain) 0 n, getD-set-other (q .peers) i j (x .peer) 0 n, getD-set-other (q .words) i j (x .word) 0 n)
+
+-- a place stored again
+pub numbers-again : (q : PlaceArrays) (i : ℕ) → store-numbers q i (numbers-at q i) ≡ q
+unfolding numbers-at store-numbers
+numbers-again q i = rw (set-getD (q .rows) i 0, set-getD (q .domains) i 0, set-getD (q .peers) i 0, set-getD (q .words) i 0)
+
+-- a store keeps what holds of every place, and the room
+pub numbers-all :
+    (Q : ℕ → PlaceWords → Type 0) (q : PlaceArrays) (i : ℕ) (x : PlaceWords) → Has-room q i → Q i x → ((j : ℕ) → Q j (numbers-at q j)) → (j : ℕ) →
+    Q j (numbers-at (store-numbers q i x) j)
+numbers-all Q q i x h f g j =
+    elim (ℕ-discrete j i) [ yes z ↦ rw (z, numbers-stored q i x h) f | no n ↦ rw (numbers-other q i j x n) (g j) ]
+
+pub room-kept : (q : PlaceArrays) (i : ℕ) (x : PlaceWords) → Places-room q → Places-room (store-numbers q i x)
+unfolding store-numbers
+room-kept q i x r =
+    record {
+      rows = length-set (q .rows) i (x .row) ∙ r .rows;
+      domains = length-set (q .domains) i (x .domain) ∙ r .domains;
+      peers = length-set (q .peers) i (x .peer) ∙ r .peers;
+      words = length-set (q .words) i (x .word) ∙ r .words;
+    }
+
+-- fresh places: the numbers of Idle everywhere
+zero-everywhere : (n j : ℕ) → getD {A = ℕ} (replicate n 0) j 0 ≡ 0
+zero-everywhere zero j = refl
+zero-everywhere (suc n) zero = refl
+zero-everywhere (suc n) (suc j) = zero-everywhere n j
+
+pub fresh-numbers : (i : ℕ) → numbers-at (fresh-words .places) i ≡ place-words 0 0 0 0
+unfolding numbers-at fresh-words
+fresh-numbers i = rw (zero-everywhere 256 i)
+
+-- every thread is Idle in a fresh state
+pub fresh-idle : (t : Tree) (v i : ℕ) → place (fresh-state t v) i ≡ Idle
+unfolding fresh-state
+fresh-idle t v i = ap place-of (fresh-numbers i) ∙ place-of-words Idle
+
+pub fresh-room : Places-room (fresh-words .places)
+unfolding fresh-words
+fresh-room = record { rows = refl; domains = refl; peers = refl; words = refl }
+
+-- beyond the room every place has the numbers of Idle
+pub numbers-beyond : (q : PlaceArrays) (i : ℕ) → Places-room q → 256 ≤ i → numbers-at q i ≡ place-words 0 0 0 0
+unfolding numbers-at
+numbers-beyond q i r h =
+    rw (List·getD-eq-default (q .rows) 0 {n = i} (omega (arith, r .rows)), List·getD-eq-default (q .domains) 0 {n = i} (omega (arith, r .domains)), List·getD-eq-default (q .peers) 0 {n = i} (omega (arith, r .peers)), List·getD-eq-default (q .words) 0 {n = i} (omega (arith, r .words)))
+
+pub place-stored : (i : ℕ) (p : Place) (s : State) → Has-room (s .places) i → place (with-place i p s) i ≡ p
+place-stored i p s h = rw (numbers-stored (s .places) i (words-of p) h) (place-of-words p)
+
+pub place-elsewhere : (i j : ℕ) (p : Place) (s : State) → j ≢ i → place (with-place i p s) j ≡ place s j
+place-elsewhere i j p s n = ap place-of (numbers-other (s .places) i j (words-of p) n)

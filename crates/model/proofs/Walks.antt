@@ -2,19 +2,20 @@
 use mathlib.Core.Path.{_≡_, refl, sym, ap, _∙_}
 use mathlib.Core.Bool.{Bool, true, false, _&&_, cond}
 use mathlib.Core.List.{List, [], _∷_}
-use Prim.Native.Nat.{ℕ, zero, suc, _+_, _≤_}
+use Prim.Native.Nat.{ℕ, zero, suc, _+_, _≤_, _<_}
 use native.Mathlib.Omega.{arith}
 use native.Mathlib.Decide.{ℕ-discrete}
 use lib.Dec.{eqb, leb, leb·zero}
-use lib.ListN.{length, getD}
+use lib.ListN.{length, getD, drop}
 use borrow.Author.Tests.{eqb-true, leb-true}
 use Rattle.model.specs.declared.PlaceWords.{PlaceWords}
 use Rattle.model.specs.declared.State.{State}
 use Rattle.model.specs.declared.Counters.{Counters}
+use Rattle.model.specs.declared.PlaceArrays.{PlaceArrays}
 use Rattle.model.specs.Scans.{any-below, all-below}
 use Rattle.model.specs.Trees.{Tree}
 use Rattle.model.specs.Places.{place-words, place-of}
-use Rattle.model.specs.States.{tail}
+use Rattle.model.specs.States.{tail, numbers-at, Places-room}
 use Rattle.model.specs.WellFormed.{good-tail, next-fits, good-next, status-fits, good-status, watch-fits, good-watch, thread-fits, good-thread, good-counters, well-formed}
 use Rattle.model.specs.Counters.{good-count, good-counts, count-above, any-above}
 use Rattle.model.proofs.Tests.{and-both, and-true, or-false, all-same}
@@ -113,7 +114,33 @@ same-met b n f p = by (b && leb n 64) refl
 pub record Sized (s : State) : Type 0 where
   pub nexts : length (s .nexts) ≡ 320
   pub statuses : length (s .statuses) ≡ 320
-  pub places : length (s .places) ≡ 256
+  pub places : Places-room (s .places)
+
+-- the numbers of all places, as one list
+unfoldable pub zipped : (rows domains peers words : List ℕ) → List PlaceWords
+zipped [] ds ps ws = []
+zipped (r ∷ rs) ds ps ws = place-words r (getD ds 0 0) (getD ps 0 0) (getD ws 0 0) ∷ zipped rs (drop 1 ds) (drop 1 ps) (drop 1 ws)
+
+zipped-length : (rs ds ps ws : List ℕ) → length (zipped rs ds ps ws) ≡ length rs
+unfolding zipped
+zipped-length [] ds ps ws = refl
+zipped-length (r ∷ rs) ds ps ws = ap suc (zipped-length rs (drop 1 ds) (drop 1 ps) (drop 1 ws))
+
+next-of : (l : List ℕ) (j : ℕ) → getD (drop 1 l) j 0 ≡ getD l (suc j) 0
+next-of [] j = refl
+next-of (x ∷ xs) j = refl
+
+zipped-at :
+    (rs ds ps ws : List ℕ) (j : ℕ) → j < length rs →
+    getD (zipped rs ds ps ws) j (place-words 0 0 0 0) ≡ place-words (getD rs j 0) (getD ds j 0) (getD ps j 0) (getD ws j 0)
+unfolding zipped
+zipped-at [] ds ps ws j h = absurd (omega arith)
+zipped-at (r ∷ rs) ds ps ws zero h = refl
+zipped-at (r ∷ rs) ds ps ws (suc j) h =
+    rw (← next-of ds j, ← next-of ps j, ← next-of ws j) (zipped-at rs (drop 1 ds) (drop 1 ps) (drop 1 ws) j (omega arith))
+
+abbrev pub all-numbers : PlaceArrays → List PlaceWords
+all-numbers q = zipped (q .rows) (q .domains) (q .peers) (q .words)
 
 -- a tail that is none is good
 none-good : (t : Tree) (s : State) (d : ℕ) → tail s d ≡ 0 → good-tail t s d ≡ true
@@ -134,12 +161,19 @@ thread-walked t s i q = thread-fits t i (place-of q) (watch-fits t s i (place-of
 unfoldable pub formed-by-walks : Tree → State → Bool
 formed-by-walks t s =
     (tails-walked t s && walked (next-fits t) 0 (s .nexts))
-    && (walked (status-fits t) 0 (s .statuses) && (walked (thread-walked t s) 0 (s .places) && good-counters t s))
+    && (walked (status-fits t) 0 (s .statuses) && (walked (thread-walked t s) 0 (all-numbers (s .places)) && good-counters t s))
+
+places-same : (f : ℕ → PlaceWords → Bool) (q : PlaceArrays) → Places-room q → all-below 256 (λ i. f i (numbers-at q i)) ≡ walked f 0 (all-numbers q)
+unfolding numbers-at
+places-same f q r =
+    all-same 256 (λ i. f i (numbers-at q i)) (λ i. f i (getD (all-numbers q) i (place-words 0 0 0 0)))
+    (λ i h. ap (f i) (sym (zipped-at (q .rows) (q .domains) (q .peers) (q .words) i (omega (arith, r .rows)))))
+    ∙ whole f (place-words 0 0 0 0) 256 (all-numbers q) (zipped-length (q .rows) (q .domains) (q .peers) (q .words) ∙ r .rows)
 
 pub same-formed : (t : Tree) (s : State) → Sized s → well-formed t s ≡ formed-by-walks t s
 unfolding well-formed formed-by-walks good-next good-status good-thread good-watch
 same-formed t s h =
-    rw (tails-same t s, whole (next-fits t) 0 320 (s .nexts) (h .nexts), whole (status-fits t) 0 320 (s .statuses) (h .statuses), whole (thread-walked t s) (place-words 0 0 0 0) 256 (s .places) (h .places))
+    rw (tails-same t s, whole (next-fits t) 0 320 (s .nexts) (h .nexts), whole (status-fits t) 0 320 (s .statuses) (h .statuses), places-same (thread-walked t s) (s .places) (h .places))
 
 -- THE COUNTERS, whose room behind the domains of the tree is 0
 abbrev pub zeros-from : (first : ℕ) → Counters → Bool

@@ -5,7 +5,6 @@ use Prim.Native.Nat.{ℕ, zero, suc, _-_}
 use lib.Dec.{eqb}
 use lib.ListN.{length, drop, replicate}
 use Rattle.model.specs.declared.TreeWords.{TreeWords}
-use Rattle.model.specs.declared.PlaceWords.{PlaceWords}
 use Rattle.model.specs.declared.Place.the-variants.{Idle, Prep, Swap, Wait, Inside, Check, Help, Linger, Grant}
 use Rattle.model.specs.declared.State.{State}
 use Rattle.model.specs.declared.Counters.{Counters}
@@ -13,6 +12,7 @@ use Rattle.model.specs.declared.LockState.{LockState}
 use Rattle.model.specs.declared.Counts.{Counts}
 use Rattle.model.specs.declared.StepReply.{StepReply}
 use Rattle.model.specs.declared.RunReply.{RunReply}
+use Rattle.model.specs.declared.PlaceArrays.{PlaceArrays}
 use Rattle.model.specs.Trees.{tree-of, allowance}
 use Rattle.model.specs.States.{acquire-parent, wait-word, locked, fresh-words, with-tail, with-next, with-status, with-place, with-ticket, with-grant}
 use Rattle.model.specs.Runs.{steps, state-after, begun, ended, entries-under, occurrences}
@@ -187,9 +187,10 @@ same-numbers [] (y ∷ ys) = false
 same-numbers (x ∷ xs) [] = false
 same-numbers (x ∷ xs) (y ∷ ys) = eqb x y && same-numbers xs ys
 
-unfoldable pub place-numbers : List PlaceWords → List ℕ
-place-numbers [] = []
-place-numbers (p ∷ ps) = p .row ∷ p .domain ∷ p .peer ∷ p .word ∷ place-numbers ps
+unfoldable pub same-places : PlaceArrays → PlaceArrays → Bool
+same-places a b =
+    (same-numbers (a .rows) (b .rows) && same-numbers (a .domains) (b .domains))
+    && (same-numbers (a .peers) (b .peers) && same-numbers (a .words) (b .words))
 
 -- both counters of a ticket lock
 unfoldable pub counters : (ticket grant : ℕ) → State → State
@@ -198,7 +199,7 @@ counters a b s = with-grant b (with-ticket a s)
 unfoldable pub same-state : State → State → Bool
 same-state a b =
     (same-numbers (a .tails) (b .tails) && same-numbers (a .nexts) (b .nexts))
-    && ((same-numbers (a .statuses) (b .statuses) && same-numbers (place-numbers (a .places)) (place-numbers (b .places)))
+    && ((same-numbers (a .statuses) (b .statuses) && same-places (a .places) (b .places))
     && (eqb (a .ticket) (b .ticket) && eqb (a .grant) (b .grant)))
 
 unfoldable pub gives : (number place : ℕ) → Expected → Bool

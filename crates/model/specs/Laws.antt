@@ -13,8 +13,7 @@ use Rattle.model.specs.declared.Counts.{Counts}
 use Rattle.model.specs.declared.Place.{Place}
 use Rattle.model.specs.declared.Place.the-variants.{Idle, Prep, Swap, Link, Wait, Inside, Check, Help, Cas, Linger, Grant, Draw, Watch, Raise, Invalid}
 use Rattle.model.specs.Trees.{Tree, tree-of, is-ticket, on-path, is-member, under}
-use Rattle.model.specs.Places.{place-words}
-use Rattle.model.specs.States.{acquire-parent, wait-word, status, place, fresh-state}
+use Rattle.model.specs.States.{acquire-parent, wait-word, status, place, fresh-state, numbers-at, Places-room}
 use Rattle.model.specs.Steps.{stay, root-entry, passed-entry, crossed-entry, leaving, is-entry, kind-number, Step, step}
 use Rattle.model.specs.Runs.{steps, Run, run-of, run, occurrences}
 use Rattle.model.specs.WellFormed.{well-formed}
@@ -40,11 +39,11 @@ pub record Typed (s : State) : Type 0 where
   pub tails-room : length (s .tails) ≡ 64
   pub nexts-room : length (s .nexts) ≡ 320
   pub statuses-room : length (s .statuses) ≡ 320
-  pub places-room : length (s .places) ≡ 256
+  pub places-room : Places-room (s .places)
   pub statuses-fit : (r : ℕ) → status s r < 18446744073709551616
   pub ticket-fits : s .ticket < 65536
   pub grant-fits : s .grant < 65536
-  pub words-fit : (i : ℕ) → getD (s .places) i (place-words 0 0 0 0) .word < 18446744073709551616
+  pub words-fit : (i : ℕ) → numbers-at (s .places) i .word < 18446744073709551616
 
 -- a state that a call may hand over: well formed, unused room included
 pub record Formed (t : Tree) (s : State) : Type 0 where
@@ -122,7 +121,7 @@ Kind-law = (t : Tree) (i : ℕ) (s : State) → tree-refusal t .number ≡ 0 →
 -- the domain that a step was at: home for Idle and leaving, else the domain that its place names; in every well-formed state one of its path
 pub record Tells-domain (t : Tree) (i : ℕ) (s : State) : Type 0 where
   pub at-home : (place s i ≡ Idle) ⊎ (place s i ≡ Inside) → step t i s .domain ≡ t .home i
-  pub at-place : place s i ≢ Idle → place s i ≢ Inside → step t i s .domain ≡ getD (s .places) i (place-words 0 0 0 0) .domain
+  pub at-place : place s i ≢ Idle → place s i ≢ Inside → step t i s .domain ≡ numbers-at (s .places) i .domain
   pub path : on-path t i (step t i s .domain) ≡ true
 
 unfoldable pub Domain-law : Type 0

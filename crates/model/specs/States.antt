@@ -1,9 +1,12 @@
 -- A lock's state: tails, nexts, statuses, places, the two counters of a ticket lock, and the status words. Assumes nothing: these are definitions.
 use mathlib.Core.Bool.{cond}
-use Prim.Native.Nat.{ℕ, zero, suc, _+_, _%_}
+use Prim.Native.Nat.{ℕ, zero, suc, _+_, _%_, _<_}
 use lib.Dec.{eqb}
-use lib.ListN.{getD, set, replicate}
+use lib.ListN.{length, getD, set, replicate}
+use mathlib.Core.Path.{_≡_}
+use Rattle.model.specs.declared.PlaceWords.{PlaceWords}
 use Rattle.model.specs.declared.Place.{Place}
+use Rattle.model.specs.declared.PlaceArrays.{PlaceArrays}
 use Rattle.model.specs.declared.State.{State}
 use Rattle.model.specs.Trees.{Tree}
 use Rattle.model.specs.Places.{place-words, words-of, place-of, is-inside}
@@ -44,8 +47,33 @@ next s r = getD (s .nexts) r 0
 abbrev pub status : State → (number : ℕ) → ℕ
 status s r = getD (s .statuses) r 0
 
+-- the four numbers of a thread's place
+unfoldable pub numbers-at : PlaceArrays → (thread : ℕ) → PlaceWords
+numbers-at q i = place-words (getD (q .rows) i 0) (getD (q .domains) i 0) (getD (q .peers) i 0) (getD (q .words) i 0)
+
+-- four numbers stored as a thread's place
+unfoldable pub store-numbers : PlaceArrays → (thread : ℕ) → PlaceWords → PlaceArrays
+store-numbers q i x =
+    record {
+      rows = set (q .rows) i (x .row);
+      domains = set (q .domains) i (x .domain);
+      peers = set (q .peers) i (x .peer);
+      words = set (q .words) i (x .word);
+    }
+
+-- each of the four arrays has room for 256 threads
+pub record Places-room (q : PlaceArrays) : Type 0 where
+  pub rows : length (q .rows) ≡ 256
+  pub domains : length (q .domains) ≡ 256
+  pub peers : length (q .peers) ≡ 256
+  pub words : length (q .words) ≡ 256
+
+-- and a thread is one of these
+abbrev pub Has-room : PlaceArrays → (thread : ℕ) → Type 0
+Has-room q i = Places-room q × (i < 256)
+
 abbrev pub place : State → (thread : ℕ) → Place
-place s i = place-of (getD (s .places) i (place-words 0 0 0 0))
+place s i = place-of (numbers-at (s .places) i)
 
 -- 0 throughout: all tails and nexts none, all statuses 0, all threads Idle, in all room, and both counters 0
 unfoldable pub fresh-words : State
@@ -54,7 +82,7 @@ fresh-words =
       tails = replicate 64 0;
       nexts = replicate 320 0;
       statuses = replicate 320 0;
-      places = replicate 256 (place-words 0 0 0 0);
+      places = record { rows = replicate 256 0; domains = replicate 256 0; peers = replicate 256 0; words = replicate 256 0 };
       ticket = 0;
       grant = 0;
     }
@@ -73,7 +101,7 @@ abbrev pub with-status : (number value : ℕ) → State → State
 with-status r v s = record { tails = s .tails; nexts = s .nexts; statuses = set (s .statuses) r v; places = s .places; ticket = s .ticket; grant = s .grant }
 
 abbrev pub with-place : (thread : ℕ) → Place → State → State
-with-place i p s = record { tails = s .tails; nexts = s .nexts; statuses = s .statuses; places = set (s .places) i (words-of p); ticket = s .ticket; grant = s .grant }
+with-place i p s = record { tails = s .tails; nexts = s .nexts; statuses = s .statuses; places = store-numbers (s .places) i (words-of p); ticket = s .ticket; grant = s .grant }
 
 abbrev pub with-ticket : (value : ℕ) → State → State
 with-ticket v s = record { tails = s .tails; nexts = s .nexts; statuses = s .statuses; places = s .places; ticket = v; grant = s .grant }

@@ -2,14 +2,14 @@
 use mathlib.Core.Path.{_≡_}
 use mathlib.Core.List.{List, [], _∷_, _++_}
 use Prim.Native.Nat.{ℕ}
-use lib.ListN.{set, replicate, take}
+use lib.ListN.{replicate, take}
 use Rattle.model.specs.declared.TreeWords.{TreeWords}
 use Rattle.model.specs.declared.PlaceWords.{PlaceWords}
 use Rattle.model.specs.declared.Place.the-variants.{Idle, Prep, Swap, Link, Wait, Inside, Check, Help, Cas, Linger, Grant, Draw, Watch, Raise}
 use Rattle.model.specs.declared.State.{State}
 use Rattle.model.specs.Trees.{tree-of}
 use Rattle.model.specs.Places.{place-words}
-use Rattle.model.specs.States.{wait-word, fresh-words, with-tail, with-status, with-place}
+use Rattle.model.specs.States.{wait-word, fresh-words, with-tail, with-status, with-place, store-numbers}
 use Rattle.model.specs.Steps.{shown-members}
 use Rattle.model.specs.Runs.{steps, begun, ended}
 use Rattle.model.specs.Cases.{tree, at-ticket-root, counters, ok, refused, Case, fresh-call, fresh-starts, step-call, step-gives, run-call, two-homes, root-alone, two-in-root, one-home}
@@ -31,7 +31,7 @@ ticket-above = at-ticket-root one-home
 -- a place that is given by numbers that no place has
 unfoldable pub with-numbers : (thread : ℕ) → PlaceWords → State → State
 with-numbers i p s =
-    record { tails = s .tails; nexts = s .nexts; statuses = s .statuses; places = set (s .places) i p; ticket = s .ticket; grant = s .grant }
+    record { tails = s .tails; nexts = s .nexts; statuses = s .statuses; places = store-numbers (s .places) i p; ticket = s .ticket; grant = s .grant }
 
 unfoldable pub ticket-cases : List Case
 ticket-cases =

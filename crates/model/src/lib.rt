@@ -44,13 +44,22 @@ pub struct PlaceWords {
     pub word: u64,
 }
 
+// The places of all threads: an array for each number of a place.
+#[repr(C)]
+pub struct PlaceArrays {
+    pub rows: [u8; 256],
+    pub domains: [u8; 256],
+    pub peers: [u16; 256],
+    pub words: [u64; 256],
+}
+
 // The words of a lock. A tail or a next is 0 for none, else the record's number + 1. The counters ticket and grant are those of a ticket lock at the root. Fresh is 0 throughout, but for these two, which a fresh call may start at another number.
 #[repr(C)]
 pub struct State {
     pub tails: [u16; 64],
     pub nexts: [u16; 320],
     pub statuses: [u64; 320],
-    pub places: [PlaceWords; 256],
+    pub places: PlaceArrays,
     pub ticket: u16,
     pub grant: u16,
 }

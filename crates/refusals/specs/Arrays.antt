@@ -6,6 +6,8 @@ use Prim.Native.Nat.{ℕ, _<_}
 use lib.Dec.{eqb, leb}
 use lib.ListN.{getD, length}
 use Rattle.model.specs.declared.LockState.{LockState}
+use Rattle.model.specs.declared.PlaceArrays.{PlaceArrays}
+use Rattle.model.specs.declared.State.{State}
 use Rattle.model.specs.declared.TreeWords.{TreeWords}
 use Rattle.model.specs.Scans.{any-below}
 use Rattle.model.specs.Trees.{Tree, tree-of, is-leaf}
@@ -24,6 +26,13 @@ tree-in n m ps ts hs = tree-of (words-in n m ps ts hs)
 -- where a test reads parents alone
 abbrev pub parents-in : (domains : ℕ) → (parents : List ℕ) → Tree
 parents-in n ps = tree-in n 0 ps [] []
+
+-- places and the words of a lock by the arrays that are lent
+abbrev pub places-in : (rows domains peers words : List ℕ) → PlaceArrays
+places-in rs ds ps ws = record { rows = rs; domains = ds; peers = ps; words = ws }
+
+abbrev pub lent-state : (tails nexts statuses rows domains peers words : List ℕ) → (ticket grant : ℕ) → State
+lent-state ts ns vs rs ds ps ws v g = record { tails = ts; nexts = ns; statuses = vs; places = places-in rs ds ps ws; ticket = v; grant = g }
 
 -- each domain but the root has a parent with a lower number
 pub record Lower (domains : ℕ) (parents : List ℕ) : Type 0 where

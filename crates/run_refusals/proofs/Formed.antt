@@ -2,30 +2,30 @@
 use mathlib.Core.Path.{_≡_, refl, sym, ap, _∙_}
 use mathlib.Core.Bool.{Bool, true, false, _&&_, _||_, not, cond}
 use mathlib.Core.List.{List, []}
-use Prim.Native.Nat.{ℕ, zero, suc, _+_, _≤_, _<_}
+use mathlib.Core.Logic.{_⊎_, inl, inr, ⊎-elim}
+use Prim.Native.Nat.{ℕ, zero, suc, _+_, _-_, _≤_, _<_}
 use native.Mathlib.Omega.{arith}
 use native.Mathlib.Nat.{add-zero, add-suc}
 use native.Mathlib.Decide.{decLt}
 use lib.Dec.{eqb, ltb}
 use lib.ListN.{getD}
-use borrow.Author.Tests.{ne-eqb, lt-ltb, le-ltb}
+use borrow.Author.Tests.{eq-eqb, ne-eqb, lt-ltb, le-ltb, ltb-true}
 use Rattle.model.specs.declared.TreeWords.{TreeWords}
 use Rattle.model.specs.declared.State.{State}
 use Rattle.model.specs.declared.PlaceWords.{PlaceWords}
 use Rattle.model.specs.Scans.{all-below}
-use Rattle.model.specs.Places.{place-words}
-use Rattle.model.specs.States.{tail, next, status}
+use Rattle.model.specs.States.{tail, next, status, numbers-at}
 use Rattle.model.specs.Trees.{Tree, tree-of, is-ticket, is-record, owner-domain}
 use Rattle.model.specs.WellFormed.{good-tail, good-next, good-status, good-watch, good-thread, good-counters, well-formed}
 use Rattle.model.proofs.Places.{idle-numbers}
 use Rattle.model.proofs.Trees.Accepted.{Accepted}
 use Rattle.model.proofs.Trees.Tickets.{ticket-lower}
-use Rattle.model.proofs.Tests.{and-true, and-grouped, all-same}
+use Rattle.model.proofs.Tests.{and-true, and-grouped, all-same, by-test}
 use Rattle.model.proofs.Trees.Reading.{read-in}
 use Rattle.refusals.specs.Arrays.{tree-in, parents-in}
-use Rattle.run_refusals.specs.Tables.{Owners, next-in, record-in, domain-words-in, ticket-place-in, place-in, root-in, idle-in, thread-in}
+use Rattle.run_refusals.specs.Tables.{Owners, member-in, next-in, record-in, domain-words-in, ticket-place-in, place-in, root-in, idle-in, thread-in}
 use Rattle.refusals.proofs.Meeting.{meets-same, child-same}
-use Rattle.run_refusals.proofs.Members.{tail-is, record-is}
+use Rattle.run_refusals.proofs.Members.{owner-low, tail-is, record-is}
 use Rattle.run_refusals.proofs.PlaceTests.{place-is}
 
 all-both : (n : ℕ) (f g : ℕ → Bool) → all-below n (λ j. f j && g j) ≡ all-below n f && all-below n g
@@ -79,6 +79,38 @@ module _ (w : TreeWords) (valid : Accepted (tree-of w)) (os : List ℕ) (owned :
   unfolding is-record tree-of
   no-owner i l h = owners .owner i (omega arith) ∙ rw (lt-ltb i 256 l, le-ltb i (w .threads) h)
 
+  -- of a domain's record: its parent, and none of the root's and of what is no domain of the tree
+  pub no-record-owner : (d : ℕ) → d < 64 → (d ≡ 0) ⊎ (w .domains ≤ d) → getD os (256 + d) 0 ≡ 255
+  unfolding is-record tree-of
+  no-record-owner d l e =
+      let z : 256 + d - 256 ≡ d = omega arith in
+      owners .owner (256 + d) (omega arith)
+      ∙ rw (le-ltb (256 + d) 256 (omega arith), z) (none (ltb d (w .domains)) (eqb d 0) _ (⊎-elim (λ y. inr (eq-eqb d 0 y)) (λ y. inl (le-ltb d (w .domains) y)) e))
+    where
+      none : (a b : Bool) (x : ℕ) → (a ≡ false) ⊎ (b ≡ true) → cond (a && not b) x 255 ≡ 255
+      none a b x (inl y) = rw y
+      none true b x (inr y) = rw y
+      none false b x (inr y) = refl
+
+  pub record-owner : (d : ℕ) → 0 < d → d < w .domains → getD os (256 + d) 0 < w .domains
+  unfolding is-record owner-domain tree-of
+  record-owner d p l =
+      let z : 256 + d - 256 ≡ d = omega arith in
+      let few = valid .few-domains in
+      let low = valid .parent-lower d p l in
+      rw (owners .owner (256 + d) (omega arith), le-ltb (256 + d) 256 (omega arith), z, lt-ltb d (w .domains) l, ne-eqb d 0 (omega arith)) (omega arith)
+
+  -- and no record's owner lies beyond the domains
+  pub no-member : (d r : ℕ) → w .domains ≤ d → d < 64 → member-in os d r ≡ false
+  unfolding tree-of
+  no-member d r h l = by (ltb r 320) refl
+    where
+      by : (b : Bool) → ltb r 320 ≡ b → b && eqb (getD os r 0) d ≡ false
+      by true e =
+          let small = ltb-true r 320 e in
+          rw (owners .owner r small) (by-test (λ x. eqb x d ≡ false) (is-record (tree-of w) r) (owner-domain (tree-of w) r) 255 (λ y. ne-eqb _ d (λ q. absurd (omega (arith, owner-low (tree-of w) valid r y)))) (λ y. ne-eqb 255 d (omega arith)))
+      by false e = refl
+
   pub owner-real : (i : ℕ) → i < w .threads → getD os i 0 < w .domains
   unfolding tree-of
   owner-real i l = rw (owner-home i l) (valid .home-real i l)
@@ -86,13 +118,13 @@ module _ (w : TreeWords) (valid : Accepted (tree-of w)) (os : List ℕ) (owned :
   module _ (s : State) where
     abbrev place-at : ℕ → Bool
     place-at i =
-        let q = getD (s .places) i (place-words 0 0 0 0) in
+        let q = numbers-at (s .places) i in
         cond (ltb i (w .threads)) (place-in (w .«ticket_root») (parents-in (w .domains) (w .parents)) os (s .statuses) i (getD os i 0) q) (idle-in q)
 
     place-good : (i : ℕ) → place-at i ≡ good-thread (tree-of w) s i
     unfolding good-thread good-watch tree-of
     place-good i =
-        let q = getD (s .places) i (place-words 0 0 0 0) in
+        let q = numbers-at (s .places) i in
         elim (decLt i (w .threads)) [
           | yes l ↦
               rw (lt-ltb i (w .threads) l, owner-home i l)
@@ -105,7 +137,7 @@ module _ (w : TreeWords) (valid : Accepted (tree-of w)) (os : List ℕ) (owned :
     domain-at d = domain-words-in os d (tail s d) (next s (256 + d)) (status s (256 + d))
 
     abbrev thread-at : ℕ → Bool
-    thread-at i = thread-in (w .«ticket_root») (parents-in (w .domains) (w .parents)) os (s .statuses) (w .threads) i (getD (s .places) i (place-words 0 0 0 0)) (next s i) (status s i)
+    thread-at i = thread-in (w .«ticket_root») (parents-in (w .domains) (w .parents)) os (s .statuses) (w .threads) i (numbers-at (s .places) i) (next s i) (status s i)
 
     abbrev record-at : ℕ → Bool
     record-at r = record-in os r (next s r) (status s r)
@@ -120,7 +152,7 @@ module _ (w : TreeWords) (valid : Accepted (tree-of w)) (os : List ℕ) (owned :
               rw (lt-ltb i (w .threads) l, ne-eqb (getD os i 0) 255 (omega (arith, h, valid .few-domains)))
           | no l ↦
               rw (le-ltb i (w .threads) (omega arith), no-owner i small (omega arith))
-              (swapped (idle-in (getD (s .places) i (place-words 0 0 0 0))) (eqb (next s i) 0 && eqb (status s i) 0))
+              (swapped (idle-in (numbers-at (s .places) i)) (eqb (next s i) 0 && eqb (status s i) 0))
         ]
       where
         swapped : (a b : Bool) → a && b ≡ b && a

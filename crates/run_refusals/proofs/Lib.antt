@@ -3,6 +3,7 @@ pub mod Members
 pub mod RowShapes
 pub mod PlaceTests
 pub mod RestNumbers
+pub mod Folds
 pub mod Formed
 pub mod Counts
 pub mod StateTests

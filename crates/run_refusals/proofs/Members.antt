@@ -29,22 +29,25 @@ member-owned t d r = by (ltb r 256)
 
 module _ (t : Tree) (valid : Accepted t) where
   -- owners are domains of the tree
-  pub owner-small : (r : ℕ) → is-record t r ≡ true → owner-domain t r < 64
+  pub owner-low : (r : ℕ) → is-record t r ≡ true → owner-domain t r < t .domains
   unfolding is-record owner-domain
-  owner-small r e =
+  owner-low r e =
       elim (decLt r 256) [
         | yes p ↦
             let z = lt-ltb r 256 p in
             let h = valid .home-real r (ltb-true r (t .threads) (rw z at e)) in
-            rw z (omega (arith, valid .few-domains))
+            rw z h
         | no p ↦
             let z = le-ltb r 256 (omega arith) in
             let both = and-both (ltb (r - 256) (t .domains)) (not (eqb (r - 256) 0)) (rw z at e) in
             let l = ltb-true (r - 256) (t .domains) (both .0) in
             let n = eqb-false (r - 256) 0 (not-true (eqb (r - 256) 0) (both .1)) in
             let h = valid .parent-lower (r - 256) (omega (arith, n)) l in
-            rw z (omega (arith, valid .few-domains, h, l))
+            rw z (omega (arith, h, l))
       ]
+
+  pub owner-small : (r : ℕ) → is-record t r ≡ true → owner-domain t r < 64
+  owner-small r e = omega (arith, valid .few-domains, owner-low r e)
 
   beyond : (r : ℕ) → 320 ≤ r → is-record t r ≡ false
   unfolding is-record

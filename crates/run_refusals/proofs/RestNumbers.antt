@@ -7,13 +7,11 @@ use Prim.Native.Nat.{ℕ, _+_, _*_, _<_}
 use native.Mathlib.Omega.{arith}
 use native.Mathlib.Decide.{ℕ-discrete}
 use lib.Dec.{eqb}
-use lib.ListN.{getD, set, replicate, length-set}
-use lib.Seq.{getD-set-same, getD-set-other}
 use borrow.Author.Tests.{eq-eqb, ne-eqb, eqb-true}
 use Rattle.model.specs.declared.PlaceWords.{PlaceWords}
 use Rattle.model.specs.Trees.{Tree}
 use Rattle.model.proofs.Tests.{and-both, or-cases, or-right}
-use Rattle.run_refusals.specs.Tables.{barred-in, place-in, idle-in, Joined, rests-in, Rest-numbers, Rest-number, of-wait, of-idle}
+use Rattle.run_refusals.specs.Tables.{barred-in, place-in, idle-in, Joined, rests-in, Rest-number, of-wait, of-idle}
 use Rattle.refusals.proofs.Meeting.{meets-here}
 
 pub no-word : (q : PlaceWords) → (q .word ≡ 0 → ⊥) → false ≡ idle-in q
@@ -40,25 +38,6 @@ idle-by q n w J =
           ]
       | no r ↦ rw (ne-eqb n 0 (λ z. r (omega (arith, J .is-sum))), ne-eqb (q .row) 0 r)
     ]
-
--- the table, thread by thread
-pub resting-first : (r : ℕ) (hs : List ℕ) → Rest-numbers r 0 hs (replicate 256 0)
-resting-first r hs = record { room = refl; rests = λ i l. absurd (omega arith) }
-
-pub resting-next :
-    (r i : ℕ) (hs ns : List ℕ) (n : ℕ) → i < 256 → Joined r (getD hs i 0) 0 n → Rest-numbers r i hs ns → Rest-numbers r (i + 1) hs (set ns i n)
-resting-next r i hs ns n w J T =
-    record {
-      room = length-set ns i n ∙ T .room;
-      rests = λ j l.
-          elim (ℕ-discrete j i) [
-            | yes e ↦ rw e (getD-set-same ns i n 0 (omega (arith, T .room)) ∙ omega (arith, J .is-sum))
-            | no e ↦ getD-set-other ns i j n 0 e ∙ T .rests j (omega arith)
-          ];
-    }
-
-pub resting-all : (r i m : ℕ) (hs ns : List ℕ) → i ≡ m → Rest-numbers r i hs ns → Rest-numbers r m hs ns
-resting-all r i m hs ns e T = record { room = T .room; rests = λ j l. T .rests j (omega arith) }
 
 pub idle-rests : (r h : ℕ) (q : PlaceWords) → idle-in q ≡ true → rests-in r h q ≡ true
 idle-rests r h q e = rw e

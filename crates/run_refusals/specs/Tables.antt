@@ -5,7 +5,10 @@ use mathlib.Core.List.{List}
 use Prim.Native.Nat.{ℕ, _+_, _*_, _-_, _<_}
 use lib.Dec.{eqb, ltb, leb}
 use lib.ListN.{getD, length}
+use Rattle.model.specs.declared.PlaceArrays.{PlaceArrays}
 use Rattle.model.specs.declared.PlaceWords.{PlaceWords}
+use Rattle.model.specs.declared.State.{State}
+use Rattle.model.specs.Scans.{all-below}
 use Rattle.model.specs.Places.{has-domain, has-peer, has-word}
 use Rattle.model.specs.Trees.{Tree, meets, child-from, is-record, owner-domain}
 
@@ -35,6 +38,10 @@ record-in os r n v = cond (eqb (getD os r 0) 255) (eqb n 0 && eqb v 0) (next-in 
 -- what the state has of a domain: its tail, and the next and the status of its record
 abbrev pub domain-words-in : (owners : List ℕ) → (domain tail next status : ℕ) → Bool
 domain-words-in os d b n v = next-in os d b && record-in os (256 + d) n v
+
+-- the tail of a domain of the tree, and the next of its record
+abbrev pub tail-and-next-in : (owners : List ℕ) → (domain tail next : ℕ) → Bool
+tail-and-next-in os d b n = next-in os d b && next-in os (getD os (256 + d) 0) n
 
 -- a word where the row has none
 abbrev pub spare-word-in : (row word : ℕ) → Bool
@@ -92,11 +99,6 @@ rests-in r h q = idle-in q || (eqb (q .row) r && (eqb (q .domain) h && (eqb (q .
 abbrev pub resting-row : (kind domains : ℕ) → ℕ
 resting-row k n = cond (ticket-in k && eqb n 1) 0 4
 
--- of each thread, a row, its home and no record, as one number
-pub record Rest-numbers (row threads : ℕ) (homes numbers : List ℕ) : Type 0 where
-  pub room : length numbers ≡ 256
-  pub rests : (i : ℕ) → i < threads → getD numbers i 0 ≡ row + 256 * getD homes i 0
-
 -- an answer that is true only where a place rests, for the row and the domain that have the number
 pub record Rests (resting : ℕ) (q : PlaceWords) (answer : Bool) : Type 0 where
   pub rests : answer ≡ true → (r h : ℕ) → r < 256 → h < 256 → resting ≡ r + 256 * h → rests-in r h q ≡ true
@@ -106,9 +108,31 @@ pub data Rest-number (kind home : ℕ) : (number : ℕ) → Type 0 where
   of-wait : barred-in kind 4 home ≡ false → Rest-number kind home (4 + 256 * home)
   of-idle : Rest-number kind home 0
 
+-- every thread's home is a domain of the tree, and at rest there its place is good
+pub record Homes-there (kind domains threads : ℕ) (owners : List ℕ) : Type 0 where
+  pub home : (i : ℕ) → i < threads → getD owners i 0 < domains
+  pub rest : (i : ℕ) → i < threads → Rest-number kind (getD owners i 0) (resting-row kind domains + 256 * getD owners i 0)
+
 -- what the state has of a thread: the next of its record, and its place
 abbrev pub used-in : (kind : ℕ) → Tree → (owners statuses : List ℕ) → (thread : ℕ) → PlaceWords → (next : ℕ) → Bool
 used-in k t os vs i q n = next-in os (getD os i 0) n && place-in k t os vs i (getD os i 0) q
+
+-- UNUSED ROOM. All numbers from one index to before another are 0
+unfoldable pub zeros-between : (from to : ℕ) → List ℕ → Bool
+zeros-between a b l = all-below (b - a) (λ k. eqb (getD l (a + k) 0) 0)
+
+-- the places beyond the threads
+abbrev pub places-clear : (threads : ℕ) → PlaceArrays → Bool
+places-clear m q = zeros-between m 256 (q .rows) && (zeros-between m 256 (q .domains) && (zeros-between m 256 (q .peers) && zeros-between m 256 (q .words)))
+
+-- the records beyond the threads, record 256 and those beyond the domains; the tails beyond the domains
+abbrev pub records-clear : (threads domains : ℕ) → (tails nexts statuses : List ℕ) → Bool
+records-clear m n ts ns vs =
+    zeros-between n 64 ts
+    && (zeros-between m 257 ns && (zeros-between (256 + n) 320 ns && (zeros-between m 257 vs && zeros-between (256 + n) 320 vs)))
+
+abbrev pub clear-in : (threads domains : ℕ) → State → Bool
+clear-in m n s = places-clear m (s .places) && records-clear m n (s .tails) (s .nexts) (s .statuses)
 
 -- beyond the threads, that the room is fresh
 abbrev pub unused-in : PlaceWords → (next status : ℕ) → Bool

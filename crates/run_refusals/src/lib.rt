@@ -4,82 +4,94 @@ ghost use Rattle.model.specs.Trees.{tree-of};
 ghost use Rattle.model.specs.Counters.{lock-state};
 ghost use Rattle.model.specs.WellFormed.{well-formed};
 ghost use Rattle.model.specs.Refusals.{first-refusal, tree-refusal, run-tests-before-19};
-ghost use Rattle.refusals.specs.Arrays.{refusal-words};
+ghost use Rattle.refusals.specs.Arrays.{refusal-words, lent-state};
 ghost use Rattle.run_refusals.specs.Counts.{counters-in};
 
 mod counters;
+mod owners;
+pub mod places;
 mod shapes;
 mod states;
+mod unused;
 
 use model::State;
 use model::TreeWords;
 use refusals::Refusal;
 
-// Whether a state is well formed: two tables, then one walk over its domains and one over its threads, in two parts: those of the tree, and the room behind them.
-fn is_well_formed(tree: TreeWords, state: State) -> bool
+// Whether a state is well formed: the root's words, the room that the tree lacks, its domains, its threads.
+fn is_well_formed<'s>(
+    tree: TreeWords,
+    tails: &'s [u16; 64],
+    nexts: &'s [u16; 320],
+    statuses: &'s [u64; 320],
+    rows: &'s [u8; 256],
+    domains: &'s [u8; 256],
+    peers: &'s [u16; 256],
+    words: &'s [u64; 256],
+    ticket: u16,
+    grant: u16,
+) -> bool
     requires { ⌜ tree-refusal (tree-of tree) .number ≡ 0 ⌝ }
-    ensures { λ r. ⌜ r ≡ well-formed (tree-of tree) state ⌝ }
+    ensures { λ r. ⌜ r ≡ well-formed (tree-of tree) (lent-state (now (tails .entry)) (now (nexts .entry)) (now (statuses .entry)) (now (rows .entry)) (now (domains .entry)) (now (peers .entry)) (now (words .entry)) ticket grant) ⌝ }
 {
-    let domains = tree.domains;
+    let count = tree.domains;
     let threads = tree.threads;
     let ticket_root = tree.ticket_root;
-    let tail = state.tails[0];
-    if !states::good_root_at(ticket_root, tail, state.ticket, state.grant) {
+    if !states::good_root_at(ticket_root, tails[0], ticket, grant) {
         return false;
     }
-    let mut owners = [0u8; 320];
-    states::owners_of(&mut owners, &tree.parents, &tree.homes, domains, threads);
-    let mut resting = [0u32; 256];
-    let row = states::resting_row_of(ticket_root, domains);
-    states::resting_numbers(&mut resting, &tree.homes, threads, row);
-    if !states::good_domains(&owners, &state.tails, &state.nexts, &state.statuses) {
+    let mut table = [0u8; 320];
+    owners::owners_of(&mut table, &tree.parents, &tree.homes, count, threads);
+    if !unused::is_clear(
+        threads,
+        count,
+        tails,
+        nexts,
+        statuses,
+        rows,
+        domains,
+        peers,
+        words,
+    ) {
         return false;
     }
-    let mut i: u16 = 0;
-    while (i as u32) < threads {
-        let at = i as usize;
-        let q = state.places[at];
-        let next = state.nexts[at];
-        let numbers = resting[at];
-        if !states::good_thread_at(
-            &tree.parents,
-            &owners,
-            &state.statuses,
-            domains,
-            ticket_root,
-            i,
-            q,
-            next,
-            numbers,
-        ) {
-            return false;
-        }
-        i += 1;
+    if !states::good_domains(&table, count, tails, nexts) {
+        return false;
     }
-    while i < 256 {
-        let at = i as usize;
-        let q = state.places[at];
-        let next = state.nexts[at];
-        let status = state.statuses[at];
-        if !states::is_unused_at(q, next, status) {
-            return false;
-        }
-        i += 1;
-    }
-    true
+    states::good_threads(
+        &tree.parents,
+        &table,
+        count,
+        threads,
+        ticket_root,
+        nexts,
+        statuses,
+        rows,
+        domains,
+        peers,
+        words,
+    )
 }
 
-// A run meets 4 to 9, 16 and 10 to 13; whoever takes its steps tests 19. A step is a run of one entry, with room for one. The counters are lent, so that the words alone are copied.
-pub fn run_refusal_of<'c>(
+// A run meets 4 to 9, 16 and 10 to 13; whoever takes its steps tests 19. A step is a run of one entry, with room for one. The arrays of the state are lent.
+pub fn lent_refusal_of<'s, 'c>(
     tree: TreeWords,
-    state: State,
+    tails: &'s [u16; 64],
+    nexts: &'s [u16; 320],
+    statuses: &'s [u64; 320],
+    rows: &'s [u8; 256],
+    domains: &'s [u8; 256],
+    peers: &'s [u16; 256],
+    words: &'s [u64; 256],
+    ticket: u16,
+    grant: u16,
     entries: &'c [u64; 64],
     tenures: &'c [u64; 64],
     longest: &'c [u64; 64],
     schedule: &[u16],
     room: usize,
 ) -> Refusal
-    ensures { λ r. ⌜ r ≡ refusal-words (first-refusal (run-tests-before-19 (tree-of tree) (lock-state state (counters-in (now (entries .entry)) (now (tenures .entry)) (now (longest .entry)))) (now (schedule .entry)) room)) ⌝ }
+    ensures { λ r. ⌜ r ≡ refusal-words (first-refusal (run-tests-before-19 (tree-of tree) (lock-state (lent-state (now (tails .entry)) (now (nexts .entry)) (now (statuses .entry)) (now (rows .entry)) (now (domains .entry)) (now (peers .entry)) (now (words .entry)) ticket grant) (counters-in (now (entries .entry)) (now (tenures .entry)) (now (longest .entry)))) (now (schedule .entry)) room)) ⌝ }
 {
     let r = refusals::tree_refusal_of(
         &tree.parents,
@@ -94,8 +106,50 @@ pub fn run_refusal_of<'c>(
     if !counters::good_counts(&tree.thresholds, tree.domains, entries, tenures, longest) {
         return refusals::refusal_at(10, 0);
     }
-    if !is_well_formed(tree, state) {
+    if !is_well_formed(
+        tree,
+        tails,
+        nexts,
+        statuses,
+        rows,
+        domains,
+        peers,
+        words,
+        ticket,
+        grant,
+    ) {
         return refusals::refusal_at(10, 0);
     }
     refusals::schedule_refusal_of(tree.threads, schedule, room)
+}
+
+// The same of a state that is taken by value.
+pub fn run_refusal_of<'c>(
+    tree: TreeWords,
+    state: State,
+    entries: &'c [u64; 64],
+    tenures: &'c [u64; 64],
+    longest: &'c [u64; 64],
+    schedule: &[u16],
+    room: usize,
+) -> Refusal
+    ensures { λ r. ⌜ r ≡ refusal-words (first-refusal (run-tests-before-19 (tree-of tree) (lock-state state (counters-in (now (entries .entry)) (now (tenures .entry)) (now (longest .entry)))) (now (schedule .entry)) room)) ⌝ }
+{
+    lent_refusal_of(
+        tree,
+        &state.tails,
+        &state.nexts,
+        &state.statuses,
+        &state.places.rows,
+        &state.places.domains,
+        &state.places.peers,
+        &state.places.words,
+        state.ticket,
+        state.grant,
+        entries,
+        tenures,
+        longest,
+        schedule,
+        room,
+    )
 }

@@ -1,50 +1,25 @@
 // The tests of the homes and of a state that is handed in, in a tree that 4 to 8 do not refuse.
 ghost use mathlib.Core.Path.{_≡_};
-ghost use mathlib.Core.List.{[]};
+ghost use mathlib.Core.Bool.{_&&_};
 ghost use Prim.Native.Nat.{_+_, _*_, _<_, _≤_};
 ghost use lib.ListN.{getD};
 ghost use Rattle.model.specs.Scans.{all-below};
 ghost use Rattle.model.specs.Trees.{meets, child-from};
-ghost use Rattle.refusals.specs.Arrays.{tree-in, parents-in, Lower};
-ghost use Rattle.run_refusals.specs.Tables.{Owners, Thread-owners, member-in, next-in, record-in, domain-words-in, peer-in, barred-in, domain-in, root-record-in, ticket-place-in, place-in, root-in, idle-in, Joined, resting-row, Rest-numbers, Rests, Rest-number, used-in, unused-in};
+ghost use Rattle.model.specs.States.{numbers-at};
+ghost use Rattle.refusals.specs.Arrays.{parents-in, places-in, Lower};
+ghost use Rattle.run_refusals.specs.Tables.{member-in, next-in, tail-and-next-in, peer-in, barred-in, domain-in, root-record-in, ticket-place-in, place-in, root-in, Joined, resting-row, Rests, Rest-number, Homes-there, used-in};
+use crate::places;
 use crate::shapes;
 use model::PlaceWords;
 
-// The homes of the threads, at their records; 255 in all other room.
-fn thread_owners(owners: &mut [u8; 320], homes: &[u8; 256], threads: u32)
-    requires { ⌜ threads ≤ 256 ⌝ }
-    ensures { λ r. ⌜ Thread-owners threads (now (homes .entry)) (now (owners .exit)) ⌝ }
+// The tail of a domain, and the next of its record, by the domain whose member owns that.
+fn good_domain_words_at(owners: &[u8; 320], d: u8, tail: u16, owner: u8, next: u16) -> bool
+    ensures { λ q. ⌜ q ≡ next-in (now (owners .entry)) d tail && next-in (now (owners .entry)) owner next ⌝ }
 {
-    *owners = [255u8; 320];
-    let mut i: u32 = 0;
-    while i < threads {
-        let at = i as usize;
-        let h = homes[at];
-        owners[at] = h;
-        i += 1;
+    if !good_next_at(owners, d, tail) {
+        return false;
     }
-}
-
-// Of each record, the domain whose member owns it; 255 where no member does.
-pub(crate) fn owners_of<'a>(
-    owners: &mut [u8; 320],
-    parents: &'a [u8; 64],
-    homes: &'a [u8; 256],
-    domains: u32,
-    threads: u32,
-)
-    requires { ⌜ (0 < domains) × (domains ≤ 64) × (threads ≤ 256) ⌝ }
-    ensures { λ r. ⌜ Owners (tree-in domains threads (now (parents .entry)) [] (now (homes .entry))) (now (owners .exit)) ⌝ }
-{
-    thread_owners(owners, homes, threads);
-    let mut d: u32 = 1;
-    while d < domains {
-        let at = d as usize;
-        let p = parents[at];
-        let r = 256 + at;
-        owners[r] = p;
-        d += 1;
-    }
+    good_next_at(owners, owner, next)
 }
 
 fn is_member_at(owners: &[u8; 320], d: u8, r: u16) -> bool
@@ -72,47 +47,24 @@ fn good_next_at(owners: &[u8; 320], d: u8, next: u16) -> bool
     owners[at] == d
 }
 
-// Unused room and record 256 are fresh; a next of a member's record is none or a record of a member of the same domain.
-fn good_record_at(owners: &[u8; 320], r: u16, next: u16, status: u64) -> bool
-    requires { ⌜ r < 320 ⌝ }
-    ensures { λ q. ⌜ q ≡ record-in (now (owners .entry)) r next status ⌝ }
-{
-    let at = r as usize;
-    let d = owners[at];
-    if d == 255 {
-        return next == 0 && status == 0;
-    }
-    good_next_at(owners, d, next)
-}
-
-// What the state has of a domain: its tail and its record.
-fn good_domain_words_at(owners: &[u8; 320], d: u8, tail: u16, next: u16, status: u64) -> bool
-    requires { ⌜ d < 64 ⌝ }
-    ensures { λ q. ⌜ q ≡ domain-words-in (now (owners .entry)) d tail next status ⌝ }
-{
-    if !good_next_at(owners, d, tail) {
-        return false;
-    }
-    let r = 256 + d as u16;
-    good_record_at(owners, r, next, status)
-}
-
+// The tail of each domain of the tree, and the next of its record; the root has none.
 pub(crate) fn good_domains<'s>(
     owners: &[u8; 320],
+    domains: u32,
     tails: &'s [u16; 64],
     nexts: &'s [u16; 320],
-    statuses: &'s [u64; 320],
 ) -> bool
-    ensures { λ q. ⌜ q ≡ all-below 64 (λ d. domain-words-in (now (owners .entry)) d (getD (now (tails .entry)) d 0) (getD (now (nexts .entry)) (256 + d) 0) (getD (now (statuses .entry)) (256 + d) 0)) ⌝ }
+    requires { ⌜ domains ≤ 64 ⌝ }
+    ensures { λ q. ⌜ q ≡ all-below domains (λ d. tail-and-next-in (now (owners .entry)) d (getD (now (tails .entry)) d 0) (getD (now (nexts .entry)) (256 + d) 0)) ⌝ }
 {
     let mut d: u8 = 0;
-    while d < 64 {
+    while (d as u32) < domains {
         let at = d as usize;
         let tail = tails[at];
         let r = 256 + at;
+        let owner = owners[r];
         let next = nexts[r];
-        let status = statuses[r];
-        if !good_domain_words_at(owners, d, tail, next, status) {
+        if !good_domain_words_at(owners, d, tail, owner, next) {
             return false;
         }
         d += 1;
@@ -195,9 +147,9 @@ fn root_record_at(parents: &[u8; 64], domains: u32, i: u16, home: u8) -> u16
 }
 
 // Draw, Watch and Raise: at a ticket root alone, a watched status at most 65,535.
-fn good_ticket_place_at<'a>(
-    parents: &'a [u8; 64],
-    statuses: &'a [u64; 320],
+fn good_ticket_place_at(
+    parents: &[u8; 64],
+    statuses: &[u64; 320],
     domains: u32,
     ticket_root: u32,
     i: u16,
@@ -251,9 +203,9 @@ fn good_peer_at(owners: &[u8; 320], row: u8, l: u8, peer: u16) -> bool
     peer == 0
 }
 
-fn good_domain_at<'a>(
-    parents: &'a [u8; 64],
-    owners: &'a [u8; 320],
+fn good_domain_at(
+    parents: &[u8; 64],
+    owners: &[u8; 320],
     domains: u32,
     ticket_root: u32,
     home: u8,
@@ -275,10 +227,10 @@ fn good_domain_at<'a>(
     good_peer_at(owners, row, l, peer)
 }
 
-fn good_place_at<'a>(
-    parents: &'a [u8; 64],
-    owners: &'a [u8; 320],
-    statuses: &'a [u64; 320],
+fn good_place_at(
+    parents: &[u8; 64],
+    owners: &[u8; 320],
+    statuses: &[u64; 320],
     domains: u32,
     ticket_root: u32,
     i: u16,
@@ -315,15 +267,6 @@ fn joined(row: u8, domain: u8, peer: u16) -> u32
     row as u32 + 256 * (domain as u32) + 65536 * (peer as u32)
 }
 
-fn is_idle_at(q: PlaceWords) -> bool
-    ensures { λ r. ⌜ r ≡ idle-in q ⌝ }
-{
-    if q.word != 0 {
-        return false;
-    }
-    joined(q.row, q.domain, q.peer) == 0
-}
-
 // The row of the threads that rest.
 pub(crate) fn resting_row_of(ticket_root: u32, domains: u32) -> u8
     ensures { λ r. ⌜ r ≡ resting-row «ticket_root» domains ⌝ }
@@ -335,21 +278,6 @@ pub(crate) fn resting_row_of(ticket_root: u32, domains: u32) -> u8
         return 0;
     }
     4
-}
-
-// Of each thread, the row in which it rests, its home and no record, as one number.
-pub(crate) fn resting_numbers(resting: &mut [u32; 256], homes: &[u8; 256], threads: u32, row: u8)
-    requires { ⌜ threads ≤ 256 ⌝ }
-    ensures { λ r. ⌜ Rest-numbers row threads (now (homes .entry)) (now (resting .exit)) ⌝ }
-{
-    *resting = [0u32; 256];
-    let mut i: u32 = 0;
-    while i < threads {
-        let at = i as usize;
-        let h = homes[at];
-        resting[at] = joined(row, h, 0);
-        i += 1;
-    }
 }
 
 // Wait at home, as most threads are under contention, or Idle: the places that need no further test.
@@ -366,21 +294,11 @@ fn rests_at(resting: u32, q: PlaceWords) -> bool
     numbers == 0
 }
 
-// Unused room is fresh.
-pub(crate) fn is_unused_at(q: PlaceWords, next: u16, status: u64) -> bool
-    ensures { λ r. ⌜ r ≡ unused-in q next status ⌝ }
-{
-    if !is_idle_at(q) {
-        return false;
-    }
-    next == 0 && status == 0
-}
-
 // What the state has of a thread: its record and its place.
-pub(crate) fn good_thread_at<'a>(
-    parents: &'a [u8; 64],
-    owners: &'a [u8; 320],
-    statuses: &'a [u64; 320],
+fn good_thread_at(
+    parents: &[u8; 64],
+    owners: &[u8; 320],
+    statuses: &[u64; 320],
     domains: u32,
     ticket_root: u32,
     i: u16,
@@ -403,4 +321,48 @@ pub(crate) fn good_thread_at<'a>(
         return true;
     }
     good_place_at(parents, owners, statuses, domains, ticket_root, i, home, q)
+}
+
+// What the state has of each thread.
+pub(crate) fn good_threads<'s>(
+    parents: &[u8; 64],
+    owners: &[u8; 320],
+    count: u32,
+    threads: u32,
+    ticket_root: u32,
+    nexts: &'s [u16; 320],
+    statuses: &'s [u64; 320],
+    rows: &'s [u8; 256],
+    domains: &'s [u8; 256],
+    peers: &'s [u16; 256],
+    words: &'s [u64; 256],
+) -> bool
+    requires { ⌜ (count ≤ 64) × (threads ≤ 256) ⌝ }
+    requires { ⌜ Lower count (now parents) ⌝ }
+    requires { ⌜ Homes-there «ticket_root» count threads (now owners) ⌝ }
+    ensures { λ q. ⌜ q ≡ all-below threads (λ i. used-in «ticket_root» (parents-in count (now (parents .entry))) (now (owners .entry)) (now (statuses .entry)) i (numbers-at (places-in (now (rows .entry)) (now (domains .entry)) (now (peers .entry)) (now (words .entry))) i) (getD (now (nexts .entry)) i 0)) ⌝ }
+{
+    let row = resting_row_of(ticket_root, count);
+    let mut i: u16 = 0;
+    while (i as u32) < threads {
+        let at = i as usize;
+        let q = places::place_at(rows, domains, peers, words, at);
+        let next = nexts[at];
+        let resting = joined(row, owners[at], 0);
+        if !good_thread_at(
+            parents,
+            owners,
+            statuses,
+            count,
+            ticket_root,
+            i,
+            q,
+            next,
+            resting,
+        ) {
+            return false;
+        }
+        i += 1;
+    }
+    true
 }

@@ -12,7 +12,7 @@ use Rattle.model.specs.declared.RunReply.{RunReply}
 use Rattle.model.specs.Scans.{any-below, filter-below, all-below}
 use Rattle.model.specs.Trees.{read-word, tree-of, is-ticket, is-child, is-leaf, depth-from, depth, level, meets, on-path, child-from, child, own-record, under}
 use Rattle.model.specs.Places.{place-of, is-watch, is-idle, is-inside}
-use Rattle.model.specs.States.{fresh-words, fresh-state}
+use Rattle.model.specs.States.{fresh-words, fresh-state, numbers-at, store-numbers}
 use Rattle.model.specs.Steps.{is-kind, is-entry, prep-row, swap-row, link-row, wait-row, leave-row, check-row, help-row, cas-row, linger-row, grant-row, draw-row, watch-row, is-watched, shown-members, raise-row, row, step}
 use Rattle.model.specs.Runs.{steps, state-after, how-many, entering, counts-of, run-of, run, occurrences}
 use Rattle.model.specs.Counters.{fresh-lock}
@@ -66,7 +66,7 @@ same-cases (c ∷ cs) = rw (same-answer (c .words) (c .lengths) (c .entries) (c 
 
 pub cases-hold : all-hold cases ≡ true
 unfolding occurrences any-below filter-below all-below read-word tree-of is-ticket is-child is-leaf depth-from depth level meets on-path child-from child
-    own-record under place-of is-watch is-idle is-inside fresh-words fresh-state is-kind is-entry prep-row swap-row link-row wait-row leave-row check-row
+    own-record under place-of is-watch is-idle is-inside numbers-at store-numbers fresh-words fresh-state is-kind is-entry prep-row swap-row link-row wait-row leave-row check-row
     help-row cas-row linger-row grant-row draw-row watch-row is-watched shown-members raise-row row step steps state-after how-many entering counts-of
     run-of run refusal accepted lowest-bad first-refusal bad-domains bad-threads bad-parent too-deep no-threshold bad-home empty-domain tree-tests
     bad-length bad-entry run-reply padded tree at-ticket-root two-homes first-entries two-in-root three-levels same-numbers total cut row-of

@@ -8,7 +8,6 @@ ghost use Rattle.model.specs.Refusals.{tree-refusal};
 ghost use Rattle.schedules.specs.Rows.{total, cut, alone, row-of, all-rows};
 ghost use Rattle.schedules_call.specs.Numbers.{row-numbers};
 use model::Counts;
-use model::PlaceWords;
 use model::TreeWords;
 
 // Writes a row's eight numbers from a position on.
@@ -46,21 +45,21 @@ fn run_row(tree: TreeWords, schedule: &[u16], trace: &mut [u16], rows: &mut [u32
     let mut tails = [0u16; 64];
     let mut nexts = [0u16; 320];
     let mut statuses = [0u64; 320];
-    let idle = PlaceWords {
-        row: 0,
-        domain: 0,
-        peer: 0,
-        word: 0,
-    };
-    let places = [idle; 256];
+    let mut places = [0u8; 256];
+    let mut domains = [0u8; 256];
+    let mut peers = [0u16; 256];
+    let mut words = [0u64; 256];
     let mut ticket: u16 = 0;
     let mut granted: u16 = 0;
-    let after = steps::run::run_lent(
+    steps::run::run_lent(
         tree,
         &mut tails,
         &mut nexts,
         &mut statuses,
-        places,
+        &mut places,
+        &mut domains,
+        &mut peers,
+        &mut words,
         &mut ticket,
         &mut granted,
         schedule,

@@ -10,10 +10,10 @@ use Rattle.model.specs.declared.State.{State}
 use Rattle.model.specs.Scans.{any-below, all-below, largest-below, filter-below}
 use Rattle.model.specs.Trees.{Tree, read-word, tree-of, is-ticket, is-child, is-leaf, depth-from, depth, level, meets, on-path, child-from, child, own-record, is-member, domain-allowance, allowance}
 use Rattle.model.specs.Places.{place-of, is-watch}
-use Rattle.model.specs.States.{fresh-words, fresh-state}
+use Rattle.model.specs.States.{fresh-words, fresh-state, numbers-at, store-numbers}
 use Rattle.model.specs.Steps.{is-entry, prep-row, swap-row, link-row, wait-row, leave-row, check-row, help-row, cas-row, linger-row, grant-row, draw-row, watch-row, is-watched, shown-members, raise-row, row, step}
 use Rattle.model.specs.Runs.{steps, state-after, entering, run-of, run, occurrences}
-use Rattle.model.specs.Cases.{padded, tree, at-ticket-root, two-homes, two-in-root, same-numbers, place-numbers, same-state}
+use Rattle.model.specs.Cases.{padded, tree, at-ticket-root, two-homes, two-in-root, same-numbers, same-places, same-state}
 use Rattle.model.specs.Laws.{All-threads, Run-law, then-run}
 use Rattle.model.proofs.Tests.{and-both, all-each}
 use Rattle.model.proofs.Laws.Runs.{run-law}
@@ -32,7 +32,7 @@ unfolding any-below largest-below filter-below read-word tree-of is-child is-lea
 everyone-holds = refl
 
 rounds-hold : all-rounds round-cases ≡ true
-unfolding any-below all-below filter-below read-word tree-of is-ticket meets on-path child-from child own-record place-of is-watch fresh-words fresh-state
+unfolding any-below all-below filter-below read-word tree-of is-ticket meets on-path child-from child own-record place-of is-watch numbers-at store-numbers fresh-words fresh-state
     is-entry prep-row swap-row link-row wait-row leave-row check-row help-row cas-row linger-row grant-row draw-row watch-row is-watched shown-members
     raise-row row step steps state-after entering run-of run occurrences padded tree at-ticket-root two-in-root one-leaf all-threads are-rounds joined
     round-holds all-rounds round-cases
@@ -63,9 +63,9 @@ abbrev turned : State
 turned = run stalled-tree without-releaser stalled .state
 
 same-again : same-state (run stalled-tree without-releaser turned .state) turned ≡ true
-unfolding any-below filter-below read-word tree-of is-ticket meets on-path child-from child own-record place-of is-watch fresh-words fresh-state prep-row
+unfolding any-below filter-below read-word tree-of is-ticket meets on-path child-from child own-record place-of is-watch numbers-at store-numbers fresh-words fresh-state prep-row
     swap-row link-row wait-row leave-row check-row help-row cas-row linger-row grant-row draw-row watch-row is-watched shown-members raise-row row step steps
-    state-after run-of run padded tree stalled-tree until-stalled without-releaser same-numbers place-numbers same-state
+    state-after run-of run padded tree stalled-tree until-stalled without-releaser same-numbers same-places same-state
 same-again = refl
 
 comes-back : run stalled-tree without-releaser turned .state ≡ turned
@@ -76,7 +76,7 @@ entries-are :
     (run stalled-tree until-stalled (fresh-state stalled-tree 0) .trace ≡ 0 ∷ [])
     × (run stalled-tree without-releaser stalled .trace ≡ 2 ∷ [])
     × (run stalled-tree without-releaser turned .trace ≡ 2 ∷ [])
-unfolding any-below filter-below read-word tree-of is-ticket meets on-path child-from child own-record place-of is-watch fresh-words fresh-state is-entry
+unfolding any-below filter-below read-word tree-of is-ticket meets on-path child-from child own-record place-of is-watch numbers-at store-numbers fresh-words fresh-state is-entry
     prep-row swap-row link-row wait-row leave-row check-row help-row cas-row linger-row grant-row draw-row watch-row is-watched shown-members raise-row row
     step steps state-after entering run-of run padded tree stalled-tree until-stalled without-releaser
 entries-are = (refl, refl, refl)

@@ -5,9 +5,9 @@ use mathlib.Core.List.{List, [], _∷_}
 use Prim.Native.Nat.{ℕ}
 use lib.Dec.{eqb}
 use borrow.Author.Tests.{eqb-true}
-use Rattle.model.specs.declared.PlaceWords.{PlaceWords}
 use Rattle.model.specs.declared.State.{State}
-use Rattle.model.specs.Cases.{same-numbers, place-numbers, same-state}
+use Rattle.model.specs.declared.PlaceArrays.{PlaceArrays}
+use Rattle.model.specs.Cases.{same-numbers, same-places, same-state}
 use Rattle.model.proofs.Tests.{and-both}
 
 numbers-same : (xs ys : List ℕ) → same-numbers xs ys ≡ true → xs ≡ ys
@@ -19,24 +19,25 @@ numbers-same (x ∷ xs) (y ∷ ys) e =
     let both = and-both (eqb x y) (same-numbers xs ys) e in
     rw (eqb-true x y (both .0), numbers-same xs ys (both .1))
 
-places-same : (ps qs : List PlaceWords) → same-numbers (place-numbers ps) (place-numbers qs) ≡ true → ps ≡ qs
-unfolding same-numbers place-numbers
-places-same [] [] e = refl
-places-same [] (q ∷ qs) e = absurd (false≢true e)
-places-same (p ∷ ps) [] e = absurd (false≢true e)
-places-same (p ∷ ps) (q ∷ qs) e =
-    let row = and-both (eqb (p .row) (q .row)) _ e in
-    let domain = and-both (eqb (p .domain) (q .domain)) _ (row .1) in
-    let peer = and-both (eqb (p .peer) (q .peer)) _ (domain .1) in
-    let word = and-both (eqb (p .word) (q .word)) _ (peer .1) in
-    rw (eqb-true (p .row) (q .row) (row .0), eqb-true (p .domain) (q .domain) (domain .0), eqb-true (p .peer) (q .peer) (peer .0), eqb-true (p .word) (q .word) (word .0), places-same ps qs (word .1))
+places-same : (p q : PlaceArrays) → same-places p q ≡ true → p ≡ q
+unfolding same-places
+places-same p q e =
+    let halves = and-both (same-numbers (p .rows) (q .rows) && same-numbers (p .domains) (q .domains)) (same-numbers (p .peers) (q .peers) && same-numbers (p .words) (q .words)) e in
+    let first = and-both (same-numbers (p .rows) (q .rows)) (same-numbers (p .domains) (q .domains)) (halves .0) in
+    let last = and-both (same-numbers (p .peers) (q .peers)) (same-numbers (p .words) (q .words)) (halves .1) in
+    rw (
+      numbers-same (p .rows) (q .rows) (first .0),
+      numbers-same (p .domains) (q .domains) (first .1),
+      numbers-same (p .peers) (q .peers) (last .0),
+      numbers-same (p .words) (q .words) (last .1),
+    )
 
 pub state-same : (a b : State) → same-state a b ≡ true → a ≡ b
 unfolding same-state
 state-same a b e =
     let halves = and-both (same-numbers (a .tails) (b .tails) && same-numbers (a .nexts) (b .nexts)) _ e in
     let links = and-both (same-numbers (a .tails) (b .tails)) _ (halves .0) in
-    let rest = and-both (same-numbers (a .statuses) (b .statuses) && same-numbers (place-numbers (a .places)) (place-numbers (b .places))) _ (halves .1) in
+    let rest = and-both (same-numbers (a .statuses) (b .statuses) && same-places (a .places) (b .places)) _ (halves .1) in
     let words = and-both (same-numbers (a .statuses) (b .statuses)) _ (rest .0) in
     let counters = and-both (eqb (a .ticket) (b .ticket)) _ (rest .1) in
     rw (

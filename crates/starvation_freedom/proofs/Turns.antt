@@ -5,14 +5,13 @@ use mathlib.Core.Logic.{_≢_, _⊎_, inl, inr}
 use Prim.Native.Nat.{ℕ, suc, _+_, _-_, _≤_, _<_}
 use native.Mathlib.Omega.{arith}
 use lib.Dec.{eqb}
-use lib.ListN.{getD, set}
 use borrow.Author.Tests.{eqb-true, eqb-false}
 use Rattle.model.specs.declared.Place.{Place}
 use Rattle.model.specs.declared.Place.the-variants.{Idle, Prep, Swap, Link, Wait, Inside, Check, Help, Cas, Linger, Grant, Draw, Watch, Raise}
 use Rattle.model.specs.declared.State.{State as WordState}
 use Rattle.model.specs.Trees.{Tree, is-ticket, own-record}
-use Rattle.model.specs.Places.{place-words, words-of, place-of}
-use Rattle.model.specs.States.{acquire-parent, tail, next, status, place}
+use Rattle.model.specs.Places.{words-of, place-of}
+use Rattle.model.specs.States.{acquire-parent, tail, next, status, place, numbers-at, store-numbers}
 use Rattle.model.specs.Steps.{Row-result, acquire-place, acquired-place, release-place, release-word, done-place, row}
 use Rattle.model.specs.Laws.{Sixteen-bit}
 use Rattle.model.proofs.Tests.{by-test}
@@ -70,10 +69,10 @@ module _ (t : Tree) (valid : Accepted t) (bits : Sixteen-bit t) (c : Situation t
   abbrev pub after : Place
   after = place (situations.next t valid bits c i h .words) i
 
-  lands : (Q : Place → Type 0) (p : Place) → Q p → Q (place-of (getD (set (s .places) i (words-of p)) i (place-words 0 0 0 0)))
+  lands : (Q : Place → Type 0) (p : Place) → Q p → Q (place-of (numbers-at (store-numbers (s .places) i (words-of p)) i))
   lands Q p q =
-      let e : place-of (getD (set (s .places) i (words-of p)) i (place-words 0 0 0 0)) ≡ p =
-      place-stored i p s (omega (arith, c .queued .room .places-room, valid .few-threads)) in
+      let e : place-of (numbers-at (store-numbers (s .places) i (words-of p)) i) ≡ p =
+      place-stored i p s (c .queued .room .places-room, omega (arith, valid .few-threads)) in
       rw e q
 
   -- by the branches of the row of its place
@@ -82,7 +81,7 @@ module _ (t : Tree) (valid : Accepted t) (bits : Sixteen-bit t) (c : Situation t
       let z : after ≡ place (row t i p s .state) i = ap (λ x. place x i) (next-words t valid bits c i h) ∙ ap (λ x. place (row t i x s .state) i) e in
       rw z (by _ (branch t i s p))
 
-  here : (p : Place) → place-of (getD (set (s .places) i (words-of p)) i (place-words 0 0 0 0)) ≡ p
+  here : (p : Place) → place-of (numbers-at (store-numbers (s .places) i (words-of p)) i) ≡ p
   here p = lands (λ q. q ≡ p) p refl
 
   -- the places from which the next domain is acquired, and a domain is released
@@ -122,7 +121,7 @@ module _ (t : Tree) (valid : Accepted t) (bits : Sixteen-bit t) (c : Situation t
       by (idle-prepares _ (prepares _ v at)) = to-swap (here (Swap (t .home i)))
 
   -- the next domain's place, behind Swap and Wait
-  climbs : (k : ℕ) (b : k < height t i) → Acquires t i (suc k) (place-of (getD (set (s .places) i (words-of (acquired-place t (ancestor t i k)))) i (place-words 0 0 0 0)))
+  climbs : (k : ℕ) (b : k < height t i) → Acquires t i (suc k) (place-of (numbers-at (store-numbers (s .places) i (words-of (acquired-place t (ancestor t i k)))) i))
   climbs k b = lands (Acquires t i (suc k)) (acquired-place t (ancestor t i k)) (rw (ancestor-parent-of t valid i h k b) (acquires-at (suc k) b))
 
   pub swap-turn : (k : ℕ) → k ≤ height t i → place s i ≡ Swap (ancestor t i k) → From-swap t i k after

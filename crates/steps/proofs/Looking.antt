@@ -18,10 +18,11 @@ use Rattle.model.specs.declared.Place.the-variants.{Raise, Invalid}
 use Rattle.model.specs.declared.State.{State}
 use Rattle.model.specs.declared.Counters.{Counters}
 use Rattle.model.specs.declared.LockState.{LockState}
+use Rattle.model.specs.declared.PlaceArrays.{PlaceArrays}
 use Rattle.model.specs.Scans.{any-below}
 use Rattle.model.specs.Trees.{Tree, tree-of, child}
-use Rattle.model.specs.Places.{place-words, words-of, place-of}
-use Rattle.model.specs.States.{place}
+use Rattle.model.specs.Places.{words-of, place-of}
+use Rattle.model.specs.States.{place, numbers-at}
 use Rattle.model.specs.Runs.{steps}
 use Rattle.model.specs.WellFormed.{good-place}
 use Rattle.model.specs.Refusals.{tree-refusal}
@@ -99,7 +100,7 @@ module _ (w : TreeWords) (ok : tree-refusal (tree-of w) .number ≡ 0) where
   unfolding tree-of
   taken-small j r = omega (arith, taken-real j r, valid .few-domains)
 
-  module _ (vs : List ℕ) (qs : List PlaceWords) (v : ℕ) where
+  module _ (vs : List ℕ) (qs : PlaceArrays) (v : ℕ) where
     pub marked-start : (bs : List Bool) → Clear bs → Marked (w .domains) (w .parents) (w .homes) vs qs v 0 bs
     unfolding any-below
     marked-start bs g = record { room = g .room; marked = g .none }
@@ -108,8 +109,8 @@ module _ (w : TreeWords) (ok : tree-refusal (tree-of w) .number ≡ 0) where
     shows-none : (d j : ℕ) → j < w .threads → (d < w .domains → getD vs (256 + d) 0 ≢ v) → shows-in (w .domains) (w .parents) (w .homes) vs qs v d j ≡ false
     shows-none d j r n =
         elim (decLt d (w .domains)) [
-          | yes p ↦ rw (ne-eqb (getD vs (256 + d) 0) v (n p)) (last (is-watch-in (getD qs j (place-words 0 0 0 0))) (eqb c d))
-          | no p ↦ rw (ne-eqb c d (λ z. absurd (omega (arith, taken-real j r, p)))) (and-false (is-watch-in (getD qs j (place-words 0 0 0 0))))
+          | yes p ↦ rw (ne-eqb (getD vs (256 + d) 0) v (n p)) (last (is-watch-in (numbers-at qs j)) (eqb c d))
+          | no p ↦ rw (ne-eqb c d (λ z. absurd (omega (arith, taken-real j r, p)))) (and-false (is-watch-in (numbers-at qs j)))
         ]
       where
         c : ℕ
@@ -158,18 +159,18 @@ module _ (w : TreeWords) (ok : tree-refusal (tree-of w) .number ≡ 0) where
 
     pub marked-next :
         (j : ℕ) (bs bs′ : List Bool) → j < w .threads → Marked (w .domains) (w .parents) (w .homes) vs qs v j bs →
-        bs′ ≡ marked-in (w .domains) (w .parents) (getD (w .homes) j 0) vs (getD qs j (place-words 0 0 0 0)) v bs → Marked (w .domains) (w .parents) (w .homes) vs qs v (j + 1) bs′
+        bs′ ≡ marked-in (w .domains) (w .parents) (getD (w .homes) j 0) vs (numbers-at qs j) v bs → Marked (w .domains) (w .parents) (w .homes) vs qs v (j + 1) bs′
     unfolding any-below
     marked-next j bs bs′ r g e =
         let c = taken-in (w .domains) (w .parents) (getD (w .homes) j 0) 0 in
         let small = taken-small j r in
-        rw (e, add-one j) (by (is-watch-in (getD qs j (place-words 0 0 0 0))) (eqb (getD vs (256 + c) 0) v) refl refl)
+        rw (e, add-one j) (by (is-watch-in (numbers-at qs j)) (eqb (getD vs (256 + c) 0) v) refl refl)
       where
         c : ℕ
         c = taken-in (w .domains) (w .parents) (getD (w .homes) j 0) 0
 
         y : PlaceWords
-        y = getD qs j (place-words 0 0 0 0)
+        y = numbers-at qs j
 
         f : (d k : ℕ) → Bool
         f d k = shows-in (w .domains) (w .parents) (w .homes) vs qs v d k
@@ -214,10 +215,10 @@ module _ (w : TreeWords) (ok : tree-refusal (tree-of w) .number ≡ 0) (i : ℕ)
   -- where the step is a raise, the marks are those of all threads
   module _ (s : State) (f : Formed (tree-of w) s) (l j : ℕ) (shown : List Bool) where
     pub raise-marked :
-        {v : ℕ} → Looked (getD (s .places) i (place-words 0 0 0 0) .row) (s .statuses) (w .domains) v (w .threads) l → j ≤ l → l ≤ j → place s i ≡ Raise →
+        {v : ℕ} → Looked (numbers-at (s .places) i .row) (s .statuses) (w .domains) v (w .threads) l → j ≤ l → l ≤ j → place s i ≡ Raise →
         Marked (w .domains) (w .parents) (w .homes) (s .statuses) (s .places) v j shown → Marked (w .domains) (w .parents) (w .homes) (s .statuses) (s .places) v (w .threads) shown
     raise-marked {v} e a n z g =
-        let q = getD (s .places) i (place-words 0 0 0 0) in
+        let q = numbers-at (s .places) i in
         let good : good-place (tree-of w) i (place s i) ≡ true = well-formed-facts (tree-of w) s f .places i .used b in
         looked-cases _ e (raise-row-is q (not-invalid (tree-of w) i (place s i) good) z)
         (λ y. let x : j ≡ w .threads = omega arith in rw x at g)

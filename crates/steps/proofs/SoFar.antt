@@ -7,10 +7,12 @@ use native.Mathlib.Omega.{arith}
 use native.Mathlib.Nat.{add-zero}
 use native.Mathlib.Numerals.{add-one}
 use lib.ListN.{getD, length, take, drop, set, length-set, length-append}
+use lib.Dec.{eqb}
+use borrow.Author.Tests.{eqb-true}
 use lib.Seq.{length-take-le, take-suc, take-all, drop-cons, set-append-seam}
 use Rattle.model.specs.declared.State.{State}
 use Rattle.model.specs.Trees.{Tree}
-use Rattle.model.specs.States.{place}
+use Rattle.model.specs.States.{place, store-numbers}
 use Rattle.model.specs.Refusals.{tree-refusal}
 use Rattle.model.specs.Steps.{Kind, stay, other, root-entry, passed-entry, crossed-entry, leaving, kind-number, is-kind, is-entry, Step, row, step}
 use Rattle.model.specs.Runs.{steps, state-after, how-many, entering, counts-of, run-of, run}
@@ -20,10 +22,11 @@ use Rattle.model.proofs.Laws.Runs.{steps-join, steps-length, how-many-join, ent
 use Rattle.model.proofs.Laws.Form.{form-law}
 use Rattle.model.proofs.Laws.Kinds.{kind-law}
 use Rattle.model.proofs.Counted.{how-many-most}
+use Rattle.model.proofs.Tests.{by-test}
 use Rattle.members.specs.declared.rows.Moved.{Moved}
 use Rattle.members.specs.Rows.{with-place-words, Done}
 use Rattle.members.specs.Standing.{is-entry-number}
-use Rattle.steps.specs.Running.{kinds-of, counted, counts-by, traced-at, trace-front}
+use Rattle.steps.specs.Running.{kinds-of, counted, counts-by, traced-at, trace-front, placed}
 
 -- KINDS by their numbers
 pub kind-small : (k : Kind) → kind-number k < 6
@@ -150,12 +153,20 @@ below t is z a k h = omega (arith, accepted t z .few-threads, thread-at t is a k
 pub stay-placed :
     (t : Tree) (is : List ℕ) (s : State) (k : ℕ) (m : Moved) (left : State) → tree-refusal t .number ≡ 0 → All-threads t is → k < length is → Formed t s →
     Done (row t (getD is k 0) (place s (getD is k 0)) s) (getD is k 0) m left → left .places ≡ s .places → m .kind ≡ 0 →
-    s .places ≡ set (s .places) (getD is k 0) (m .place)
+    s .places ≡ store-numbers (s .places) (getD is k 0) (m .place)
 unfolding Kind-law step
 stay-placed t is s k m left accepted all h f D same z =
     let i = getD is k 0 in
     let stays : row t i (place s i) s .state ≡ s = kind-law t i s accepted (thread-at t is all k h) f .stays-exactly .0 (zero-stay _ (sym (D .kind-is) ∙ z)) in
-    sym (ap (λ qs. set qs i (m .place)) (sym same) ∙ ap (λ (x : State). x .places) (D .state-left ∙ stays))
+    sym (ap (λ qs. store-numbers qs i (m .place)) (sym same) ∙ ap (λ (x : State). x .places) (D .state-left ∙ stays))
+
+pub now-placed :
+    (t : Tree) (is : List ℕ) (s : State) (k : ℕ) (m : Moved) (left : State) → tree-refusal t .number ≡ 0 → All-threads t is → k < length is → Formed t s →
+    Done (row t (getD is k 0) (place s (getD is k 0)) s) (getD is k 0) m left → left .places ≡ s .places →
+    placed (m .kind) (s .places) (getD is k 0) (m .place) ≡ store-numbers (s .places) (getD is k 0) (m .place)
+now-placed t is s k m left accepted all h f D same =
+    by-test (λ q. q ≡ store-numbers (s .places) (getD is k 0) (m .place)) (eqb (m .kind) 0) (s .places) (store-numbers (s .places) (getD is k 0) (m .place))
+    (λ z. stay-placed t is s k m left accepted all h f D same (eqb-true _ 0 z)) (λ _. refl)
 
 module _ (t : Tree) (is b₀ : List ℕ) (s₀ : State) where
   -- the steps of the first k entries

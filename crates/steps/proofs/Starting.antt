@@ -6,15 +6,13 @@ use native.Mathlib.Nat.{mod-eq-of-lt}
 use native.Mathlib.Omega.{arith}
 use lib.Dec.{eqb}
 use lib.ListN.{replicate, length-replicate}
-use Rattle.model.specs.declared.PlaceWords.{PlaceWords}
-use Rattle.model.specs.Places.{place-words}
 use Rattle.model.specs.Laws.{Typed}
 use Rattle.model.proofs.Laws.Form.{replicate-all}
-use Rattle.taking.specs.Taking.{state-in}
+use Rattle.refusals.specs.Arrays.{lent-state}
 use Rattle.steps.specs.Running.{fresh-from, first-number}
 use Rattle.model.specs.declared.TreeWords.{TreeWords}
 use Rattle.model.specs.Trees.{tree-of}
-use Rattle.model.specs.States.{wrap, fresh-words, fresh-state}
+use Rattle.model.specs.States.{wrap, numbers-at, fresh-words, fresh-state}
 
 first-is : (n k v : ℕ) → v < 65536 → first-number n k v ≡ cond (not (eqb k 0)) (wrap (cond (eqb n 0) v 0)) 0
 first-is n k v h = by (eqb n 0) (eqb k 0)
@@ -34,20 +32,21 @@ pub fresh-from-zero : fresh-from 0 ≡ fresh-words
 unfolding fresh-words
 fresh-from-zero = refl
 
--- arrays of zeros and idle places are the fresh words, and fit their types
-pub zeros-fresh : state-in (replicate 64 0) (replicate 320 0) (replicate 320 0) 0 0 (replicate 256 (place-words 0 0 0 0)) ≡ fresh-words
+-- arrays of zeros are the fresh words, and fit their types
+pub zeros-fresh : lent-state (replicate 64 0) (replicate 320 0) (replicate 320 0) (replicate 256 0) (replicate 256 0) (replicate 256 0) (replicate 256 0) 0 0 ≡ fresh-words
 unfolding fresh-words
 zeros-fresh = refl
 
-pub zeros-typed : Typed (state-in (replicate 64 0) (replicate 320 0) (replicate 320 0) 0 0 (replicate 256 (place-words 0 0 0 0)))
+pub zeros-typed : Typed (lent-state (replicate 64 0) (replicate 320 0) (replicate 320 0) (replicate 256 0) (replicate 256 0) (replicate 256 0) (replicate 256 0) 0 0)
+unfolding numbers-at
 zeros-typed =
     record {
       tails-room = length-replicate {A = ℕ} 64 0;
       nexts-room = length-replicate {A = ℕ} 320 0;
       statuses-room = length-replicate {A = ℕ} 320 0;
-      places-room = length-replicate {A = PlaceWords} 256 (place-words 0 0 0 0);
+      places-room = record { rows = length-replicate {A = ℕ} 256 0; domains = length-replicate {A = ℕ} 256 0; peers = length-replicate {A = ℕ} 256 0; words = length-replicate {A = ℕ} 256 0 };
       statuses-fit = λ k. replicate-all (λ (x : ℕ). x < 18446744073709551616) 320 k 0 (omega arith);
       ticket-fits = omega arith;
       grant-fits = omega arith;
-      words-fit = λ k. replicate-all (λ (q : PlaceWords). q .word < 18446744073709551616) 256 k (place-words 0 0 0 0) (omega arith);
+      words-fit = λ k. replicate-all (λ (x : ℕ). x < 18446744073709551616) 256 k 0 (omega arith);
     }

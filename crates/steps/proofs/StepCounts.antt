@@ -7,18 +7,18 @@ use Prim.Native.Nat.{ℕ, zero, suc, _+_, _-_, _<_, max}
 use native.Mathlib.Omega.{arith}
 use native.Mathlib.Decide.{ℕ-discrete}
 use lib.Dec.{eqb, ltb}
-use lib.ListN.{getD, length, set}
-use lib.Seq.{getD-set-same}
+use lib.ListN.{getD}
 use borrow.Author.Tests.{eqb-false, eq-eqb, ne-eqb, ltb-true, ltb-false, not-true}
 use Rattle.model.specs.declared.TreeWords.{TreeWords}
 use Rattle.model.specs.declared.PlaceWords.{PlaceWords}
 use Rattle.model.specs.declared.Place.{Place}
 use Rattle.model.specs.declared.Place.the-variants.{Idle, Prep, Swap, Link, Wait, Inside, Check, Help, Cas, Linger, Grant, Draw, Watch, Raise, Invalid}
 use Rattle.model.specs.declared.State.{State}
+use Rattle.model.specs.declared.PlaceArrays.{PlaceArrays}
 use Rattle.model.specs.Scans.{any-below}
 use Rattle.model.specs.Trees.{Tree, tree-of, is-ticket, on-path, child, own-record, is-record, is-member}
-use Rattle.model.specs.Places.{place-words, words-of, place-of}
-use Rattle.model.specs.States.{none, tail, status, place, wrap}
+use Rattle.model.specs.Places.{words-of, place-of}
+use Rattle.model.specs.States.{none, tail, status, place, wrap, numbers-at, store-numbers, Has-room}
 use Rattle.model.specs.Steps.{kind-number, Row-result, acquired-place, is-watched, shown-members, row, step}
 use Rattle.model.specs.WellFormed.{queue-on-path, good-place}
 use Rattle.model.specs.Refusals.{tree-refusal}
@@ -26,7 +26,7 @@ use Rattle.model.specs.Tenures.{checks-at, domain-tenures, longest-tenure}
 use Rattle.model.specs.Counters.{each-with-index, counters-after}
 use Rattle.model.specs.Laws.{Formed}
 use Rattle.model.proofs.Tests.{and-both, by-test, any-same}
-use Rattle.model.proofs.Places.{words-of-place, watch-numbers}
+use Rattle.model.proofs.Places.{words-of-place, watch-numbers, numbers-stored}
 use Rattle.model.proofs.Branches.{Branch, swap-root, swap-inner, swap-behind, draw-shown, draw-unshown, branch}
 use Rattle.model.proofs.Trees.Accepted.{Accepted, accepted}
 use Rattle.model.proofs.Trees.Paths.{on-path-root}
@@ -47,23 +47,19 @@ use Rattle.steps.proofs.Taken.{taken-child}
 use Rattle.steps.proofs.StepEntries.{entries-counted}
 use Rattle.steps.proofs.StepTenures.{Start-of, nobody, of-thread, of-domain, start-added, start-raised, check-added, check-raised, raise-added, raise-raised}
 
--- a place that is stored is read there
-stored-place : (ps : List PlaceWords) (i : ℕ) (q : PlaceWords) → i < length ps → getD (set ps i q) i (place-words 0 0 0 0) ≡ q
-stored-place ps i q h = getD-set-same ps i q (place-words 0 0 0 0) h
-
 -- of the place behind a Swap: Link exactly where the tail was not none
 swap-after :
-    (t : Tree) (i l : ℕ) (s : State) → i < length (s .places) → {x : Row-result} → Branch t i s (Swap l) x →
-    eqb (getD (x .state .places) i (place-words 0 0 0 0) .row) 3 ≡ not (eqb (tail s l) none)
+    (t : Tree) (i l : ℕ) (s : State) → Has-room (s .places) i → {x : Row-result} → Branch t i s (Swap l) x →
+    eqb (numbers-at (x .state .places) i .row) 3 ≡ not (eqb (tail s l) none)
 swap-after t i l s h = by
   where
-    at : (p : Place) → eqb (getD (set (s .places) i (words-of p)) i (place-words 0 0 0 0) .row) 3 ≡ eqb (words-of p .row) 3
-    at p = ap (λ (q : PlaceWords). eqb (q .row) 3) (stored-place (s .places) i (words-of p) h)
+    at : (p : Place) → eqb (numbers-at (store-numbers (s .places) i (words-of p)) i .row) 3 ≡ eqb (words-of p .row) 3
+    at p = ap (λ (q : PlaceWords). eqb (q .row) 3) (numbers-stored (s .places) i (words-of p) h)
 
     acquired-row : eqb (words-of (acquired-place t l) .row) 3 ≡ false
     acquired-row = by-test (λ p. eqb (words-of p .row) 3 ≡ false) (is-ticket t (t .parent l)) Draw (Prep (t .parent l)) (λ e. refl) (λ e. refl)
 
-    by : {x : Row-result} → Branch t i s (Swap l) x → eqb (getD (x .state .places) i (place-words 0 0 0 0) .row) 3 ≡ not (eqb (tail s l) none)
+    by : {x : Row-result} → Branch t i s (Swap l) x → eqb (numbers-at (x .state .places) i .row) 3 ≡ not (eqb (tail s l) none)
     by (swap-root _ z e) = at Inside ∙ sym (ap not (eq-eqb (tail s l) none e))
     by (swap-inner _ z e) = at (acquired-place t l) ∙ acquired-row ∙ sym (ap not (eq-eqb (tail s l) none e))
     by (swap-behind _ e) = at (Link l (tail s l - 1)) ∙ sym (ap not (ne-eqb (tail s l) none e))
@@ -129,7 +125,7 @@ module _ (w : TreeWords) (ok : tree-refusal (tree-of w) .number ≡ 0) (i : ℕ)
   valid = accepted t ok
 
   abbrev q : PlaceWords
-  q = getD (s .places) i (place-words 0 0 0 0)
+  q = numbers-at (s .places) i
 
   good : good-place t i (place s i) ≡ true
   good = well-formed-facts t s f .places i .used b
@@ -137,13 +133,13 @@ module _ (w : TreeWords) (ok : tree-refusal (tree-of w) .number ≡ 0) (i : ℕ)
   words : q ≡ words-of (place s i)
   words = sym (words-of-place q (not-invalid t i (place s i) good))
 
-  room : i < length (s .places)
-  room = omega (arith, valid .few-threads, f .typed .places-room)
+  room : Has-room (s .places) i
+  room = (f .typed .places-room, omega (arith, valid .few-threads))
 
   -- the place after the step
-  after : getD (step t i s .state .places) i (place-words 0 0 0 0) ≡ said .place
+  after : numbers-at (step t i s .state .places) i ≡ said .place
   unfolding step
-  after = ap (λ (n : State). getD (n .places) i (place-words 0 0 0 0)) (sym (D .state-left)) ∙ ap (λ (ps : List PlaceWords). getD (set ps i (said .place)) i (place-words 0 0 0 0)) same ∙ stored-place (s .places) i (said .place) room
+  after = ap (λ (n : State). numbers-at (n .places) i) (sym (D .state-left)) ∙ ap (λ (ps : PlaceArrays). numbers-at (store-numbers ps i (said .place)) i) same ∙ numbers-stored (s .places) i (said .place) room
 
   module _ (h : ℕ) (home : h ≡ t .home i) (shown : List Bool) (ts ts′ ls ls′ : List ℕ) (C : Counted-step (w .domains) (w .parents) h q (said .place) (said .kind) shown ts ts′ ls ls′) where
     abbrev Both : Type 0
@@ -178,7 +174,7 @@ module _ (w : TreeWords) (ok : tree-refusal (tree-of w) .number ≡ 0) (i : ℕ)
     from-swap l z g =
         let y = row-is (Swap l) z in
         let a : eqb (said .place .row) 3 ≡ not (eqb (tail s l) none) =
-        ap (λ (x : PlaceWords). eqb (x .row) 3) (sym after) ∙ ap (λ (p : Place). eqb (getD (row t i p s .state .places) i (place-words 0 0 0 0) .row) 3) z ∙ swap-after t i l s room (branch t i s (Swap l)) in
+        ap (λ (x : PlaceWords). eqb (x .row) 3) (sym after) ∙ ap (λ (p : Place). eqb (numbers-at (row t i p s .state .places) i .row) 3) z ∙ swap-after t i l s room (branch t i s (Swap l)) in
         let c : started ≡ cond (not (eqb (tail s l) none)) 0 (taken-in (w .domains) (w .parents) h l) = rw (y, a) in
         finish (λ x. absurd (omega (arith, ap (λ (v : PlaceWords). v .row) y))) (λ x. absurd (omega (arith, ap (λ (v : PlaceWords). v .row) y)))
         (rw (c, z, gives t i (Swap l) s) (own-started t valid (w .domains) (w .parents) same-parents (eqb (tail s l) none) i l h b (queue-facts t i l g .0) home))
@@ -247,9 +243,9 @@ module _ (w : TreeWords) (ok : tree-refusal (tree-of w) .number ≡ 0) (i : ℕ)
     marks k d l n =
         let v = wrap (s .grant + 1) in
         k .marked d l
-        ∙ any-apart (w .threads) (λ j. is-watch-in (getD (s .places) j (place-words 0 0 0 0))) (λ j. eqb (taken-in (w .domains) (w .parents) (getD (w .homes) j 0) 0) d) (eqb (status s (256 + d)) v)
+        ∙ any-apart (w .threads) (λ j. is-watch-in (numbers-at (s .places) j)) (λ j. eqb (taken-in (w .domains) (w .parents) (getD (w .homes) j 0) 0) d) (eqb (status s (256 + d)) v)
         ∙ ap (λ x. eqb (status s (256 + d)) v && x)
-        (any-same (w .threads) _ _ (λ j r. rw (watch-numbers (getD (s .places) j (place-words 0 0 0 0)), record-same t valid (w .domains) (w .parents) same-parents j (getD (w .homes) j 0) d r (sym (home-read w j r)) n)))
+        (any-same (w .threads) _ _ (λ j r. rw (watch-numbers (numbers-at (s .places) j), record-same t valid (w .domains) (w .parents) same-parents j (getD (w .homes) j 0) d r (sym (home-read w j r)) n)))
 
     pub tenures-counted : (place s i ≡ Raise → Marked (w .domains) (w .parents) (w .homes) (s .statuses) (s .places) (wrap (s .grant + 1)) (w .threads) shown) → Both
     tenures-counted k = by-place (place s i) refl good (λ z. marks (k z))

@@ -10,8 +10,8 @@ use lib.Seq.{length-take-le, take-all}
 use borrow.Author.Tests.{lt-ltb, le-ltb, ltb-true, ltb-false}
 use Rattle.model.specs.declared.PlaceWords.{PlaceWords}
 use Rattle.model.specs.declared.State.{State}
-use Rattle.model.specs.Places.{place-words, words-of, place-of}
-use Rattle.model.specs.States.{place}
+use Rattle.model.specs.Places.{words-of, place-of}
+use Rattle.model.specs.States.{place, numbers-at}
 use Rattle.model.specs.Trees.{Tree}
 use Rattle.model.specs.Steps.{kind-number, Step, row, step}
 use Rattle.model.specs.Runs.{steps, state-after}
@@ -72,11 +72,11 @@ module _ (t : Tree) (is : List ℕ) (s₀ : State) (b₀ : List ℕ) where
   pub codes-turn :
       (b : List ℕ) (s : State) (k : ℕ) (m : Moved) (left : State) (b′ : List ℕ) → All-threads t is → k < length is → Formed t s → s ≡ state-after s₀ (steps t (take k is) s₀) →
       Done (row t (getD is k 0) (place s (getD is k 0)) s) (getD is k 0) m left → Coded b k →
-      (let q = getD (s .places) (getD is k 0) (place-words 0 0 0 0) in b′ ≡ code-stored b k (code-of (m .kind) (q .row) (q .domain))) → Coded b′ (k + 1)
+      (let q = numbers-at (s .places) (getD is k 0) in b′ ≡ code-stored b k (code-of (m .kind) (q .row) (q .domain))) → Coded b′ (k + 1)
   unfolding step step-code
   codes-turn b s k m left b′ all h f st D g eb =
       let i = getD is k 0 in
-      let q = getD (s .places) i (place-words 0 0 0 0) in
+      let q = numbers-at (s .places) i in
       let x = step t i s in
       let xs = steps t (take k is) s₀ in
       let words : words-of (place-of q) ≡ q = words-of-place q (not-invalid t i (place s i) (well-formed-facts t s f .places i .used (thread-at t is all k h))) in

@@ -5,18 +5,18 @@ use mathlib.Core.List.{List}
 use Prim.Native.Nat.{ℕ, _+_, _≤_, _<_}
 use lib.Dec.{eqb}
 use lib.ListN.{getD, length}
-use Rattle.model.specs.declared.PlaceWords.{PlaceWords}
+use Rattle.model.specs.declared.PlaceArrays.{PlaceArrays}
 use Rattle.model.specs.Scans.{any-below}
-use Rattle.model.specs.Places.{place-words}
 use Rattle.model.specs.Counters.{most-counted}
+use Rattle.model.specs.States.{numbers-at}
 use Rattle.members.specs.Counting.{taken-in, is-watch-in}
 
 -- a thread watches with the record of a domain, which holds a ticket
-abbrev pub shows-in : (domains : ℕ) → (parents homes statuses : List ℕ) → (places : List PlaceWords) → (ticket domain thread : ℕ) → Bool
-shows-in m ps hs vs qs v d j = is-watch-in (getD qs j (place-words 0 0 0 0)) && (eqb (taken-in m ps (getD hs j 0) 0) d && eqb (getD vs (256 + d) 0) v)
+abbrev pub shows-in : (domains : ℕ) → (parents homes statuses : List ℕ) → (places : PlaceArrays) → (ticket domain thread : ℕ) → Bool
+shows-in m ps hs vs qs v d j = is-watch-in (numbers-at qs j) && (eqb (taken-in m ps (getD hs j 0) 0) d && eqb (getD vs (256 + d) 0) v)
 
 -- of each domain, whether one of so many threads does
-pub record Marked (domains : ℕ) (parents homes statuses : List ℕ) (places : List PlaceWords) (ticket threads : ℕ) (shown : List Bool) : Type 0 where
+pub record Marked (domains : ℕ) (parents homes statuses : List ℕ) (places : PlaceArrays) (ticket threads : ℕ) (shown : List Bool) : Type 0 where
   pub room : length shown ≡ 64
   pub marked : (d : ℕ) → d < 64 → getD shown d false ≡ any-below threads (shows-in domains parents homes statuses places ticket d)
 

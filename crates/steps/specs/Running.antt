@@ -4,9 +4,11 @@ use mathlib.Core.List.{List, [], _∷_, _++_}
 use Prim.Native.Nat.{ℕ, _+_, _*_}
 use lib.Dec.{eqb, ltb}
 use lib.ListN.{getD, set, length, drop}
+use Rattle.model.specs.declared.PlaceArrays.{PlaceArrays}
+use Rattle.model.specs.declared.PlaceWords.{PlaceWords}
 use Rattle.model.specs.declared.State.{State}
 use Rattle.model.specs.Places.{words-of}
-use Rattle.model.specs.States.{fresh-words, with-ticket, with-grant}
+use Rattle.model.specs.States.{store-numbers, fresh-words, with-ticket, with-grant}
 use Rattle.model.specs.declared.Counts.{Counts}
 use Rattle.model.specs.Steps.{stay, other, root-entry, passed-entry, crossed-entry, leaving, kind-number, is-kind, Step}
 use Rattle.model.specs.Runs.{how-many, Run}
@@ -33,6 +35,10 @@ counts-by ks =
       passed = getD ks 3 0;
       crossed = getD ks 4 0;
     }
+
+-- the places after a step: a stay stores none
+abbrev pub placed : (kind : ℕ) → PlaceArrays → (thread : ℕ) → PlaceWords → PlaceArrays
+placed k q i x = cond (eqb k 0) q (store-numbers q i x)
 
 -- the buffer with an entering thread at an index
 abbrev pub traced-at : List ℕ → (at kind thread : ℕ) → List ℕ

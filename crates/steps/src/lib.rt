@@ -9,7 +9,7 @@ pub mod run;
 
 use model::Counts;
 use model::LockState;
-use model::PlaceWords;
+use model::PlaceArrays;
 use model::RunReply;
 use model::State;
 
@@ -17,16 +17,19 @@ use model::State;
 pub fn fresh_state(first: u16) -> State
     ensures { λ r. ⌜ r ≡ fresh-from first ⌝ }
 {
-    let place = PlaceWords {
-        row: 0,
-        domain: 0,
-        peer: 0,
-        word: 0,
-    };
     let tails = [0u16; 64];
     let nexts = [0u16; 320];
     let statuses = [0u64; 320];
-    let places = [place; 256];
+    let rows = [0u8; 256];
+    let domains = [0u8; 256];
+    let peers = [0u16; 256];
+    let words = [0u64; 256];
+    let places = PlaceArrays {
+        rows,
+        domains,
+        peers,
+        words,
+    };
     State {
         tails,
         nexts,

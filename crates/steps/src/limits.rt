@@ -6,7 +6,8 @@ ghost use lib.ListN.{length};
 ghost use Rattle.model.specs.Trees.{tree-of};
 ghost use Rattle.model.specs.Counters.{lock-state, any-above};
 ghost use Rattle.model.specs.Refusals.{first-refusal, run-tests-before-19, bad-counter, counter-tests, run-refusal};
-ghost use Rattle.refusals.specs.Arrays.{refusal-words};
+ghost use Rattle.model.specs.Laws.{Typed};
+ghost use Rattle.refusals.specs.Arrays.{refusal-words, lent-state};
 ghost use Rattle.run_refusals.specs.Counts.{counters-in};
 ghost use Rattle.refusals.specs.Lowest.{Lowest};
 ghost use Rattle.steps.specs.Counting.{Room-answered};
@@ -58,18 +59,35 @@ fn is_above<'c>(entries: &'c [u64; 64], tenures: &'c [u64; 64], longest: &'c [u6
 }
 
 // The lowest position of a schedule behind whose step a counter is above 2^63, found by taking the steps one by one on a copy; the schedule's length where there is none.
-fn lowest_above<'c>(
+fn lowest_above<'s, 'c>(
     tree: TreeWords,
-    state: State,
+    tails: &'s [u16; 64],
+    nexts: &'s [u16; 320],
+    statuses: &'s [u64; 320],
+    rows: &'s [u8; 256],
+    domains: &'s [u8; 256],
+    peers: &'s [u16; 256],
+    words: &'s [u64; 256],
+    ticket: u16,
+    grant: u16,
     entries: &'c [u64; 64],
     tenures: &'c [u64; 64],
     longest: &'c [u64; 64],
     schedule: &[u16],
 ) -> u32
-    requires { ⌜ first-refusal (run-tests-before-19 (tree-of tree) (lock-state state (counters-in (now entries) (now tenures) (now longest))) (now schedule) (length (now schedule))) .number ≡ 0 ⌝ }
-    ensures { λ r. ⌜ Lowest (length (now (schedule .entry))) (bad-counter (tree-of tree) (lock-state state (counters-in (now (entries .entry)) (now (tenures .entry)) (now (longest .entry)))) (now (schedule .entry))) r ⌝ }
+    requires { ⌜ Typed (lent-state (now tails) (now nexts) (now statuses) (now rows) (now domains) (now peers) (now words) ticket grant) ⌝ }
+    requires { ⌜ first-refusal (run-tests-before-19 (tree-of tree) (lock-state (lent-state (now tails) (now nexts) (now statuses) (now rows) (now domains) (now peers) (now words) ticket grant) (counters-in (now entries) (now tenures) (now longest))) (now schedule) (length (now schedule))) .number ≡ 0 ⌝ }
+    ensures { λ r. ⌜ Lowest (length (now (schedule .entry))) (bad-counter (tree-of tree) (lock-state (lent-state (now (tails .entry)) (now (nexts .entry)) (now (statuses .entry)) (now (rows .entry)) (now (domains .entry)) (now (peers .entry)) (now (words .entry)) ticket grant) (counters-in (now (entries .entry)) (now (tenures .entry)) (now (longest .entry)))) (now (schedule .entry))) r ⌝ }
 {
-    let mut n = state;
+    let mut ts = *tails;
+    let mut xs = *nexts;
+    let mut vs = *statuses;
+    let mut rs = *rows;
+    let mut ds = *domains;
+    let mut ps = *peers;
+    let mut ws = *words;
+    let mut drawn = ticket;
+    let mut raised = grant;
     let mut es = *entries;
     let mut ns = *tenures;
     let mut ls = *longest;
@@ -80,9 +98,17 @@ fn lowest_above<'c>(
         let mut trace = [0u16];
         let mut kinds = [0u32; 6];
         let mut codes = [0u16; 0];
-        n = run::run_steps(
+        run::run_lent(
             tree,
-            n,
+            &mut ts,
+            &mut xs,
+            &mut vs,
+            &mut rs,
+            &mut ds,
+            &mut ps,
+            &mut ws,
+            &mut drawn,
+            &mut raised,
             &one,
             &mut trace,
             &mut kinds,
@@ -100,16 +126,25 @@ fn lowest_above<'c>(
 }
 
 // 19 behind all other tests: the lowest position of a schedule behind whose step a counter is above 2^63.
-pub fn counter_refusal_of<'c>(
+pub fn lent_counter_refusal_of<'s, 'c>(
     tree: TreeWords,
-    state: State,
+    tails: &'s [u16; 64],
+    nexts: &'s [u16; 320],
+    statuses: &'s [u64; 320],
+    rows: &'s [u8; 256],
+    domains: &'s [u8; 256],
+    peers: &'s [u16; 256],
+    words: &'s [u64; 256],
+    ticket: u16,
+    grant: u16,
     entries: &'c [u64; 64],
     tenures: &'c [u64; 64],
     longest: &'c [u64; 64],
     schedule: &[u16],
 ) -> Refusal
-    requires { ⌜ first-refusal (run-tests-before-19 (tree-of tree) (lock-state state (counters-in (now entries) (now tenures) (now longest))) (now schedule) (length (now schedule))) .number ≡ 0 ⌝ }
-    ensures { λ r. ⌜ r ≡ refusal-words (first-refusal (counter-tests (tree-of tree) (lock-state state (counters-in (now (entries .entry)) (now (tenures .entry)) (now (longest .entry)))) (now (schedule .entry)))) ⌝ }
+    requires { ⌜ Typed (lent-state (now tails) (now nexts) (now statuses) (now rows) (now domains) (now peers) (now words) ticket grant) ⌝ }
+    requires { ⌜ first-refusal (run-tests-before-19 (tree-of tree) (lock-state (lent-state (now tails) (now nexts) (now statuses) (now rows) (now domains) (now peers) (now words) ticket grant) (counters-in (now entries) (now tenures) (now longest))) (now schedule) (length (now schedule))) .number ≡ 0 ⌝ }
+    ensures { λ r. ⌜ r ≡ refusal-words (first-refusal (counter-tests (tree-of tree) (lock-state (lent-state (now (tails .entry)) (now (nexts .entry)) (now (statuses .entry)) (now (rows .entry)) (now (domains .entry)) (now (peers .entry)) (now (words .entry)) ticket grant) (counters-in (now (entries .entry)) (now (tenures .entry)) (now (longest .entry)))) (now (schedule .entry)))) ⌝ }
 {
     if has_room(entries, tenures) {
         return Refusal {
@@ -117,7 +152,22 @@ pub fn counter_refusal_of<'c>(
             place: 0,
         };
     }
-    let k = lowest_above(tree, state, entries, tenures, longest, schedule);
+    let k = lowest_above(
+        tree,
+        tails,
+        nexts,
+        statuses,
+        rows,
+        domains,
+        peers,
+        words,
+        ticket,
+        grant,
+        entries,
+        tenures,
+        longest,
+        schedule,
+    );
     if (k as usize) < schedule.len() {
         return Refusal {
             number: 19,
@@ -130,21 +180,91 @@ pub fn counter_refusal_of<'c>(
     }
 }
 
-// A run meets 4 to 9, 16, 10 to 13 and 19. A step is a run of one entry, with room for one.
-pub fn refusal_of<'c>(
+// The same of a state that is taken by value.
+pub fn counter_refusal_of<'c>(
     tree: TreeWords,
     state: State,
     entries: &'c [u64; 64],
     tenures: &'c [u64; 64],
     longest: &'c [u64; 64],
     schedule: &[u16],
+) -> Refusal
+    requires { ⌜ first-refusal (run-tests-before-19 (tree-of tree) (lock-state state (counters-in (now entries) (now tenures) (now longest))) (now schedule) (length (now schedule))) .number ≡ 0 ⌝ }
+    ensures { λ r. ⌜ r ≡ refusal-words (first-refusal (counter-tests (tree-of tree) (lock-state state (counters-in (now (entries .entry)) (now (tenures .entry)) (now (longest .entry)))) (now (schedule .entry)))) ⌝ }
+{
+    lent_counter_refusal_of(
+        tree,
+        &state.tails,
+        &state.nexts,
+        &state.statuses,
+        &state.places.rows,
+        &state.places.domains,
+        &state.places.peers,
+        &state.places.words,
+        state.ticket,
+        state.grant,
+        entries,
+        tenures,
+        longest,
+        schedule,
+    )
+}
+
+// A run meets 4 to 9, 16, 10 to 13 and 19. A step is a run of one entry, with room for one.
+pub fn refusal_of<'s, 'c>(
+    tree: TreeWords,
+    tails: &'s [u16; 64],
+    nexts: &'s [u16; 320],
+    statuses: &'s [u64; 320],
+    rows: &'s [u8; 256],
+    domains: &'s [u8; 256],
+    peers: &'s [u16; 256],
+    words: &'s [u64; 256],
+    ticket: u16,
+    grant: u16,
+    entries: &'c [u64; 64],
+    tenures: &'c [u64; 64],
+    longest: &'c [u64; 64],
+    schedule: &[u16],
     room: usize,
 ) -> Refusal
-    ensures { λ r. ⌜ r ≡ refusal-words (run-refusal (tree-of tree) (lock-state state (counters-in (now (entries .entry)) (now (tenures .entry)) (now (longest .entry)))) (now (schedule .entry)) room) ⌝ }
+    requires { ⌜ Typed (lent-state (now tails) (now nexts) (now statuses) (now rows) (now domains) (now peers) (now words) ticket grant) ⌝ }
+    ensures { λ r. ⌜ r ≡ refusal-words (run-refusal (tree-of tree) (lock-state (lent-state (now (tails .entry)) (now (nexts .entry)) (now (statuses .entry)) (now (rows .entry)) (now (domains .entry)) (now (peers .entry)) (now (words .entry)) ticket grant) (counters-in (now (entries .entry)) (now (tenures .entry)) (now (longest .entry)))) (now (schedule .entry)) room) ⌝ }
 {
-    let r = run_refusals::run_refusal_of(tree, state, entries, tenures, longest, schedule, room);
+    let r = run_refusals::lent_refusal_of(
+        tree,
+        tails,
+        nexts,
+        statuses,
+        rows,
+        domains,
+        peers,
+        words,
+        ticket,
+        grant,
+        entries,
+        tenures,
+        longest,
+        schedule,
+        room,
+    );
     if r.number != 0 {
         return r;
     }
-    counter_refusal_of(tree, state, entries, tenures, longest, schedule)
+    lent_counter_refusal_of(
+        tree,
+        tails,
+        nexts,
+        statuses,
+        rows,
+        domains,
+        peers,
+        words,
+        ticket,
+        grant,
+        entries,
+        tenures,
+        longest,
+        schedule,
+    )
 }

@@ -10,13 +10,15 @@ ghost use Rattle.run_refusals.specs.Counts.{counters-in};
 ghost use Rattle.model.specs.Runs.{steps, run};
 ghost use Rattle.model.specs.Laws.{Typed};
 ghost use Rattle.members.specs.Standing.{row-domain, is-entry-number};
-ghost use Rattle.taking.specs.Taking.{state-in};
-ghost use Rattle.steps.specs.Running.{kinds-of, counted, counts-by, traced-at, trace-front, code-of, code-stored, codes-front};
+ghost use Rattle.refusals.specs.Arrays.{places-in, lent-state};
+ghost use Rattle.steps.specs.Running.{kinds-of, counted, counts-by, traced-at, trace-front, code-of, code-stored, codes-front, placed};
 use members::counting;
 use model::Counts;
+use model::PlaceArrays;
 use model::PlaceWords;
 use model::State;
 use model::TreeWords;
+use run_refusals::places;
 
 // One step of a kind more, where the steps of each kind are counted.
 fn count_in(kinds: &mut [u32; 6], kind: u8)
@@ -101,18 +103,38 @@ pub fn domain_of_code(home: u8, code: u16) -> u32
     (code / 128) as u32
 }
 
-// The places of all threads, as a run leaves them.
-pub struct Places {
-    pub places: [PlaceWords; 256],
+// The place after a step, stored where the step is no stay.
+fn put_place(
+    rows: &mut [u8; 256],
+    domains: &mut [u8; 256],
+    peers: &mut [u16; 256],
+    words: &mut [u64; 256],
+    at: usize,
+    kind: u8,
+    place: PlaceWords,
+)
+    requires { ⌜ at < 256 ⌝ }
+    ensures { λ r. ⌜ places-in (now (rows .exit)) (now (domains .exit)) (now (peers .exit)) (now (words .exit)) ≡ placed kind (places-in (now (rows .entry)) (now (domains .entry)) (now (peers .entry)) (now (words .entry))) at place ⌝ }
+{
+    if kind == model::STAY {
+        return;
+    }
+    rows[at] = place.row;
+    domains[at] = place.domain;
+    peers[at] = place.peer;
+    words[at] = place.word;
 }
 
-// The steps of a schedule, stored one after another into the arrays that are lent; the places alone, which cannot be lent, are taken and returned. How many steps are of each kind, what each of the first was, as many as there is room for, and the counters of the domains are written where the caller lends room.
+// The steps of a schedule, stored one after another into the arrays that are lent. How many steps are of each kind, what each of the first was, as many as there is room for, and the counters of the domains are written where the caller lends room.
 pub fn run_lent(
     tree: TreeWords,
     tails: &mut [u16; 64],
     nexts: &mut [u16; 320],
     statuses: &mut [u64; 320],
-    places: [PlaceWords; 256],
+    rows: &mut [u8; 256],
+    domains: &mut [u8; 256],
+    peers: &mut [u16; 256],
+    words: &mut [u64; 256],
     ticket: &mut u16,
     granted: &mut u16,
     schedule: &[u16],
@@ -122,16 +144,15 @@ pub fn run_lent(
     entries: &mut [u64; 64],
     tenures: &mut [u64; 64],
     longest: &mut [u64; 64],
-) -> Places
-    requires { ⌜ Typed (state-in (now tails) (now nexts) (now statuses) (now ticket) (now granted) places) ⌝ }
-    requires { ⌜ first-refusal (run-tests-before-19 (tree-of tree) (lock-state (state-in (now tails) (now nexts) (now statuses) (now ticket) (now granted) places) (counters-in (now entries) (now tenures) (now longest))) (now schedule) (length (now trace))) .number ≡ 0 ⌝ }
-    ensures { λ r. ⌜ state-in (now (tails .exit)) (now (nexts .exit)) (now (statuses .exit)) (now (ticket .exit)) (now (granted .exit)) (r .places) ≡ run (tree-of tree) (now (schedule .entry)) (state-in (now (tails .entry)) (now (nexts .entry)) (now (statuses .entry)) (now (ticket .entry)) (now (granted .entry)) places) .state ⌝ }
-    ensures { λ r. ⌜ now (trace .exit) ≡ trace-front (now (trace .entry)) (run (tree-of tree) (now (schedule .entry)) (state-in (now (tails .entry)) (now (nexts .entry)) (now (statuses .entry)) (now (ticket .entry)) (now (granted .entry)) places)) ⌝ }
-    ensures { λ r. ⌜ now (kinds .exit) ≡ kinds-of (steps (tree-of tree) (now (schedule .entry)) (state-in (now (tails .entry)) (now (nexts .entry)) (now (statuses .entry)) (now (ticket .entry)) (now (granted .entry)) places)) ⌝ }
-    ensures { λ r. ⌜ now (codes .exit) ≡ codes-front (now (codes .entry)) (steps (tree-of tree) (now (schedule .entry)) (state-in (now (tails .entry)) (now (nexts .entry)) (now (statuses .entry)) (now (ticket .entry)) (now (granted .entry)) places)) ⌝ }
-    ensures { λ r. ⌜ counters-in (now (entries .exit)) (now (tenures .exit)) (now (longest .exit)) ≡ counters-after (tree-of tree) (counters-in (now (entries .entry)) (now (tenures .entry)) (now (longest .entry))) (steps (tree-of tree) (now (schedule .entry)) (state-in (now (tails .entry)) (now (nexts .entry)) (now (statuses .entry)) (now (ticket .entry)) (now (granted .entry)) places)) ⌝ }
+)
+    requires { ⌜ Typed (lent-state (now tails) (now nexts) (now statuses) (now rows) (now domains) (now peers) (now words) (now ticket) (now granted)) ⌝ }
+    requires { ⌜ first-refusal (run-tests-before-19 (tree-of tree) (lock-state (lent-state (now tails) (now nexts) (now statuses) (now rows) (now domains) (now peers) (now words) (now ticket) (now granted)) (counters-in (now entries) (now tenures) (now longest))) (now schedule) (length (now trace))) .number ≡ 0 ⌝ }
+    ensures { λ r. ⌜ lent-state (now (tails .exit)) (now (nexts .exit)) (now (statuses .exit)) (now (rows .exit)) (now (domains .exit)) (now (peers .exit)) (now (words .exit)) (now (ticket .exit)) (now (granted .exit)) ≡ run (tree-of tree) (now (schedule .entry)) (lent-state (now (tails .entry)) (now (nexts .entry)) (now (statuses .entry)) (now (rows .entry)) (now (domains .entry)) (now (peers .entry)) (now (words .entry)) (now (ticket .entry)) (now (granted .entry))) .state ⌝ }
+    ensures { λ r. ⌜ now (trace .exit) ≡ trace-front (now (trace .entry)) (run (tree-of tree) (now (schedule .entry)) (lent-state (now (tails .entry)) (now (nexts .entry)) (now (statuses .entry)) (now (rows .entry)) (now (domains .entry)) (now (peers .entry)) (now (words .entry)) (now (ticket .entry)) (now (granted .entry)))) ⌝ }
+    ensures { λ r. ⌜ now (kinds .exit) ≡ kinds-of (steps (tree-of tree) (now (schedule .entry)) (lent-state (now (tails .entry)) (now (nexts .entry)) (now (statuses .entry)) (now (rows .entry)) (now (domains .entry)) (now (peers .entry)) (now (words .entry)) (now (ticket .entry)) (now (granted .entry)))) ⌝ }
+    ensures { λ r. ⌜ now (codes .exit) ≡ codes-front (now (codes .entry)) (steps (tree-of tree) (now (schedule .entry)) (lent-state (now (tails .entry)) (now (nexts .entry)) (now (statuses .entry)) (now (rows .entry)) (now (domains .entry)) (now (peers .entry)) (now (words .entry)) (now (ticket .entry)) (now (granted .entry)))) ⌝ }
+    ensures { λ r. ⌜ counters-in (now (entries .exit)) (now (tenures .exit)) (now (longest .exit)) ≡ counters-after (tree-of tree) (counters-in (now (entries .entry)) (now (tenures .entry)) (now (longest .entry))) (steps (tree-of tree) (now (schedule .entry)) (lent-state (now (tails .entry)) (now (nexts .entry)) (now (statuses .entry)) (now (rows .entry)) (now (domains .entry)) (now (peers .entry)) (now (words .entry)) (now (ticket .entry)) (now (granted .entry)))) ⌝ }
 {
-    let mut standing = places;
     let mut drawn = *ticket;
     let mut raised = *granted;
     let mut tally = [0u32; 6];
@@ -142,14 +163,14 @@ pub fn run_lent(
         let position = k as usize;
         let i = schedule[position];
         let at = i as usize;
-        let before = standing[at];
+        let before = places::place_at(rows, domains, peers, words, at);
         let row = before.row;
         let domain = before.domain;
         let looked = counting::looked_at(row, statuses, tree.domains, raised, tree.threads);
         let mut j: u32 = 0;
         while j < looked {
             let other = j as usize;
-            let q = standing[other];
+            let q = places::place_at(rows, domains, peers, words, other);
             let its_home = tree.homes[other];
             counting::mark_shown(
                 &tree.parents,
@@ -185,9 +206,7 @@ pub fn run_lent(
         let kind = m.kind;
         let place = m.place;
         count_in(&mut tally, kind);
-        if kind != model::STAY {
-            standing[at] = place;
-        }
+        put_place(rows, domains, peers, words, at, kind, place);
         entered = trace_at(trace, entered, kind, i);
         put_code(codes, position, kind, row, domain);
         k += 1;
@@ -195,7 +214,6 @@ pub fn run_lent(
     *kinds = tally;
     *ticket = drawn;
     *granted = raised;
-    Places { places: standing }
 }
 
 // The steps of a schedule on a state: it is taken apart, so that its arrays can be lent, and put together again. How many of them are of each kind, what each of the first was, as many as there is room for, and the counters of the domains are written where the caller lends room.
@@ -222,13 +240,19 @@ pub fn run_steps(
     let mut statuses = state.statuses;
     let mut ticket = state.ticket;
     let mut grant = state.grant;
-    let standing = state.places;
-    let after = run_lent(
+    let mut rows = state.places.rows;
+    let mut domains = state.places.domains;
+    let mut peers = state.places.peers;
+    let mut words = state.places.words;
+    run_lent(
         tree,
         &mut tails,
         &mut nexts,
         &mut statuses,
-        standing,
+        &mut rows,
+        &mut domains,
+        &mut peers,
+        &mut words,
         &mut ticket,
         &mut grant,
         schedule,
@@ -239,7 +263,12 @@ pub fn run_steps(
         tenures,
         longest,
     );
-    let places = after.places;
+    let places = PlaceArrays {
+        rows,
+        domains,
+        peers,
+        words,
+    };
     State {
         tails,
         nexts,

@@ -12,10 +12,12 @@ use Rattle.model.specs.declared.PlaceWords.{PlaceWords}
 use Rattle.model.specs.declared.Place.{Place}
 use Rattle.model.specs.declared.Place.the-variants.{Idle, Prep, Swap, Link, Wait, Inside, Check, Help, Cas, Linger, Grant, Draw, Watch, Raise, Invalid}
 use Rattle.model.specs.declared.State.{State}
-use Rattle.model.specs.Places.{place-words, words-of, place-of, place-domain}
+use Rattle.model.specs.declared.PlaceArrays.{PlaceArrays}
+use Rattle.model.specs.Places.{words-of, place-of, place-domain}
 use Rattle.model.specs.Trees.{Tree, tree-of, on-path, is-member, child, child-from, own-record}
 use Rattle.model.specs.Steps.{Row-result, stays, prep-row, swap-row, link-row, wait-row, leave-row, check-row, help-row, cas-row, linger-row, grant-row, draw-row, watch-row, raise-row, row, step}
 use Rattle.model.specs.WellFormed.{queue-on-path, good-place}
+use Rattle.model.specs.States.{numbers-at}
 use Rattle.model.proofs.Tests.{and-both}
 use Rattle.model.proofs.Places.{words-of-place}
 use Rattle.model.proofs.Trees.Accepted.{Accepted, accepted}
@@ -236,7 +238,7 @@ module _ {k n m : ℕ} {ps ts hs : List ℕ} {i : ℕ} {q : PlaceWords} (turn : 
 
         pub taken :
             (x : Place) (said : Moved) (ts ts′ ns ns′ vs vs′ : List ℕ) (v v′ g g′ : ℕ) → p ≡ x →
-            ((qs : List PlaceWords) → getD qs i (place-words 0 0 0 0) ≡ q → Done (row-at t i (w .domain) x (state-in ts ns vs v g qs)) i said (state-in ts′ ns′ vs′ v′ g′ qs)) →
+            ((qs : PlaceArrays) → numbers-at qs i ≡ q → Done (row-at t i (w .domain) x (state-in ts ns vs v g qs)) i said (state-in ts′ ns′ vs′ v′ g′ qs)) →
             Taken t i q ts ts′ ns ns′ vs vs′ v v′ g g′ said
         taken x said ts ts′ ns ns′ vs vs′ v v′ g g′ e f =
             record {

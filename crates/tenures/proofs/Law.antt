@@ -9,16 +9,15 @@ use borrow.Author.Tests.{ne-eqb}
 use Rattle.model.specs.declared.Place.the-variants.{Idle}
 use Rattle.model.specs.declared.State.{State as WordState}
 use Rattle.model.specs.Trees.{Tree, is-leaf, under}
-use Rattle.model.specs.Places.{place-words, place-of}
-use Rattle.model.specs.States.{place, fresh-words, fresh-state}
+use Rattle.model.specs.States.{place, fresh-state}
 use Rattle.model.specs.Steps.{is-entry, Step, step}
 use Rattle.model.specs.Runs.{steps, state-after, entries-under}
 use Rattle.model.specs.Tenures.{starts, tenure-length, domain-entries, domain-tenures, longest-tenure}
 use Rattle.model.specs.Laws.{All-threads, Sixteen-bit}
 use Rattle.model.proofs.Trees.Index.{height}
 use Rattle.model.proofs.Trees.Accepted.{Accepted, accepted}
-use Rattle.model.proofs.Laws.Form.{replicate-all}
 use Rattle.model.proofs.Lists.{same-or, less-or, first, rest, first-in, first-count, count}
+use Rattle.model.proofs.Places.{fresh-idle}
 use Rattle.claims.proofs.Queues.Paths.{laws}
 use Rattle.claims.proofs.Queues.Moves.{out, low, acts, State}
 use Rattle.claims.proofs.Queues.Invariant.{Inv, acts-low}
@@ -46,10 +45,6 @@ max-assoc a b c =
 module _ (t : Tree) (valid : Accepted t) (bits : Sixteen-bit t) (d : ℕ) (pos : 0 < d) (real : d < t .domains) where
   -- FRESH: every thread is Idle, so out, and no queue has a first
   module _ (v : ℕ) where
-    idle-there : (i : ℕ) → place (fresh-state t v) i ≡ Idle
-    unfolding fresh-state fresh-words place-of
-    idle-there i = replicate-all (λ x. place-of x ≡ Idle) 256 i (place-words 0 0 0 0) refl
-
     abbrev g : State
     g = fresh-queued t v .queues
 
@@ -58,7 +53,7 @@ module _ (t : Tree) (valid : Accepted t) (bits : Sixteen-bit t) (d : ℕ) (pos :
 
     out-there : (i : ℕ) → i < t .threads → g .stage i ≡ out
     unfolding words-in
-    out-there i h = idle-out (idle-there i) (fresh-queued t v .represents .fits i h)
+    out-there i h = idle-out (fresh-idle t v i) (fresh-queued t v .represents .fits i h)
 
     low-none : (i : ℕ) → i < t .threads → low (height t i) (g .stage i) ≡ 0
     unfolding low
@@ -81,7 +76,7 @@ module _ (t : Tree) (valid : Accepted t) (bits : Sixteen-bit t) (d : ℕ) (pos :
           some = λ b. b;
           none = λ b. b;
           within = omega arith;
-          words = λ j r w e. absurd (let y = idle-there j in let z : _≡_ {A = ℕ} 0 1 = cc in omega arith);
+          words = λ j r w e. absurd (let y = fresh-idle t v j in let z : _≡_ {A = ℕ} 0 1 = cc in omega arith);
           of-leaf = λ q. record {
             idle = λ f. (omega arith, omega arith);
             runs = λ i h z b. absurd (omega (arith, low-none i h));

@@ -6,18 +6,17 @@ use mathlib.Core.Logic.{_≢_, _⊎_, inl, inr}
 use Prim.Native.Nat.{ℕ, _+_, _-_, _≤_, _<_}
 use native.Mathlib.Omega.{arith}
 use lib.Dec.{eqb}
-use lib.ListN.{length, getD, set}
-use lib.Seq.{getD-set-same, getD-set-other}
+use lib.ListN.{length}
 use borrow.Author.Tests.{eq-eqb, ne-eqb}
 use Rattle.model.specs.declared.Place.{Place}
 use Rattle.model.specs.declared.Place.the-variants.{Idle, Prep, Swap, Link, Wait, Inside, Check, Help, Cas, Linger, Grant, Draw, Watch, Raise, Invalid}
 use Rattle.model.specs.declared.State.{State}
 use Rattle.model.specs.Trees.{Tree, is-ticket, child, own-record}
-use Rattle.model.specs.Places.{place-words, words-of, place-of, place-domain}
-use Rattle.model.specs.States.{acquire-parent, unlocked, tail, next, status, place, wrap}
+use Rattle.model.specs.Places.{words-of, place-of, place-domain}
+use Rattle.model.specs.States.{acquire-parent, unlocked, tail, next, status, place, wrap, numbers-at, store-numbers, Has-room}
 use Rattle.model.specs.Steps.{is-entry, begins, ends, Row-result, acquired-place, release-place, done-place, shown-members, row}
 use Rattle.model.specs.Tenures.{checks-at, word-to-grant}
-use Rattle.model.proofs.Places.{place-of-words}
+use Rattle.model.proofs.Places.{numbers-other, place-stored}
 use Rattle.model.proofs.Lists.{same-or}
 use Rattle.model.proofs.Branches.{Word-at, Branch, idle-draws, idle-prepares, prepares, swap-root, swap-inner, swap-behind, link-writes, wait-root-locked, wait-root-granted, wait-ungranted, wait-acquires, wait-passed, wait-crossed, inside-leaves, check-passes, check-releases, help-alone, help-linked, cas-last, cas-not-last, linger-alone, linger-linked, grant-writes, draw-shown, draw-unshown, watch-shown, watch-unshown, raise-counts, invalid-stays, branch, at-root, below-root}
 use Rattle.claims.proofs.Queues.Moves as moves
@@ -65,31 +64,31 @@ ending (moves.begins d m) = 0
 ending (moves.ends d m) = d
 ending (moves.entered i) = 0
 
-module _ (t : Tree) (s : State) (i d : ℕ) (pos : 0 < d) (room : i < length (s .places)) where
+module _ (t : Tree) (s : State) (i d : ℕ) (pos : 0 < d) (room : Has-room (s .places) i) where
   -- the word that a thread holds to grant at the domain after a row: one that it held before, ACQUIRE_PARENT, or one that is told
   abbrev pub Lands : (length : ℕ) → Row-result → Type 0
   Lands u x = (j r v : ℕ) → place (x .state) j ≡ Grant d r v → (place s j ≡ Grant d r v) ⊎ (v ≡ acquire-parent) ⊎ (v ≤ u)
 
-  stored : (p : Place) → place-of (getD (set (s .places) i (words-of p)) i (place-words 0 0 0 0)) ≡ p
-  stored p = rw (getD-set-same (s .places) i (words-of p) (place-words 0 0 0 0) room) (place-of-words p)
+  stored : (p : Place) → place-of (numbers-at (store-numbers (s .places) i (words-of p)) i) ≡ p
+  stored p = place-stored i p s room
 
   lands :
       (u : ℕ) (p : Place) → ((r v : ℕ) → p ≡ Grant d r v → (v ≡ acquire-parent) ⊎ (v ≤ u)) →
-      (j r v : ℕ) → place-of (getD (set (s .places) i (words-of p)) j (place-words 0 0 0 0)) ≡ Grant d r v → (place s j ≡ Grant d r v) ⊎ (v ≡ acquire-parent) ⊎ (v ≤ u)
+      (j r v : ℕ) → place-of (numbers-at (store-numbers (s .places) i (words-of p)) j) ≡ Grant d r v → (place s j ≡ Grant d r v) ⊎ (v ≡ acquire-parent) ⊎ (v ≤ u)
   lands u p f j r v e =
       same-or j i _
       (λ z. inr (f r v (sym (stored p) ∙ (rw z at e))))
-      (λ z. inl (sym (ap place-of (getD-set-other (s .places) i j (words-of p) (place-words 0 0 0 0) z)) ∙ e))
+      (λ z. inl (sym (ap place-of (numbers-other (s .places) i j (words-of p) z)) ∙ e))
 
   -- the place is no Grant, or one that helps
-  elsewhere : (p : Place) → grants p ≡ 0 → (j r v : ℕ) → place-of (getD (set (s .places) i (words-of p)) j (place-words 0 0 0 0)) ≡ Grant d r v → (place s j ≡ Grant d r v) ⊎ (v ≡ acquire-parent) ⊎ (v ≤ 0)
+  elsewhere : (p : Place) → grants p ≡ 0 → (j r v : ℕ) → place-of (numbers-at (store-numbers (s .places) i (words-of p)) j) ≡ Grant d r v → (place s j ≡ Grant d r v) ⊎ (v ≡ acquire-parent) ⊎ (v ≤ 0)
   unfolding grants
   elsewhere p q = lands 0 p (λ r v e. absurd (let z = ap grants e in omega arith))
 
   -- the word of a Grant that helps: the domain is not the root
   helping :
       (l r w : ℕ) → Word-at l unlocked acquire-parent w →
-      (j r′ v : ℕ) → place-of (getD (set (s .places) i (words-of (Grant l r w))) j (place-words 0 0 0 0)) ≡ Grant d r′ v → (place s j ≡ Grant d r′ v) ⊎ (v ≡ acquire-parent) ⊎ (v ≤ 0)
+      (j r′ v : ℕ) → place-of (numbers-at (store-numbers (s .places) i (words-of (Grant l r w))) j) ≡ Grant d r′ v → (place s j ≡ Grant d r′ v) ⊎ (v ≡ acquire-parent) ⊎ (v ≤ 0)
   unfolding word-to-grant
   helping l r _ (at-root z) = lands 0 (Grant l r unlocked) (λ r′ v e. absurd (let zl : l ≡ d = ap (place-domain 0) e in omega arith))
   helping l r _ (below-root z) = lands 0 (Grant l r acquire-parent) (λ r′ v e. inl (sym (ap word-to-grant e)))
@@ -151,7 +150,7 @@ module _ (t : Tree) (s : State) (i d : ℕ) (pos : 0 < d) (room : i < length (s 
   branch-lands (check-passes l less some) =
       let r = own-record t i l in
       let p = Grant l (next s r - 1) (status s r + 1) in
-      lands (cond (eqb l d) (word-to-grant (place-of (getD (set (s .places) i (words-of p)) i (place-words 0 0 0 0)))) 0) p
+      lands (cond (eqb l d) (word-to-grant (place-of (numbers-at (store-numbers (s .places) i (words-of p)) i))) 0) p
       (λ q w e.
       let zl : l ≡ d = ap (place-domain 0) e in
       let zw : status s r + 1 ≡ w = ap word-to-grant e in

@@ -6,14 +6,13 @@ use Prim.Native.Nat.{ℕ, suc, _+_, _≤_, _<_, max}
 use native.Mathlib.Omega.{arith}
 use native.Mathlib.Nat.{le-max-left, le-max-right, max-le}
 use lib.Dec.{eqb}
-use lib.ListN.{length}
 use borrow.Author.Tests.{eq-eqb, ne-eqb, eqb-true}
 use Rattle.model.specs.declared.Place.{Place}
 use Rattle.model.specs.declared.Place.the-variants.{Idle, Prep, Swap, Link, Wait, Inside, Check, Help, Cas, Linger, Grant, Draw, Watch, Raise, Invalid}
 use Rattle.model.specs.declared.State.{State as WordState}
 use Rattle.model.specs.Trees.{Tree, is-leaf, under}
 use Rattle.model.specs.Places.{place-domain}
-use Rattle.model.specs.States.{acquire-parent, place}
+use Rattle.model.specs.States.{acquire-parent, place, Has-room}
 use Rattle.model.specs.Steps.{is-entry, Row-result, row, step}
 use Rattle.model.specs.Laws.{Sixteen-bit}
 use Rattle.model.specs.Tenures.{given, starts, checks-at, word-to-grant, tenure-length}
@@ -108,8 +107,8 @@ module _ (t : Tree) (valid : Accepted t) (bits : Sixteen-bit t) (d : ℕ) (pos :
     unfolding starts
     starts-counted = rw (ne-eqb d 0 (omega arith)) (sym (same-count (256 + d) (given t (step t i s))))
 
-    room : i < length (s .places)
-    room = omega (arith, old .queued .room .places-room, valid .few-threads)
+    room : Has-room (s .places) i
+    room = (old .queued .room .places-room, omega (arith, valid .few-threads))
 
     abbrev u : ℕ
     u = tenure-word t s i d pos room p x

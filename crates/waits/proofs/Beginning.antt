@@ -13,7 +13,7 @@ use Rattle.model.specs.declared.Place.{Place}
 use Rattle.model.specs.declared.Place.the-variants.{Inside}
 use Rattle.model.specs.declared.State.{State}
 use Rattle.model.specs.Trees.{Tree}
-use Rattle.model.specs.States.{place, fresh-state}
+use Rattle.model.specs.States.{place, fresh-state, Has-room}
 use Rattle.model.specs.Steps.{is-entry, Row-result, Step, row, step}
 use Rattle.model.specs.Runs.{steps}
 use Rattle.model.specs.Refusals.{tree-refusal}
@@ -22,7 +22,7 @@ use Rattle.model.proofs.Laws.Form.{form-law}
 use Rattle.waits.specs.Attempts.{begins-from, begins, enters, begun, counted, under-way-after, finished, waits-from, under-way-from}
 use Rattle.waits.specs.GoingOn.{beginnings, Beginning-law}
 use Rattle.waits.proofs.Phases.{on-way, Phase, rests, goes, sets-out, arrives, at-once}
-use Rattle.waits.proofs.Entering.{place-own, others-kept, Mode, waits-own, waits-other, mode-counted, phase-of, formed-next, room-for, fresh-idle}
+use Rattle.waits.proofs.Entering.{place-own, others-kept, Mode, waits-own, waits-other, mode-counted, phase-of, formed-next, room-for, off-way}
 
 -- an attempt under way counts as one
 abbrev one-if : (under-way : ℕ) → ℕ
@@ -74,7 +74,7 @@ module _ (i : ℕ) (t : Tree) where
   finishes-one (suc a) ws h = omega arith
 
   own-step :
-      (s : State) (x : Step) (xs : List Step) (a : ℕ) (r : Row-result) → x .thread ≡ i → x .kind ≡ r .kind → x .place ≡ place s i → i < length (s .places) →
+      (s : State) (x : Step) (xs : List Step) (a : ℕ) (r : Row-result) → x .thread ≡ i → x .kind ≡ r .kind → x .place ≡ place s i → Has-room (s .places) i →
       Phase t i s (place s i) r → Mode (on-way t i (place s i)) a → ((a′ : ℕ) → Mode (on-way t i (place (r .state) i)) a′ → Even a′ xs) → Even a (x ∷ xs)
   unfolding on-way
   own-step s x xs a r m k pl room (rests e st b) M ih =
@@ -129,5 +129,5 @@ module _ (i : ℕ) (t : Tree) where
 pub beginning-law : Beginning-law
 unfolding Beginning-law Form-law
 beginning-law t sixteen ok is A i h v =
-    let E = even i t sixteen ok h is (fresh-state t v) 0 A (form-law t sixteen ok .of-fresh v) (inl (fresh-idle t v i, refl)) in
+    let E = even i t sixteen ok h is (fresh-state t v) 0 A (form-law t sixteen ok .of-fresh v) (inl (off-way t v i, refl)) in
     omega (arith, E)

@@ -10,7 +10,7 @@ use Rattle.model.specs.declared.LockState.{LockState}
 use Rattle.model.specs.Scans.{any-below, filter-below, all-below}
 use Rattle.model.specs.Trees.{Tree, read-word, tree-of, is-ticket, is-child, is-leaf, depth-from, depth, level, meets, on-path, child-from, child, own-record, is-record, is-member, owner-domain, under}
 use Rattle.model.specs.Places.{place-of, is-watch, is-idle, is-inside}
-use Rattle.model.specs.States.{fresh-words, fresh-state}
+use Rattle.model.specs.States.{fresh-words, fresh-state, numbers-at, store-numbers}
 use Rattle.model.specs.Steps.{is-kind, is-entry, prep-row, swap-row, link-row, wait-row, leave-row, check-row, help-row, cas-row, linger-row, grant-row, draw-row, watch-row, is-watched, shown-members, raise-row, row, step}
 use Rattle.model.specs.Runs.{steps, state-after, how-many, entering, counts-of, run-of, run, ended-in, entries-under, occurrences}
 use Rattle.model.specs.WellFormed.{good-tail, queue-on-path, good-place, good-counters}
@@ -18,7 +18,7 @@ use Rattle.model.specs.Tenures.{finds-none, taken-from, given, starts, checks-a
 use Rattle.model.specs.Counters.{fresh-counters, each-with-index, counters-after, good-count, good-counts, count-above, any-above}
 use Rattle.model.specs.Refusals.{Refusal, refusal, accepted, lowest-bad, first-refusal, bad-domains, bad-threads, bad-parent, too-deep, no-threshold, bad-home, empty-domain, tree-tests, bad-state, bad-length, bad-entry, bad-room, bad-counter, schedule-tests, room-tests}
 use Rattle.model.specs.Answers.{counters-behind, run-reply, run-buffer}
-use Rattle.model.specs.Cases.{padded, tree, at-ticket-root, two-homes, first-entries, two-in-root, three-levels, same-numbers, place-numbers, same-counts, same-state, same-counters, same-lock}
+use Rattle.model.specs.Cases.{padded, tree, at-ticket-root, two-homes, first-entries, two-in-root, three-levels, same-numbers, same-places, same-counts, same-state, same-counters, same-lock}
 use Rattle.schedules.specs.Rows.{total}
 use Rattle.schedules.specs.Answers.{row-buffer}
 use Rattle.waits.specs.Attempts.{swaps-at, draws, begins-from, begins, enters, begun, counted, under-way-after, finished, finished-by, waits-from, waits-below-from}
@@ -27,7 +27,7 @@ use Rattle.waits.specs.Refusals.{bad-row-room, row-room-tests, waits-tes
 use Rattle.waits.specs.Answers.{waits-reply, refused-by, waits-answer, waits-trace, waits-rows}
 use Rattle.waits.specs.Cases.{Case, rows-given, refused-from, refused-with, full-entries, reached, no-attempt, no-wait, taking-turns, cases, answered, holds, all-hold}
 use Rattle.model.proofs.Tests.{and-both}
-use Rattle.model.proofs.Walks.{walked, Sized, zero-from, first-pass, first-meets, formed-by-walks, same-formed, counts-by-walks, above-by-walks}
+use Rattle.model.proofs.Walks.{walked, Sized, zero-from, first-pass, first-meets, formed-by-walks, same-formed, counts-by-walks, above-by-walks, zipped}
 use Rattle.model.proofs.Computing.{far-below, have-room, walked-counter, tests-by, late-tests, same-late, same-lock-formed, state-sized, sized}
 
 -- what refuses a run with waits, by whether the state that it hands in is well formed; 19 is left out where the counters have room
@@ -83,11 +83,11 @@ same-cases (c ∷ cs) e =
 
 cases-sized : all-sized cases ≡ true
 unfolding any-below filter-below all-below read-word tree-of is-ticket is-child is-leaf depth-from depth level meets on-path child-from child own-record
-    is-record is-member owner-domain under place-of is-watch is-idle is-inside fresh-words fresh-state is-kind is-entry prep-row swap-row link-row wait-row
+    is-record is-member owner-domain under place-of is-watch is-idle is-inside numbers-at store-numbers fresh-words fresh-state is-kind is-entry prep-row swap-row link-row wait-row
     leave-row check-row help-row cas-row linger-row grant-row draw-row watch-row is-watched shown-members raise-row row step steps state-after how-many
     entering counts-of run-of run good-tail queue-on-path good-place good-counters refusal accepted bad-domains bad-threads bad-parent too-deep no-threshold
     bad-home empty-domain tree-tests bad-length bad-entry bad-room run-reply run-buffer padded tree at-ticket-root two-homes first-entries two-in-root
-    three-levels same-numbers place-numbers same-counts same-state total row-buffer swaps-at draws begins-from begins enters begun counted under-way-after
+    three-levels same-numbers same-places same-counts same-state total row-buffer swaps-at draws begins-from begins enters begun counted under-way-after
     finished finished-by waits-from waits-below-from largest divisor-in mean row-with row-of rows-below-from all-rows rows-given refused-from refused-with full-entries
     reached no-attempt no-wait taking-turns cases all-sized
 cases-sized = refl
@@ -96,11 +96,11 @@ pub cases-hold : all-hold cases ≡ true
 unfolding zero-from first-pass first-meets counts-by-walks above-by-walks walked-counter far-below have-room occurrences ended-in entries-under finds-none taken-from given starts checks-at word-to-grant tenure-length domain-entries domain-tenures
     longest-tenure fresh-counters each-with-index counters-after good-count good-counts count-above any-above bad-counter counters-behind any-below
     filter-below all-below read-word tree-of is-ticket is-child is-leaf depth-from depth level meets on-path child-from child own-record is-record is-member
-    owner-domain under place-of is-watch is-idle is-inside fresh-words fresh-state is-kind is-entry prep-row swap-row link-row wait-row leave-row check-row
+    owner-domain under place-of is-watch is-idle is-inside numbers-at store-numbers fresh-words fresh-state is-kind is-entry prep-row swap-row link-row wait-row leave-row check-row
     help-row cas-row linger-row grant-row draw-row watch-row is-watched shown-members raise-row row step steps state-after how-many entering counts-of run-of
     run good-tail queue-on-path good-place good-counters refusal accepted lowest-bad first-refusal bad-domains bad-threads bad-parent too-deep no-threshold
     bad-home empty-domain tree-tests bad-length bad-entry bad-room run-reply run-buffer padded tree at-ticket-root two-homes first-entries two-in-root
-    three-levels same-numbers place-numbers same-counts same-state same-counters same-lock total row-buffer swaps-at draws begins-from begins enters begun
+    three-levels same-numbers same-places same-counts same-state same-counters same-lock total row-buffer swaps-at draws begins-from begins enters begun
     counted under-way-after finished finished-by waits-from waits-below-from largest divisor-in mean row-with row-of rows-below-from all-rows bad-row-room rows-given
-    refused-from refused-with full-entries reached no-attempt no-wait taking-turns cases walked formed-by-walks walked-refusal holds-by-walks all-hold-by-walks
+    refused-from refused-with full-entries reached no-attempt no-wait taking-turns cases walked zipped formed-by-walks walked-refusal holds-by-walks all-hold-by-walks
 cases-hold = same-cases cases cases-sized ∙ refl

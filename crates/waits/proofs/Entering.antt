@@ -7,16 +7,15 @@ use Prim.Native.Nat.{ℕ, zero, suc, _+_, _<_}
 use native.Mathlib.Omega.{arith}
 use native.Mathlib.Decide.{ℕ-discrete}
 use native.Mathlib.Nat.{zero-add}
-use lib.ListN.{length, getD, set, replicate}
-use lib.Seq.{getD-set-other}
+use lib.ListN.{length}
 use borrow.Author.Tests.{eq-eqb, ne-eqb}
-use Rattle.model.specs.declared.PlaceWords.{PlaceWords}
 use Rattle.model.specs.declared.Place.{Place}
 use Rattle.model.specs.declared.Place.the-variants.{Inside}
 use Rattle.model.specs.declared.State.{State}
+use Rattle.model.specs.declared.PlaceArrays.{PlaceArrays}
 use Rattle.model.specs.Trees.{Tree}
-use Rattle.model.specs.Places.{place-words, words-of, place-of}
-use Rattle.model.specs.States.{place, fresh-words, fresh-state}
+use Rattle.model.specs.Places.{words-of, place-of}
+use Rattle.model.specs.States.{place, fresh-state, numbers-at, store-numbers, Has-room}
 use Rattle.model.specs.Steps.{is-entry, Row-result, Step, row, step}
 use Rattle.model.specs.Runs.{steps, entering, run-of, run, occurrences}
 use Rattle.model.specs.Refusals.{tree-refusal}
@@ -24,17 +23,17 @@ use Rattle.model.specs.Laws.{All-threads, Formed, Form-law, Sixteen-bit}
 use Rattle.model.proofs.Trees.Accepted.{Accepted, accepted}
 use Rattle.model.proofs.Laws.Facts.{well-formed-facts}
 use Rattle.model.proofs.Laws.Form.{form-law}
-use Rattle.model.proofs.Places.{place-stored}
+use Rattle.model.proofs.Places.{place-stored, numbers-other, fresh-idle}
 use Rattle.waits.specs.Attempts.{begins-from, begins, enters, begun, counted, under-way-after, finished, finished-by, waits-from, waits}
 use Rattle.waits.specs.Laws.{Entry-law}
 use Rattle.waits.proofs.Phases.{on-way, Phase, rests, goes, sets-out, arrives, at-once, phase}
 
 -- PLACES after a step of thread j: its own, and the others as they were
-pub place-own : (s : State) (ps : List PlaceWords) (j : ℕ) (q : Place) → ps ≡ set (s .places) j (words-of q) → j < length (s .places) → place-of (getD ps j (place-words 0 0 0 0)) ≡ q
-place-own s ps j q e h = ap (λ v. place-of (getD v j (place-words 0 0 0 0))) e ∙ place-stored j q s h
+pub place-own : (s : State) (ps : PlaceArrays) (j : ℕ) (q : Place) → ps ≡ store-numbers (s .places) j (words-of q) → Has-room (s .places) j → place-of (numbers-at ps j) ≡ q
+place-own s ps j q e h = ap (λ v. place-of (numbers-at v j)) e ∙ place-stored j q s h
 
-place-other : (s : State) (ps : List PlaceWords) (i j : ℕ) (q : Place) → ps ≡ set (s .places) j (words-of q) → i ≢ j → place-of (getD ps i (place-words 0 0 0 0)) ≡ place s i
-place-other s ps i j q e n = ap (λ v. place-of (getD v i (place-words 0 0 0 0))) e ∙ ap place-of (getD-set-other (s .places) j i (words-of q) (place-words 0 0 0 0) n)
+place-other : (s : State) (ps : PlaceArrays) (i j : ℕ) (q : Place) → ps ≡ store-numbers (s .places) j (words-of q) → i ≢ j → place-of (numbers-at ps i) ≡ place s i
+place-other s ps i j q e n = ap (λ v. place-of (numbers-at v i)) e ∙ ap place-of (numbers-other (s .places) j i (words-of q) n)
 
 pub others-kept : (t : Tree) (j : ℕ) (s : State) (p : Place) (x : Row-result) → Phase t j s p x → (i : ℕ) → i ≢ j → place (x .state) i ≡ place s i
 others-kept t j s p x (rests e st b) i n = ap (λ v. place v i) st
@@ -89,7 +88,7 @@ module _ (i : ℕ) where
 
     -- THE STEP: with one attempt under way exactly where the thread is on its way
     own-step :
-        (s : State) (x : Step) (xs : List Step) (a : ℕ) (r : Row-result) → x .thread ≡ i → x .kind ≡ r .kind → x .place ≡ place s i → i < length (s .places) →
+        (s : State) (x : Step) (xs : List Step) (a : ℕ) (r : Row-result) → x .thread ≡ i → x .kind ≡ r .kind → x .place ≡ place s i → Has-room (s .places) i →
         Phase t i s (place s i) r → Mode (on-way t i (place s i)) a → ((a′ : ℕ) → Mode (on-way t i (place (r .state) i)) a′ → E xs ≡ length (waits-from t i a′ xs)) →
         E (x ∷ xs) ≡ length (waits-from t i a (x ∷ xs))
     unfolding finished counted on-way
@@ -128,7 +127,7 @@ module _ (i : ℕ) where
 
     -- and with none where the thread was on its way before the run
     own-late :
-        (s : State) (x : Step) (xs : List Step) (r : Row-result) → x .thread ≡ i → x .kind ≡ r .kind → x .place ≡ place s i → i < length (s .places) →
+        (s : State) (x : Step) (xs : List Step) (r : Row-result) → x .thread ≡ i → x .kind ≡ r .kind → x .place ≡ place s i → Has-room (s .places) i →
         Phase t i s (place s i) r → on-way t i (place s i) ≡ true → (on-way t i (place (r .state) i) ≡ false → E xs ≡ length (waits-from t i 0 xs)) →
         (on-way t i (place (r .state) i) ≡ true → (E xs ≡ length (waits-from t i 0 xs)) ⊎ (E xs ≡ length (waits-from t i 0 xs) + 1)) →
         (E (x ∷ xs) ≡ length (waits-from t i 0 (x ∷ xs))) ⊎ (E (x ∷ xs) ≡ length (waits-from t i 0 (x ∷ xs)) + 1)
@@ -156,8 +155,8 @@ module _ (i : ℕ) where
       unfolding Form-law
       formed-next j s l f = form-law t sixteen ok .of-step j s l f
 
-      pub room-for : (s : State) → Formed t s → i < length (s .places)
-      room-for s f = omega (arith, f .typed .places-room, valid .few-threads)
+      pub room-for : (s : State) → Formed t s → Has-room (s .places) i
+      room-for s f = (f .typed .places-room, omega (arith, valid .few-threads))
 
       pub exact : (is : List ℕ) (s : State) (a : ℕ) → All-threads t is → Formed t s → Mode (on-way t i (place s i)) a → E (steps t is s) ≡ length (waits-from t i a (steps t is s))
       unfolding steps step All-threads entering occurrences waits-from
@@ -199,19 +198,14 @@ module _ (i : ℕ) where
           by false e = inl (exact is s 0 A f (inl (e, refl)))
 
 -- in a fresh state everybody is Idle
-idle-words : (n i : ℕ) → getD (replicate n (place-words 0 0 0 0)) i (place-words 0 0 0 0) ≡ place-words 0 0 0 0
-idle-words zero i = refl
-idle-words (suc n) zero = refl
-idle-words (suc n) (suc i) = idle-words n i
-
-pub fresh-idle : (t : Tree) (v i : ℕ) → on-way t i (place (fresh-state t v) i) ≡ false
-unfolding fresh-state on-way fresh-words place-of
-fresh-idle t v i = ap (λ (q : PlaceWords). on-way t i (place-of q)) (idle-words 256 i)
+pub off-way : (t : Tree) (v i : ℕ) → on-way t i (place (fresh-state t v) i) ≡ false
+unfolding on-way
+off-way t v i = ap (on-way t i) (fresh-idle t v i)
 
 pub entry-law : Entry-law
 unfolding Entry-law run run-of Form-law fresh-state on-way
 entry-law t sixteen ok is A i h =
     record {
       of-state = λ s f. of-state i t sixteen ok h is s A f;
-      of-fresh = λ v. exact i t sixteen ok h is (fresh-state t v) 0 A (form-law t sixteen ok .of-fresh v) (inl (fresh-idle t v i, refl));
+      of-fresh = λ v. exact i t sixteen ok h is (fresh-state t v) 0 A (form-law t sixteen ok .of-fresh v) (inl (off-way t v i, refl));
     }

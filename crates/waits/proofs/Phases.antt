@@ -5,14 +5,13 @@ use mathlib.Core.Logic.{_≢_}
 use Prim.Native.Nat.{ℕ, _-_, _+_, _<_}
 use native.Mathlib.Omega.{arith}
 use lib.Dec.{eqb}
-use lib.ListN.{set}
 use borrow.Author.Tests.{eq-eqb, ne-eqb, eqb-true, not-true}
 use Rattle.model.specs.declared.Place.{Place}
 use Rattle.model.specs.declared.Place.the-variants.{Idle, Prep, Swap, Link, Wait, Inside, Check, Help, Cas, Linger, Grant, Draw, Watch, Raise, Invalid}
 use Rattle.model.specs.declared.State.{State}
 use Rattle.model.specs.Trees.{Tree, is-ticket, is-child, is-leaf, child, own-record}
 use Rattle.model.specs.Places.{words-of}
-use Rattle.model.specs.States.{tail, next, status}
+use Rattle.model.specs.States.{tail, next, status, store-numbers}
 use Rattle.model.specs.Steps.{is-entry, Row-result, acquired-place, release-place, done-place, row}
 use Rattle.model.specs.WellFormed.{good-place}
 use Rattle.model.proofs.Tests.{by-test, any-none}
@@ -43,12 +42,12 @@ on-way t i Invalid = false
 -- what a step of a thread from a place does to its attempt
 pub data Phase (t : Tree) (i : ℕ) (s : State) (p : Place) (x : Row-result) : Type 0 where
   rests : is-entry (x .kind) ≡ false → x .state ≡ s → begins-from t i p ≡ false → Phase t i s p x
-  goes : (q : Place) → is-entry (x .kind) ≡ false → x .state .places ≡ set (s .places) i (words-of q) → begins-from t i p ≡ false → on-way t i q ≡ on-way t i p → Phase t i s p x
+  goes : (q : Place) → is-entry (x .kind) ≡ false → x .state .places ≡ store-numbers (s .places) i (words-of q) → begins-from t i p ≡ false → on-way t i q ≡ on-way t i p → Phase t i s p x
   sets-out :
-      (q : Place) → is-entry (x .kind) ≡ false → x .state .places ≡ set (s .places) i (words-of q) → begins-from t i p ≡ true → on-way t i p ≡ false → on-way t i q ≡ true →
+      (q : Place) → is-entry (x .kind) ≡ false → x .state .places ≡ store-numbers (s .places) i (words-of q) → begins-from t i p ≡ true → on-way t i p ≡ false → on-way t i q ≡ true →
       Phase t i s p x
-  arrives : is-entry (x .kind) ≡ true → x .state .places ≡ set (s .places) i (words-of Inside) → begins-from t i p ≡ false → on-way t i p ≡ true → Phase t i s p x
-  at-once : is-entry (x .kind) ≡ true → x .state .places ≡ set (s .places) i (words-of Inside) → begins-from t i p ≡ true → on-way t i p ≡ false → Phase t i s p x
+  arrives : is-entry (x .kind) ≡ true → x .state .places ≡ store-numbers (s .places) i (words-of Inside) → begins-from t i p ≡ false → on-way t i p ≡ true → Phase t i s p x
+  at-once : is-entry (x .kind) ≡ true → x .state .places ≡ store-numbers (s .places) i (words-of Inside) → begins-from t i p ≡ true → on-way t i p ≡ false → Phase t i s p x
 
 module _ (t : Tree) (valid : Accepted t) (i : ℕ) (h : i < t .threads) where
   -- a home has no child domain, so no parent is one, and where there is a domain below the root, no home is the root

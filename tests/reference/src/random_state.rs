@@ -215,10 +215,10 @@ pub fn spoil(random: &mut Random, tree: &Tree, words: &mut StateWords) {
         0 => words.tails[domain] = other,
         1 => words.nexts[record] = other,
         2 => words.statuses[record] = random_word(random, tree),
-        3 => words.places[thread].row = random.below(16) as u8,
-        4 => words.places[thread].domain = random.below(66) as u8,
-        5 => words.places[thread].peer = other,
-        6 => words.places[thread].word = random_word(random, tree),
+        3 => words.places.rows[thread] = random.below(16) as u8,
+        4 => words.places.domains[thread] = random.below(66) as u8,
+        5 => words.places.peers[thread] = other,
+        6 => words.places.words[thread] = random_word(random, tree),
         7..=10 => spoil_counter(random, tree, &mut words.counters),
         _ => spoil_root(random, tree, words),
     }
@@ -243,12 +243,12 @@ fn spoil_root(random: &mut Random, tree: &Tree, words: &mut StateWords) {
     let member = random.pick(&members(tree, ROOT));
     let (row, watching) = (random.pick(&[1, 2, 4, 7, 8, 9]), PlaceWords::of(Place::Watch));
     match random.below(6) {
-        0 => words.places[thread] = PlaceWords { row: random.between(11, 13) as u8, ..PlaceWords::default() },
-        1 => words.places[thread] = PlaceWords { row, ..PlaceWords::default() },
-        2 => words.places[thread] = PlaceWords::of(random.pick(&[Place::Link(0, member), Place::Grant(0, member, 0)])),
+        0 => words.places.set(thread, PlaceWords { row: random.between(11, 13) as u8, ..PlaceWords::default() }),
+        1 => words.places.set(thread, PlaceWords { row, ..PlaceWords::default() }),
+        2 => words.places.set(thread, PlaceWords::of(random.pick(&[Place::Link(0, member), Place::Grant(0, member, 0)]))),
         3 => words.tails[ROOT] = member + 1,
         4 => {
-            words.places[thread] = watching;
+            words.places.set(thread, watching);
             words.statuses[tree.record(thread, ROOT)] = random.pick(&[65_535, 65_536, 1 << 16 | words.grant as u64, ACQUIRE_PARENT, WAIT]);
         }
         _ => (words.ticket, words.grant) = random.pick(&[(0, 1), (1, 0), (65_535, 65_535), (65_535, 0), (0, 65_535)]),

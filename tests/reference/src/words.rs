@@ -25,6 +25,16 @@ pub struct PlaceWords {
     pub word: u64,
 }
 
+/// The places of all threads: an array for each number.
+#[repr(C)]
+#[derive(Clone, Copy, Debug, PartialEq, Eq)]
+pub struct PlaceArrays {
+    pub rows: [u8; THREAD_ROOM],
+    pub domains: [u8; THREAD_ROOM],
+    pub peers: [u16; THREAD_ROOM],
+    pub words: [u64; THREAD_ROOM],
+}
+
 /// A tail or a next is 0 for none, else the record's number and 1.
 #[repr(C)]
 #[derive(Clone, Copy, Debug, PartialEq, Eq)]
@@ -32,7 +42,7 @@ pub struct StateWords {
     pub tails: [u16; DOMAIN_ROOM],
     pub nexts: [u16; RECORD_ROOM],
     pub statuses: [u64; RECORD_ROOM],
-    pub places: [PlaceWords; THREAD_ROOM],
+    pub places: PlaceArrays,
     pub ticket: u16,
     pub grant: u16,
     pub counters: Counters,
@@ -145,6 +155,27 @@ impl PlaceWords {
     }
 }
 
+impl PlaceArrays {
+    pub fn of(places: &[Place; THREAD_ROOM]) -> PlaceArrays {
+        let mut arrays = PlaceArrays { rows: [0; THREAD_ROOM], domains: [0; THREAD_ROOM], peers: [0; THREAD_ROOM], words: [0; THREAD_ROOM] };
+        for (thread, &place) in places.iter().enumerate() {
+            arrays.set(thread, PlaceWords::of(place));
+        }
+        arrays
+    }
+
+    pub fn get(&self, thread: usize) -> PlaceWords {
+        PlaceWords { row: self.rows[thread], domain: self.domains[thread], peer: self.peers[thread], word: self.words[thread] }
+    }
+
+    pub fn set(&mut self, thread: usize, words: PlaceWords) {
+        self.rows[thread] = words.row;
+        self.domains[thread] = words.domain;
+        self.peers[thread] = words.peer;
+        self.words[thread] = words.word;
+    }
+}
+
 fn record(word: u16) -> Option<u16> {
     word.checked_sub(1)
 }
@@ -162,8 +193,8 @@ impl StateWords {
     /// None where a place's numbers are no place.
     pub fn state(&self) -> Option<State> {
         let mut places = [Place::Idle; THREAD_ROOM];
-        for (place, words) in places.iter_mut().zip(self.places) {
-            *place = words.place()?;
+        for (thread, place) in places.iter_mut().enumerate() {
+            *place = self.places.get(thread).place()?;
         }
         let (tails, nexts) = (self.tails.map(record), self.nexts.map(record));
         Some(State { tails, nexts, statuses: self.statuses, places, ticket: self.ticket, grant: self.grant, counters: self.counters })
@@ -174,7 +205,7 @@ impl StateWords {
             tails: state.tails.map(record_word),
             nexts: state.nexts.map(record_word),
             statuses: state.statuses,
-            places: state.places.map(PlaceWords::of),
+            places: PlaceArrays::of(&state.places),
             ticket: state.ticket,
             grant: state.grant,
             counters: state.counters,

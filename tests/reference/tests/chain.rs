@@ -110,7 +110,7 @@ fn refusals_in_their_order() {
     let tree = TreeWords { domains: 1, threads: 3, parents: [0; 64], thresholds: [0; 64], homes: [0; 256], ticket_root: 0 };
     let broken = StateWords::of(&third_waits());
     let mut bad = broken;
-    bad.places[2].domain = 1;
+    bad.places.domains[2] = 1;
     let mut buffer = [7; 4];
     assert_eq!(chain_words(&TreeWords { threads: 0, ..tree }, &bad, 3, &mut buffer[..2]), (5, 0, 0));
     assert_eq!(chain_words(&tree, &bad, 3, &mut buffer[..2]), (10, 0, 0));

@@ -3,18 +3,19 @@ use mathlib.Core.Path.{_≡_, refl, sym, ap}
 use mathlib.Core.Bool.{true}
 use mathlib.Core.Logic.{_≢_}
 use Prim.Native.Nat.{ℕ, _+_, _-_}
-use lib.ListN.{getD, set}
+use lib.ListN.{set}
 use lib.Seq.{getD-set-other}
 use Rattle.model.specs.declared.Place.{Place}
 use Rattle.model.specs.declared.Place.the-variants.{Idle, Prep, Swap, Link, Wait, Inside, Check, Help, Cas, Linger, Grant, Draw, Watch, Raise, Invalid}
 use Rattle.model.specs.declared.PlaceWords.{PlaceWords}
 use Rattle.model.specs.declared.State.{State}
 use Rattle.model.specs.Trees.{Tree, is-ticket, own-record}
-use Rattle.model.specs.Places.{place-words, words-of, place-of, place-domain}
-use Rattle.model.specs.States.{cohort-start, unlocked, none, tail, next, status, place, wrap}
+use Rattle.model.specs.Places.{words-of, place-of, place-domain}
+use Rattle.model.specs.States.{cohort-start, unlocked, none, tail, next, status, place, wrap, numbers-at, store-numbers}
 use Rattle.model.specs.Steps.{Row-result, acquired-place, release-place, done-place, row}
 use Rattle.model.proofs.Branches.{Branch, idle-draws, idle-prepares, prepares, swap-root, swap-inner, swap-behind, link-writes, wait-root-locked, wait-root-granted, wait-ungranted, wait-acquires, wait-passed, wait-crossed, inside-leaves, check-passes, check-releases, help-alone, help-linked, cas-last, cas-not-last, linger-alone, linger-linked, grant-writes, draw-shown, draw-unshown, watch-shown, watch-unshown, raise-counts, invalid-stays, branch}
 use Rattle.model.proofs.Trees.Tickets.{ticket-facts}
+use Rattle.model.proofs.Places.{numbers-other}
 
 module _ (t : Tree) (s : State) (c : ℕ) where
   -- the own record at a place's domain
@@ -28,15 +29,15 @@ module _ (t : Tree) (s : State) (c : ℕ) where
     nexts : (r : ℕ) → r ≢ own p → ((l : ℕ) → p ≢ Link l r) → next n r ≡ next s r
     grant : p ≢ Raise → n .grant ≡ s .grant
 
-  elsewhere : (q : PlaceWords) (j : ℕ) → j ≢ c → place-of (getD (set (s .places) c q) j (place-words 0 0 0 0)) ≡ place s j
-  elsewhere q j n = ap place-of (getD-set-other (s .places) c j q (place-words 0 0 0 0) n)
+  elsewhere : (q : PlaceWords) (j : ℕ) → j ≢ c → place-of (numbers-at (store-numbers (s .places) c q) j) ≡ place s j
+  elsewhere q j n = ap place-of (numbers-other (s .places) c j q n)
 
   -- a stay
   unmoved : (p : Place) → Leaves p s
   unmoved p = record { places = λ j n. refl; statuses = λ r n g. refl; nexts = λ r n g. refl; grant = λ g. refl }
 
   -- only a place, a tail or the ticket are stored
-  placed : (p q : Place) {n : State} → n .places ≡ set (s .places) c (words-of q) → n .statuses ≡ s .statuses → n .nexts ≡ s .nexts → n .grant ≡ s .grant → Leaves p n
+  placed : (p q : Place) {n : State} → n .places ≡ store-numbers (s .places) c (words-of q) → n .statuses ≡ s .statuses → n .nexts ≡ s .nexts → n .grant ≡ s .grant → Leaves p n
   placed p q e f h k =
       record {
         places = λ j n. rw e (elsewhere (words-of q) j n);
@@ -46,7 +47,7 @@ module _ (t : Tree) (s : State) (c : ℕ) where
       }
 
   -- and the own status
-  marked : (p q : Place) (v : ℕ) {n : State} → n .places ≡ set (s .places) c (words-of q) → n .statuses ≡ set (s .statuses) (own p) v → n .nexts ≡ s .nexts → n .grant ≡ s .grant → Leaves p n
+  marked : (p q : Place) (v : ℕ) {n : State} → n .places ≡ store-numbers (s .places) c (words-of q) → n .statuses ≡ set (s .statuses) (own p) v → n .nexts ≡ s .nexts → n .grant ≡ s .grant → Leaves p n
   marked p q v e f h k =
       record {
         places = λ j n. rw e (elsewhere (words-of q) j n);
@@ -56,7 +57,7 @@ module _ (t : Tree) (s : State) (c : ℕ) where
       }
 
   -- and the own next
-  readied : (p q : Place) (v : ℕ) {n : State} → n .places ≡ set (s .places) c (words-of q) → n .statuses ≡ set (s .statuses) (own p) v → n .nexts ≡ set (s .nexts) (own p) none → n .grant ≡ s .grant → Leaves p n
+  readied : (p q : Place) (v : ℕ) {n : State} → n .places ≡ store-numbers (s .places) c (words-of q) → n .statuses ≡ set (s .statuses) (own p) v → n .nexts ≡ set (s .nexts) (own p) none → n .grant ≡ s .grant → Leaves p n
   readied p q v e f h k =
       record {
         places = λ j n. rw e (elsewhere (words-of q) j n);

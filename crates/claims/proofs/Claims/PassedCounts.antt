@@ -2,16 +2,15 @@
 use mathlib.Core.Path.{_≡_, refl, sym, ap, _∙_}
 use mathlib.Core.Bool.{Bool, true, false, cond}
 use mathlib.Core.Logic.{_≢_}
-use Prim.Native.Nat.{ℕ, _+_, _-_, _≤_, _<_}
+use Prim.Native.Nat.{ℕ, _+_, _-_, _≤_}
 use native.Mathlib.Omega.{arith}
 use lib.Dec.{eqb}
-use lib.ListN.{length}
 use Rattle.model.specs.declared.Place.{Place}
 use Rattle.model.specs.declared.Place.the-variants.{Check, Help, Grant, Raise}
 use Rattle.model.specs.declared.State.{State}
 use Rattle.model.specs.Trees.{Tree, is-ticket, own-record}
 use Rattle.model.specs.Places.{words-of}
-use Rattle.model.specs.States.{next, status, place, fresh-state}
+use Rattle.model.specs.States.{next, status, place, fresh-state, Has-room}
 use Rattle.model.specs.Steps.{Row-result, release-place, step}
 use Rattle.model.specs.Runs.{run-of, run}
 use Rattle.claims.specs.Reached.{Counts-at-check, Equality-law, Passed-count-law}
@@ -31,7 +30,7 @@ not-released t d l r v = by (is-ticket t d) (eqb d 0)
     by false false e = absurd (let z : 6 ≡ 10 = ap (λ p. words-of p .row) e in omega arith)
 
 passed-count :
-    (t : Tree) (i l r v : ℕ) (s : State) → i < length (s .places) → Counts-at-check t s i l → {x : Row-result} → Branch t i s (Check l) x →
+    (t : Tree) (i l r v : ℕ) (s : State) → Has-room (s .places) i → Counts-at-check t s i l → {x : Row-result} → Branch t i s (Check l) x →
     place (x .state) i ≡ Grant l r v → (2 ≤ v) × (v ≤ t .threshold l)
 passed-count t i l r v s room counts (check-passes _ less some) e =
     let word : status s (own-record t i l) + 1 ≡ v = ap (λ p. words-of p .word) (sym (place-stored i (Grant l (next s (own-record t i l) - 1) (status s (own-record t i l) + 1)) s room) ∙ e) in
@@ -44,5 +43,5 @@ passed-count-law t bits ok start is all i l r v h e g =
     let s = run t is (fresh-state t start) .state in
     let not-invalid = accepted t ok in
     let form = from-fresh t not-invalid bits start is all .there .facts in
-    let room : i < length (s .places) = omega (arith, form .typed .places-room, not-invalid .few-threads) in
+    let room : Has-room (s .places) i = (form .typed .places-room, omega (arith, not-invalid .few-threads)) in
     passed-count t i l r v s room (equality-law t bits ok start is all i l h e) (branch t i s (Check l)) (rw e at g)

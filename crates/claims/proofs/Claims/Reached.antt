@@ -7,7 +7,6 @@ use lib.ListN.{take, getD, replicate}
 use Rattle.model.specs.declared.Place.the-variants.{Idle}
 use Rattle.model.specs.declared.State.{State as WordState}
 use Rattle.model.specs.Trees.{Tree}
-use Rattle.model.specs.Places.{place-words, place-of}
 use Rattle.model.specs.States.{place, fresh-words, fresh-state}
 use Rattle.model.specs.Steps.{Step, step}
 use Rattle.model.specs.Runs.{steps, state-after}
@@ -16,6 +15,7 @@ use Rattle.model.proofs.Trees.Accepted.{Accepted}
 use Rattle.model.proofs.Laws.Facts.{Facts}
 use Rattle.model.proofs.Laws.Form.{replicate-all, fresh-facts, step-keeps}
 use Rattle.model.proofs.Lists.{count-nil}
+use Rattle.model.proofs.Places.{fresh-idle}
 use Rattle.claims.proofs.Queues.Moves.{State, Event, empty, Run, done}
 use Rattle.claims.proofs.Queues.Invariant.{inv-empty}
 use Rattle.claims.proofs.Queues.Order.{join-runs}
@@ -44,10 +44,9 @@ fresh-room t v =
     record { tails-room = f .tails-room; nexts-room = f .nexts-room; statuses-room = f .statuses-room; places-room = f .places-room }
 
 pub fresh-queued : (t : Tree) (v : ℕ) → Queued t (fresh-state t v)
-unfolding empty words-in fresh-words fresh-state place-of Tickets
+unfolding empty words-in fresh-words fresh-state Tickets
 fresh-queued t v =
     let zero-at : (n j : ℕ) → _≡_ {A = ℕ} (getD (replicate n 0) j 0) 0 = λ n j. replicate-all (λ (x : ℕ). x ≡ 0) n j 0 refl in
-    let idle : (i : ℕ) → place (fresh-state t v) i ≡ Idle = λ i. replicate-all (λ x. place-of x ≡ Idle) 256 i (place-words 0 0 0 0) refl in
     record {
       queues = empty;
       room = fresh-room t v;
@@ -56,7 +55,7 @@ fresh-queued t v =
         invariant = inv-empty t;
         linked = λ d nd. record { last = zero-at 64 d ∙ sym final-nil; chain = λ a m n. absurd (omega (arith, count-nil a)) };
         numbered = λ e. record { small = fresh-facts t v .typed .grant-fits; held = refl };
-        fits = λ i h. rw (idle i) at-idle;
+        fits = λ i h. rw (fresh-idle t v i) at-idle;
       };
     }
 

@@ -7,9 +7,9 @@ use lib.ListN.{length, getD, set, length-set}
 use lib.Seq.{getD-set-same, getD-set-other}
 use Rattle.model.specs.declared.Place.{Place}
 use Rattle.model.specs.declared.State.{State}
-use Rattle.model.specs.Places.{place-words, words-of, place-of}
-use Rattle.model.specs.States.{tail, next, status, place, with-tail, with-next, with-status, with-place, with-ticket, with-grant}
-use Rattle.model.proofs.Places.{place-of-words}
+use Rattle.model.specs.Places.{words-of}
+use Rattle.model.specs.States.{tail, next, status, place, with-tail, with-next, with-status, with-place, with-ticket, with-grant, Places-room}
+use Rattle.model.proofs.Places.{room-kept, place-stored as model-place-stored, place-elsewhere}
 use Rattle.model.proofs.Lists.{same-or, put, put-same, put-other}
 
 -- tails by domain, nexts and statuses by record, places by thread, and the two counters
@@ -29,7 +29,7 @@ pub record Room (s : State) : Type 0 where
   pub tails-room : length (s .tails) ≡ 64
   pub nexts-room : length (s .nexts) ≡ 320
   pub statuses-room : length (s .statuses) ≡ 320
-  pub places-room : length (s .places) ≡ 256
+  pub places-room : Places-room (s .places)
 
 -- a store to a list is a change at one place
 stored-at : {A : Type 0} (xs : List A) (k : ℕ) (v d : A) → k < length xs → (j : ℕ) → getD (set xs k v) j d ≡ put (λ n. getD xs n d) k v j
@@ -82,10 +82,8 @@ module _ (s : State) (room : Room s) where
   place-stored i p h =
       let one : (j : ℕ) → place (with-place i p s) j ≡ put (λ k. place s k) i p j =
       λ j. same-or j i _
-      (λ z. ap place-of (stored-at (s .places) i (words-of p) (place-words 0 0 0 0) (omega (arith, room .places-room)) j
-      ∙ put-same (λ n. getD (s .places) n (place-words 0 0 0 0)) i (words-of p) j z)
-      ∙ place-of-words p ∙ sym (put-same (λ k. place s k) i p j z))
-      (λ z. ap place-of (getD-set-other (s .places) i j (words-of p) (place-words 0 0 0 0) z) ∙ sym (put-other (λ k. place s k) i p j z)) in
+      (λ z. rw z (model-place-stored i p s (room .places-room, h) ∙ sym (put-same (λ k. place s k) i p i refl)))
+      (λ z. place-elsewhere i j p s z ∙ sym (put-other (λ k. place s k) i p j z)) in
       ap (λ (x : ℕ → Place). record { tails = λ d. tail s d; nexts = λ r. next s r; statuses = λ r. status s r; places = x; ticket = s .ticket; grant = s .grant }) (fun-ext one)
 
   pub tail-room : (d v : ℕ) → Room (with-tail d v s)
@@ -121,7 +119,7 @@ module _ (s : State) (room : Room s) where
         tails-room = room .tails-room;
         nexts-room = room .nexts-room;
         statuses-room = room .statuses-room;
-        places-room = length-set (s .places) i (words-of p) ∙ room .places-room;
+        places-room = room-kept (s .places) i (words-of p) (room .places-room);
       }
 
   pub ticket-stored : (v : ℕ) → words-in (with-ticket v s) ≡ ticket-to v (words-in s)

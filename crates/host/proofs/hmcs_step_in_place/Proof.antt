@@ -1,5 +1,5 @@
--- `host::hmcs_step_in_place` meets its contract: the walk of the calls in place (`InPlaceWalk`, which also says what the toolchain's letters stand for), at `hmcs_step` as the function by value.
--- All that the proof knows of `hmcs_step` is that it meets its contract, `r ≡ step-answer ..`.
+-- `host::hmcs_step_in_place` meets its contract: the walk of the calls in place (`InPlaceWalk`, which also says what the toolchain's letters stand for), at `lock::step_lock` as the function by value.
+-- All that the proof knows of `step_lock` is that it meets its contract, `r ≡ step-answer ..`.
 -- Assumes nothing.
 use mathlib.Core.Path.{refl}
 use types.Kit.{_$_, !, step}
@@ -11,9 +11,9 @@ use Rattle.model.proofs.StepReply.Laws as Rp′
 use Rattle.host.proofs.StepAnswer as An
 use Rattle.host.proofs.StepAnswer.Laws as An′
 use Rattle.host.proofs.InPlaceWalk.{CallInPlace, AlwaysEnds, reads, stores, answers, meets-in-place}
-use Rattle.host.proofs.hmcs_step.Symbol as by-value-def
-use Rattle.host.proofs.hmcs_step.Symbol.{name as #by-value}
-use Rattle.host.proofs.hmcs_step.Met as by-value-thm
+use Rattle.lock.proofs.step_lock.Symbol as by-value-def
+use Rattle.lock.proofs.step_lock.Symbol.{name as #by-value}
+use Rattle.lock.proofs.step_lock.Met as by-value-thm
 use Rattle.host.proofs.hmcs_step_in_place as self
 use Rattle.host.proofs.hmcs_step_in_place.Key.{name as #self}
 use Rattle.host.proofs.hmcs_step_in_place.Statement as stated
@@ -47,4 +47,4 @@ pub hmcs-step-in-place-spec : {M : Type 1} → stated.statement M
 unfolding code.routine
 hmcs-step-in-place-spec 𝓤 H 𝓜 𝓖 𝓡 =
     meets-in-place this ends 𝓤 H 𝓜 𝓖 𝓡 code.env #self by-value-def.routine
-    (self.clauses 𝓤 H (𝓖 .A) (𝓜 .mem) (𝓡 .run)) (λ κs a. refl) (code.unfolded 𝓤 H 𝓜 𝓡) code.calls-host·hmcs-step (by-value-thm.met 𝓤 H 𝓜 𝓖 𝓡)
+    (self.clauses 𝓤 H (𝓖 .A) (𝓜 .mem) (𝓡 .run)) (λ κs a. refl) (code.unfolded 𝓤 H 𝓜 𝓡) code.calls-lock·step-lock (by-value-thm.met 𝓤 H 𝓜 𝓖 𝓡)

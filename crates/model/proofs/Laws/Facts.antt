@@ -13,14 +13,15 @@ use Rattle.model.specs.declared.PlaceWords.{PlaceWords}
 use Rattle.model.specs.declared.Place.{Place}
 use Rattle.model.specs.declared.Place.the-variants.{Idle, Watch}
 use Rattle.model.specs.declared.State.{State}
+use Rattle.model.specs.declared.PlaceArrays.{PlaceArrays}
 use Rattle.model.specs.Scans.{all-below}
 use Rattle.model.specs.Trees.{Tree, is-ticket, own-record, is-record, is-member, owner-domain}
 use Rattle.model.specs.Places.{place-words, words-of, place-of, is-idle, is-watch}
-use Rattle.model.specs.States.{tail, next, status, place, with-tail, with-next, with-status, with-place, with-ticket, with-grant}
+use Rattle.model.specs.States.{tail, next, status, place, with-tail, with-next, with-status, with-place, with-ticket, with-grant, numbers-at, Places-room, Has-room}
 use Rattle.model.specs.WellFormed.{good-tail, good-next, good-status, good-place, good-watch, good-thread, good-counters, well-formed}
 use Rattle.model.specs.Laws.{Typed, Formed}
 use Rattle.model.proofs.Tests.{and-both, or-cases, or-right, all-each, all-true}
-use Rattle.model.proofs.Places.{place-of-words, idle-facts, watch-facts}
+use Rattle.model.proofs.Places.{place-of-words, idle-facts, watch-facts, numbers-all, room-kept, numbers-beyond}
 
 -- a word of 64 bits
 abbrev pub Sixty-four-bit : (word : ℕ) → Type 0
@@ -45,7 +46,7 @@ pub record Facts (t : Tree) (s : State) : Type 0 where
   pub tails : (d : ℕ) → Good-tail t d (tail s d)
   pub nexts : (r : ℕ) → Good-next t r (next s r)
   pub statuses : (r : ℕ) → Good-status t r (status s r)
-  pub places : (i : ℕ) → Good-thread t i (getD (s .places) i (place-words 0 0 0 0))
+  pub places : (i : ℕ) → Good-thread t i (numbers-at (s .places) i)
   pub watched : (i : ℕ) → i < t .threads → place s i ≡ Watch → status s (own-record t i 0) ≤ 65535
   pub counters : (t .ticket-root ≡ true) ⊎ ((s .ticket ≡ 0) × (s .grant ≡ 0))
 
@@ -56,6 +57,11 @@ everywhere :
     ((j : ℕ) → n ≤ j → Q j d) → (j : ℕ) → Q j (getD xs j d)
 everywhere Q xs n d e f g j =
     elim (decLt j n) [ yes h ↦ f j h | no h ↦ rw (List·getD-eq-default xs d {n = j} (omega arith)) (g j (omega arith)) ]
+
+in-all-room :
+    (Q : ℕ → PlaceWords → Type 0) (q : PlaceArrays) → Places-room q → ((j : ℕ) → j < 256 → Q j (numbers-at q j)) → ((j : ℕ) → 256 ≤ j → Q j (place-words 0 0 0 0)) →
+    (j : ℕ) → Q j (numbers-at q j)
+in-all-room Q q r f g j = elim (decLt j 256) [ yes h ↦ f j h | no h ↦ rw (numbers-beyond q j r (omega arith)) (g j (omega arith)) ]
 
 tail-fact : (t : Tree) (s : State) (d : ℕ) → good-tail t s d ≡ true → Good-tail t d (tail s d)
 unfolding good-tail
@@ -108,7 +114,7 @@ idle-not-watch : Idle ≢ Watch
 unfolding is-watch
 idle-not-watch e = false≢true (ap is-watch e)
 
-thread-fact : (t : Tree) (s : State) (i : ℕ) → good-thread t s i ≡ true → Good-thread t i (getD (s .places) i (place-words 0 0 0 0))
+thread-fact : (t : Tree) (s : State) (i : ℕ) → good-thread t s i ≡ true → Good-thread t i (numbers-at (s .places) i)
 unfolding good-thread
 thread-fact t s i e =
     record {
@@ -131,7 +137,7 @@ watch-test t s i f = by (is-watch (place s i)) refl
     by false e = rw e
 
 thread-test :
-    (t : Tree) (s : State) (i : ℕ) → Good-thread t i (getD (s .places) i (place-words 0 0 0 0)) →
+    (t : Tree) (s : State) (i : ℕ) → Good-thread t i (numbers-at (s .places) i) →
     (i < t .threads → place s i ≡ Watch → status s (own-record t i 0) ≤ 65535) → good-thread t s i ≡ true
 unfolding good-thread
 thread-test t s i g w =
@@ -170,10 +176,9 @@ well-formed-facts t s f =
       tails = everywhere (Good-tail t) (s .tails) 64 0 (y .tails-room) (λ d h. tail-fact t s d (all-each 64 _ (a .0) d h)) (λ d h. inl refl);
       nexts = everywhere (Good-next t) (s .nexts) 320 0 (y .nexts-room) (λ r h. next-fact t s r (all-each 320 _ (a .1) r h)) (λ r h. inl refl);
       statuses = everywhere (Good-status t) (s .statuses) 320 0 (y .statuses-room) (λ r h. status-fact t s r (all-each 320 _ (b .0) r h)) (λ r h. inl refl);
-      places = everywhere (Good-thread t) (s .places) 256 (place-words 0 0 0 0) (y .places-room)
-          (λ i h. thread-fact t s i (all-each 256 _ (c .0) i h)) (λ i h. thread-idle t i);
-      watched = λ i. everywhere (λ j x. j < t .threads → place-of x ≡ Watch → status s (own-record t j 0) ≤ 65535) (s .places) 256 (place-words 0 0 0 0) (y .places-room)
-          (λ j h l. watch-fact t s j l (all-each 256 _ (c .0) j h)) (λ j h l e. absurd (idle-not-watch (sym idle-words ∙ e))) i;
+      places = in-all-room (Good-thread t) (s .places) (y .places-room) (λ i h. thread-fact t s i (all-each 256 _ (c .0) i h)) (λ i h. thread-idle t i);
+      watched = in-all-room (λ j x. j < t .threads → place-of x ≡ Watch → status s (own-record t j 0) ≤ 65535) (s .places) (y .places-room)
+          (λ j h l. watch-fact t s j l (all-each 256 _ (c .0) j h)) (λ j h l e. absurd (idle-not-watch (sym idle-words ∙ e)));
       counters = counters-fact t s (c .1);
     }
 
@@ -270,26 +275,27 @@ module _ (t : Tree) (s : State) (k : Facts t s) where
       }
 
   pub place-keeps :
-      (i : ℕ) (p : Place) → i < t .threads → good-place t i p ≡ true → Sixty-four-bit (words-of p .word) →
+      (i : ℕ) (p : Place) → i < t .threads → t .threads ≤ 256 → good-place t i p ≡ true → Sixty-four-bit (words-of p .word) →
       (p ≡ Watch → status s (own-record t i 0) ≤ 65535) → Facts t (with-place i p s)
-  place-keeps i p l f h g =
+  place-keeps i p l few f h g =
+      let room : Has-room (s .places) i = (y .places-room, omega arith) in
       record {
         typed = record {
           tails-room = y .tails-room;
           nexts-room = y .nexts-room;
           statuses-room = y .statuses-room;
-          places-room = length-set (s .places) i (words-of p) ∙ y .places-room;
+          places-room = room-kept (s .places) i (words-of p) (y .places-room);
           statuses-fit = y .statuses-fit;
           ticket-fits = y .ticket-fits;
           grant-fits = y .grant-fits;
-          words-fit = set-all (λ _ x. Sixty-four-bit (x .word)) (s .places) i (words-of p) (place-words 0 0 0 0) h (y .words-fit);
+          words-fit = numbers-all (λ _ x. Sixty-four-bit (x .word)) (s .places) i (words-of p) room h (y .words-fit);
         };
         tails = k .tails;
         nexts = k .nexts;
         statuses = k .statuses;
-        places = set-all (Good-thread t) (s .places) i (words-of p) (place-words 0 0 0 0)
+        places = numbers-all (Good-thread t) (s .places) i (words-of p) room
             (record { used = λ _. rw (place-of-words p) f; unused = λ m. absurd (omega arith) }) (k .places);
-        watched = set-all (λ j x. j < t .threads → place-of x ≡ Watch → status s (own-record t j 0) ≤ 65535) (s .places) i (words-of p) (place-words 0 0 0 0)
+        watched = numbers-all (λ j x. j < t .threads → place-of x ≡ Watch → status s (own-record t j 0) ≤ 65535) (s .places) i (words-of p) room
             (λ _ e. g (sym (place-of-words p) ∙ e)) (k .watched);
         counters = k .counters;
       }

@@ -12,13 +12,13 @@ use Rattle.model.specs.declared.Place.{Place}
 use Rattle.model.specs.declared.Place.the-variants.{Idle, Prep, Swap, Link, Wait, Inside, Check, Help, Cas, Linger, Grant, Draw, Watch, Raise, Invalid}
 use Rattle.model.specs.declared.State.{State}
 use Rattle.model.specs.Trees.{Tree, is-ticket, on-path, child, own-record, is-record, is-member, owner-domain}
-use Rattle.model.specs.Places.{place-words, words-of, place-of, is-watch}
-use Rattle.model.specs.States.{unlocked, cohort-start, none, tail, next, status, place, wrap, with-tail, with-status, with-place, with-ticket, with-grant, fresh-words, fresh-state}
+use Rattle.model.specs.Places.{words-of, place-of, is-watch}
+use Rattle.model.specs.States.{unlocked, cohort-start, none, tail, next, status, place, wrap, with-tail, with-status, with-place, with-ticket, with-grant, fresh-words, fresh-state, numbers-at}
 use Rattle.model.specs.Steps.{Row-result, prep-with, acquired-place, release-place, done-place, step}
 use Rattle.model.specs.WellFormed.{queue-on-path, good-place, well-formed}
 use Rattle.model.specs.Laws.{Sixteen-bit, Formed, Form-law}
 use Rattle.model.proofs.Tests.{by-test, and-both}
-use Rattle.model.proofs.Places.{words-of-place}
+use Rattle.model.proofs.Places.{words-of-place, fresh-room, fresh-numbers}
 use Rattle.model.proofs.Branches.{about-to-grant, Branch, idle-draws, idle-prepares, prepares, swap-root, swap-inner, swap-behind, link-writes, wait-root-locked, wait-root-granted, wait-ungranted, wait-acquires, wait-passed, wait-crossed, inside-leaves, check-passes, check-releases, help-alone, help-linked, cas-last, cas-not-last, linger-alone, linger-linked, grant-writes, draw-shown, draw-unshown, watch-shown, watch-unshown, raise-counts, invalid-stays, branch, at-root, below-root}
 use Rattle.model.proofs.Trees.Accepted.{Accepted, accepted}
 use Rattle.model.proofs.Trees.Tickets.{ticket-facts, ticket-lower, queue-lower, queue-facts, queue-yes}
@@ -64,16 +64,16 @@ fresh-facts t v =
         tails-room = length-replicate {A = ℕ} 64 0;
         nexts-room = length-replicate {A = ℕ} 320 0;
         statuses-room = length-replicate {A = ℕ} 320 0;
-        places-room = length-replicate 256 (place-words 0 0 0 0);
+        places-room = fresh-room;
         statuses-fit = λ r. replicate-all Sixty-four-bit 320 r 0 (omega arith);
         ticket-fits = start-fits t v;
         grant-fits = start-fits t v;
-        words-fit = λ i. replicate-all (λ x. Sixty-four-bit (x .word)) 256 i (place-words 0 0 0 0) (omega arith);
+        words-fit = λ i. rw (fresh-numbers i) (omega arith);
       };
       tails = λ d. replicate-all (Good-tail t d) 64 d 0 (inl refl);
       nexts = λ r. replicate-all (Good-next t r) 320 r 0 (inl refl);
       statuses = λ r. replicate-all (Good-status t r) 320 r 0 (inl refl);
-      places = λ i. replicate-all (Good-thread t i) 256 i (place-words 0 0 0 0) (thread-idle t i);
+      places = λ i. rw (fresh-numbers i) (thread-idle t i);
       watched = λ i h w. replicate-all (λ x. x ≤ 65535) 320 (own-record t i 0) 0 (omega arith);
       counters = start-counters t v;
     }
@@ -137,7 +137,7 @@ module _ (t : Tree) (b : Sixteen-bit t) (valid : Accepted t) (i : ℕ) (h : i < 
 
   placed : {n : State} → Facts t n → (p : Place) → Fits t i p → Facts t (with-place i p n)
   unfolding is-watch
-  placed {n} k p f = place-keeps t n k i p h (f .0) (f .1) (λ e. absurd (false≢true (sym (f .2) ∙ ap is-watch e)))
+  placed {n} k p f = place-keeps t n k i p h (valid .few-threads) (f .0) (f .1) (λ e. absurd (false≢true (sym (f .2) ∙ ap is-watch e)))
 
   module _ (s : State) (k : Facts t s) where
     -- the successor that a record names is a member of the record's domain
@@ -253,7 +253,7 @@ module _ (t : Tree) (b : Sixteen-bit t) (valid : Accepted t) (i : ℕ) (h : i < 
     row-keeps g f (draw-shown e) = placed (drawn-keeps g) Inside (refl, omega arith, refl)
     row-keeps g f (draw-unshown e) =
         let small = k .typed .ticket-fits in
-        place-keeps t _ (drawn-keeps g) i Watch h g (omega arith)
+        place-keeps t _ (drawn-keeps g) i Watch h (valid .few-threads) g (omega arith)
         (λ _. rw (getD-set-same (s .statuses) (own-record t i 0) (s .ticket) 0 (omega (arith, k .typed .statuses-room, root-small))) (omega arith))
     row-keeps g f (watch-shown e) = placed k Inside (refl, omega arith, refl)
     row-keeps g f (watch-unshown e) = k
@@ -263,7 +263,7 @@ module _ (t : Tree) (b : Sixteen-bit t) (valid : Accepted t) (i : ℕ) (h : i < 
     pub step-keeps : Facts t (step t i s .state)
     unfolding step
     step-keeps =
-        let x = getD (s .places) i (place-words 0 0 0 0) in
+        let x = numbers-at (s .places) i in
         let good = k .places i .used h in
         row-keeps good (rw (words-of-place x (not-invalid t i (place-of x) good)) (k .typed .words-fit i)) (branch t i s (place s i))
 

@@ -3,24 +3,24 @@ use mathlib.Core.Path.{_≡_, refl}
 use mathlib.Core.Bool.{Bool, true, false, _&&_, not, cond, false≢true}
 use mathlib.Core.List.{List, [], _∷_, _++_, append-nil}
 use mathlib.Core.Logic.{_≢_}
-use Prim.Native.Nat.{ℕ, _+_, _-_, _≤_, _<_, max}
+use Prim.Native.Nat.{ℕ, zero, suc, _+_, _-_, _≤_, _<_, max}
 use native.Mathlib.Omega.{arith}
-use native.Mathlib.Decide.{decLt}
 use lib.Dec.{eqb, ltb}
-use lib.ListN.{length, List·getD-eq-default, length-set}
+use lib.ListN.{getD, set}
 use borrow.Author.Tests.{eqb-true, eqb-false, eq-eqb, ne-eqb, ltb-true, le-ltb}
+use Rattle.model.specs.declared.PlaceWords.{PlaceWords}
 use Rattle.model.specs.declared.Place.{Place}
 use Rattle.model.specs.declared.Place.the-variants.{Idle, Prep, Swap, Link, Wait, Inside, Check, Help, Cas, Linger, Grant, Draw, Watch, Raise, Invalid}
 use Rattle.model.specs.declared.State.{State}
 use Rattle.model.specs.Trees.{Tree, is-ticket, on-path, own-record, is-record, is-member}
-use Rattle.model.specs.Places.{place-words, words-of, place-of, is-watch}
-use Rattle.model.specs.States.{none, tail, next, status, place, wrap, with-place}
+use Rattle.model.specs.Places.{words-of, shape, fits, shaped, place-of, is-watch}
+use Rattle.model.specs.States.{numbers-at, store-numbers, none, tail, next, status, place, wrap, with-place}
 use Rattle.model.specs.Steps.{is-entry, Row-result, step-from, release-place, is-watched, shown-members, row, step}
 use Rattle.model.specs.Runs.{ended-in, occurrences}
 use Rattle.model.specs.WellFormed.{queue-on-path, good-place}
 use Rattle.model.specs.Tenures.{finds-none, taken-from, given, starts, checks-at, word-to-grant, tenure-length}
 use Rattle.model.proofs.Tests.{and-both, by-test, any-one}
-use Rattle.model.proofs.Places.{place-stored}
+use Rattle.model.proofs.Places.{by-row, beyond}
 use Rattle.model.proofs.Branches.{Branch, idle-draws, idle-prepares, prepares, swap-root, swap-inner, swap-behind, link-writes, wait-root-locked, wait-root-granted, wait-ungranted, wait-acquires, wait-passed, wait-crossed, inside-leaves, check-passes, check-releases, help-alone, help-linked, cas-last, cas-not-last, linger-alone, linger-linked, grant-writes, draw-shown, draw-unshown, watch-shown, watch-unshown, raise-counts, invalid-stays, branch}
 use Rattle.model.proofs.Trees.Accepted.{Accepted}
 use Rattle.model.proofs.Trees.Paths.{on-path-root, path-real}
@@ -200,14 +200,50 @@ module _ (t : Tree) (valid : Accepted t) where
           let m = given-member i b (place s i) g s (256 + d) (rw (gives t i (place s i) s) at h) in
           (eqb-false d 0 e, record-domain d (member-record t valid (m .domain) (256 + d) (m .member)))
 
+-- the word that a place will grant is its fourth number
+granted-word : (p : Place) → word-to-grant p ≡ words-of p .word
+unfolding word-to-grant
+granted-word Idle = refl
+granted-word (Prep l) = refl
+granted-word (Swap l) = refl
+granted-word (Link l p) = refl
+granted-word (Wait l) = refl
+granted-word Inside = refl
+granted-word (Check l) = refl
+granted-word (Help l) = refl
+granted-word (Cas l) = refl
+granted-word (Linger l) = refl
+granted-word (Grant l r w) = refl
+granted-word Draw = refl
+granted-word Watch = refl
+granted-word Raise = refl
+granted-word Invalid = refl
+
+numbers-word : (x : PlaceWords) → words-of (place-of x) .word ≤ x .word
+unfolding place-of
+numbers-word x = by (fits x)
+  where
+    shaped-word : (r d p w : ℕ) → words-of (shaped (shape r) d p w) .word ≤ w
+    shaped-word r d p w =
+        by-row (λ r. words-of (shaped (shape r) d p w) .word ≤ w) r (omega arith) (omega arith) (omega arith) (omega arith) (omega arith) (omega arith) (omega arith)
+        (omega arith) (omega arith) (omega arith) (omega arith) (omega arith) (omega arith) (omega arith) (λ h. rw (beyond r h) (omega arith))
+
+    by : (b : Bool) → words-of (cond b (shaped (shape (x .row)) (x .domain) (x .peer) (x .word)) Invalid) .word ≤ x .word
+    by true = shaped-word (x .row) (x .domain) (x .peer) (x .word)
+    by false = omega arith
+
+-- a stored number, or 0 where there is no room
+stored-most : (l : List ℕ) (i v : ℕ) → getD (set l i v) i 0 ≤ v
+stored-most [] i v = omega arith
+stored-most (x ∷ xs) zero v = omega arith
+stored-most (x ∷ xs) (suc i) v = stored-most xs i v
+
 -- THE LENGTH THAT A STEP TELLS. The word that a stored place will grant is the place's, or none where there is no such thread
 stored-word : (i : ℕ) (p : Place) (s : State) → word-to-grant (place (with-place i p s) i) ≤ word-to-grant p
-unfolding word-to-grant place-of
+unfolding numbers-at store-numbers
 stored-word i p s =
-    elim (decLt i (length (s .places))) [
-      | yes h ↦ rw (place-stored i p s h) (omega arith)
-      | no h ↦ rw (List·getD-eq-default (with-place i p s .places) (place-words 0 0 0 0) {n = i} (omega (arith, length-set (s .places) i (words-of p)))) (omega arith)
-    ]
+    let x = numbers-at (with-place i p s .places) i in
+    omega (arith, granted-word (place-of x), numbers-word x, stored-most (s .places .words) i (words-of p .word), granted-word p)
 
 release-word-none : (t : Tree) (d : ℕ) → word-to-grant (release-place t d) ≡ 0
 unfolding word-to-grant

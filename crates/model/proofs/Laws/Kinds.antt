@@ -51,7 +51,7 @@ module _ (t : Tree) (valid : Accepted t) (i : ℕ) (h : i < t .threads) (s : Sta
 
   -- the stores of a row leave the places alone but for the thread's own
   stored : (q : Place) → place (with-place i q s) i ≡ q
-  stored q = place-stored i q s (omega (arith, k .typed .places-room, valid .few-threads))
+  stored q = place-stored i q s (k .typed .places-room, omega (arith, valid .few-threads))
 
   acquire-moves : (p : Place) (d : ℕ) → Moves-to p Draw → Moves-to p (Prep d) → Moves-to p (acquire-place t d)
   acquire-moves p d f g = by-test (Moves-to p) (is-ticket t d) Draw (Prep d) (λ _. f) (λ _. g)

@@ -6,15 +6,15 @@ use mathlib.Core.Logic.{_≢_, _⊎_, inl, inr}
 use Prim.Native.Nat.{ℕ, suc, _+_, _<_}
 use native.Mathlib.Omega.{arith}
 use lib.Dec.{eqb}
-use lib.ListN.{length, getD}
+use lib.ListN.{length}
 use borrow.Author.Tests.{eq-eqb}
 use Rattle.model.specs.declared.Place.{Place}
 use Rattle.model.specs.declared.Place.the-variants.{Idle, Prep, Swap, Link, Wait, Inside, Check, Help, Cas, Linger, Grant, Draw, Watch, Raise, Invalid}
 use Rattle.model.specs.declared.TreeWords.{TreeWords}
 use Rattle.model.specs.declared.LockState.{LockState}
 use Rattle.model.specs.Trees.{Tree, tree-of, on-path, is-member}
-use Rattle.model.specs.Places.{place-words, words-of, place-domain}
-use Rattle.model.specs.States.{place}
+use Rattle.model.specs.Places.{words-of, place-domain}
+use Rattle.model.specs.States.{place, numbers-at}
 use Rattle.model.specs.Steps.{Kind, stay, root-entry, passed-entry, crossed-entry, kind-number, is-kind, Step, step}
 use Rattle.model.specs.Runs.{steps, state-after, how-many, counts-of, run-of, run, occurrences}
 use Rattle.model.specs.WellFormed.{queue-on-path, good-place}
@@ -74,7 +74,7 @@ pub domain-law : Domain-law
 unfolding Domain-law step
 domain-law t i s ok h f =
     let valid = accepted-tree t ok in
-    let x = getD (s .places) i (place-words 0 0 0 0) in
+    let x = numbers-at (s .places) i in
     let good : good-place t i (place s i) ≡ true = well-formed-facts t s f .places i .used h in
     let right = not-invalid t i (place s i) good in
     record {

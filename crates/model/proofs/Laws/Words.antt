@@ -10,14 +10,14 @@ use Rattle.model.specs.declared.Place.{Place}
 use Rattle.model.specs.declared.Place.the-variants.{Idle, Prep, Swap, Link, Wait, Inside, Check, Help, Cas, Linger, Grant, Draw, Watch, Raise, Invalid}
 use Rattle.model.specs.declared.State.{State}
 use Rattle.model.specs.Trees.{Tree, is-ticket, on-path, child, own-record, is-member}
-use Rattle.model.specs.Places.{place-words, words-of, place-of}
-use Rattle.model.specs.States.{acquire-parent, wait-word, unlocked, cohort-start, none, tail, next, status, place, with-tail, with-next, with-status, with-place, with-ticket, with-grant, wrap, fresh-words, fresh-state}
+use Rattle.model.specs.Places.{words-of, place-of}
+use Rattle.model.specs.States.{acquire-parent, wait-word, unlocked, cohort-start, none, tail, next, status, place, with-tail, with-next, with-status, with-place, with-ticket, with-grant, wrap, fresh-words, fresh-state, Places-room}
 use Rattle.model.specs.Steps.{Row-result, prep-with, acquire-place, acquired-place, release-place, done-place, step}
 use Rattle.model.specs.Runs.{run}
 use Rattle.model.specs.WellFormed.{queue-on-path, good-place}
 use Rattle.model.specs.Laws.{Sixteen-bit, All-threads, Word-law}
 use Rattle.model.proofs.Tests.{by-test, and-both}
-use Rattle.model.proofs.Places.{place-of-words}
+use Rattle.model.proofs.Places.{place-of-words, numbers-all, room-kept, fresh-room, fresh-numbers}
 use Rattle.model.proofs.Branches.{about-to-grant, drawn, Branch, idle-draws, idle-prepares, prepares, swap-root, swap-inner, swap-behind, link-writes, wait-root-locked, wait-root-granted, wait-ungranted, wait-acquires, wait-passed, wait-crossed, inside-leaves, check-passes, check-releases, help-alone, help-linked, cas-last, cas-not-last, linger-alone, linger-linked, grant-writes, draw-shown, draw-unshown, watch-shown, watch-unshown, raise-counts, invalid-stays, branch, at-root, below-root}
 use Rattle.model.proofs.Trees.Accepted.{Accepted, accepted}
 use Rattle.model.proofs.Trees.Tickets.{ticket-facts, queue-facts, queue-yes}
@@ -56,38 +56,41 @@ Good-grant t Invalid = Unit {0}
 pub record Good-words (t : Tree) (s : State) : Type 0 where
   pub statuses : (r : ℕ) → Good-status-word t r (status s r)
   pub grants : (i : ℕ) → Good-grant t (place s i)
+  pub room : Places-room (s .places)
 
 pub fresh-good-words : (t : Tree) (v : ℕ) → Good-words t (fresh-state t v)
 unfolding fresh-words fresh-state Good-grant
 fresh-good-words t v =
     record {
       statuses = λ r. replicate-all (Good-status-word t r) 320 r 0 (λ d n m. inr (inr (omega arith)));
-      grants = λ i. replicate-all (λ x. Good-grant t (place-of x)) 256 i (place-words 0 0 0 0) (rw (place-of-words Idle) tt);
+      grants = λ i. rw (fresh-numbers i, place-of-words Idle) tt;
+      room = fresh-room;
     }
 
 -- the stores: tails, nexts and counters are free
 module _ (t : Tree) (s : State) (k : Good-words t s) where
-  place-store : (i : ℕ) (p : Place) → Good-grant t p → Good-words t (with-place i p s)
-  place-store i p f =
+  place-store : (i : ℕ) (p : Place) → i < 256 → Good-grant t p → Good-words t (with-place i p s)
+  place-store i p h f =
       record {
         statuses = k .statuses;
-        grants = set-all (λ _ x. Good-grant t (place-of x)) (s .places) i (words-of p) (place-words 0 0 0 0) (rw (place-of-words p) f) (k .grants);
+        grants = numbers-all (λ _ x. Good-grant t (place-of x)) (s .places) i (words-of p) (k .room, h) (rw (place-of-words p) f) (k .grants);
+        room = room-kept (s .places) i (words-of p) (k .room);
       }
 
   status-store : (r v : ℕ) → Good-status-word t r v → Good-words t (with-status r v s)
-  status-store r v f = record { statuses = set-all (Good-status-word t) (s .statuses) r v 0 f (k .statuses); grants = k .grants }
+  status-store r v f = record { statuses = set-all (Good-status-word t) (s .statuses) r v 0 f (k .statuses); grants = k .grants; room = k .room }
 
   tail-store : (d v : ℕ) → Good-words t (with-tail d v s)
-  tail-store d v = record { statuses = k .statuses; grants = k .grants }
+  tail-store d v = record { statuses = k .statuses; grants = k .grants; room = k .room }
 
   next-store : (r v : ℕ) → Good-words t (with-next r v s)
-  next-store r v = record { statuses = k .statuses; grants = k .grants }
+  next-store r v = record { statuses = k .statuses; grants = k .grants; room = k .room }
 
   ticket-store : (v : ℕ) → Good-words t (with-ticket v s)
-  ticket-store v = record { statuses = k .statuses; grants = k .grants }
+  ticket-store v = record { statuses = k .statuses; grants = k .grants; room = k .room }
 
   grant-store : (v : ℕ) → Good-words t (with-grant v s)
-  grant-store v = record { statuses = k .statuses; grants = k .grants }
+  grant-store v = record { statuses = k .statuses; grants = k .grants; room = k .room }
 
 abbrev Kept : Tree → Row-result → Type 0
 Kept t x = Good-words t (x .state)
@@ -120,7 +123,7 @@ module _ (t : Tree) (valid : Accepted t) (i : ℕ) (h : i < t .threads) where
   done-good l = by-test (Good-grant t) (eqb l (t .home i)) Idle (Help (child t i l)) (λ _. tt) (λ _. tt)
 
   placed : {n : State} → Good-words t n → (p : Place) → Good-grant t p → Good-words t (with-place i p n)
-  placed {n} k p f = place-store t n k i p f
+  placed {n} k p f = place-store t n k i p (omega (arith, valid .few-threads)) f
 
   -- the own status set to 1 where a domain other than the root is won
   started : {n : State} → Good-words t n → (l : ℕ) → on-path t i l ≡ true → Good-words t (with-status (own-record t i l) cohort-start n)

@@ -61,7 +61,7 @@ fn case_state(random: &mut Random, words: &TreeWords, length: usize) -> StateWor
     let tree = words.tree();
     if accept_tree(&tree).is_err() {
         let mut state = StateWords::fresh();
-        state.places[255].row = random.pick(&[0, 11, 14]);
+        state.places.rows[255] = random.pick(&[0, 11, 14]);
         (state.ticket, state.grant) = (random_start(random), random_start(random));
         state.counters.entries[0] = random.pick(&[0, 1, u64::MAX]);
         return state;
@@ -174,7 +174,10 @@ fn differences(one: &StateWords, other: &StateWords) -> String {
     list(&mut found, "tail", &one.tails, &other.tails);
     list(&mut found, "next", &one.nexts, &other.nexts);
     list(&mut found, "status", &one.statuses, &other.statuses);
-    list(&mut found, "place", &one.places, &other.places);
+    list(&mut found, "row", &one.places.rows, &other.places.rows);
+    list(&mut found, "domain", &one.places.domains, &other.places.domains);
+    list(&mut found, "peer", &one.places.peers, &other.places.peers);
+    list(&mut found, "word", &one.places.words, &other.places.words);
     list(&mut found, "ticket and grant", &[(one.ticket, one.grant)], &[(other.ticket, other.grant)]);
     list(&mut found, "entries", &one.counters.entries, &other.counters.entries);
     list(&mut found, "tenures", &one.counters.tenures, &other.counters.tenures);

@@ -94,7 +94,7 @@ fn case_state(random: &mut Random, words: &TreeWords) -> (StateWords, bool) {
     let tree = words.tree();
     if accept_tree(&tree).is_err() {
         let mut state = StateWords::fresh();
-        state.places[255].row = random.pick(&[0, 11, 14]);
+        state.places.rows[255] = random.pick(&[0, 11, 14]);
         state.ticket = random_start(random);
         return (state, false);
     }
@@ -127,7 +127,7 @@ fn case_thread(random: &mut Random, tree: &TreeWords, state: &StateWords) -> u16
     }
     let threads = tree.threads.clamp(1, 256) as usize;
     let rows: &[u8] = if random.one_in(3) { &[9] } else { &[4, 9, 12] };
-    let staying: Vec<usize> = (0..threads).filter(|&thread| rows.contains(&state.places[thread].row)).collect();
+    let staying: Vec<usize> = (0..threads).filter(|&thread| rows.contains(&state.places.rows[thread])).collect();
     if staying.is_empty() || random.one_in(6) {
         return random.below(threads) as u16;
     }
@@ -238,7 +238,7 @@ fn fail(number: usize, case: &Case, text: String) -> ! {
         case.thread,
         case.buffer.len() - 2 * CANARY
     );
-    println!("places {:?}", &case.state.places[..threads]);
+    println!("places {:?}", (0..threads).map(|thread| case.state.places.get(thread)).collect::<Vec<_>>());
     println!("nexts {:?}, statuses {:?}, ticket {}, grant {}", case.state.nexts, case.state.statuses, case.state.ticket, case.state.grant);
     exit(1)
 }

@@ -31,41 +31,35 @@ cast-at c =
     let l = c .before .loop .inv in
     omega (arith, few-threads (s .args .t1) (s .pre .0), c .loop-test .taken)
 
-mul-q : tie.Need-mul-q Inv-loop μ-loop
-mul-q c =
-    let s = c .before .before .before .before .before in
-    let l = c .before .loop .inv in
-    omega (arith, few-threads (s .args .t1) (s .pre .0), c .loop-test .taken)
-
-element-copy-out-q : tie.Need-element-copy-out-q Inv-loop μ-loop
-element-copy-out-q c =
-    let s = c .before .before .before .before .before in
-    let l = c .before .loop .inv in
-    omega (arith, few-threads (s .args .t1) (s .pre .0), c .loop-test .taken)
+place-at-requires : tie.Need-place-at-requires Inv-loop μ-loop
+place-at-requires c κs =
+    let s = c .before .before .before .before .before .before .before .before .before .before in
+    let l = c .before .before .before .before .before .before .loop .inv in
+    omega (arith, few-threads (s .args .t1) (s .pre .0), c .before .before .before .before .before .loop-test .taken)
 
 own-record-at-requires : tie.Need-own-record-at-requires Inv-loop μ-loop
 own-record-at-requires c κs =
-    let s = c .before .before .before .before .before .before .before .before .before .before in
-    let l = c .before .before .before .before .before .before .loop .inv in
-    (s .pre .0, (c .before .before .before .before .before .loop-test .taken, on-its-path (s .args .t1) (s .pre .0) (s .args .t2) (s .pre .1) _ (c .before .before .before .before .before .loop-test .taken)))
+    let s = c .before .before .before .before .before .before .before .before .before .before .before .before .before .before .before in
+    let l = c .before .before .before .before .before .before .before .before .before .before .before .loop .inv in
+    (s .pre .0, (c .before .before .before .before .before .before .before .before .before .before .loop-test .taken, rw (c .before .before .before .before .place-at .ensures) (on-its-path (s .args .t1) (s .pre .0) (s .args .t2) (s .pre .1) _ (c .before .before .before .before .before .before .before .before .before .before .loop-test .taken))))
 
 cast-there : tie.Need-cast-there Inv-loop μ-loop
 cast-there c =
-    let s = c .before .before .before .before .before .before .before .before .before .before .before in
-    let l = c .before .before .before .before .before .before .before .loop .inv in
-    omega (arith, c .own-record-at .ensures .1, few-threads (s .args .t1) (s .pre .0), c .before .before .before .before .before .before .loop-test .taken)
+    let s = c .before .before .before .before .before .before .before .before .before .before .before .before .before .before .before .before in
+    let l = c .before .before .before .before .before .before .before .before .before .before .before .before .loop .inv in
+    omega (arith, c .own-record-at .ensures .1, few-threads (s .args .t1) (s .pre .0), c .before .before .before .before .before .before .before .before .before .before .before .loop-test .taken)
 
 mul-v : tie.Need-mul-v Inv-loop μ-loop
 mul-v c =
-    let s = c .before .before .before .before .before .before .before .before .before .before .before in
-    let l = c .before .before .before .before .before .before .before .loop .inv in
-    omega (arith, c .own-record-at .ensures .1, few-threads (s .args .t1) (s .pre .0), c .before .before .before .before .before .before .loop-test .taken)
+    let s = c .before .before .before .before .before .before .before .before .before .before .before .before .before .before .before .before in
+    let l = c .before .before .before .before .before .before .before .before .before .before .before .before .loop .inv in
+    omega (arith, c .own-record-at .ensures .1, few-threads (s .args .t1) (s .pre .0), c .before .before .before .before .before .before .before .before .before .before .before .loop-test .taken)
 
 element-copy-out-v : tie.Need-element-copy-out-v Inv-loop μ-loop
 element-copy-out-v c =
-    let s = c .before .before .before .before .before .before .before .before .before .before .before in
-    let l = c .before .before .before .before .before .before .before .loop .inv in
-    omega (arith, c .own-record-at .ensures .1, few-threads (s .args .t1) (s .pre .0), c .before .before .before .before .before .before .loop-test .taken)
+    let s = c .before .before .before .before .before .before .before .before .before .before .before .before .before .before .before .before in
+    let l = c .before .before .before .before .before .before .before .before .before .before .before .before .loop .inv in
+    omega (arith, c .own-record-at .ensures .1, few-threads (s .args .t1) (s .pre .0), c .before .before .before .before .before .before .before .before .before .before .before .loop-test .taken)
 
 acts-from-at-requires : tie.Need-acts-from-at-requires Inv-loop μ-loop
 acts-from-at-requires c κs = search needs
@@ -75,86 +69,87 @@ link-key-at-requires c κs = search needs
 
 mul-linking : tie.Need-mul-linking Inv-loop μ-loop
 mul-linking c =
-    let s = c .before .before .before .before .before .before .before .before .before .before .before .before .before .before in
-    let l = c .before .before .before .before .before .before .before .before .before .before .loop .inv in
-    omega (arith, few-threads (s .args .t1) (s .pre .0), c .before .before .before .before .before .before .before .before .before .loop-test .taken)
+    let s = c .before .before .before .before .before .before .before .before .before .before .before .before .before .before .before .before .before .before .before in
+    let l = c .before .before .before .before .before .before .before .before .before .before .before .before .before .before .before .loop .inv in
+    omega (arith, few-threads (s .args .t1) (s .pre .0), c .before .before .before .before .before .before .before .before .before .before .before .before .before .before .loop-test .taken)
 
 element-write-linking : tie.Need-element-write-linking Inv-loop μ-loop
 element-write-linking c =
-    let s = c .before .before .before .before .before .before .before .before .before .before .before .before .before .before in
-    let l = c .before .before .before .before .before .before .before .before .before .before .loop .inv in
-    omega (arith, few-threads (s .args .t1) (s .pre .0), c .before .before .before .before .before .before .before .before .before .loop-test .taken)
+    let s = c .before .before .before .before .before .before .before .before .before .before .before .before .before .before .before .before .before .before .before in
+    let l = c .before .before .before .before .before .before .before .before .before .before .before .before .before .before .before .loop .inv in
+    omega (arith, few-threads (s .args .t1) (s .pre .0), c .before .before .before .before .before .before .before .before .before .before .before .before .before .before .loop-test .taken)
 
 own-record-at-requires-2 : tie.Need-own-record-at-requires-2 Inv-loop μ-loop
 own-record-at-requires-2 c κs =
-    let s = c .before .before .before .before .before .before .before .before .before .before .before .before .before .before .before .before .before .before in
-    let l = c .before .before .before .before .before .before .before .before .before .before .before .before .before .before .loop .inv in
-    (s .pre .0, (c .before .before .before .before .before .before .before .before .before .before .before .before .before .loop-test .taken, root-on-path (s .args .t1) (s .pre .0) (s .args .t2) (s .pre .1) _ (c .before .before .before .before .before .before .before .before .before .before .before .before .before .loop-test .taken)))
+    let s = c .before .before .before .before .before .before .before .before .before .before .before .before .before .before .before .before .before .before .before .before .before .before .before in
+    let l = c .before .before .before .before .before .before .before .before .before .before .before .before .before .before .before .before .before .before .before .loop .inv in
+    (s .pre .0, (c .before .before .before .before .before .before .before .before .before .before .before .before .before .before .before .before .before .before .loop-test .taken, root-on-path (s .args .t1) (s .pre .0) (s .args .t2) (s .pre .1) _ (c .before .before .before .before .before .before .before .before .before .before .before .before .before .before .before .before .before .before .loop-test .taken)))
 
 cast-root : tie.Need-cast-root Inv-loop μ-loop
 cast-root c =
-    let s = c .before .before .before .before .before .before .before .before .before .before .before .before .before .before .before .before .before .before .before in
-    let l = c .before .before .before .before .before .before .before .before .before .before .before .before .before .before .before .loop .inv in
-    omega (arith, c .own-record-at2 .ensures .1, few-threads (s .args .t1) (s .pre .0), c .before .before .before .before .before .before .before .before .before .before .before .before .before .before .loop-test .taken)
+    let s = c .before .before .before .before .before .before .before .before .before .before .before .before .before .before .before .before .before .before .before .before .before .before .before .before in
+    let l = c .before .before .before .before .before .before .before .before .before .before .before .before .before .before .before .before .before .before .before .before .loop .inv in
+    omega (arith, c .own-record-at2 .ensures .1, few-threads (s .args .t1) (s .pre .0), c .before .before .before .before .before .before .before .before .before .before .before .before .before .before .before .before .before .before .before .loop-test .taken)
 
 mul-ticket : tie.Need-mul-ticket Inv-loop μ-loop
 mul-ticket c =
-    let s = c .before .before .before .before .before .before .before .before .before .before .before .before .before .before .before .before .before .before .before in
-    let l = c .before .before .before .before .before .before .before .before .before .before .before .before .before .before .before .loop .inv in
-    omega (arith, c .own-record-at2 .ensures .1, few-threads (s .args .t1) (s .pre .0), c .before .before .before .before .before .before .before .before .before .before .before .before .before .before .loop-test .taken)
+    let s = c .before .before .before .before .before .before .before .before .before .before .before .before .before .before .before .before .before .before .before .before .before .before .before .before in
+    let l = c .before .before .before .before .before .before .before .before .before .before .before .before .before .before .before .before .before .before .before .before .loop .inv in
+    omega (arith, c .own-record-at2 .ensures .1, few-threads (s .args .t1) (s .pre .0), c .before .before .before .before .before .before .before .before .before .before .before .before .before .before .before .before .before .before .before .loop-test .taken)
 
 element-copy-out-ticket : tie.Need-element-copy-out-ticket Inv-loop μ-loop
 element-copy-out-ticket c =
-    let s = c .before .before .before .before .before .before .before .before .before .before .before .before .before .before .before .before .before .before .before in
-    let l = c .before .before .before .before .before .before .before .before .before .before .before .before .before .before .before .loop .inv in
-    omega (arith, c .own-record-at2 .ensures .1, few-threads (s .args .t1) (s .pre .0), c .before .before .before .before .before .before .before .before .before .before .before .before .before .before .loop-test .taken)
+    let s = c .before .before .before .before .before .before .before .before .before .before .before .before .before .before .before .before .before .before .before .before .before .before .before .before in
+    let l = c .before .before .before .before .before .before .before .before .before .before .before .before .before .before .before .before .before .before .before .before .loop .inv in
+    omega (arith, c .own-record-at2 .ensures .1, few-threads (s .args .t1) (s .pre .0), c .before .before .before .before .before .before .before .before .before .before .before .before .before .before .before .before .before .before .before .loop-test .taken)
 
 ticket-key-at-requires : tie.Need-ticket-key-at-requires Inv-loop μ-loop
 ticket-key-at-requires c κs = search needs
 
 mul-tickets : tie.Need-mul-tickets Inv-loop μ-loop
 mul-tickets c =
-    let s = c .before .before .before .before .before .before .before .before .before .before .before .before .before .before .before .before .before .before .before .before .before in
-    let l = c .before .before .before .before .before .before .before .before .before .before .before .before .before .before .before .before .before .loop .inv in
-    omega (arith, few-threads (s .args .t1) (s .pre .0), c .before .before .before .before .before .before .before .before .before .before .before .before .before .before .before .before .loop-test .taken)
+    let s = c .before .before .before .before .before .before .before .before .before .before .before .before .before .before .before .before .before .before .before .before .before .before .before .before .before .before in
+    let l = c .before .before .before .before .before .before .before .before .before .before .before .before .before .before .before .before .before .before .before .before .before .before .loop .inv in
+    omega (arith, few-threads (s .args .t1) (s .pre .0), c .before .before .before .before .before .before .before .before .before .before .before .before .before .before .before .before .before .before .before .before .before .loop-test .taken)
 
 element-write-tickets : tie.Need-element-write-tickets Inv-loop μ-loop
 element-write-tickets c =
-    let s = c .before .before .before .before .before .before .before .before .before .before .before .before .before .before .before .before .before .before .before .before .before in
-    let l = c .before .before .before .before .before .before .before .before .before .before .before .before .before .before .before .before .before .loop .inv in
-    omega (arith, few-threads (s .args .t1) (s .pre .0), c .before .before .before .before .before .before .before .before .before .before .before .before .before .before .before .before .loop-test .taken)
+    let s = c .before .before .before .before .before .before .before .before .before .before .before .before .before .before .before .before .before .before .before .before .before .before .before .before .before .before in
+    let l = c .before .before .before .before .before .before .before .before .before .before .before .before .before .before .before .before .before .before .before .before .before .before .loop .inv in
+    omega (arith, few-threads (s .args .t1) (s .pre .0), c .before .before .before .before .before .before .before .before .before .before .before .before .before .before .before .before .before .before .before .before .before .loop-test .taken)
 
 note-path-requires : tie.Need-note-path-requires Inv-loop μ-loop
 note-path-requires c κs =
-    let s = c .before .before .before .before .before .before .before .before .before .before .before .before .before .before .before .before .before .before .before .before .before .before .before .before .before .before .before .before in
-    let l = c .before .before .before .before .before .before .before .before .before .before .before .before .before .before .before .before .before .before .before .before .before .before .before .before .loop .inv in
-    (s .pre .0, (c .before .before .before .before .before .before .before .before .before .before .before .before .before .before .before .before .before .before .before .before .before .before .before .loop-test .taken, (l .1 .ahead-room, owned-nexts _ (accepted _ (s .pre .0)) (s .args .t2) (s .pre .1))))
+    let s = c .before .before .before .before .before .before .before .before .before .before .before .before .before .before .before .before .before .before .before .before .before .before .before .before .before .before .before .before .before .before .before .before .before in
+    let l = c .before .before .before .before .before .before .before .before .before .before .before .before .before .before .before .before .before .before .before .before .before .before .before .before .before .before .before .before .before .loop .inv in
+    (s .pre .0, (c .before .before .before .before .before .before .before .before .before .before .before .before .before .before .before .before .before .before .before .before .before .before .before .before .before .before .before .before .loop-test .taken, (l .1 .ahead-room, owned-nexts _ (accepted _ (s .pre .0)) (s .args .t2) (s .pre .1))))
 
 add-j : tie.Need-add-j Inv-loop μ-loop
 add-j c =
-    let s = c .before .before .before .before .before .before .before .before .before .before .before .before .before .before .before .before .before .before .before .before .before .before .before .before .before .before .before .before .before in
-    let l = c .before .before .before .before .before .before .before .before .before .before .before .before .before .before .before .before .before .before .before .before .before .before .before .before .before .loop .inv in
-    omega (arith, few-threads (s .args .t1) (s .pre .0), c .before .before .before .before .before .before .before .before .before .before .before .before .before .before .before .before .before .before .before .before .before .before .before .before .loop-test .taken)
+    let s = c .before .before .before .before .before .before .before .before .before .before .before .before .before .before .before .before .before .before .before .before .before .before .before .before .before .before .before .before .before .before .before .before .before .before in
+    let l = c .before .before .before .before .before .before .before .before .before .before .before .before .before .before .before .before .before .before .before .before .before .before .before .before .before .before .before .before .before .before .loop .inv in
+    omega (arith, few-threads (s .args .t1) (s .pre .0), c .before .before .before .before .before .before .before .before .before .before .before .before .before .before .before .before .before .before .before .before .before .before .before .before .before .before .before .before .before .loop-test .taken)
 
 loop-less : tie.Need-loop-less Inv-loop μ-loop
 loop-less c =
-    let s = c .before .before .before .before .before .before .before .before .before .before .before .before .before .before .before .before .before .before .before .before .before .before .before .before .before .before .before .before .before in
-    let l = c .before .before .before .before .before .before .before .before .before .before .before .before .before .before .before .before .before .before .before .before .before .before .before .before .before .loop .inv in
-    omega (arith, few-threads (s .args .t1) (s .pre .0), c .before .before .before .before .before .before .before .before .before .before .before .before .before .before .before .before .before .before .before .before .before .before .before .before .loop-test .taken)
+    let s = c .before .before .before .before .before .before .before .before .before .before .before .before .before .before .before .before .before .before .before .before .before .before .before .before .before .before .before .before .before .before .before .before .before .before in
+    let l = c .before .before .before .before .before .before .before .before .before .before .before .before .before .before .before .before .before .before .before .before .before .before .before .before .before .before .before .before .before .before .loop .inv in
+    omega (arith, few-threads (s .args .t1) (s .pre .0), c .before .before .before .before .before .before .before .before .before .before .before .before .before .before .before .before .before .before .before .before .before .before .before .before .before .before .before .before .before .loop-test .taken)
 
 loop-again : tie.Need-loop-again Inv-loop μ-loop
 loop-again c =
-    let s = c .before .before .before .before .before .before .before .before .before .before .before .before .before .before .before .before .before .before .before .before .before .before .before .before .before .before .before .before .before in
-    let l = c .before .before .before .before .before .before .before .before .before .before .before .before .before .before .before .before .before .before .before .before .before .before .before .before .before .loop .inv in
-    let b = c .before .before .before .before .before .before .before .before .before .before .before .before .before .before .before .before .before .before .before .before .before .before .before .before .loop-test .taken in
+    let s = c .before .before .before .before .before .before .before .before .before .before .before .before .before .before .before .before .before .before .before .before .before .before .before .before .before .before .before .before .before .before .before .before .before .before in
+    let l = c .before .before .before .before .before .before .before .before .before .before .before .before .before .before .before .before .before .before .before .before .before .before .before .before .before .before .before .before .before .before .loop .inv in
+    let b = c .before .before .before .before .before .before .before .before .before .before .before .before .before .before .before .before .before .before .before .before .before .before .before .before .before .before .before .before .before .loop-test .taken in
     let key = c .before .before .before .before .before .before .before .before in
     let top = c .before .before .before .before .before .before .before .before .before .before in
     let link = c .before .before .before .before .before .before .before .before .before .before .before .before .before .before .before in
     let acting = c .before .before .before .before .before .before .before .before .before .before .before .before .before .before .before .before in
-    let own = c .before .before .before .before .before .before .before .before .before .before .before .before .before .before .before .before .before .before in (
+    let own = c .before .before .before .before .before .before .before .before .before .before .before .before .before .before .before .before .before .before in
+    let stands = own .before .before .before .before .before .place-at .ensures in (
       omega arith,
-      fill-turn (s .args .t1) (s .pre .0) (s .args .t2) (s .pre .1) _ b _ _ _ _ _ (own .own-record-at .ensures .0) (acting .acts-from-at .ensures)
-          (top .own-record-at2 .ensures .0) (link .link-key-at .ensures) (key .ticket-key-at .ensures) _ _ _ _ (l .1) (c .note-path .ensures .0) (c .note-path .ensures .1),
+      fill-turn (s .args .t1) (s .pre .0) (s .args .t2) (s .pre .1) _ b _ _ _ _ _ (rw stands at (own .own-record-at .ensures .0)) (rw stands at (acting .acts-from-at .ensures))
+          (top .own-record-at2 .ensures .0) (rw stands at (link .link-key-at .ensures)) (key .ticket-key-at .ensures) _ _ _ _ (l .1) (c .note-path .ensures .0) (c .note-path .ensures .1),
     )
 
 returns : tie.Need-returns Inv-loop μ-loop
@@ -173,8 +168,7 @@ fill-tables-spec =
     loop-holds
     cast-loop
     cast-at
-    mul-q
-    element-copy-out-q
+    place-at-requires
     own-record-at-requires
     cast-there
     mul-v

@@ -7,7 +7,7 @@ use Rattle.model.specs.Trees.{tree-of}
 use Rattle.model.specs.Runs.{steps, run}
 use Rattle.model.specs.Counters.{lock-state, fresh-counters}
 use Rattle.model.specs.Refusals.{first-refusal, run-tests-before-19}
-use Rattle.taking.specs.Taking.{state-in}
+use Rattle.refusals.specs.Arrays.{lent-state}
 use Rattle.steps.specs.Running.{codes-front}
 use borrow.Author.Needs.{needs}
 use Rattle.journal_call.proofs.journals.run_piece.Statement.{statement}
@@ -25,9 +25,9 @@ part-run-lent-end c = search needs
 run-lent-requires : tie.Need-run-lent-requires
 unfolding fresh-counters
 run-lent-requires c κs =
-    let begin = c .before .before .before .before .before .before .before .before .before .before .before .before .before .before .before in
+    let begin = c .before .before .before .before .before .before .before .before .before .before .before .before .before .before .before .before .before .before .before in
     let a = begin .args in
-    let s = state-in (a .tails .now) (a .nexts .now) (a .statuses .now) (a .ticket .now) (a .granted .now) (a .places) in
+    let s = lent-state (a .tails .now) (a .nexts .now) (a .statuses .now) (a .rows .now) (a .domains .now) (a .peers .now) (a .words .now) (a .ticket .now) (a .granted .now) in
     let whole : a .count - 0 ≡ a .count = omega arith in
     (begin .pre .1 .0, ap (λ n. first-refusal (run-tests-before-19 (tree-of (a .tree)) (lock-state s fresh-counters) (take n (a .threads .now)) (length (a .trace .now))) .number) whole ∙ begin .pre .1 .1)
 
@@ -40,8 +40,8 @@ same-length-2 c = search needs
 returns : tie.Need-returns
 returns c =
     let ran = c .before .before .before .before .run-lent in
-    let a = c .before .before .before .before .before .before .before .before .before .before .before .before .before .before .before .before .before .before .before .before .args in
-    let s = state-in (a .tails .now) (a .nexts .now) (a .statuses .now) (a .ticket .now) (a .granted .now) (a .places) in
+    let a = c .before .before .before .before .before .before .before .before .before .before .before .before .before .before .before .before .before .before .before .before .before .before .before .before .args in
+    let s = lent-state (a .tails .now) (a .nexts .now) (a .statuses .now) (a .rows .now) (a .domains .now) (a .peers .now) (a .words .now) (a .ticket .now) (a .granted .now) in
     let whole : a .count - 0 ≡ a .count = omega arith in (
       ran .ensures .0 ∙ ap (λ n. run (tree-of (a .tree)) (take n (a .threads .now)) s .state) whole,
       ran .ensures .1 .1 .1 .0 ∙ ap (λ n. codes-front (a .codes .now) (steps (tree-of (a .tree)) (take n (a .threads .now)) s)) whole,

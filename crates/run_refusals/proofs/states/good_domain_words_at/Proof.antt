@@ -12,16 +12,13 @@ good-next-at-requires c κs = search needs
 returns : tie.Need-returns
 returns c = rw (by-answer _ false (c .before .good-next-at .ensures) (not-true _ (c .if1 .taken)))
 
-add-r : tie.Need-add-r
-add-r c = search needs
-
-good-record-at-requires : tie.Need-good-record-at-requires
-good-record-at-requires c κs = search needs
+good-next-at-requires-2 : tie.Need-good-next-at-requires-2
+good-next-at-requires-2 c κs = search needs
 
 returns-2 : tie.Need-returns-2
-returns-2 c = rw (c .good-record-at .ensures, by-answer _ true (c .before .before .good-next-at .ensures) (not-false _ (c .before .if1 .left)))
+returns-2 c = rw (by-answer _ true (c .before .before .good-next-at .ensures) (not-false _ (c .before .if1 .left))) (c .good-next-at2 .ensures)
 
 pub good-domain-words-at-spec : {M : Type 1} → statement M
 good-domain-words-at-spec =
     tie.close
-    (tie.spec good-next-at-requires returns add-r good-record-at-requires returns-2)
+    (tie.spec good-next-at-requires returns good-next-at-requires-2 returns-2)

@@ -32,20 +32,20 @@ slice-aggregate-run-lent c = search needs
 
 run-lent-requires : tie.Need-run-lent-requires
 run-lent-requires c κs =
-    let passed = c .before .before .before .before .before .before .before .before .before .before .before in
-    let start = c .before .before .before .before .before .before .before .before .before .before .before .before .before .before .before .before .before in
-    (zeros-typed, steps-pass (start .args .tree) (start .pre .0) (start .args .schedule .now) _ (c .before .before .before .before .before .before .before .before .before .before .before .before .before .schedule-refusal-of .ensures) (passed .if1 .left) _ zeros-fresh _ (omega (arith, start .pre .1 .0)))
+    let passed = c .before .before .before .before .before .before .before .before .before .before .before .before .before .before .before in
+    let start = c .before .before .before .before .before .before .before .before .before .before .before .before .before .before .before .before .before .before .before .before .before in
+    (zeros-typed, steps-pass (start .args .tree) (start .pre .0) (start .args .schedule .now) _ (c .before .before .before .before .before .before .before .before .before .before .before .before .before .before .before .before .before .schedule-refusal-of .ensures) (passed .if1 .left) _ zeros-fresh _ (omega (arith, start .pre .1 .0)))
 
 counts-of-requires-2 : tie.Need-counts-of-requires-2
 counts-of-requires-2 c κs =
     let ran = c .before .before .before .before .before in
-    let passed = c .before .before .before .before .before .before .before .before .before .before .before .before .before .before .before .before .before in
-    let start = c .before .before .before .before .before .before .before .before .before .before .before .before .before .before .before .before .before .before .before .before .before .before .before in
-    kinds-of-row (start .args .tree) (start .pre .0) (start .args .schedule .now) _ (c .before .before .before .before .before .before .before .before .before .before .before .before .before .before .before .before .before .before .before .schedule-refusal-of .ensures) (passed .if1 .left) _ zeros-fresh _ (ran .run-lent .ensures .1 .1 .0)
+    let passed = c .before .before .before .before .before .before .before .before .before .before .before .before .before .before .before .before .before .before .before .before .before in
+    let start = c .before .before .before .before .before .before .before .before .before .before .before .before .before .before .before .before .before .before .before .before .before .before .before .before .before .before .before in
+    kinds-of-row (start .args .tree) (start .pre .0) (start .args .schedule .now) _ (c .before .before .before .before .before .before .before .before .before .before .before .before .before .before .before .before .before .before .before .before .before .before .before .schedule-refusal-of .ensures) (passed .if1 .left) _ zeros-fresh _ (ran .run-lent .ensures .1 .1 .0)
 
 put-row-requires-2 : tie.Need-put-row-requires-2
 put-row-requires-2 c κs =
-    let start = c .before .before .before .before .before .before .before .before .before .before .before .before .before .before .before .before .before .before .before .before .before .before .before .before in
+    let start = c .before .before .before .before .before .before .before .before .before .before .before .before .before .before .before .before .before .before .before .before .before .before .before .before .before .before .before .before in
     omega (arith, start .pre .1 .1)
 
 same-length-2 : tie.Need-same-length-2
@@ -58,9 +58,9 @@ returns-2 : tie.Need-returns-2
 returns-2 c =
     let counted = c .before .before .before in
     let ran = c .before .before .before .before .before .before .before .before .before in
-    let passed = c .before .before .before .before .before .before .before .before .before .before .before .before .before .before .before .before .before .before .before .before .before in
-    let start = c .before .before .before .before .before .before .before .before .before .before .before .before .before .before .before .before .before .before .before .before .before .before .before .before .before .before .before in
-    c .before .before .put-row2 .ensures ∙ ap (sets (start .args .rows .now) (start .args .at)) (row-answered (start .args .tree) (start .pre .0) (start .args .schedule .now) _ (c .before .before .before .before .before .before .before .before .before .before .before .before .before .before .before .before .before .before .before .before .before .before .before .schedule-refusal-of .ensures) (passed .if1 .left) _ zeros-fresh _ (ran .run-lent .ensures .1 .1 .0) _ (counted .counts-of2 .ensures))
+    let passed = c .before .before .before .before .before .before .before .before .before .before .before .before .before .before .before .before .before .before .before .before .before .before .before .before .before in
+    let start = c .before .before .before .before .before .before .before .before .before .before .before .before .before .before .before .before .before .before .before .before .before .before .before .before .before .before .before .before .before .before .before in
+    c .before .before .put-row2 .ensures ∙ ap (sets (start .args .rows .now) (start .args .at)) (row-answered (start .args .tree) (start .pre .0) (start .args .schedule .now) _ (c .before .before .before .before .before .before .before .before .before .before .before .before .before .before .before .before .before .before .before .before .before .before .before .before .before .before .before .schedule-refusal-of .ensures) (passed .if1 .left) _ zeros-fresh _ (ran .run-lent .ensures .1 .1 .0) _ (counted .counts-of2 .ensures))
 
 pub run-row-spec : {M : Type 1} → statement M
 run-row-spec =

@@ -1,27 +1,18 @@
--- `steps::limits::counter_refusal_of` meets its contract: every schedule has room, or the lowest position is looked for. Assumes nothing.
-use native.Mathlib.Omega.{arith}
-use Rattle.steps.proofs.CounterLimits.{has-room, is-above, is-none}
+-- `steps::limits::counter_refusal_of` meets its contract: what the type of the state fixes is what its arrays must have. Assumes nothing.
+use Rattle.steps.proofs.Typing.{typed}
 use borrow.Author.Needs.{needs}
 use Rattle.steps.proofs.limits.counter_refusal_of.Statement.{statement}
 use Rattle.steps.proofs.limits.counter_refusal_of.Tie as tie
 
-has-room-requires : tie.Need-has-room-requires
-has-room-requires c κs = search needs
+lent-counter-refusal-of-requires : tie.Need-lent-counter-refusal-of-requires
+lent-counter-refusal-of-requires c κs =
+    let first = c .before .before .before .before .before .before .before .before .before in
+    let g = first .good .1 .0 .1 .1 in
+    let q = g .1 .1 .1 .0 .1 .1 in
+    (typed (first .args .t2) _ _ _ _ _ _ _ _ _ (g .0) (g .1 .0) (g .1 .1 .0) (q .0) (q .1 .0) (q .1 .1 .0) (q .1 .1 .1 .0) (g .1 .1 .1 .1 .0) (g .1 .1 .1 .1 .1 .0), first .pre)
 
 returns : tie.Need-returns
-returns c = has-room _ _ _ _ _ _ (c .before .before .before .pre) _ (c .before .has-room .ensures) (c .if1 .taken)
-
-lowest-above-requires : tie.Need-lowest-above-requires
-lowest-above-requires c κs = search needs
-
-cast-if2 : tie.Need-cast-if2
-cast-if2 c = search needs
-
-returns-2 : tie.Need-returns-2
-returns-2 c = is-above _ _ _ _ _ _ _ (c .before .lowest-above .ensures) (c .if2 .taken)
-
-returns-3 : tie.Need-returns-3
-returns-3 c = is-none _ _ _ _ _ _ _ (c .before .lowest-above .ensures) (c .if2 .left)
+returns c = search needs
 
 pub counter-refusal-of-spec : {M : Type 1} → statement M
-counter-refusal-of-spec = tie.close (tie.spec has-room-requires returns lowest-above-requires cast-if2 returns-2 returns-3)
+counter-refusal-of-spec = tie.close (tie.spec lent-counter-refusal-of-requires returns)

@@ -1,6 +1,5 @@
 -- `steps::run::run_lent` takes the steps of a schedule: the entries done so far have given the state, the trace, how many steps are of each kind and the counters of the domains. Assumes nothing.
 use mathlib.Core.Path.{_≡_, refl, sym, ap, _∙_}
-use mathlib.Core.Logic.{⊎-elim}
 use Prim.Native.Nat.{_+_, _-_, _≤_}
 use native.Mathlib.Omega.{arith}
 use lib.ListN.{length, getD}
@@ -10,10 +9,10 @@ use Rattle.model.proofs.Laws.Calls.{early-facts}
 use Rattle.model.proofs.Trees.Accepted.{sixteen-bit}
 use Rattle.run_refusals.specs.Counts.{counters-in}
 use Rattle.run_refusals.proofs.Passing.{shape-of}
-use Rattle.taking.specs.Taking.{state-in}
+use Rattle.refusals.specs.Arrays.{places-in, lent-state}
 use Rattle.steps.specs.Counting.{Marked}
 use Rattle.members.specs.Counting.{Clear}
-use Rattle.steps.proofs.SoFar.{So-far, start, kind-room, stay-placed, turn, state-ends, trace-ends, kinds-end, thread-at}
+use Rattle.steps.proofs.SoFar.{So-far, start, kind-room, now-placed, turn, state-ends, trace-ends, kinds-end, thread-at}
 use Rattle.steps.proofs.Telling.{Coded, codes-start, codes-turn, codes-end}
 use Rattle.steps.proofs.Tallying.{Tallied, tallied-start, tallied-turn, tallied-ends}
 use Rattle.steps.proofs.Turns.{thread-small, ready}
@@ -25,20 +24,20 @@ use Rattle.steps.proofs.run.run_lent.Statement.{statement}
 use Rattle.steps.proofs.run.run_lent.Tie as tie
 
 abbrev Inv-loop2 : tie.InvT-loop2
-Inv-loop2 tails nexts statuses ticket granted schedule trace kinds codes entries tenures longest tree standing drawn raised tally shown₀ entered k position i at before row domain looked j₀ shown j = (j ≤ looked) × Marked (tree .domains) (tree .parents) (tree .homes) statuses standing (wrap (raised + 1)) j shown
+Inv-loop2 tails nexts statuses rows domains peers words ticket granted schedule trace kinds codes entries tenures longest tree drawn raised tally shown₀ entered k position i at before row domain looked j₀ shown j = (j ≤ looked) × Marked (tree .domains) (tree .parents) (tree .homes) statuses (places-in rows domains peers words) (wrap (raised + 1)) j shown
 
 abbrev μ-loop2 : tie.MeasureT-loop2
-μ-loop2 tails nexts statuses ticket granted schedule trace kinds codes entries tenures longest tree standing drawn raised tally shown₀ entered k position i at before row domain looked j₀ shown j = looked - j
+μ-loop2 tails nexts statuses rows domains peers words ticket granted schedule trace kinds codes entries tenures longest tree drawn raised tally shown₀ entered k position i at before row domain looked j₀ shown j = looked - j
 
 abbrev Inv-loop : tie.InvT-loop
-Inv-loop tails₀ nexts₀ statuses₀ ticket granted schedule trace₀ kinds codes₀ entries₀ tenures₀ longest₀ tree standing₀ drawn₀ raised₀ tally₀ shown₀ entered₀ k₀ tails nexts statuses trace codes entries tenures longest standing drawn raised tally shown entered k =
-    So-far (tree-of tree) schedule trace₀ (state-in tails₀ nexts₀ statuses₀ drawn₀ raised₀ standing₀) trace (state-in tails nexts statuses drawn raised standing) tally entered k
-    × Coded (tree-of tree) schedule (state-in tails₀ nexts₀ statuses₀ drawn₀ raised₀ standing₀) codes₀ codes k
-    × Tallied (tree-of tree) schedule (state-in tails₀ nexts₀ statuses₀ drawn₀ raised₀ standing₀) (counters-in entries₀ tenures₀ longest₀) (counters-in entries tenures longest) k
+Inv-loop tails₀ nexts₀ statuses₀ rows₀ domains₀ peers₀ words₀ ticket granted schedule trace₀ kinds codes₀ entries₀ tenures₀ longest₀ tree drawn₀ raised₀ tally₀ shown₀ entered₀ k₀ tails nexts statuses rows domains peers words trace codes entries tenures longest drawn raised tally shown entered k =
+    So-far (tree-of tree) schedule trace₀ (lent-state tails₀ nexts₀ statuses₀ rows₀ domains₀ peers₀ words₀ drawn₀ raised₀) trace (lent-state tails nexts statuses rows domains peers words drawn raised) tally entered k
+    × Coded (tree-of tree) schedule (lent-state tails₀ nexts₀ statuses₀ rows₀ domains₀ peers₀ words₀ drawn₀ raised₀) codes₀ codes k
+    × Tallied (tree-of tree) schedule (lent-state tails₀ nexts₀ statuses₀ rows₀ domains₀ peers₀ words₀ drawn₀ raised₀) (counters-in entries₀ tenures₀ longest₀) (counters-in entries tenures longest) k
     × Clear shown
 
 abbrev μ-loop : tie.MeasureT-loop
-μ-loop tails₀ nexts₀ statuses₀ ticket granted schedule trace₀ kinds codes₀ entries₀ tenures₀ longest₀ tree standing₀ drawn₀ raised₀ tally₀ shown₀ entered₀ k₀ tails nexts statuses trace codes entries tenures longest standing drawn raised tally shown entered k = length schedule - k
+μ-loop tails₀ nexts₀ statuses₀ rows₀ domains₀ peers₀ words₀ ticket granted schedule trace₀ kinds codes₀ entries₀ tenures₀ longest₀ tree drawn₀ raised₀ tally₀ shown₀ entered₀ k₀ tails nexts statuses rows domains peers words trace codes entries tenures longest drawn raised tally shown entered k = length schedule - k
 
 loop-holds : tie.Need-loop-holds Inv-loop2 μ-loop2 Inv-loop μ-loop
 loop-holds c = (start _ _ _ _ (record { typed = c .before .before .before .before .before .pre .0; form = (early-facts _ _ _ _ (c .before .before .before .before .before .pre .1)) .form }), codes-start _ _ _ _, tallied-start _ _ _ _, clear-none)
@@ -58,52 +57,41 @@ shared-slice-read-i c = omega arith
 cast-at : tie.Need-cast-at Inv-loop2 μ-loop2 Inv-loop μ-loop
 cast-at c = omega (arith, thread-small _ _ _ _ _ (early-facts _ _ _ _ (c .before .before .before .before .before .before .before .before .pre .1)) (c .before .loop-test .taken))
 
-mul-before : tie.Need-mul-before Inv-loop2 μ-loop2 Inv-loop μ-loop
-mul-before c = omega (arith, thread-small _ _ _ _ _ (early-facts _ _ _ _ (c .before .before .before .before .before .before .before .before .pre .1)) (c .before .loop-test .taken))
-
-array-copy-out-before : tie.Need-array-copy-out-before Inv-loop2 μ-loop2 Inv-loop μ-loop
-array-copy-out-before c = omega (arith, thread-small _ _ _ _ _ (early-facts _ _ _ _ (c .before .before .before .before .before .before .before .before .pre .1)) (c .before .loop-test .taken))
+place-at-requires : tie.Need-place-at-requires Inv-loop2 μ-loop2 Inv-loop μ-loop
+place-at-requires c κs = omega (arith, thread-small _ _ _ _ _ (early-facts _ _ _ _ (c .before .before .before .before .before .before .before .before .before .before .before .before .pre .1)) (c .before .before .before .before .before .loop-test .taken))
 
 looked-at-requires : tie.Need-looked-at-requires Inv-loop2 μ-loop2 Inv-loop μ-loop
-looked-at-requires c κs = shape-of (c .before .before .before .before .before .before .before .before .before .before .args .t1) ((early-facts _ _ _ _ (c .before .before .before .before .before .before .before .before .before .before .pre .1)) .tree) .few-domains
+looked-at-requires c κs = shape-of (c .before .before .before .before .before .before .before .before .before .before .before .before .before .before .args .t1) ((early-facts _ _ _ _ (c .before .before .before .before .before .before .before .before .before .before .before .before .before .before .pre .1)) .tree) .few-domains
 
 loop2-holds : tie.Need-loop2-holds Inv-loop2 μ-loop2 Inv-loop μ-loop
-loop2-holds c = (search needs, marked-start _ ((early-facts _ _ _ _ (c .before .before .before .before .before .before .before .before .before .before .before .pre .1)) .tree) _ _ _ _ (c .before .before .before .before .before .loop .inv .3))
+loop2-holds c = (search needs, marked-start _ ((early-facts _ _ _ _ (c .before .before .before .before .before .before .before .before .before .before .before .before .before .before .before .pre .1)) .tree) _ _ _ _ (c .before .before .before .before .before .before .before .before .before .loop .inv .3))
 
 cast-other : tie.Need-cast-other Inv-loop2 μ-loop2 Inv-loop μ-loop
 cast-other c =
     let looked = c .before .before in
-    let first = looked .before .before .before .before .before .before .before .before .before .before .before in
+    let first = c .before .before .before .before .before .before .before .before .before .before .before .before .before .before .before .before .before in
     let r = early-facts _ _ _ _ (first .pre .1) in
     omega (arith, looked-real (looked .looked-at .ensures) (c .«loop2-test» .taken), shape-of (first .args .t1) (r .tree) .few-threads)
 
-mul-q : tie.Need-mul-q Inv-loop2 μ-loop2 Inv-loop μ-loop
-mul-q c =
-    let looked = c .before .before in
-    let first = looked .before .before .before .before .before .before .before .before .before .before .before in
+place-at-requires-2 : tie.Need-place-at-requires-2 Inv-loop2 μ-loop2 Inv-loop μ-loop
+place-at-requires-2 c κs =
+    let looked = c .before .before .before .before .before .before in
+    let first = c .before .before .before .before .before .before .before .before .before .before .before .before .before .before .before .before .before .before .before .before .before in
     let r = early-facts _ _ _ _ (first .pre .1) in
-    omega (arith, looked-real (looked .looked-at .ensures) (c .«loop2-test» .taken), shape-of (first .args .t1) (r .tree) .few-threads)
-
-array-copy-out-q : tie.Need-array-copy-out-q Inv-loop2 μ-loop2 Inv-loop μ-loop
-array-copy-out-q c =
-    let looked = c .before .before in
-    let first = looked .before .before .before .before .before .before .before .before .before .before .before in
-    let r = early-facts _ _ _ _ (first .pre .1) in
-    omega (arith, looked-real (looked .looked-at .ensures) (c .«loop2-test» .taken), shape-of (first .args .t1) (r .tree) .few-threads)
+    omega (arith, looked-real (looked .looked-at .ensures) (c .before .before .before .before .«loop2-test» .taken), shape-of (first .args .t1) (r .tree) .few-threads)
 
 element-copy-out-its-home : tie.Need-element-copy-out-its-home Inv-loop2 μ-loop2 Inv-loop μ-loop
 element-copy-out-its-home c =
-    let test = c .before in
-    let looked = test .before .before in
-    let first = looked .before .before .before .before .before .before .before .before .before .before .before in
+    let looked = c .before .before .before .before .before .before .before in
+    let first = c .before .before .before .before .before .before .before .before .before .before .before .before .before .before .before .before .before .before .before .before .before .before in
     let r = early-facts _ _ _ _ (first .pre .1) in
-    omega (arith, looked-real (looked .looked-at .ensures) (test .«loop2-test» .taken), shape-of (first .args .t1) (r .tree) .few-threads)
+    omega (arith, looked-real (looked .looked-at .ensures) (c .before .before .before .before .before .«loop2-test» .taken), shape-of (first .args .t1) (r .tree) .few-threads)
 
 mark-shown-requires : tie.Need-mark-shown-requires Inv-loop2 μ-loop2 Inv-loop μ-loop
 mark-shown-requires c κs =
-    let test = c .before .before .before .before .before .before in
-    let looked = test .before .before in
-    let first = looked .before .before .before .before .before .before .before .before .before .before .before in
+    let test = c .before .before .before .before .before .before .before .before .before .before in
+    let looked = c .before .before .before .before .before .before .before .before .before .before .before .before in
+    let first = c .before .before .before .before .before .before .before .before .before .before .before .before .before .before .before .before .before .before .before .before .before .before .before .before .before .before .before in
     let w = first .args .t1 in
     let r = early-facts _ _ _ _ (first .pre .1) in
     let k = shape-of w (r .tree) in
@@ -111,62 +99,57 @@ mark-shown-requires c κs =
 
 add-j : tie.Need-add-j Inv-loop2 μ-loop2 Inv-loop μ-loop
 add-j c =
-    let test = c .before .before .before .before .before .before .before in
-    let looked = test .before .before in
-    let first = looked .before .before .before .before .before .before .before .before .before .before .before in
+    let looked = c .before .before .before .before .before .before .before .before .before .before .before .before .before in
+    let first = c .before .before .before .before .before .before .before .before .before .before .before .before .before .before .before .before .before .before .before .before .before .before .before .before .before .before .before .before in
     let r = early-facts _ _ _ _ (first .pre .1) in
-    omega (arith, looked-real (looked .looked-at .ensures) (test .«loop2-test» .taken), shape-of (first .args .t1) (r .tree) .few-threads)
+    omega (arith, looked-real (looked .looked-at .ensures) (c .before .before .before .before .before .before .before .before .before .before .before .«loop2-test» .taken), shape-of (first .args .t1) (r .tree) .few-threads)
 
 loop2-less : tie.Need-loop2-less Inv-loop2 μ-loop2 Inv-loop μ-loop
 loop2-less c = omega arith
 
 loop2-again : tie.Need-loop2-again Inv-loop2 μ-loop2 Inv-loop μ-loop
 loop2-again c =
-    let test = c .before .before .before .before .before .before .before in
-    let looked = test .before .before in
-    let first = looked .before .before .before .before .before .before .before .before .before .before .before in
+    let test = c .before .before .before .before .before .before .before .before .before .before .before in
+    let looked = c .before .before .before .before .before .before .before .before .before .before .before .before .before in
+    let first = c .before .before .before .before .before .before .before .before .before .before .before .before .before .before .before .before .before .before .before .before .before .before .before .before .before .before .before .before in
     let r = early-facts _ _ _ _ (first .pre .1) in
     let real = looked-real (looked .looked-at .ensures) (test .«loop2-test» .taken) in
-    (omega arith, marked-next (first .args .t1) (r .tree) _ _ _ _ _ _ real (test .before .loop2 .inv .1) (c .mark-shown .ensures))
+    (omega arith, marked-next (first .args .t1) (r .tree) _ _ _ _ _ _ real (test .before .loop2 .inv .1) (rw (c .before .before .before .before .before .before .place-at2 .ensures) at (c .mark-shown .ensures)))
 
 take-requires : tie.Need-take-requires Inv-loop2 μ-loop2 Inv-loop μ-loop
 unfolding tree-of
 take-requires c κs =
-    let l = c .before .before .before .before .before .before .before .before .before .before .before .before .before .before .before .before .before .before .before .before .loop in
-    let test = c .before .before .before .before .before .before .before .before .before .before .before .before .before .before .before .before .before .before .before .loop-test .taken in
+    let l = c .before .before .before .before .before .before .before .before .before .before .before .before .before .before .before .before .before .before .before .before .before .before .before .before .loop in
+    let test = c .before .before .before .before .before .before .before .before .before .before .before .before .before .before .before .before .before .before .before .before .before .before .before .loop-test .taken in
+    let stands = c .before .before .before .before .before .before .before .before .before .before .before .before .before .before .before .before .before .place-at .ensures in
     let look = c .before .before .before .before .before .before .before .before .before .before .before .before .before .before .before .looked-at .ensures in
     let marks = c .before .before .before .before .before .before .before .before .before .before .before .before .before .before .loop2 .inv in
     let done = c .before .before .before .before .before .before .before .before .before .before .before .before .before .«loop2-test» .left in
-    let w = c .before .before .before .before .before .before .before .before .before .before .before .before .before .before .before .before .before .before .before .before .before .before .before .before .before .before .args .t1 in
-    let r = early-facts _ _ _ _ (c .before .before .before .before .before .before .before .before .before .before .before .before .before .before .before .before .before .before .before .before .before .before .before .before .before .before .pre .1) in
-    let n = state-in (l .tails) (l .nexts) (l .statuses) (l .drawn) (l .raised) (l .standing) in
+    let first = c .before .before .before .before .before .before .before .before .before .before .before .before .before .before .before .before .before .before .before .before .before .before .before .before .before .before .before .before .before .before in
+    let w = first .args .t1 in
+    let r = early-facts _ _ _ _ (first .pre .1) in
+    let n = lent-state (l .tails) (l .nexts) (l .statuses) (l .rows) (l .domains) (l .peers) (l .words) (l .drawn) (l .raised) in
     let entered = entries-room _ (sixteen-bit w) _ _ _ r _ _ (l .inv .0 .within) (l .inv .2) in
     let held = tenures-room _ (sixteen-bit w) _ _ _ r _ _ (l .inv .0 .within) (l .inv .2) in
-    (ready _ _ n _ _ _ r (l .inv .0 .formed) test, ((entered, held), shown-for w (r .tree) _ _ _ _ _ _ _ look (marks .0) done (marks .1)))
+    (rw stands (ready _ _ n _ _ _ r (l .inv .0 .formed) test), ((entered, held), shown-for w (r .tree) _ _ _ _ _ _ _ look (marks .0) done (marks .1)))
 
 count-in-requires : tie.Need-count-in-requires Inv-loop2 μ-loop2 Inv-loop μ-loop
 count-in-requires c κs =
-    let test = c .before .before .before .before .before .before .before .before .before .before .before .before .before .before .before .before .before .before .before .before .before .before in
+    let test = c .before .before .before .before .before .before .before .before .before .before .before .before .before .before .before .before .before .before .before .before .before .before .before .before .before .before in
     let l = test .before .loop in
-    let r = early-facts _ _ _ _ (test .before .before .before .before .before .before .before .pre .1) in
-    let n = state-in (l .tails) (l .nexts) (l .statuses) (l .drawn) (l .raised) (l .standing) in
-    kind-room _ _ _ _ _ n _ _ _ _ _ (l .inv .0) (c .before .before .take .ensures .0 .does (l .standing) refl) (test .loop-test .taken) (r .short)
+    let r = early-facts _ _ _ _ (c .before .before .before .before .before .before .before .before .before .before .before .before .before .before .before .before .before .before .before .before .before .before .before .before .before .before .before .before .before .before .before .before .before .pre .1) in
+    let n = lent-state (l .tails) (l .nexts) (l .statuses) (l .rows) (l .domains) (l .peers) (l .words) (l .drawn) (l .raised) in
+    let does = rw (c .before .before .before .before .before .before .before .before .before .before .before .before .before .before .before .before .before .before .before .before .place-at .ensures) at (c .before .before .take .ensures .0 .does (n .places) (sym (c .before .before .before .before .before .before .before .before .before .before .before .before .before .before .before .before .before .before .before .before .place-at .ensures))) in
+    kind-room _ _ _ _ _ n _ _ _ _ _ (l .inv .0) does (test .loop-test .taken) (r .short)
 
-mul-standing : tie.Need-mul-standing Inv-loop2 μ-loop2 Inv-loop μ-loop
-mul-standing c =
-    let test = c .before .before .before .before .before .before .before .before .before .before .before .before .before .before .before .before .before .before .before .before .before .before .before .before in
-    omega (arith, thread-small _ _ _ _ _ (early-facts _ _ _ _ (test .before .before .before .before .before .before .before .pre .1)) (test .loop-test .taken))
-
-array-set-from-standing : tie.Need-array-set-from-standing Inv-loop2 μ-loop2 Inv-loop μ-loop
-array-set-from-standing c =
-    let test = c .before .before .before .before .before .before .before .before .before .before .before .before .before .before .before .before .before .before .before .before .before .before .before .before in
-    omega (arith, thread-small _ _ _ _ _ (early-facts _ _ _ _ (test .before .before .before .before .before .before .before .pre .1)) (test .loop-test .taken))
+put-place-requires : tie.Need-put-place-requires Inv-loop2 μ-loop2 Inv-loop μ-loop
+put-place-requires c κs = omega (arith, thread-small _ _ _ _ _ (early-facts _ _ _ _ (c .before .before .before .before .before .before .before .before .before .before .before .before .before .before .before .before .before .before .before .before .before .before .before .before .before .before .before .before .before .before .before .before .before .before .before .before .before .before .pre .1)) (c .before .before .before .before .before .before .before .before .before .before .before .before .before .before .before .before .before .before .before .before .before .before .before .before .before .before .before .before .before .before .before .loop-test .taken))
 
 trace-at-requires : tie.Need-trace-at-requires Inv-loop2 μ-loop2 Inv-loop μ-loop
 trace-at-requires c κs =
-    let test = c .before .before .before .before .before .before .before .before .before .before .before .before .before .before .before .before .before .before .before .before .before .before .before .before .before in
+    let test = c .before .before .before .before .before .before .before .before .before .before .before .before .before .before .before .before .before .before .before .before .before .before .before .before .before .before .before .before .before .before .before .before .before in
     let g = test .before .loop .inv .0 in
-    let r = early-facts _ _ _ _ (test .before .before .before .before .before .before .before .pre .1) in
+    let r = early-facts _ _ _ _ (c .before .before .before .before .before .before .before .before .before .before .before .before .before .before .before .before .before .before .before .before .before .before .before .before .before .before .before .before .before .before .before .before .before .before .before .before .before .before .before .before .pre .1) in
     let more = test .loop-test .taken in
     (omega (arith, more, g .entries-fit, g .long, r .fits), omega (arith, more, g .entries-fit, r .short))
 
@@ -174,35 +157,36 @@ put-code-requires : tie.Need-put-code-requires Inv-loop2 μ-loop2 Inv-loop μ-lo
 put-code-requires c κs = search needs
 
 add-k : tie.Need-add-k Inv-loop2 μ-loop2 Inv-loop μ-loop
-add-k c =
-    let test = c .before .before .before .before .before .before .before .before .before .before .before .before .before .before .before .before .before .before .before .before .before .before .before .before .before .before .before .before .before .before .before .before in
-    omega (arith, test .loop-test .taken, (early-facts _ _ _ _ (test .before .before .before .before .before .before .before .pre .1)) .short)
+add-k c = omega (arith, c .before .before .before .before .before .before .before .before .before .before .before .before .before .before .before .before .before .before .before .before .before .before .before .before .before .before .before .before .before .before .before .before .before .before .before .before .before .before .before .before .loop-test .taken, (early-facts _ _ _ _ (c .before .before .before .before .before .before .before .before .before .before .before .before .before .before .before .before .before .before .before .before .before .before .before .before .before .before .before .before .before .before .before .before .before .before .before .before .before .before .before .before .before .before .before .before .before .before .before .pre .1)) .short)
 
 loop-less : tie.Need-loop-less Inv-loop2 μ-loop2 Inv-loop μ-loop
-loop-less c = omega (arith, c .before .before .before .before .before .before .before .before .before .before .before .before .before .before .before .before .before .before .before .before .before .before .before .before .before .before .before .before .before .before .before .before .loop-test .taken)
+loop-less c = omega (arith, c .before .before .before .before .before .before .before .before .before .before .before .before .before .before .before .before .before .before .before .before .before .before .before .before .before .before .before .before .before .before .before .before .before .before .before .before .before .before .before .before .loop-test .taken)
 
 loop-again : tie.Need-loop-again Inv-loop2 μ-loop2 Inv-loop μ-loop
 unfolding tree-of
 loop-again c =
-    let l = c .before .before .before .before .before .before .before .before .before .before .before .before .before .before .before .before .before .before .before .before .before .before .before .before .before .before .before .before .before .before .before .before .before .loop in
-    let test = c .before .before .before .before .before .before .before .before .before .before .before .before .before .before .before .before .before .before .before .before .before .before .before .before .before .before .before .before .before .before .before .before .loop-test .taken in
-    let look = c .before .before .before .before .before .before .before .before .before .before .before .before .before .before .before .before .before .before .before .before .before .before .before .before .before .before .before .before .looked-at .ensures in
-    let marks = c .before .before .before .before .before .before .before .before .before .before .before .before .before .before .before .before .before .before .before .before .before .before .before .before .before .before .before .loop2 .inv in
-    let done = c .before .before .before .before .before .before .before .before .before .before .before .before .before .before .before .before .before .before .before .before .before .before .before .before .before .before .«loop2-test» .left in
-    let took = c .before .before .before .before .before .before .before .before .before .before .before .before .take in
-    let tallied = c .before .before .before .before .before .before .before .before .before .count-in .ensures in
+    let l = c .before .before .before .before .before .before .before .before .before .before .before .before .before .before .before .before .before .before .before .before .before .before .before .before .before .before .before .before .before .before .before .before .before .before .before .before .before .before .before .before .before .loop in
+    let test = c .before .before .before .before .before .before .before .before .before .before .before .before .before .before .before .before .before .before .before .before .before .before .before .before .before .before .before .before .before .before .before .before .before .before .before .before .before .before .before .before .loop-test .taken in
+    let stands = c .before .before .before .before .before .before .before .before .before .before .before .before .before .before .before .before .before .before .before .before .before .before .before .before .before .before .before .before .before .before .before .before .before .before .place-at .ensures in
+    let look = rw stands at (c .before .before .before .before .before .before .before .before .before .before .before .before .before .before .before .before .before .before .before .before .before .before .before .before .before .before .before .before .before .before .before .before .looked-at .ensures) in
+    let marks = c .before .before .before .before .before .before .before .before .before .before .before .before .before .before .before .before .before .before .before .before .before .before .before .before .before .before .before .before .before .before .before .loop2 .inv in
+    let done = c .before .before .before .before .before .before .before .before .before .before .before .before .before .before .before .before .before .before .before .before .before .before .before .before .before .before .before .before .before .before .«loop2-test» .left in
+    let took = c .before .before .before .before .before .before .before .before .before .before .before .before .before .before .before .before .take in
+    let tallied = c .before .before .before .before .before .before .before .before .before .before .before .before .before .count-in .ensures in
+    let stored = c .before .before .before .before .before .before .before .before .put-place .ensures in
     let traced = c .before .before .before .before .before .before .trace-at .ensures in
-    let codes = c .before .before .put-code .ensures in
-    let w = c .before .before .before .before .before .before .before .before .before .before .before .before .before .before .before .before .before .before .before .before .before .before .before .before .before .before .before .before .before .before .before .before .before .before .before .before .before .before .before .args .t1 in
-    let r = early-facts _ _ _ _ (c .before .before .before .before .before .before .before .before .before .before .before .before .before .before .before .before .before .before .before .before .before .before .before .before .before .before .before .before .before .before .before .before .before .before .before .before .before .before .before .pre .1) in
-    let n = state-in (l .tails) (l .nexts) (l .statuses) (l .drawn) (l .raised) (l .standing) in
+    let codes = rw stands at (c .before .before .put-code .ensures) in
+    let first = c .before .before .before .before .before .before .before .before .before .before .before .before .before .before .before .before .before .before .before .before .before .before .before .before .before .before .before .before .before .before .before .before .before .before .before .before .before .before .before .before .before .before .before .before .before .before .before in
+    let w = first .args .t1 in
+    let r = early-facts _ _ _ _ (first .pre .1) in
+    let n = lent-state (l .tails) (l .nexts) (l .statuses) (l .rows) (l .domains) (l .peers) (l .words) (l .drawn) (l .raised) in
     let m = took .result in
-    let does = took .ensures .0 .does (l .standing) refl in
+    let does = rw stands at (took .ensures .0 .does (n .places) (sym stands)) in
     let th = thread-at _ _ (r .threads) _ test in
     let so-far = l .inv .0 in
-    let placed = ⊎-elim (λ w. w .1) (λ w. w .1 ∙ stay-placed _ _ n _ m _ (r .tree) (r .threads) test (so-far .formed) does refl (w .0 .left)) (c .before .before .before .before .before .before .before .before .if1 .came) in
-    let counts = step-counted w (r .tree) _ th n (so-far .formed) m _ refl does _ (home-is w (r .tree) _ th) _ _ _ _ _ (took .ensures .1 .1 .0) _ _ (took .ensures .1 .0) (λ z. raise-marked w (r .tree) _ th n (so-far .formed) _ _ _ look (marks .0) done z (marks .1)) in
-    (rw tallied (turn _ _ _ _ _ n _ _ _ m _ _ _ _ (r .tree) (sixteen-bit w) (r .threads) (r .fits) test so-far does (rw placed) (traced .0) (traced .1)), codes-turn _ _ _ _ _ n _ m _ _ (r .threads) test (so-far .formed) (so-far .state-is) does (l .inv .1) codes, tallied-turn _ _ _ _ _ _ n _ test (so-far .state-is) (l .inv .2) counts, marks-cleared w (r .tree) _ _ _ _ _ _ _ _ look (marks .0) (marks .1) (took .ensures .1 .1 .1))
+    let placed = stored ∙ now-placed _ _ n _ m _ (r .tree) (r .threads) test (so-far .formed) does refl in
+    let counts = step-counted w (r .tree) _ th n (so-far .formed) m _ refl does _ (home-is w (r .tree) _ th) _ _ _ _ _ (rw stands at (took .ensures .1 .1 .0)) _ _ (took .ensures .1 .0) (λ z. raise-marked w (r .tree) _ th n (so-far .formed) _ _ _ look (marks .0) done z (marks .1)) in
+    (rw tallied (turn _ _ _ _ _ n _ _ _ m _ _ _ _ (r .tree) (sixteen-bit w) (r .threads) (r .fits) test so-far does (rw placed) (traced .0) (traced .1)), codes-turn _ _ _ _ _ n _ m _ _ (r .threads) test (so-far .formed) (so-far .state-is) does (l .inv .1) codes, tallied-turn _ _ _ _ _ _ n _ test (so-far .state-is) (l .inv .2) counts, marks-cleared w (r .tree) _ _ _ _ _ _ _ _ look (marks .0) (marks .1) (rw stands at (took .ensures .1 .1 .1)))
 
 same-length : tie.Need-same-length Inv-loop2 μ-loop2 Inv-loop μ-loop
 same-length c = c .before .loop .inv .0 .long
@@ -231,13 +215,11 @@ run-lent-spec =
     mul-i
     shared-slice-read-i
     cast-at
-    mul-before
-    array-copy-out-before
+    place-at-requires
     looked-at-requires
     loop2-holds
     cast-other
-    mul-q
-    array-copy-out-q
+    place-at-requires-2
     element-copy-out-its-home
     mark-shown-requires
     add-j
@@ -245,8 +227,7 @@ run-lent-spec =
     loop2-again
     take-requires
     count-in-requires
-    mul-standing
-    array-set-from-standing
+    put-place-requires
     trace-at-requires
     put-code-requires
     add-k

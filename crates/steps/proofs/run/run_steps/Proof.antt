@@ -6,8 +6,10 @@ use Rattle.steps.proofs.run.run_steps.Tie as tie
 
 run-lent-requires : tie.Need-run-lent-requires
 run-lent-requires c κs =
-    let g = c .before .before .before .before .before .before .before .before .before .before .before .before .before .before .before .before .before .before .good .1 .0 .1 .1 in
-    (typed (c .before .before .before .before .before .before .before .before .before .before .before .before .before .before .before .before .before .before .args .state) _ _ _ _ _ _ (g .0) (g .1 .0) (g .1 .1 .0) (g .1 .1 .1 .0) (g .1 .1 .1 .1 .0) (g .1 .1 .1 .1 .1 .0), c .before .before .before .before .before .before .before .before .before .before .before .before .before .before .before .before .before .before .pre)
+    let first = c .before .before .before .before .before .before .before .before .before .before .before .before .before .before .before .before .before .before .before .before .before .before .before .before .before in
+    let g = first .good .1 .0 .1 .1 in
+    let q = g .1 .1 .1 .0 .1 .1 in
+    (typed (first .args .state) _ _ _ _ _ _ _ _ _ (g .0) (g .1 .0) (g .1 .1 .0) (q .0) (q .1 .0) (q .1 .1 .0) (q .1 .1 .1 .0) (g .1 .1 .1 .1 .0) (g .1 .1 .1 .1 .1 .0), first .pre)
 
 same-length : tie.Need-same-length
 same-length c = search needs

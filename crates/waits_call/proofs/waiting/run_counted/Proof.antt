@@ -34,7 +34,8 @@ loop-holds : tie.Need-loop-holds Inv-loop μ-loop
 loop-holds c =
     let first = c .before .before .before .before .before .before in
     let g = first .good .1 .0 .1 .1 in
-    pieces-start _ _ _ _ _ _ _ (first .pre .1 .1) (c .set-marks .ensures) (record { typed = typed (first .args .state) _ _ _ _ _ _ (g .0) (g .1 .0) (g .1 .1 .0) (g .1 .1 .1 .0) (g .1 .1 .1 .1 .0) (g .1 .1 .1 .1 .1 .0); form = run-facts _ _ _ _ (first .pre .0) .form })
+    let q = g .1 .1 .1 .0 .1 .1 in
+    pieces-start _ _ _ _ _ _ _ (first .pre .1 .1) (c .set-marks .ensures) (record { typed = typed (first .args .state) _ _ _ _ _ _ _ _ _ (g .0) (g .1 .0) (g .1 .1 .0) (q .0) (q .1 .0) (q .1 .1 .0) (q .1 .1 .1 .0) (g .1 .1 .1 .1 .0) (g .1 .1 .1 .1 .1 .0); form = run-facts _ _ _ _ (first .pre .0) .form })
 
 piece-end-requires : tie.Need-piece-end-requires Inv-loop μ-loop
 piece-end-requires c κs = omega arith

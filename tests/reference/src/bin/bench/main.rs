@@ -1,6 +1,7 @@
 //! What the library's calls cost against the step table's: four schedules, three trees, each with a queue root and with a ticket root.
 //! The last line is the worst ratio of the queue roots, the one before it that of the ticket roots.
 
+mod bounds;
 mod calls;
 mod chain;
 mod files;
@@ -126,5 +127,6 @@ fn main() {
     chain::print();
     texts::print();
     writing::print();
+    bounds::print();
     worst.print();
 }

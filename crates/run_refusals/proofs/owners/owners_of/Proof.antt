@@ -1,10 +1,10 @@
--- `run_refusals::states::owners_of` meets its contract: the parents of the domains passed are in the table. Assumes nothing.
+-- `run_refusals::owners::owners_of` meets its contract: the parents of the domains passed are in the table. Assumes nothing.
 use Prim.Native.Nat.{_≤_, _<_, _-_}
 use native.Mathlib.Omega.{arith}
 use Rattle.run_refusals.proofs.Owning.{Domain-owners, domains-first, domains-next, domains-all}
 use borrow.Author.Needs.{needs}
-use Rattle.run_refusals.proofs.states.owners_of.Statement.{statement}
-use Rattle.run_refusals.proofs.states.owners_of.Tie as tie
+use Rattle.run_refusals.proofs.owners.owners_of.Statement.{statement}
+use Rattle.run_refusals.proofs.owners.owners_of.Tie as tie
 
 abbrev Inv-loop : tie.InvT-loop
 Inv-loop owners₀ parents homes domains threads d₀ owners d = (0 < d) × (d ≤ domains) × ((few : threads ≤ 256) → Domain-owners threads parents homes few d owners)

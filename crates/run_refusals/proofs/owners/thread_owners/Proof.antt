@@ -1,11 +1,11 @@
--- `run_refusals::states::thread_owners` meets its contract: the homes of the threads passed are in the table. Assumes nothing.
+-- `run_refusals::owners::thread_owners` meets its contract: the homes of the threads passed are in the table. Assumes nothing.
 use Prim.Native.Nat.{_≤_, _-_}
 use native.Mathlib.Omega.{arith}
 use Rattle.run_refusals.specs.Tables.{Thread-owners}
 use Rattle.run_refusals.proofs.Owning.{threads-first, threads-next, threads-all}
 use borrow.Author.Needs.{needs}
-use Rattle.run_refusals.proofs.states.thread_owners.Statement.{statement}
-use Rattle.run_refusals.proofs.states.thread_owners.Tie as tie
+use Rattle.run_refusals.proofs.owners.thread_owners.Statement.{statement}
+use Rattle.run_refusals.proofs.owners.thread_owners.Tie as tie
 
 abbrev Inv-loop : tie.InvT-loop
 Inv-loop owners₀ homes threads i₀ owners i = (i ≤ threads) × Thread-owners i homes owners

@@ -1,4 +1,4 @@
--- `run_refusals::run_refusal_of` meets its contract: the tests of the tree, of the state's counters and of its words, then the schedule's. Assumes nothing.
+-- `run_refusals::lent_refusal_of` meets its contract: the tests of the tree, of the state's counters and of its words, then the schedule's. Assumes nothing.
 use mathlib.Core.Path.{_∙_}
 use mathlib.Core.Bool.{true, false}
 use native.Mathlib.Omega.{arith}
@@ -9,8 +9,8 @@ use Rattle.refusals.proofs.Reading.{refusal-words-same}
 use Rattle.refusals.proofs.Scanning.{by-answer}
 use Rattle.run_refusals.proofs.StateTests.{tree-refuses, counts-refuse, words-refuse, schedule-answers, counts-of-tree, tree-accepted}
 use borrow.Author.Needs.{needs}
-use Rattle.run_refusals.proofs.run_refusal_of.Statement.{statement}
-use Rattle.run_refusals.proofs.run_refusal_of.Tie as tie
+use Rattle.run_refusals.proofs.lent_refusal_of.Statement.{statement}
+use Rattle.run_refusals.proofs.lent_refusal_of.Tie as tie
 
 tree-refusal-of-requires : tie.Need-tree-refusal-of-requires
 tree-refusal-of-requires c κs = search needs
@@ -53,8 +53,8 @@ returns-4 c =
     schedule-answers (s .args .t1) _ _ _ _ (c .before .before .before .before .before .before .before .before .before .tree-refusal-of .ensures ∙ refusal-words-same (s .args .t1)) (c .before .before .before .before .before .before .before .if1 .left) (by-answer _ true (c .before .before .before .before .good-counts .ensures ∙ counts-of-tree (s .args .t1) _) (not-false _ (c .before .before .before .if2 .left)))
     (by-answer _ true (c .before .before .is-well-formed .ensures) (not-false _ (c .before .if3 .left))) _ (c .schedule-refusal-of .ensures)
 
-pub run-refusal-of-spec : {M : Type 1} → statement M
-run-refusal-of-spec =
+pub lent-refusal-of-spec : {M : Type 1} → statement M
+lent-refusal-of-spec =
     tie.close
     (tie.spec
     tree-refusal-of-requires

@@ -1,0 +1,2 @@
+-- What a step and a run on lent arrays tell.
+pub mod Lent
