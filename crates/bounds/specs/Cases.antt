@@ -37,31 +37,6 @@ cases =
     ∷ (eqb (allowances-answer (tree 3 1 (0 ∷ 0 ∷ 0 ∷ []) (0 ∷ 2 ∷ 2 ∷ []) (1 ∷ [])) .number) 16
     && same-numbers (allowances-left (tree 3 1 (0 ∷ 0 ∷ 0 ∷ []) (0 ∷ 2 ∷ 2 ∷ []) (1 ∷ [])) (7 ∷ 8 ∷ [])) (7 ∷ 8 ∷ [])) ∷ []
 
--- domain 1 and four below one another, all of the largest threshold, beside a leaf with a thread
-abbrev pub deep-beside-leaf : TreeWords
-deep-beside-leaf = tree 7 2 (0 ∷ 0 ∷ 1 ∷ 2 ∷ 3 ∷ 4 ∷ 0 ∷ []) (0 ∷ 65535 ∷ 65535 ∷ 65535 ∷ 65535 ∷ 65535 ∷ 1 ∷ []) (5 ∷ 6 ∷ [])
-
--- the same with one level less and a lower threshold: the rounds are a number of 64 bits, the turns are not
-abbrev pub less-deep : TreeWords
-less-deep = tree 6 2 (0 ∷ 0 ∷ 1 ∷ 2 ∷ 3 ∷ 0 ∷ []) (0 ∷ 65535 ∷ 65535 ∷ 65535 ∷ 8192 ∷ 1 ∷ []) (4 ∷ 5 ∷ [])
-
-abbrev pub tells : (number place rounds turns : ℕ) → TreeWords → Bool
-tells n p r u w =
-    let a = rounds-answer w in
-    eqb (a .number) n && (eqb (a .place) p && (eqb (a .rounds) r && eqb (a .turns) u))
-
-unfoldable pub rounds-cases : List Bool
-rounds-cases =
-    -- two threads in the root
-    tells 0 0 19 38 (tree 1 2 [] [] (0 ∷ 0 ∷ []))
-    ∷ tells 0 0 177 531 example
-    ∷ tells 0 0 57 114 two-levels
-    -- a thread without others
-    ∷ tells 0 0 55 55 deep
-    ∷ tells 0 0 18446744073709551615 18446744073709551615 deep-beside-leaf
-    ∷ tells 0 0 16140162203956224052 18446744073709551615 less-deep
-    ∷ tells 16 2 0 0 (tree 3 1 (0 ∷ 0 ∷ 0 ∷ []) (0 ∷ 2 ∷ 2 ∷ []) (1 ∷ [])) ∷ []
-
 -- two domains of two threads, of thresholds 3 and 2
 abbrev pub two-pairs : TreeWords
 two-pairs = tree 3 4 (0 ∷ 0 ∷ 0 ∷ []) (0 ∷ 3 ∷ 2 ∷ []) (1 ∷ 1 ∷ 2 ∷ 2 ∷ [])
@@ -75,6 +50,30 @@ abbrev pub deep-with-leaves : TreeWords
 deep-with-leaves =
     tree 11 7 (0 ∷ 0 ∷ 1 ∷ 2 ∷ 3 ∷ 4 ∷ 4 ∷ 3 ∷ 2 ∷ 1 ∷ 0 ∷ []) (0 ∷ 65535 ∷ 65535 ∷ 65535 ∷ 65535 ∷ 65535 ∷ 1 ∷ 1 ∷ 1 ∷ 1 ∷ 1 ∷ [])
     (5 ∷ 5 ∷ 6 ∷ 7 ∷ 8 ∷ 9 ∷ 10 ∷ [])
+
+-- the same with one level less and a lower threshold: the rounds are a number of 64 bits, the turns are not
+abbrev pub less-deep : TreeWords
+less-deep =
+    tree 9 6 (0 ∷ 0 ∷ 1 ∷ 2 ∷ 3 ∷ 3 ∷ 2 ∷ 1 ∷ 0 ∷ []) (0 ∷ 65535 ∷ 65535 ∷ 65535 ∷ 8192 ∷ 1 ∷ 1 ∷ 1 ∷ 1 ∷ []) (4 ∷ 4 ∷ 5 ∷ 6 ∷ 7 ∷ 8 ∷ [])
+
+abbrev pub tells : (number place rounds turns : ℕ) → TreeWords → Bool
+tells n p r u w =
+    let a = rounds-answer w in
+    eqb (a .number) n && (eqb (a .place) p && (eqb (a .rounds) r && eqb (a .turns) u))
+
+unfoldable pub rounds-cases : List Bool
+rounds-cases =
+    -- two threads in the root
+    tells 0 0 19 38 (tree 1 2 [] [] (0 ∷ 0 ∷ []))
+    ∷ tells 0 0 57 171 example
+    ∷ tells 0 0 47 94 two-levels
+    ∷ tells 0 0 73 292 two-pairs
+    ∷ tells 0 0 85 340 not-divided
+    -- a thread without others
+    ∷ tells 0 0 55 55 deep
+    ∷ tells 0 0 18446744073709551615 18446744073709551615 deep-with-leaves
+    ∷ tells 0 0 16140162203956224025 18446744073709551615 less-deep
+    ∷ tells 16 2 0 0 (tree 3 1 (0 ∷ 0 ∷ 0 ∷ []) (0 ∷ 2 ∷ 2 ∷ []) (1 ∷ [])) ∷ []
 
 abbrev pub waits : (words : List ℕ) → TreeWords → Bool
 waits ws w = eqb (wait-bounds-answer w .number) 0 && same-numbers (wait-bounds-left w []) ws

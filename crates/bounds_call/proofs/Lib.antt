@@ -2,7 +2,7 @@
 pub mod Filling
 pub mod Words
 pub mod Capped
-pub mod RoundWords
-pub mod RoundAnswers
 pub mod WaitSums
 pub mod WaitWords
+pub mod RoundWords
+pub mod RoundAnswers

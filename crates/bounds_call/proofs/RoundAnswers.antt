@@ -1,9 +1,7 @@
 -- What the call of rounds answers, by its tree's words. Assumes nothing.
 use mathlib.Core.Path.{_≡_, sym, ap, _∙_}
-use mathlib.Core.List.{List}
 use mathlib.Core.Logic.{_≢_}
 use Prim.Native.Nat.{ℕ, _*_}
-use native.Mathlib.Omega.{arith}
 use borrow.Author.Tests.{eq-eqb, ne-eqb}
 use Rattle.model.specs.declared.TreeWords.{TreeWords}
 use Rattle.model.specs.Trees.{tree-of}
@@ -12,30 +10,23 @@ use Rattle.refusals.specs.declared.Refusal.{Refusal}
 use Rattle.refusals.specs.Arrays.{refusal-words}
 use Rattle.starvation_freedom.specs.Bounds.{everyone-bound}
 use Rattle.bounds.specs.declared.RoundsReply.{RoundsReply}
-use Rattle.bounds.specs.Answers.{capped, allowances-answer, allowances-left, rounds-answer}
-use Rattle.bounds_call.specs.Arrays.{Allowed}
+use Rattle.bounds.specs.Answers.{capped, rounds-answer}
 use Rattle.bounds_call.proofs.Capped.{capped-first}
-use Rattle.bounds.proofs.Law.{word-left}
-use Rattle.model.proofs.Trees.Reading.{few-domains}
-
--- the words that the call of allowances leaves
-pub allowed-left : (w : TreeWords) (b ws : List ℕ) → tree-refusal (tree-of w) .number ≡ 0 → ws ≡ allowances-left w b → Allowed (tree-of w) ws
-unfolding allowances-answer tree-of
-allowed-left w b ws ok e =
-    let few = few-domains w ok in
-    record { allowed = λ c p s. rw e (word-left w b ok c p s (omega arith)) }
 
 pub rounds-refused :
-    (w : TreeWords) (r : Refusal) → r ≡ refusal-words (allowances-answer w) → r .number ≢ 0 →
+    (w : TreeWords) (r : Refusal) → r ≡ refusal-words (tree-refusal (tree-of w)) → r .number ≢ 0 →
     _≡_ {A = RoundsReply} (record { number = r .number; place = r .place; rounds = 0; turns = 0 }) (rounds-answer w)
-unfolding rounds-answer allowances-answer
+unfolding rounds-answer
 rounds-refused w r e n = rw (e, ne-eqb (tree-refusal (tree-of w) .number) 0 (λ z. n (ap (λ (x : Refusal). x .number) e ∙ z)))
 
+pub rounds-tested : (w : TreeWords) (r : Refusal) → r ≡ refusal-words (tree-refusal (tree-of w)) → r .number ≡ 0 → tree-refusal (tree-of w) .number ≡ 0
+rounds-tested w r e z = sym (ap (λ (x : Refusal). x .number) e) ∙ z
+
 pub rounds-accepted :
-    (w : TreeWords) (r : Refusal) (most turns : ℕ) → r ≡ refusal-words (allowances-answer w) → r .number ≡ 0 → most ≡ capped (everyone-bound (tree-of w)) →
+    (w : TreeWords) (r : Refusal) (most turns : ℕ) → r ≡ refusal-words (tree-refusal (tree-of w)) → r .number ≡ 0 → most ≡ capped (everyone-bound (tree-of w)) →
     turns ≡ capped (most * w .threads) →
     _≡_ {A = RoundsReply} (record { number = r .number; place = r .place; rounds = most; turns = turns }) (rounds-answer w)
-unfolding rounds-answer allowances-answer
+unfolding rounds-answer
 rounds-accepted w r most turns e z m u =
-    let ok : tree-refusal (tree-of w) .number ≡ 0 = sym (ap (λ (x : Refusal). x .number) e) ∙ z in
+    let ok = rounds-tested w r e z in
     rw (u, m, e, capped-first (everyone-bound (tree-of w)) (w .threads), eq-eqb (tree-refusal (tree-of w) .number) 0 ok)

@@ -1,59 +1,38 @@
--- The words of the call of rounds: levels, members, the largest allowance of members, and the rounds of each domain by its parent's. Assumes nothing.
+-- The words of the call of rounds: levels, the rounds above each domain by its parent's, and those of each thread. Assumes nothing.
 use mathlib.Core.Path.{_≡_, refl, sym, ap, _∙_}
-use mathlib.Core.Bool.{Bool, true, false, cond}
-use mathlib.Core.List.{List, [], _∷_}
+use mathlib.Core.Bool.{true}
+use mathlib.Core.List.{List}
+use mathlib.Core.Logic.{_≢_}
 use Prim.Native.Nat.{ℕ, suc, _+_, _*_, _-_, _≤_, _<_}
 use native.Mathlib.Omega.{arith}
-use lib.Dec.{eqb, ltb}
-use lib.ListN.{getD, length, set, length-set, length-append}
+use lib.Dec.{eqb}
+use lib.ListN.{getD, length, set, length-set}
 use lib.Seq.{getD-set-same, getD-set-other}
-use borrow.Author.Tests.{eq-eqb, ne-eqb, lt-ltb, le-ltb}
+use borrow.Author.Tests.{eq-eqb, ne-eqb}
 use Rattle.model.specs.declared.TreeWords.{TreeWords}
-use Rattle.model.specs.Scans.{largest-below, filter-below}
-use Rattle.model.specs.Trees.{Tree, tree-of, is-child, is-member, depth, level, allowance}
+use Rattle.model.specs.Scans.{largest-below}
+use Rattle.model.specs.Trees.{Tree, tree-of, is-member, depth, level}
 use Rattle.model.specs.Refusals.{tree-refusal}
 use Rattle.model.proofs.Lists.{same-or}
 use Rattle.model.proofs.Trees.Accepted.{Accepted, accepted}
-use Rattle.model.proofs.Trees.Records.{Member, a-thread, a-domain, member-facts}
-use Rattle.model.proofs.Trees.Allowances.{thread-allowance}
 use Rattle.model.proofs.Trees.Paths.{depth-child, depth-zero}
-use Rattle.model.proofs.Trees.Reading.{home-read, parent-read, few-domains}
-use Rattle.refusals.specs.Arrays.{tree-in}
-use Rattle.starvation_freedom.specs.Bounds.{members, largest-allowance, levels, entry-rounds, tenure-rounds, acquire-rounds, acquire-bound, release-bound, everyone-bound}
-use Rattle.starvation_freedom.proofs.Bounds.{above-rounds, first-rounds, acquire-at}
+use Rattle.model.proofs.Trees.Reading.{home-read, parent-read, few-domains, few-threads}
+use Rattle.starvation_freedom.specs.Bounds.{members, others-passes, levels, entry-rounds, others-rounds, acquire-rounds, acquire-bound, release-bound, everyone-bound}
+use Rattle.starvation_freedom.proofs.Bounds.{above-rounds, acquire-at}
 use Rattle.bounds.specs.Answers.{capped}
-use Rattle.bounds_call.specs.Arrays.{member-word, Allowed, Acquired}
+use Rattle.bounds_call.specs.Arrays.{rounds-above, Acquires, Rounds-above}
+use Rattle.bounds_call.specs.Waits.{Counted, Others}
 use Rattle.bounds_call.proofs.Filling.{capped-small, capped-largest}
 use Rattle.bounds_call.proofs.Capped.{capped-sum, capped-left, capped-front, capped-right}
+use Rattle.bounds_call.proofs.WaitWords.{parent-small, child-member, thread-member}
 
--- one record more is counted
-pub count-next :
-    (n : ℕ) (f : ℕ → Bool) (a b : ℕ) (counted : Bool) → a ≡ length (filter-below n f) → counted ≡ f n → b ≡ cond counted 1 0 → a + b ≡ length (filter-below (n + 1) f)
-unfolding filter-below
-count-next n f a b counted e g h =
-    let z : n + 1 ≡ suc n = omega arith in
-    rw (z, length-append (filter-below n f) (cond (f n) (n ∷ []) []), e, h, g) (go (f n))
-  where
-    go : (x : Bool) → length (filter-below n f) + cond x 1 0 ≡ length (filter-below n f) + length (cond x (n ∷ []) [])
-    go true = refl
-    go false = refl
+pub above-all : (t : Tree) (n m : ℕ) (ws : List ℕ) → n ≡ m → Rounds-above t n ws → Rounds-above t m ws
+above-all t n m ws e so-far = rw (← e) so-far
 
-pub count-all : (n m : ℕ) (f : ℕ → Bool) (a : ℕ) → n ≡ m → a ≡ length (filter-below n f) → a ≡ length (filter-below m f)
-count-all n m f a e g = rw (← e) g
-
--- who is a member goes by no threshold and no kind of root
-pub members-same : (w : TreeWords) (d : ℕ) → members (tree-in (w .domains) (w .threads) (w .parents) [] (w .homes)) d ≡ members (tree-of w) d
-unfolding members is-member is-child tree-of
-members-same w d = refl
-
-member-words-same :
-    (w : TreeWords) (ws : List ℕ) (d : ℕ) →
-    largest-below 320 (member-word (tree-in (w .domains) (w .threads) (w .parents) [] (w .homes)) ws d) ≡ largest-below 320 (member-word (tree-of w) ws d)
-unfolding member-word is-member is-child tree-of
-member-words-same w ws d = refl
-
-pub acquired-all : (t : Tree) (n m : ℕ) (ws : List ℕ) → n ≡ m → Acquired t n ws → Acquired t m ws
-acquired-all t n m ws e acquired-so-far = rw (← e) acquired-so-far
+-- by the definition
+acquire-defined : (t : Tree) → Accepted t → (d m : ℕ) → d < t .domains → acquire-rounds t d m ≡ 3 + ((members t d - 1) * (rounds-above t d + 5 * level t d) + (2 + levels t) * others-passes t d m) + rounds-above t d
+unfolding rounds-above above-rounds others-rounds entry-rounds
+acquire-defined t valid d m s = acquire-at t valid d m s
 
 -- LEVELS
 module _ (w : TreeWords) (ok : tree-refusal (tree-of w) .number ≡ 0) where
@@ -86,70 +65,75 @@ module _ (w : TreeWords) (ok : tree-refusal (tree-of w) .number ≡ 0) where
   pub level-done : (d n x : ℕ) → x ≡ 0 → n + depth t x ≡ level t d → n ≡ level t d
   level-done d n x z e = let top = depth-zero t valid x z in omega arith
 
-  -- THE LARGEST ALLOWANCE of a domain's members
-  member-value : (ws : List ℕ) → Allowed t ws → (d m : ℕ) → Member t d m → cond (ltb m 256) 1 (getD ws (m - 256) 0) ≡ capped (allowance t m)
-  member-value ws words-allowed d m (a-thread i s q) =
-      let h : i < 256 = omega (arith, valid .few-threads) in
-      rw (lt-ltb i 256 h, thread-allowance t i h) (sym (capped-small 1 (omega arith)))
-  member-value ws words-allowed d m (a-domain c p s q) =
-      let z : 256 + c - 256 ≡ c = omega arith in
-      rw (le-ltb (256 + c) 256 (omega arith), z) (words-allowed .allowed c p s)
-
-  member-words : (ws : List ℕ) → Allowed t ws → (d m : ℕ) (b : Bool) → is-member t d m ≡ b → member-word t ws d m ≡ capped (cond (is-member t d m) (allowance t m) 0)
-  unfolding member-word
-  member-words ws words-allowed d m false e = rw e (sym (capped-small 0 (omega arith)))
-  member-words ws words-allowed d m true e = rw e (member-value ws words-allowed d m (member-facts t d m e))
-
-  largest-words : (ws : List ℕ) → Allowed t ws → (d : ℕ) → largest-below 320 (member-word t ws d) ≡ capped (largest-allowance t d)
-  unfolding largest-allowance
-  largest-words ws words-allowed d = capped-largest 320 _ _ (λ m s. member-words ws words-allowed d m (is-member t d m) refl)
-
-  -- THE ROUNDS above a domain, by the words of those below its number
-  above-word : (d : ℕ) (ws : List ℕ) → Acquired t d ws → d < t .domains → cond (eqb d 0) 1 (getD ws (t .parent d) 0) ≡ capped (above-rounds t d)
-  unfolding above-rounds
-  above-word d ws acquired-so-far s =
-      same-or d 0 _
-      (λ z. rw (eq-eqb d 0 z) (sym (capped-small 1 (omega arith))))
-      (λ z. rw (ne-eqb d 0 z) (acquired-so-far .acquired (t .parent d) (valid .parent-lower d (omega arith) s)))
-
-  -- the steps of the code, each number cut
+  -- THE ROUNDS of a member: the steps of the code, each number cut
   pub acquire-word :
-      (d deepest above others most here entries entered tenure tenures waited r : ℕ) (vs ws : List ℕ) → Allowed t vs → Acquired t d ws → d < w .domains →
-      deepest ≡ levels t → above ≡ cond (eqb d 0) 1 (getD ws (t .parent d) 0) → others ≡ members t d - 1 →
-      most ≡ largest-below 320 (member-word (tree-in (w .domains) (w .threads) (w .parents) [] (w .homes)) vs d) → here ≡ level t d →
-      entries ≡ capped ((2 + deepest) * most) → entered ≡ capped (above + entries) → tenure ≡ capped (entered + 5 * here) →
-      tenures ≡ capped (others * tenure) → waited ≡ capped (3 + tenures) → r ≡ capped (waited + above) → r ≡ capped (acquire-rounds t d)
-  unfolding tree-of first-rounds tenure-rounds entry-rounds
-  acquire-word d deepest above others most here entries entered tenure tenures waited r vs ws words-allowed acquired-so-far s deep up rest large level₁ e₁ e₂ e₃ e₄ e₅ e₆ =
-      rw (e₆, e₅, e₄, e₃, e₂, e₁, deep, up, rest, large ∙ member-words-same w vs d, level₁, above-word d ws acquired-so-far s, largest-words vs words-allowed d)
-      (steps (levels t) (above-rounds t d) (members t d - 1) (largest-allowance t d) (level t d) ∙ ap capped (sym (acquire-at t valid d s)))
+      (d deepest above passes others here held tenures entries before waited r : ℕ) (counts : List ℕ) → Counted t counts → d < w .domains →
+      deepest ≡ levels t → others ≡ getD counts d 0 - 1 → here ≡ level t d → held ≡ capped (above + 5 * here) → tenures ≡ capped (others * held) →
+      entries ≡ capped ((2 + deepest) * passes) → before ≡ capped (tenures + entries) → waited ≡ capped (3 + before) → r ≡ capped (waited + above) → Acquires t d above passes r
+  unfolding tree-of
+  acquire-word d deepest above passes others here held tenures entries before waited r counts counted s deep rest here-is e₁ e₂ e₃ e₄ e₅ e₆ =
+      record { acquires = λ m up under. whole m up under }
     where
+      few : d < 64
+      few = let x = few-domains w ok in omega arith
+
       steps :
-          (l a n m k : ℕ) →
-          capped (capped (3 + capped (n * capped (capped (capped a + capped ((2 + l) * capped m)) + 5 * k))) + capped a) ≡ capped (3 + n * (a + (2 + l) * m + 5 * k) + a)
-      steps l a n m k =
+          (l a k o h : ℕ) →
+          capped (capped (3 + capped (capped (k * capped (capped a + 5 * h)) + capped ((2 + l) * capped o))) + capped a) ≡ capped (3 + (k * (a + 5 * h) + (2 + l) * o) + a)
+      steps l a k o h =
           rw
-          (capped-right (2 + l) m, capped-sum a ((2 + l) * m), capped-left (a + (2 + l) * m) (5 * k), capped-right n (a + (2 + l) * m + 5 * k), capped-front 3 (n * (a + (2 + l) * m + 5 * k)), capped-sum (3 + n * (a + (2 + l) * m + 5 * k)) a)
+          (capped-right (2 + l) o, capped-left a (5 * h), capped-right k (a + 5 * h), capped-sum (k * (a + 5 * h)) ((2 + l) * o), capped-front 3 (k * (a + 5 * h) + (2 + l) * o), capped-sum (3 + (k * (a + 5 * h) + (2 + l) * o)) a)
           refl
 
+      defined : (m : ℕ) → 3 + ((members t d - 1) * (rounds-above t d + 5 * level t d) + (2 + levels t) * others-passes t d m) + rounds-above t d ≡ acquire-rounds t d m
+      defined m = sym (acquire-defined t valid d m s)
+
+      whole : (m : ℕ) → above ≡ capped (rounds-above t d) → passes ≡ capped (others-passes t d m) → r ≡ capped (acquire-rounds t d m)
+      whole m up under =
+          rw (e₆, e₅, e₄, e₃, e₂, e₁, deep, rest, counted .counted d few, here-is, up, under)
+          (steps (levels t) (rounds-above t d) (members t d - 1) (others-passes t d m) (level t d) ∙ ap capped (defined m))
+
+  -- THE ROUNDS ABOVE a domain
+  pub above-root : (d : ℕ) → d ≡ 0 → 1 ≡ capped (rounds-above t d)
+  unfolding rounds-above
+  above-root d z = rw (eq-eqb d 0 z) (sym (capped-small 1 (omega arith)))
+
+  pub above-inner :
+      (d p r : ℕ) (others above : List ℕ) → d ≢ 0 → d < w .domains → p ≡ getD (w .parents) d 0 → Others t others → Rounds-above t d above →
+      Acquires t p (getD above p 0) (getD others (256 + d) 0) r → r ≡ capped (rounds-above t d)
+  unfolding rounds-above
+  above-inner d p r others above n s e some so-far acquired =
+      let up = parent-small w ok d p (omega arith) s e in
+      let few = few-domains w ok in
+      let low = up .0 in
+      let parent = up .1 in
+      let member : is-member t p (256 + d) ≡ true = rw (← parent) at (child-member w ok d (omega arith) s) in
+      rw (ne-eqb d 0 n, ← parent) (acquired .acquires (256 + d) (so-far .above p low) (some .others p (256 + d) (omega arith) (omega arith) member))
+
   -- one domain's more
-  pub acquired-next : (d n x : ℕ) (ws : List ℕ) → n ≡ d + 1 → d < w .domains → Acquired t d ws → x ≡ capped (acquire-rounds t d) → Acquired t n (set ws d x)
-  acquired-next d n x ws z s acquired-so-far e =
-      let room = acquired-so-far .room in
+  pub above-next : (d n x : ℕ) (ws : List ℕ) → n ≡ d + 1 → d < w .domains → Rounds-above t d ws → x ≡ capped (rounds-above t d) → Rounds-above t n (set ws d x)
+  above-next d n x ws z s so-far e =
+      let room = so-far .room in
       let few = few-domains w ok in
       record {
-        acquired = λ c h. same-or c d _ (λ y. rw y (getD-set-same ws d x 0 (omega arith) ∙ e)) (λ y. getD-set-other ws d c x 0 y ∙ acquired-so-far .acquired c (omega arith));
+        above = λ c h. same-or c d _ (λ y. rw y (getD-set-same ws d x 0 (omega arith) ∙ e)) (λ y. getD-set-other ws d c x 0 y ∙ so-far .above c (omega arith));
         room = length-set ws d x ∙ room;
       }
 
   -- THE ROUNDS of a thread, and of all
   pub thread-word :
-      (i h here x r : ℕ) (ws : List ℕ) → Acquired t (w .domains) ws → i < w .threads → h ≡ getD (w .homes) i 0 → here ≡ level t h → x ≡ getD ws h 0 →
-      r ≡ capped (x + 6 * here) → r ≡ capped (acquire-bound t i + release-bound t i)
+      (i h here acquired r : ℕ) (others above : List ℕ) → i < w .threads → h ≡ getD (w .homes) i 0 → here ≡ level t h → Others t others →
+      Rounds-above t (w .domains) above → Acquires t h (getD above h 0) (getD others i 0) acquired → r ≡ capped (acquired + 6 * here) →
+      r ≡ capped (acquire-bound t i + release-bound t i)
   unfolding acquire-bound release-bound
-  thread-word i h here x r ws acquired-so-far s e g f k =
+  thread-word i h here acquired r others above s e g some so-far acquires k =
       let home : h ≡ t .home i = e ∙ sym (home-read w i s) in
-      rw (k, f, g, acquired-so-far .acquired h (home-below i h s e), ← home) (capped-left (acquire-rounds t h) (6 * level t h))
+      let low = home-below i h s e in
+      let few = few-domains w ok in
+      let small = few-threads w ok in
+      let member : is-member t h i ≡ true = rw (← home) at (thread-member w ok i s) in
+      let word = acquires .acquires i (so-far .above h low) (some .others h i (omega arith) (omega arith) member) in
+      rw (k, g, word, ← home) (capped-left (acquire-rounds t h i) (6 * level t h))
 
   pub everyone-word : (r n : ℕ) → n ≡ w .threads → r ≡ largest-below n (λ i. capped (acquire-bound t i + release-bound t i)) → r ≡ capped (everyone-bound t)
   unfolding everyone-bound tree-of

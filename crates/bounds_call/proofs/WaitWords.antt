@@ -24,7 +24,7 @@ use Rattle.refusals.specs.Arrays.{parents-in, refusal-words}
 use Rattle.refusals.proofs.Reading.{threshold-in}
 use Rattle.starvation_freedom.specs.Bounds.{members}
 use Rattle.longest_wait.specs.Bounds.{effective-threshold, effective, passes, others-passes, tenures-for-all, member-wait, wait-bound}
-use Rattle.longest_wait.proofs.Effective.{effective-accepted}
+use Rattle.starvation_freedom.proofs.Effective.{effective-accepted}
 use Rattle.longest_wait.proofs.Waits.{above-wait, wait-at}
 use Rattle.bounds.specs.Answers.{capped, words-from, wait-word, wait-bounds-answer, wait-bounds-left}
 use Rattle.bounds_call.specs.Arrays.{Allowed}

@@ -1,15 +1,14 @@
 // The allowances of a tree's domains, and the rounds in which every thread enters.
 ghost use mathlib.Core.Path.{_≡_};
-ghost use mathlib.Core.Bool.{cond};
 ghost use Prim.Native.Nat.{_+_, _-_, _*_, _<_, _≤_};
-ghost use lib.Dec.{eqb};
 ghost use lib.ListN.{getD};
 ghost use Rattle.model.specs.Trees.{tree-of, level};
 ghost use Rattle.model.specs.Refusals.{tree-refusal};
 ghost use Rattle.refusals.specs.Arrays.{refusal-words};
-ghost use Rattle.starvation_freedom.specs.Bounds.{members, levels, acquire-rounds, acquire-bound, release-bound, everyone-bound};
+ghost use Rattle.starvation_freedom.specs.Bounds.{levels, acquire-bound, release-bound, everyone-bound};
 ghost use Rattle.bounds.specs.Answers.{capped, allowances-answer, allowances-left, rounds-answer};
-ghost use Rattle.bounds_call.specs.Arrays.{Allowed, Acquired};
+ghost use Rattle.bounds_call.specs.Arrays.{rounds-above, Acquires, Rounds-above};
+ghost use Rattle.bounds_call.specs.Waits.{Counted, Others};
 
 mod domain_members;
 pub mod wait_bounds;
@@ -106,116 +105,167 @@ fn levels_of(tree: TreeWords) -> u64
     most
 }
 
-// The rounds for the domains above: at the root the one that enters.
-fn above_of(tree: TreeWords, acquired: &[u64; 64], d: u32) -> u64
-    requires { ⌜ tree-refusal (tree-of tree) .number ≡ 0 ⌝ }
-    requires { ⌜ d < tree .domains ⌝ }
-    ensures { λ r. ⌜ r ≡ cond (eqb d 0) 1 (getD (now (acquired .entry)) (tree-of tree .parent d) 0) ⌝ }
+// One less than the members of a domain.
+fn others_of(counts: &[u64; 64], d: u32) -> u64
+    requires { ⌜ d < 64 ⌝ }
+    ensures { λ r. ⌜ r ≡ getD (now (counts .entry)) d 0 - 1 ⌝ }
 {
-    if d == 0 {
-        return 1;
-    }
     let at = d as usize;
-    let p = casts::byte_index(tree.parents[at]);
-    acquired[p]
-}
-
-fn others_of(tree: TreeWords, d: u32) -> u64
-    requires { ⌜ (tree .domains ≤ 64) × (tree .threads ≤ 256) ⌝ }
-    ensures { λ r. ⌜ r ≡ members (tree-of tree) d - 1 ⌝ }
-{
-    let n = domain_members::members_of(&tree.parents, &tree.homes, tree.domains, tree.threads, d);
+    let n = counts[at];
     if n == 0 {
         return 0;
     }
     n - 1
 }
 
-// The rounds from a domain on to Inside, by those of its parent.
-fn acquire_of<'a>(
+// The rounds of a member from its domain on to Inside, by those above the domain and the passes of its other members.
+fn acquire_of(
     tree: TreeWords,
-    allowances: &'a [u64; 64],
-    acquired: &'a [u64; 64],
+    counts: &[u64; 64],
+    deepest: u64,
+    above: u64,
+    passes: u64,
+    d: u32,
+) -> u64
+    requires { ⌜ tree-refusal (tree-of tree) .number ≡ 0 ⌝ }
+    requires { ⌜ d < tree .domains ⌝ }
+    requires { ⌜ (deepest ≡ levels (tree-of tree)) × (deepest ≤ 6) ⌝ }
+    requires { ⌜ Counted (tree-of tree) (now counts) ⌝ }
+    ensures { λ r. ⌜ Acquires (tree-of tree) d above passes r ⌝ }
+{
+    let others = others_of(counts, d);
+    let level = level_of(tree, d);
+    let held = capped_sum(above, 5 * level);
+    let tenures = capped_product(others, held);
+    let entries = capped_product(2 + deepest, passes);
+    let before = capped_sum(tenures, entries);
+    let waited = capped_sum(3, before);
+    capped_sum(waited, above)
+}
+
+// The rounds above a domain: at the root the one that enters, and elsewhere those of its own record in its parent.
+fn above_of<'a>(
+    tree: TreeWords,
+    counts: &'a [u64; 64],
+    others: &'a [u64; 320],
+    above: &'a [u64; 64],
     deepest: u64,
     d: u32,
 ) -> u64
     requires { ⌜ tree-refusal (tree-of tree) .number ≡ 0 ⌝ }
     requires { ⌜ d < tree .domains ⌝ }
     requires { ⌜ (deepest ≡ levels (tree-of tree)) × (deepest ≤ 6) ⌝ }
-    requires { ⌜ Allowed (tree-of tree) (now allowances) ⌝ }
-    requires { ⌜ Acquired (tree-of tree) d (now acquired) ⌝ }
-    ensures { λ r. ⌜ r ≡ capped (acquire-rounds (tree-of tree) d) ⌝ }
+    requires { ⌜ Counted (tree-of tree) (now counts) ⌝ }
+    requires { ⌜ Others (tree-of tree) (now others) ⌝ }
+    requires { ⌜ Rounds-above (tree-of tree) d (now above) ⌝ }
+    ensures { λ r. ⌜ r ≡ capped (rounds-above (tree-of tree) d) ⌝ }
 {
-    let above = above_of(tree, acquired, d);
-    let others = others_of(tree, d);
-    let most = domain_members::largest_word(
-        &tree.parents,
-        &tree.homes,
-        allowances,
-        tree.domains,
-        tree.threads,
-        d,
-    );
-    let level = level_of(tree, d);
-    let entries = capped_product(2 + deepest, most);
-    let entered = capped_sum(above, entries);
-    let tenure = capped_sum(entered, 5 * level);
-    let tenures = capped_product(others, tenure);
-    let waited = capped_sum(3, tenures);
-    capped_sum(waited, above)
+    if d == 0 {
+        return 1;
+    }
+    let at = d as usize;
+    let p = casts::byte_number(tree.parents[at]);
+    let parent = p as usize;
+    acquire_of(tree, counts, deepest, above[parent], others[256 + at], p)
 }
 
-// The rounds of every domain. A parent's number is lower, so the root comes first.
-fn acquire_words(tree: TreeWords, allowances: &[u64; 64]) -> [u64; 64]
+// The rounds above every domain. A parent's number is lower, so the root comes first.
+fn above_words<'a>(
+    tree: TreeWords,
+    counts: &'a [u64; 64],
+    others: &'a [u64; 320],
+    deepest: u64,
+) -> [u64; 64]
     requires { ⌜ tree-refusal (tree-of tree) .number ≡ 0 ⌝ }
-    requires { ⌜ Allowed (tree-of tree) (now allowances) ⌝ }
-    ensures { λ r. ⌜ Acquired (tree-of tree) (tree .domains) r ⌝ }
+    requires { ⌜ (deepest ≡ levels (tree-of tree)) × (deepest ≤ 6) ⌝ }
+    requires { ⌜ Counted (tree-of tree) (now counts) ⌝ }
+    requires { ⌜ Others (tree-of tree) (now others) ⌝ }
+    ensures { λ r. ⌜ Rounds-above (tree-of tree) (tree .domains) r ⌝ }
 {
-    let deepest = levels_of(tree);
-    let mut acquired = [0u64; 64];
+    let mut above = [0u64; 64];
     let mut d: u32 = 0;
     while d < tree.domains {
         let at = d as usize;
-        acquired[at] = acquire_of(tree, allowances, &acquired, deepest, d);
+        above[at] = above_of(tree, counts, others, &above, deepest, d);
         d += 1;
     }
-    acquired
+    above
 }
 
-// The rounds in which one thread enters: those of its home, and those of a release.
-fn thread_rounds(tree: TreeWords, acquired: &[u64; 64], i: u32) -> u64
+// The rounds in which one thread enters: those of its acquisition, and those of a release.
+fn thread_rounds<'a>(
+    tree: TreeWords,
+    counts: &'a [u64; 64],
+    others: &'a [u64; 320],
+    above: &'a [u64; 64],
+    deepest: u64,
+    i: u32,
+) -> u64
     requires { ⌜ tree-refusal (tree-of tree) .number ≡ 0 ⌝ }
     requires { ⌜ i < tree .threads ⌝ }
-    requires { ⌜ Acquired (tree-of tree) (tree .domains) (now acquired) ⌝ }
+    requires { ⌜ (deepest ≡ levels (tree-of tree)) × (deepest ≤ 6) ⌝ }
+    requires { ⌜ Counted (tree-of tree) (now counts) ⌝ }
+    requires { ⌜ Others (tree-of tree) (now others) ⌝ }
+    requires { ⌜ Rounds-above (tree-of tree) (tree .domains) (now above) ⌝ }
     ensures { λ r. ⌜ r ≡ capped (acquire-bound (tree-of tree) i + release-bound (tree-of tree) i) ⌝ }
 {
     let at = i as usize;
     let home = casts::byte_number(tree.homes[at]);
     let h = home as usize;
     let level = level_of(tree, home);
-    capped_sum(acquired[h], 6 * level)
+    let acquired = acquire_of(tree, counts, deepest, above[h], others[at], home);
+    capped_sum(acquired, 6 * level)
 }
 
-fn everyone(tree: TreeWords, acquired: &[u64; 64]) -> u64
+fn everyone<'a>(
+    tree: TreeWords,
+    counts: &'a [u64; 64],
+    others: &'a [u64; 320],
+    above: &'a [u64; 64],
+    deepest: u64,
+) -> u64
     requires { ⌜ tree-refusal (tree-of tree) .number ≡ 0 ⌝ }
-    requires { ⌜ Acquired (tree-of tree) (tree .domains) (now acquired) ⌝ }
+    requires { ⌜ (deepest ≡ levels (tree-of tree)) × (deepest ≤ 6) ⌝ }
+    requires { ⌜ Counted (tree-of tree) (now counts) ⌝ }
+    requires { ⌜ Others (tree-of tree) (now others) ⌝ }
+    requires { ⌜ Rounds-above (tree-of tree) (tree .domains) (now above) ⌝ }
     ensures { λ r. ⌜ r ≡ capped (everyone-bound (tree-of tree)) ⌝ }
 {
     let mut most: u64 = 0;
     let mut i: u32 = 0;
     while i < tree.threads {
-        most = domain_members::larger(most, thread_rounds(tree, acquired, i));
+        let one = thread_rounds(tree, counts, others, above, deepest, i);
+        most = domain_members::larger(most, one);
         i += 1;
     }
     most
+}
+
+// The rounds of an accepted tree.
+fn rounds_of(tree: TreeWords) -> u64
+    requires { ⌜ tree-refusal (tree-of tree) .number ≡ 0 ⌝ }
+    ensures { λ r. ⌜ r ≡ capped (everyone-bound (tree-of tree)) ⌝ }
+{
+    let counts = wait_bounds::count_members(tree);
+    let words = wait_bounds::passes_of(tree, &counts);
+    let before = wait_bounds::sums_before(tree, &words);
+    let others = wait_bounds::sums_of_others(tree, &words, &before);
+    let deepest = levels_of(tree);
+    let above = above_words(tree, &counts, &others, deepest);
+    everyone(tree, &counts, &others, &above, deepest)
 }
 
 // In how many rounds of any fair schedule every thread enters, and how many turns these are by round robin.
 pub fn rounds(tree: TreeWords) -> RoundsReply
     ensures { λ r. ⌜ r ≡ rounds-answer tree ⌝ }
 {
-    let mut words = [0u64; 64];
-    let refusal = allowances(tree, &mut words);
+    let refusal = refusals::tree_refusal_of(
+        &tree.parents,
+        &tree.thresholds,
+        &tree.homes,
+        tree.domains,
+        tree.threads,
+    );
     if refusal.number != 0 {
         return RoundsReply {
             number: refusal.number,
@@ -224,8 +274,7 @@ pub fn rounds(tree: TreeWords) -> RoundsReply
             turns: 0,
         };
     }
-    let acquired = acquire_words(tree, &words);
-    let most = everyone(tree, &acquired);
+    let most = rounds_of(tree);
     let turns = capped_product(most, tree.threads as u64);
     RoundsReply {
         number: refusal.number,

@@ -60,7 +60,7 @@ fn sum_at(sums: &[u64; 64], at: u32) -> u64
 }
 
 // How many members each domain has.
-fn count_members(tree: TreeWords) -> [u64; 64]
+pub(crate) fn count_members(tree: TreeWords) -> [u64; 64]
     requires { ⌜ tree-refusal (tree-of tree) .number ≡ 0 ⌝ }
     ensures { λ r. ⌜ Counted (tree-of tree) r ⌝ }
 {
@@ -85,7 +85,7 @@ fn effective_of(threshold: u16, members: u64) -> u16
 }
 
 // The passes of each domain. A child's number is above its parent's, so the last domain comes first.
-fn passes_of(tree: TreeWords, counts: &[u64; 64]) -> [u64; 64]
+pub(crate) fn passes_of(tree: TreeWords, counts: &[u64; 64]) -> [u64; 64]
     requires { ⌜ tree-refusal (tree-of tree) .number ≡ 0 ⌝ }
     requires { ⌜ Counted (tree-of tree) (now counts) ⌝ }
     ensures { λ r. ⌜ Allowed (effective (tree-of tree)) r ⌝ }
@@ -115,7 +115,7 @@ fn word_of(words: &[u64; 64], m: u32) -> u64
 }
 
 // For each member the passes of those in its domain with a lower record.
-fn sums_before(tree: TreeWords, words: &[u64; 64]) -> [u64; 320]
+pub(crate) fn sums_before(tree: TreeWords, words: &[u64; 64]) -> [u64; 320]
     requires { ⌜ tree-refusal (tree-of tree) .number ≡ 0 ⌝ }
     requires { ⌜ Allowed (effective (tree-of tree)) (now words) ⌝ }
     ensures { λ r. ⌜ Before (tree-of tree) r ⌝ }
@@ -134,7 +134,11 @@ fn sums_before(tree: TreeWords, words: &[u64; 64]) -> [u64; 320]
 }
 
 // For each member the passes of the others in its domain: those before it, and those after it, summed from the last record down.
-fn sums_of_others<'a>(tree: TreeWords, words: &'a [u64; 64], before: &'a [u64; 320]) -> [u64; 320]
+pub(crate) fn sums_of_others<'a>(
+    tree: TreeWords,
+    words: &'a [u64; 64],
+    before: &'a [u64; 320],
+) -> [u64; 320]
     requires { ⌜ tree-refusal (tree-of tree) .number ≡ 0 ⌝ }
     requires { ⌜ Allowed (effective (tree-of tree)) (now words) ⌝ }
     requires { ⌜ Before (tree-of tree) (now before) ⌝ }

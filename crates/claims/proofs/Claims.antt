@@ -11,4 +11,5 @@ pub mod PassedCounts
 pub mod Passing
 pub mod Acting
 pub mod QueueLaw
+pub mod FewWaiting
 pub mod Moving

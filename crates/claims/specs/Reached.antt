@@ -5,7 +5,7 @@ use mathlib.Core.List.{List, [], _∷_, _++_}
 use mathlib.Core.Logic.{_≢_}
 use Prim.Native.Nat.{ℕ, suc, _+_, _-_, _≤_, _<_}
 use lib.Dec.{eqb}
-use lib.ListN.{length, drop}
+use lib.ListN.{length, drop, replicate}
 use Rattle.model.specs.declared.TreeWords.{TreeWords}
 use Rattle.model.specs.declared.State.{State}
 use Rattle.model.specs.declared.LockState.{LockState}
@@ -19,7 +19,7 @@ use Rattle.model.specs.Counters.{most-counted}
 use Rattle.model.specs.Refusals.{accepted, tree-refusal}
 use Rattle.model.specs.Answers.{fresh-answer}
 use Rattle.model.specs.Laws.{All-threads, Sixteen-bit}
-use Rattle.model.specs.Calls.{Ask, one-step, a-run, Call, state-in, answer, call-refusal, asked-entries, joined, Names}
+use Rattle.model.specs.Calls.{Ask, one-step, a-run, Call, state-in, answer, ask-refusal, call-refusal, asked-entries, joined, Names}
 use Rattle.claims.specs.Claim.{Claim}
 
 -- NOT EMPTY: in a list, a call that names the tree and existing threads, with room, is accepted, so long as the list's schedule together with the call's own has at most 2^63 entries
@@ -38,6 +38,13 @@ Never-refused =
     (w : TreeWords) (start : ℕ) (cs : List Call) → fresh-answer w start .number ≡ 0 → Names (tree-of w) cs (fresh-answer w start .state) →
     (c : Call) → tree-of (c .tree) ≡ tree-of w → Asks-well (tree-of w) (c .ask) →
     length (joined cs (fresh-answer w start .state)) + length (asked-entries (c .ask)) ≤ most-counted → call-refusal c (last-state cs (fresh-answer w start .state)) ≡ accepted
+
+-- in any state, a call that is accepted asks so; and the longest run that is allowed does
+unfoldable pub Well-asked-law : Type 0
+Well-asked-law = (t : Tree) (a : Ask) (s : LockState) → ask-refusal t a s .number ≡ 0 → Asks-well t a
+
+unfoldable pub Longest-run-law : Type 0
+Longest-run-law = (t : Tree) → 0 < t .threads → Asks-well t (a-run (replicate 65536 0) (replicate 65536 0))
 
 -- THE LISTING'S TEST. Check as the listing has it, by equality with the threshold
 unfoldable pub equality-check-row : Tree → (thread domain : ℕ) → State → Row-result
@@ -116,6 +123,11 @@ pub record Has-queues (t : Tree) (f : State) (S : List ℕ) (s : State) : Type 0
 unfoldable pub Queue-law : Type 0
 Queue-law =
     (t : Tree) → Sixteen-bit t → tree-refusal t .number ≡ 0 → (start : ℕ) (is : List ℕ) → All-threads t is → Has-queues t (fresh-state t start) is (run t is (fresh-state t start) .state)
+
+-- AT MOST 256 WAIT: no queue has more members, that of a ticket root included; so counters of 16 bits tell their tickets apart
+unfoldable pub Few-waiting-law : Type 0
+Few-waiting-law =
+    (t : Tree) → tree-refusal t .number ≡ 0 → (f : State) (S : List ℕ) (s : State) → (x : Has-queues t f S s) → (d : ℕ) → length (x .queue d) ≤ 256
 
 -- SOMEONE CAN MOVE: a thread of the tree that is not Idle, and whose next step, which is what the step table gives, is no stay and so changes the state
 pub record Can-move (t : Tree) (s : State) : Type 0 where

@@ -14,6 +14,8 @@ use Rattle.lock_file.specs.Reading.{reached-refusal, field-end, entry-end, doma
 use Rattle.printed_listing.specs.Listing.{digits, numeral, number-then, trace-lines, spaced, first-line, listing}
 use Rattle.file_answers.specs.FileAnswers.{listing-outcome, run-outcome, file-trace, file-outcome, outcome-reply, outcome-output, file-answer, output-answer}
 use Rattle.file_answers.specs.Cases.{cases}
+use Rattle.file_answers.specs.FileLaws.{met-numbers}
+use Rattle.file_answers.specs.Witnesses.{met-files, Numbers-met}
 use Rattle.file_answers.proofs.Computing.{quick-refusal, quick-run, quick-reading, same-reading}
 
 pub cases-hold : all cases ≡ true
@@ -26,3 +28,15 @@ unfolding same-numbers any-below filter-below read-word tree-of is-ticket is-chi
     numeral number-then trace-lines spaced first-line listing listing-outcome run-outcome file-trace quick-refusal quick-run quick-reading file-outcome
     outcome-reply outcome-output file-answer output-answer cases
 cases-hold = rw same-reading refl
+
+-- each number is met by its file
+pub numbers-met : Numbers-met
+unfolding same-numbers any-below filter-below read-word tree-of is-ticket is-child is-leaf depth-from depth level meets on-path child-from child own-record
+    is-record is-member under place-of is-watch is-idle numbers-at store-numbers fresh-words is-kind is-entry prep-row swap-row link-row wait-row leave-row check-row help-row
+    cas-row linger-row grant-row draw-row watch-row is-watched shown-members raise-row row step steps state-after how-many entering counts-of run-of run
+    refusal accepted lowest-bad first-refusal bad-domains bad-threads bad-parent too-deep no-threshold bad-home empty-domain tree-tests bad-length
+    bad-entry bad-room run-reply reached-refusal field-end entry-end domain-size domain-end parent-at threshold-at stored domains-from domains-read
+    thread-end home-at threads-from threads-behind threads-read thread-count schedule-start tree-read entries-from entries-at reading-of file-read digits
+    numeral number-then trace-lines spaced first-line listing listing-outcome run-outcome file-trace quick-refusal quick-run quick-reading file-outcome
+    outcome-reply outcome-output file-answer output-answer Numbers-met met-files met-numbers
+numbers-met = rw same-reading refl

@@ -8,6 +8,7 @@ use lib.ListN.{length, take, replicate}
 use Rattle.model.specs.declared.TreeWords.{TreeWords}
 use Rattle.model.specs.Trees.{Tree, tree-of}
 use Rattle.model.specs.Counters.{fresh-lock}
+use Rattle.model.specs.Runs.{occurrences}
 use Rattle.model.specs.Refusals.{tree-tests, has-number}
 use Rattle.model.specs.Answers.{fresh-answer, trace-answer}
 use Rattle.model.specs.Calls.{Call, a-run, ran, answers, joined}
@@ -21,6 +22,13 @@ Met n = (n ≤ 3) ⊎ (((t : Tree) → has-number (tree-tests t) n ≡ true) ⊎
 
 unfoldable pub File-refusal-law : Type 0
 File-refusal-law = (bytes output : List ℕ) → Met (file-answer bytes output .number)
+
+-- these numbers, and no other: what is met there, `Witnesses` computes
+unfoldable pub met-numbers : List ℕ
+met-numbers = 0 ∷ 1 ∷ 2 ∷ 3 ∷ 4 ∷ 5 ∷ 6 ∷ 7 ∷ 8 ∷ 9 ∷ 16 ∷ 12 ∷ 14 ∷ []
+
+unfoldable pub Met-numbers-law : Type 0
+Met-numbers-law = (number : ℕ) → Met number → 1 ≤ occurrences number met-numbers
 
 -- 2. FILES. For a file that describes a tree and a schedule the file call answers what a run of them from fresh answers
 unfoldable pub Described-law : Type 0

@@ -2,3 +2,4 @@
 pub mod FileAnswers
 pub mod FileLaws
 pub mod Cases
+pub mod Witnesses

@@ -5,7 +5,7 @@ use Prim.Native.Nat.{ℕ}
 use lib.Dec.{eqb}
 use Rattle.model.specs.declared.TreeWords.{TreeWords}
 use Rattle.model.specs.Cases.{tree, at-ticket-root, two-homes, two-in-root, three-levels}
-use Rattle.journal.specs.Answers.{journal-refusal}
+use Rattle.journal.specs.Answers.{journal-answer}
 
 -- a tree, a journal, and number and place that its check is to answer
 pub record Case : Type 0 where
@@ -82,7 +82,7 @@ cases =
 
 unfoldable pub holds : Case → Bool
 holds c =
-    let r = journal-refusal (c .words) (c .bytes) in
+    let r = journal-answer (c .words) (c .bytes) in
     eqb (r .number) (c .number) && eqb (r .place) (c .place)
 
 unfoldable pub all-hold : List Case → Bool

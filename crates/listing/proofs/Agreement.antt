@@ -2,6 +2,7 @@
 use mathlib.Core.Path.{_≡_, refl, sym, _∙_}
 use mathlib.Core.Bool.{Bool, true, false, cond}
 use mathlib.Core.List.{List, [], _∷_, _++_, append-assoc, append-nil}
+use mathlib.Core.Logic.{_⊎_, inl, inr}
 use Prim.Native.Nat.{ℕ, suc, _+_, _≤_, _<_}
 use native.Mathlib.Omega.{arith}
 use lib.Dec.{eqb}
@@ -10,9 +11,9 @@ use borrow.Author.Tests.{eq-eqb, ne-eqb}
 use Rattle.model.specs.declared.Place.{Place}
 use Rattle.model.specs.declared.Place.the-variants.{Idle, Prep, Swap, Link, Wait, Check, Help, Cas, Linger, Grant, Draw, Watch}
 use Rattle.model.specs.declared.State.{State}
-use Rattle.model.specs.Trees.{Tree, is-ticket}
+use Rattle.model.specs.Trees.{Tree, is-ticket, own-record}
 use Rattle.model.specs.Places.{place-of}
-use Rattle.model.specs.States.{wait-word, status, place, fresh-words, fresh-state, Has-room}
+use Rattle.model.specs.States.{wait-word, none, next, status, place, fresh-words, fresh-state, Has-room}
 use Rattle.model.specs.Steps.{release-word, prep-row, draw-row, row, step}
 use Rattle.model.specs.Runs.{steps, state-after, run-of, run}
 use Rattle.model.specs.Refusals.{tree-refusal}
@@ -31,11 +32,12 @@ use Rattle.claims.proofs.Claims.Equality.{same-by-equality, equality-law}
 use Rattle.claims.proofs.Claims.Reached.{threads-join}
 use Rattle.listing.specs.Calls.{behind-17, Frame, Control, control, outside, line-7, line-9, line-11, line-13, line-25, line-37, line-53, line-55, line-57, line-58, line-59, line-66, line-67, line-71, line-72, ticket-lock, line-90, line-91-again}
 use Rattle.listing.specs.Listing.{top-domain, top-back}
-use Rattle.listing.specs.Agreement.{called-place, ticket-place, place-at, place-of-control, entry, Threads, at-first, turn, turns, memory-of, Stands-at, at-idle, at-prep, at-swap, at-link, at-wait, at-inside, at-check, at-37, at-help, at-cas, at-linger, at-55, at-59, at-draw, at-watch, at-raise, Not-above, Entry-law, Listing-agrees}
-use Rattle.listing.proofs.Stacks.{acquire-back, acquire-stack, top-domain-at, helper-stack, Corresponds, c-idle, c-prep, c-swap, c-link, c-wait, c-inside, c-check, c-pass, c-help, c-cas, c-linger, c-55, c-59, c-draw, c-watch, c-raise}
+use Rattle.listing.specs.Agreement.{called-place, ticket-place, place-at, place-of-control, entry, Threads, at-first, turn, turns, memory-of, Stands-at, at-idle, at-prep, at-swap, at-link, at-wait, at-inside, at-check, at-37, at-help, at-cas, at-linger, at-55, at-59, at-draw, at-watch, at-raise, Same-test, Entry-law, Listing-agrees}
+use Rattle.listing.proofs.Stacks.{Release-stack, acquire-back, acquire-stack, top-domain-at, helper-stack, Corresponds, c-idle, c-prep, c-swap, c-link, c-wait, c-inside, c-check, c-pass, c-help, c-cas, c-linger, c-55, c-59, c-draw, c-watch, c-raise}
 use Rattle.listing.proofs.Acquiring.{Together, standing, idle-together, prep-together, swap-together, link-together, wait-together}
 use Rattle.listing.proofs.Releasing.{leave-together, check-together, pass-together, help-together, cas-together, linger-together, line-55-together, line-59-together}
 use Rattle.listing.proofs.Tickets.{draw-together, idle-draw-together, watch-together, raise-together}
+use Rattle.listing.proofs.Differing.{not-differing}
 use Rattle.listing.proofs.Standing.{Acquires, acquires, Releases, releases, Helps, helps, stands, stood}
 
 -- ONE ENTRY, by the place where the thread stands
@@ -170,10 +172,49 @@ corresponding (c-draw k l e) = refl
 corresponding (c-watch k l e) = refl
 corresponding (c-raise k fs l e x) = refl
 
+-- WHERE THE TESTS DIFFER. A control at Check goes to Grant where the table releases the parent: above the threshold, with a next
+module _ (t : Tree) (valid : Accepted t) (i : ℕ) (h : i < t .threads) (s : State) (room : Has-room (s .places) i) where
+  check-only :
+      (k : ℕ) → k < height t i → (fs : List Frame) → Release-stack t i k fs → place s i ≡ Check (ancestor t i k) →
+      place-of-control (entry t i (standing (control line-25 fs) s) .thread) ≡ place (step t i s .state) i →
+      (status s (own-record t i (ancestor t i k)) ≤ t .threshold (ancestor t i k)) ⊎ (next s (own-record t i (ancestor t i k)) ≡ none)
+  unfolding step
+  check-only k b fs x q d =
+      let l = ancestor t i k in
+      let z = check-together t valid i h s room k b fs x in
+      let same : place (row t i (Check l) s .state) i ≡ place (equality-check-row t i l s .state) i = sym (rw q at d) ∙ corresponding (z .corresponds) ∙ sym (z .there) in
+      not-differing t i s l room same
+
+  -- by the place where it stands
+  only-same :
+      {c : Control} {p : Place} → Stands-at t i c p → place s i ≡ p → place-of-control (entry t i (standing c s) .thread) ≡ place (step t i s .state) i → Same-test t i s
+  unfolding Same-test
+  only-same (at-check L fs n a) q d l e =
+      let x = releases t valid i h a in
+      let b = ancestor-not-root t valid i h (x .index) (x .within) (omega (arith, n, x .there)) in
+      let there : ancestor t i (x .index) ≡ l = x .there ∙ cc in
+      elim (rw there at (check-only (x .index) b fs (x .stack) (rw there e) d)) [ inl within ↦ inl (omega arith) | inr alone ↦ inr (omega arith) ]
+  only-same at-idle q d l e = absurd (let z : _≡_ {A = ℕ} 0 1 = cc in omega arith)
+  only-same (at-prep L fs a) q d l e = absurd (let z : _≡_ {A = ℕ} 0 1 = cc in omega arith)
+  only-same (at-swap L fs a) q d l e = absurd (let z : _≡_ {A = ℕ} 0 1 = cc in omega arith)
+  only-same (at-link L p fs a) q d l e = absurd (let z : _≡_ {A = ℕ} 0 1 = cc in omega arith)
+  only-same (at-wait L fs a) q d l e = absurd (let z : _≡_ {A = ℕ} 0 1 = cc in omega arith)
+  only-same at-inside q d l e = absurd (let z : _≡_ {A = ℕ} 0 1 = cc in omega arith)
+  only-same (at-37 L c r fs n a) q d l e = absurd (let z : _≡_ {A = ℕ} 0 1 = cc in omega arith)
+  only-same (at-help L fs a) q d l e = absurd (let z : _≡_ {A = ℕ} 0 1 = cc in omega arith)
+  only-same (at-cas L fs a) q d l e = absurd (let z : _≡_ {A = ℕ} 0 1 = cc in omega arith)
+  only-same (at-linger L fs a) q d l e = absurd (let z : _≡_ {A = ℕ} 0 1 = cc in omega arith)
+  only-same (at-55 L r w fs a) q d l e = absurd (let z : _≡_ {A = ℕ} 0 1 = cc in omega arith)
+  only-same (at-59 L r w fs a) q d l e = absurd (let z : _≡_ {A = ℕ} 0 1 = cc in omega arith)
+  only-same (at-draw fs a) q d l e = absurd (let z : _≡_ {A = ℕ} 0 1 = cc in omega arith)
+  only-same (at-watch fs a) q d l e = absurd (let z : _≡_ {A = ℕ} 0 1 = cc in omega arith)
+  only-same (at-raise fs a) q d l e = absurd (let z : _≡_ {A = ℕ} 0 1 = cc in omega arith)
+
 -- EVERY WELL-FORMED STATE
-check-by-equality : (t : Tree) (i : ℕ) (s : State) → Not-above t i s → (l : ℕ) → place s i ≡ Check l → row t i (Check l) s ≡ equality-check-row t i l s
-unfolding Not-above
-check-by-equality t i s n l e = same-by-equality t i l s (n l e) (branch t i s (Check l))
+check-by-equality : (t : Tree) (i : ℕ) (s : State) → Same-test t i s → (l : ℕ) → place s i ≡ Check l → row t i (Check l) s ≡ equality-check-row t i l s
+unfolding Same-test
+check-by-equality t i s n l e =
+    same-by-equality t i l s (elim (n l e) [ inl within ↦ inl (omega arith) | inr alone ↦ inr (omega arith) ]) (branch t i s (Check l))
 
 pub entry-law : Entry-law
 unfolding Entry-law step
@@ -185,6 +226,7 @@ entry-law t ok s formed i h =
     record {
       some-control = there .by;
       some-stands = there .standing;
+      only = λ c x d. only-same t valid i h s room x refl (d .placed);
       does = λ n c x.
           let z = stands-together t valid i h s room (formed .typed .statuses-room) small (check-by-equality t i s n) x refl in
           record {
@@ -206,11 +248,11 @@ module _ (t : Tree) (bits : Sixteen-bit t) (ok : tree-refusal t .number ≡ 0) (
   one-turn :
       (pre : List ℕ) → All-threads t pre → (i : ℕ) → i < t .threads → (x : Threads) → Together-all t x (run t pre (fresh-state t start) .state) →
       Together-all t (turn t i x) (step t i (run t pre (fresh-state t start) .state) .state)
-  unfolding turn Form-law Entry-law Equality-law Not-above
+  unfolding turn Form-law Entry-law Equality-law Same-test
   one-turn pre all i h x y =
       let s = run t pre (fresh-state t start) .state in
       let formed = form-law t bits ok .of-run pre (fresh-state t start) all (form-law t bits ok .of-fresh start) in
-      let z = entry-law t ok s formed i h .does (λ l q. equality-law t bits ok start pre all i l h q .within) (x .controls i) (y .stands-there i h) in
+      let z = entry-law t ok s formed i h .does (λ l q. inl (equality-law t bits ok start pre all i l h q .within)) (x .controls i) (y .stands-there i h) in
       rw (y .memory) (record {
         memory = z .memory;
         stands-there = λ j hj. same-or j i _ (λ e. rw (e, eq-eqb i i refl) (z .stands)) (λ e. rw (ne-eqb j i e, z .others j e) (y .stands-there j hj));

@@ -6,4 +6,5 @@ pub mod Returning
 pub mod Releasing
 pub mod Tickets
 pub mod Standing
+pub mod Differing
 pub mod Agreement

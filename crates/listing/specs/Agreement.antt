@@ -2,7 +2,7 @@
 use mathlib.Core.Path.{_≡_}
 use mathlib.Core.Bool.{Bool, true, false, cond}
 use mathlib.Core.List.{List, [], _∷_}
-use mathlib.Core.Logic.{_≢_}
+use mathlib.Core.Logic.{_≢_, _⊎_}
 use Prim.Native.Nat.{ℕ, zero, suc, _+_, _≤_, _<_}
 use lib.Dec.{eqb}
 use lib.ListN.{replicate}
@@ -10,7 +10,7 @@ use Rattle.model.specs.declared.Place.{Place}
 use Rattle.model.specs.declared.Place.the-variants.{Idle, Prep, Swap, Link, Wait, Inside, Check, Help, Cas, Linger, Grant, Draw, Watch, Raise, Invalid}
 use Rattle.model.specs.declared.State.{State}
 use Rattle.model.specs.Trees.{Tree, own-record}
-use Rattle.model.specs.States.{status, place, wrap, fresh-state}
+use Rattle.model.specs.States.{none, next, status, place, wrap, fresh-state}
 use Rattle.model.specs.Steps.{release-word, step}
 use Rattle.model.specs.Runs.{run}
 use Rattle.model.specs.Refusals.{tree-refusal}
@@ -172,15 +172,17 @@ pub record Does-row (t : Tree) (i : ℕ) (s : State) (c : Control) : Type 0 wher
   pub placed : place-of-control (entry t i (record { thread = c; memory = memory-of s }) .thread) ≡ place (step t i s .state) i
   pub others : (j : ℕ) → j ≢ i → place (step t i s .state) j ≡ place s j
 
--- a Check's status is not above the threshold; where it is, the table goes
-unfoldable pub Not-above : Tree → (i : ℕ) → State → Type 0
-Not-above t i s = (l : ℕ) → place s i ≡ Check l → status s (own-record t i l) ≤ t .threshold l
+-- at a Check the listing's test, by equality, gives what the table's gives: the status is not above the threshold, or there is no next; elsewhere the table goes
+unfoldable pub Same-test : Tree → (i : ℕ) → State → Type 0
+Same-test t i s =
+    (l : ℕ) → place s i ≡ Check l → (status s (own-record t i l) ≤ t .threshold l) ⊎ (next s (own-record t i l) ≡ none)
 
--- some control stands at the thread's place, and each that does so does the row
+-- some control stands at the thread's place, and each that does so does the row, exactly if the test is the same
 pub record Does-rows (t : Tree) (i : ℕ) (s : State) : Type 0 where
   pub some-control : Control
   pub some-stands : Stands-at t i some-control (place s i)
-  pub does : Not-above t i s → (c : Control) → Stands-at t i c (place s i) → Does-row t i s c
+  pub does : Same-test t i s → (c : Control) → Stands-at t i c (place s i) → Does-row t i s c
+  pub only : (c : Control) → Stands-at t i c (place s i) → Does-row t i s c → Same-test t i s
 
 unfoldable pub Entry-law : Type 0
 Entry-law = (t : Tree) → tree-refusal t .number ≡ 0 → (s : State) → Formed t s → (i : ℕ) → i < t .threads → Does-rows t i s

@@ -1,11 +1,9 @@
 // One step, or a run, on the arrays that are lent: the tests, then the loop. Refused, every array as it came.
 ghost use mathlib.Core.Path.{_≡_};
-ghost use Rattle.model.specs.Counters.{lock-state};
 ghost use Rattle.model.specs.Laws.{Typed};
 ghost use Rattle.model.specs.Answers.{step-answer, run-answer, trace-answer};
 ghost use Rattle.refusals.specs.Arrays.{lent-state};
-ghost use Rattle.run_refusals.specs.Counts.{counters-in};
-ghost use Rattle.lock.specs.Lent.{step-told, run-told};
+ghost use Rattle.lock.specs.Lent.{lent-lock, step-told, run-told};
 use model::Counts;
 use model::TreeWords;
 use steps::limits;
@@ -37,8 +35,8 @@ pub(crate) fn step_lent(
     thread: u16,
 ) -> Stepped
     requires { ⌜ Typed (lent-state (now tails) (now nexts) (now statuses) (now rows) (now domains) (now peers) (now words) (now ticket) (now granted)) ⌝ }
-    ensures { λ r. ⌜ r ≡ step-told (step-answer tree (lock-state (lent-state (now (tails .entry)) (now (nexts .entry)) (now (statuses .entry)) (now (rows .entry)) (now (domains .entry)) (now (peers .entry)) (now (words .entry)) (now (ticket .entry)) (now (granted .entry))) (counters-in (now (entries .entry)) (now (tenures .entry)) (now (longest .entry)))) thread) ⌝ }
-    ensures { λ r. ⌜ lock-state (lent-state (now (tails .exit)) (now (nexts .exit)) (now (statuses .exit)) (now (rows .exit)) (now (domains .exit)) (now (peers .exit)) (now (words .exit)) (now (ticket .exit)) (now (granted .exit))) (counters-in (now (entries .exit)) (now (tenures .exit)) (now (longest .exit))) ≡ step-answer tree (lock-state (lent-state (now (tails .entry)) (now (nexts .entry)) (now (statuses .entry)) (now (rows .entry)) (now (domains .entry)) (now (peers .entry)) (now (words .entry)) (now (ticket .entry)) (now (granted .entry))) (counters-in (now (entries .entry)) (now (tenures .entry)) (now (longest .entry)))) thread .state ⌝ }
+    ensures { λ r. ⌜ r ≡ step-told (step-answer tree (lent-lock (now (tails .entry)) (now (nexts .entry)) (now (statuses .entry)) (now (rows .entry)) (now (domains .entry)) (now (peers .entry)) (now (words .entry)) (now (ticket .entry)) (now (granted .entry)) (now (entries .entry)) (now (tenures .entry)) (now (longest .entry))) thread) ⌝ }
+    ensures { λ r. ⌜ lent-lock (now (tails .exit)) (now (nexts .exit)) (now (statuses .exit)) (now (rows .exit)) (now (domains .exit)) (now (peers .exit)) (now (words .exit)) (now (ticket .exit)) (now (granted .exit)) (now (entries .exit)) (now (tenures .exit)) (now (longest .exit)) ≡ step-answer tree (lent-lock (now (tails .entry)) (now (nexts .entry)) (now (statuses .entry)) (now (rows .entry)) (now (domains .entry)) (now (peers .entry)) (now (words .entry)) (now (ticket .entry)) (now (granted .entry)) (now (entries .entry)) (now (tenures .entry)) (now (longest .entry))) thread .state ⌝ }
 {
     let schedule = [thread];
     let r = limits::refusal_of(
@@ -126,9 +124,9 @@ pub(crate) fn run_tested(
     trace: &mut [u16],
 ) -> Ran
     requires { ⌜ Typed (lent-state (now tails) (now nexts) (now statuses) (now rows) (now domains) (now peers) (now words) (now ticket) (now granted)) ⌝ }
-    ensures { λ r. ⌜ r ≡ run-told (run-answer tree (lock-state (lent-state (now (tails .entry)) (now (nexts .entry)) (now (statuses .entry)) (now (rows .entry)) (now (domains .entry)) (now (peers .entry)) (now (words .entry)) (now (ticket .entry)) (now (granted .entry))) (counters-in (now (entries .entry)) (now (tenures .entry)) (now (longest .entry)))) (now (schedule .entry)) (now (trace .entry))) ⌝ }
-    ensures { λ r. ⌜ lock-state (lent-state (now (tails .exit)) (now (nexts .exit)) (now (statuses .exit)) (now (rows .exit)) (now (domains .exit)) (now (peers .exit)) (now (words .exit)) (now (ticket .exit)) (now (granted .exit))) (counters-in (now (entries .exit)) (now (tenures .exit)) (now (longest .exit))) ≡ run-answer tree (lock-state (lent-state (now (tails .entry)) (now (nexts .entry)) (now (statuses .entry)) (now (rows .entry)) (now (domains .entry)) (now (peers .entry)) (now (words .entry)) (now (ticket .entry)) (now (granted .entry))) (counters-in (now (entries .entry)) (now (tenures .entry)) (now (longest .entry)))) (now (schedule .entry)) (now (trace .entry)) .state ⌝ }
-    ensures { λ r. ⌜ now (trace .exit) ≡ trace-answer tree (lock-state (lent-state (now (tails .entry)) (now (nexts .entry)) (now (statuses .entry)) (now (rows .entry)) (now (domains .entry)) (now (peers .entry)) (now (words .entry)) (now (ticket .entry)) (now (granted .entry))) (counters-in (now (entries .entry)) (now (tenures .entry)) (now (longest .entry)))) (now (schedule .entry)) (now (trace .entry)) ⌝ }
+    ensures { λ r. ⌜ r ≡ run-told (run-answer tree (lent-lock (now (tails .entry)) (now (nexts .entry)) (now (statuses .entry)) (now (rows .entry)) (now (domains .entry)) (now (peers .entry)) (now (words .entry)) (now (ticket .entry)) (now (granted .entry)) (now (entries .entry)) (now (tenures .entry)) (now (longest .entry))) (now (schedule .entry)) (now (trace .entry))) ⌝ }
+    ensures { λ r. ⌜ lent-lock (now (tails .exit)) (now (nexts .exit)) (now (statuses .exit)) (now (rows .exit)) (now (domains .exit)) (now (peers .exit)) (now (words .exit)) (now (ticket .exit)) (now (granted .exit)) (now (entries .exit)) (now (tenures .exit)) (now (longest .exit)) ≡ run-answer tree (lent-lock (now (tails .entry)) (now (nexts .entry)) (now (statuses .entry)) (now (rows .entry)) (now (domains .entry)) (now (peers .entry)) (now (words .entry)) (now (ticket .entry)) (now (granted .entry)) (now (entries .entry)) (now (tenures .entry)) (now (longest .entry))) (now (schedule .entry)) (now (trace .entry)) .state ⌝ }
+    ensures { λ r. ⌜ now (trace .exit) ≡ trace-answer tree (lent-lock (now (tails .entry)) (now (nexts .entry)) (now (statuses .entry)) (now (rows .entry)) (now (domains .entry)) (now (peers .entry)) (now (words .entry)) (now (ticket .entry)) (now (granted .entry)) (now (entries .entry)) (now (tenures .entry)) (now (longest .entry))) (now (schedule .entry)) (now (trace .entry)) ⌝ }
 {
     let mut kinds = [0u32; 6];
     let r = limits::refusal_of(

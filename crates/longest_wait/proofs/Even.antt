@@ -18,9 +18,9 @@ use Rattle.model.proofs.Trees.Records.{Member, a-thread, a-domain, member-facts
 use Rattle.starvation_freedom.specs.Bounds.{members}
 use Rattle.longest_wait.specs.Bounds.{effective-threshold, effective, passes, others-passes}
 use Rattle.longest_wait.specs.Laws.{Equal-levels}
-use Rattle.longest_wait.proofs.Effective.{effective-accepted}
+use Rattle.starvation_freedom.proofs.Effective.{effective-accepted}
 use Rattle.longest_wait.proofs.Passes.{same-member}
-use Rattle.longest_wait.proofs.Sums.{sum-same, sum-of-value, sum-but-one}
+use Rattle.starvation_freedom.proofs.Sums.{sum-same, sum-of-value, sum-but-one}
 use Rattle.longest_wait.proofs.Waits.{some-members}
 
 pub largest-within : (n : ℕ) (f : ℕ → ℕ) (v : ℕ) → ((j : ℕ) → j < n → f j ≤ v) → largest-below n f ≤ v

@@ -20,7 +20,7 @@ use Rattle.tenures.proofs.Children.{one-child}
 use Rattle.starvation_freedom.specs.Bounds.{members}
 use Rattle.longest_wait.specs.Bounds.{sum-below, effective-threshold, others-passes, tenures-for-all, member-wait, wait-bound}
 use Rattle.longest_wait.specs.Laws.{Even, Even-tree-law}
-use Rattle.longest_wait.proofs.Sums.{sum-same, sum-zero, sum-each, sum-swaps, sum-stretches, sum-of-value}
+use Rattle.starvation_freedom.proofs.Sums.{sum-same, sum-zero, sum-each, sum-swaps, sum-stretches, sum-of-value}
 use Rattle.longest_wait.proofs.Waits.{above-wait, above-root, wait-at, above-next}
 use Rattle.longest_wait.proofs.Even.{top, same-home, home-depth, thread-under, deep, same-many, has-members, P, N, others-at}
 

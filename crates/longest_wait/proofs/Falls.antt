@@ -22,8 +22,8 @@ use Rattle.starvation_freedom.proofs.Queues.{tag}
 use Rattle.starvation_freedom.proofs.Left.{hits, entry-hits}
 use Rattle.longest_wait.specs.Bounds.{passes}
 use Rattle.longest_wait.proofs.Arithmetic.{tenure-over}
-use Rattle.longest_wait.proofs.Weights.{weight}
-use Rattle.longest_wait.proofs.Effective.{left-there, left-within, left-less}
+use Rattle.starvation_freedom.proofs.Weights.{weight}
+use Rattle.starvation_freedom.proofs.Effective.{left-there, left-within, left-less}
 use Rattle.longest_wait.proofs.Waits.{above-wait, above-next}
 use Rattle.longest_wait.proofs.Heads.{After, kept, passed, released, closed, after-step}
 use Rattle.longest_wait.proofs.Stages.{steps-on, lock-lasts}

@@ -43,7 +43,7 @@ use Rattle.longest_wait.specs.Bounds.{effective, wait-bound}
 use Rattle.longest_wait.specs.InLine.{ends-at, others-entry, in-line, bypass, prompt, late-entry, count-steps}
 use Rattle.longest_wait.specs.Laws.{Bounded-wait, Wait-bound-law}
 use Rattle.longest_wait.proofs.Stages.{Ones, ones-empty, ones-step}
-use Rattle.longest_wait.proofs.Effective.{effective-keeps}
+use Rattle.starvation_freedom.proofs.Effective.{effective-keeps}
 use Rattle.longest_wait.proofs.Over.{letting-go-tag}
 use Rattle.longest_wait.proofs.Ends.{chain-ends}
 use Rattle.longest_wait.proofs.Owes as owes
@@ -86,7 +86,7 @@ module _ (t : Tree) (ok : tree-refusal t .number ≡ 0) (bits : Sixteen-bit t) w
       let l = from-fresh t valid bits start [] tt in
       let s = sound-run (l .follows) (inv-empty t) (inv-empty (effective t)) (ones-empty t) in
       record {
-        now = record { words = fresh-state t start; queued = l .there };
+        now = record { words = fresh-state t start; queued = l .there; effectively = s .0 };
         sound = record { within = s .0; ones = s .1 };
       }
 

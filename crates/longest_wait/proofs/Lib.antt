@@ -1,8 +1,5 @@
 -- The proofs.
 pub mod Arithmetic
-pub mod Sums
-pub mod Weights
-pub mod Effective
 pub mod Waits
 pub mod Heads
 pub mod Stages

@@ -24,7 +24,7 @@ use Rattle.starvation_freedom.proofs.Situations.{Situation, queues, next-change
 use Rattle.starvation_freedom.proofs.Queues.{tag, queue-change}
 use Rattle.starvation_freedom.proofs.Positions.{queue-short}
 use Rattle.longest_wait.specs.Bounds.{passes, others-passes}
-use Rattle.longest_wait.proofs.Weights.{weight, weight-others}
+use Rattle.starvation_freedom.proofs.Weights.{weight, weight-others}
 use Rattle.longest_wait.proofs.Linked.{All-linked, linked-stays}
 use Rattle.longest_wait.proofs.Stages.{steps-on, from-queued}
 use Rattle.longest_wait.proofs.Ends.{Line}

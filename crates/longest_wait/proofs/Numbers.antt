@@ -18,7 +18,7 @@ use Rattle.model.proofs.Trees.Records.{Member, a-thread, a-domain, member-facts
 use Rattle.starvation_freedom.specs.Bounds.{members}
 use Rattle.longest_wait.specs.Bounds.{effective-threshold, effective, passes, others-passes, tenures-for-all, member-wait}
 use Rattle.longest_wait.specs.Laws.{Numbers-law}
-use Rattle.longest_wait.proofs.Effective.{effective-accepted}
+use Rattle.starvation_freedom.proofs.Effective.{effective-accepted}
 use Rattle.longest_wait.proofs.Passes.{same-member}
 use Rattle.longest_wait.proofs.Even.{largest-within}
 use Rattle.longest_wait.proofs.Waits.{above-wait, above-root, wait-at}

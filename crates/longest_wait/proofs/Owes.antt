@@ -19,8 +19,8 @@ use Rattle.starvation_freedom.proofs.Situations.{Situation, queues, next-change
 use Rattle.starvation_freedom.proofs.Queues.{tag}
 use Rattle.longest_wait.specs.Bounds.{effective, passes, others-passes, tenures-for-all, member-wait}
 use Rattle.longest_wait.proofs.Arithmetic.{one-tenure}
-use Rattle.longest_wait.proofs.Weights.{weight}
-use Rattle.longest_wait.proofs.Effective.{effective-keeps, left-there, left-within}
+use Rattle.starvation_freedom.proofs.Weights.{weight}
+use Rattle.starvation_freedom.proofs.Effective.{effective-keeps, left-there, left-within}
 use Rattle.longest_wait.proofs.Waits.{above-wait, above-root, wait-at, tenures-enough, above-enough}
 use Rattle.longest_wait.proofs.Stages.{Ones, ones-step, on-way}
 use Rattle.longest_wait.proofs.Over.{Over}

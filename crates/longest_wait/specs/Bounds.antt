@@ -4,31 +4,8 @@ use Prim.Native.Nat.{ℕ, zero, suc, _+_, _*_, _-_, _/_}
 use lib.Dec.{eqb, ltb}
 use Rattle.model.specs.Trees.{Tree, is-member, level, allowance}
 unfoldable pub use Rattle.tenures.specs.Laws.{sum-below}
+unfoldable pub use Rattle.starvation_freedom.specs.Bounds.{effective-threshold, effective, passes, others-passes}
 use Rattle.starvation_freedom.specs.Bounds.{members}
-
--- the threshold of a domain as far as it has an effect: where it has one member, which has nobody to pass to, it counts as 1
-unfoldable pub effective-threshold : Tree → (domain : ℕ) → ℕ
-effective-threshold t d = cond (ltb 1 (members t d)) (t .threshold d) 1
-
--- the tree with those thresholds
-unfoldable pub effective : Tree → Tree
-effective t =
-    record {
-      domains = t .domains;
-      threads = t .threads;
-      parent = t .parent;
-      threshold = effective-threshold t;
-      home = t .home;
-      ticket-root = t .ticket-root;
-    }
-
--- the passes of a member: its allowance with those thresholds. So 1 for a thread, and for a domain its threshold, or 1 where it has one member, times the largest passes of its members
-unfoldable pub passes : Tree → (member : ℕ) → ℕ
-passes t m = allowance (effective t) m
-
--- the passes of all members of a domain but one
-unfoldable pub others-passes : Tree → (domain member : ℕ) → ℕ
-others-passes t d m = sum-below 320 (λ q. cond (is-member t d q && not (eqb q m)) (passes t q) 0)
 
 -- how many tenures of a domain are enough for all its members: their number over its threshold, rounded up
 unfoldable pub tenures-for-all : Tree → (domain : ℕ) → ℕ

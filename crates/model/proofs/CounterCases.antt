@@ -3,7 +3,7 @@ use mathlib.Core.Path.{_≡_, refl, ap, _∙_}
 use mathlib.Core.Bool.{Bool, true, not, _&&_}
 use mathlib.Core.List.{List, [], _∷_, _++_}
 use Prim.Native.Nat.{ℕ}
-use lib.Dec.{leb}
+use lib.Dec.{leb, eqb}
 use lib.ListN.{length}
 use borrow.Author.Tests.{leb-true}
 use Rattle.model.specs.declared.TreeWords.{TreeWords}
@@ -20,8 +20,8 @@ use Rattle.model.specs.WellFormed.{good-tail, queue-on-path, good-place,
 use Rattle.model.specs.Counters.{lock-state, fresh-counters, each-with-index, counters-after, good-count, good-counts, count-above, any-above}
 use Rattle.model.specs.Refusals.{Refusal, refusal, accepted, Test, test, lowest-bad, first-refusal, bad-domains, bad-threads, bad-parent, too-deep, no-threshold, bad-home, empty-domain, tree-tests, bad-state, bad-length, bad-entry, bad-room, bad-counter, entry-tests, schedule-tests, room-tests, counter-tests, step-tests, run-tests, tree-refusal, step-refusal, run-refusal}
 use Rattle.model.specs.Answers.{counters-behind, first-kind, first-domain, step-reply, step-answer, run-reply, run-buffer, run-answer, trace-answer}
-use Rattle.model.specs.Cases.{padded, tree, at-ticket-root, two-homes, first-entries, same-numbers, same-places, same-state, same-counters, same-lock, uncounted}
-use Rattle.model.specs.CounterCases.{counters, Case, leaves, run-with, step-with, two-below, one-pass, two-leaves, cases, buffer, left-so, refused-so, step-so, holds, all-hold, Counter-cases-hold}
+use Rattle.model.specs.Cases.{padded, tree, at-ticket-root, counters as ticket-counters, two-homes, first-entries, same-numbers, same-places, same-state, same-counters, same-lock, uncounted}
+use Rattle.model.specs.CounterCases.{counters, Case, leaves, run-with, step-with, step-leaves, two-below, one-pass, two-leaves, three-leaves, two-watch, cases, buffer, left-so, refused-so, step-so, holds, all-hold, Counter-cases-hold}
 use Rattle.model.proofs.Tests.{and-both}
 use Rattle.model.proofs.Laws.Form.{fresh-well-formed}
 use Rattle.model.proofs.Walks.{walked, zero-from, first-pass, first-meets, formed-by-walks, same-formed, counts-by-walks, above-by-walks, zipped}
@@ -44,6 +44,11 @@ holds-by-walks (step-with w is c i k p) =
     let t = tree-of w in
     let s = lock-state (run t is fresh-words .state) c in
     step-so k p (step-reply (counted-refusal t (formed-by-walks t (s .words)) s (entry-tests t (i ∷ [])) (i ∷ [])) s (steps t (i ∷ []) (s .words)) (counters-behind t (i ∷ []) s)) s
+holds-by-walks (step-leaves w s i c) =
+    let t = tree-of w in
+    let l = uncounted s in
+    let r = step-reply (counted-refusal t (formed-by-walks t s) l (entry-tests t (i ∷ [])) (i ∷ [])) l (steps t (i ∷ []) s) (counters-behind t (i ∷ []) l) in
+    (eqb (r .number) 0 && eqb (r .place) 0) && same-counters (r .state .counters) c
 
 unfoldable all-hold-by-walks : List Case → Bool
 all-hold-by-walks [] = true
@@ -54,6 +59,7 @@ unfoldable case-sized : Case → Bool
 case-sized (leaves w is c) = leb (length is) 65536
 case-sized (run-with w c is n k p) = leb (length is) 65536
 case-sized (step-with w is c i k p) = state-sized (run (tree-of w) is fresh-words .state)
+case-sized (step-leaves w s i c) = state-sized s
 
 unfoldable all-sized : List Case → Bool
 all-sized [] = true
@@ -69,6 +75,7 @@ same-case (run-with w c is n k p) e = rw (same-fresh w c is n e)
 same-case (step-with w is c i k p) e =
     let s = run (tree-of w) is fresh-words .state in
     rw (same-counted-step w (lock-state s c) (formed-by-walks (tree-of w) s) (same-formed (tree-of w) s (sized s e)) i)
+same-case (step-leaves w s i c) e = rw (same-counted-step w (uncounted s) (formed-by-walks (tree-of w) s) (same-formed (tree-of w) s (sized s e)) i)
 
 same-cases : (cs : List Case) → all-sized cs ≡ true → all-hold cs ≡ all-hold-by-walks cs
 unfolding all-hold all-hold-by-walks all-sized
@@ -80,7 +87,7 @@ same-cases (c ∷ cs) e =
 cases-sized : all-sized cases ≡ true
 unfolding any-below filter-below read-word tree-of is-ticket is-child is-leaf meets on-path child-from child own-record under place-of is-watch numbers-at store-numbers fresh-words
     is-entry prep-row swap-row link-row wait-row leave-row check-row help-row cas-row linger-row grant-row draw-row watch-row is-watched shown-members
-    raise-row row step steps state-after run-of run fresh-counters counters cases first-entries two-below padded tree case-sized all-sized
+    raise-row row step steps state-after run-of run fresh-counters counters cases first-entries two-below two-watch ticket-counters padded tree case-sized all-sized
 cases-sized = refl
 
 pub counter-cases-hold : Counter-cases-hold
@@ -91,6 +98,6 @@ unfolding Counter-cases-hold any-below filter-below all-below read-word tree-of 
     tenure-length domain-entries domain-tenures longest-tenure good-tail queue-on-path good-place good-counters fresh-counters each-with-index counters-after
     good-count good-counts count-above any-above refusal accepted lowest-bad first-refusal bad-domains bad-threads bad-parent too-deep no-threshold bad-home
     empty-domain tree-tests bad-length bad-entry bad-room bad-counter counters-behind first-kind first-domain step-reply run-reply run-buffer padded tree
-    at-ticket-root two-homes first-entries same-numbers same-places same-state same-counters same-lock counters two-below one-pass two-leaves cases
+    at-ticket-root two-homes first-entries same-numbers same-places same-state same-counters same-lock counters two-below one-pass two-leaves three-leaves two-watch ticket-counters cases
     refused-so step-so walked zipped formed-by-walks counts-by-walks zero-from first-pass first-meets above-by-walks walked-counter far-below have-room counted-refusal holds-by-walks all-hold-by-walks
 counter-cases-hold = same-cases cases cases-sized ∙ refl

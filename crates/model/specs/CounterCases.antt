@@ -6,17 +6,18 @@ use Prim.Native.Nat.{ℕ, zero, suc}
 use lib.Dec.{eqb}
 use lib.ListN.{length, replicate}
 use Rattle.model.specs.declared.TreeWords.{TreeWords}
+use Rattle.model.specs.declared.Place.the-variants.{Watch, Raise}
 use Rattle.model.specs.declared.State.{State}
 use Rattle.model.specs.declared.Counters.{Counters}
 use Rattle.model.specs.declared.LockState.{LockState}
 use Rattle.model.specs.declared.StepReply.{StepReply}
 use Rattle.model.specs.declared.RunReply.{RunReply}
 use Rattle.model.specs.Trees.{tree-of}
-use Rattle.model.specs.States.{fresh-words}
+use Rattle.model.specs.States.{fresh-words, with-status, with-place}
 use Rattle.model.specs.Runs.{run}
 use Rattle.model.specs.Counters.{lock-state, most-counted}
 use Rattle.model.specs.Answers.{step-answer, run-answer, trace-answer}
-use Rattle.model.specs.Cases.{padded, tree, at-ticket-root, two-homes, first-entries, same-numbers, same-counters, same-lock, uncounted}
+use Rattle.model.specs.Cases.{padded, tree, at-ticket-root, counters as ticket-counters, two-homes, first-entries, same-numbers, same-counters, same-lock, uncounted}
 
 -- counters by their first numbers, from the root on; the room behind them is 0
 unfoldable pub counters : (entries tenures longest : List ℕ) → Counters
@@ -29,6 +30,8 @@ pub data Case : Type 0 where
   run-with : TreeWords → Counters → (schedule : List ℕ) → (room number place : ℕ) → Case
   -- a step in the words behind a schedule, with these counters
   step-with : TreeWords → (before : List ℕ) → Counters → (thread number place : ℕ) → Case
+  -- an accepted step in these words, from fresh counters, and the counters that it leaves
+  step-leaves : TreeWords → State → (thread : ℕ) → Counters → Case
 
 -- below the root domain 1, below it the leaves 2 and 3 with a thread each, thresholds 1
 unfoldable pub two-below : TreeWords
@@ -41,6 +44,14 @@ one-pass = tree 2 2 (0 ∷ 0 ∷ []) (0 ∷ 1 ∷ []) (1 ∷ 1 ∷ [])
 -- below the root the leaves 1 and 2, thresholds 2, with threads 0 and 1
 unfoldable pub two-leaves : TreeWords
 two-leaves = tree 3 2 (0 ∷ 0 ∷ 0 ∷ []) (0 ∷ 2 ∷ 2 ∷ []) (1 ∷ 2 ∷ [])
+
+-- below the root the leaves 1, 2 and 3, thresholds 2, with a thread each
+unfoldable pub three-leaves : TreeWords
+three-leaves = tree 4 3 (0 ∷ 0 ∷ 0 ∷ 0 ∷ []) (0 ∷ 2 ∷ 2 ∷ 2 ∷ []) (1 ∷ 2 ∷ 3 ∷ [])
+
+-- thread 0 is about to raise the grant to 6, and the threads of leaves 2 and 3 watch with that ticket
+unfoldable pub two-watch : State
+two-watch = with-place 0 Raise (with-place 1 Watch (with-place 2 Watch (with-status 258 6 (with-status 259 6 (ticket-counters 7 5 fresh-words)))))
 
 -- the most that a counter may be
 abbrev pub limit : ℕ
@@ -62,6 +73,8 @@ cases =
     -- at a ticket root: a draw that goes Inside, and the raise that shows a ticket
     ∷ leaves (at-ticket-root two-leaves) (replicate 3 0 ++ replicate 3 1 ++ replicate 2 0) (counters (0 ∷ 1 ∷ []) (0 ∷ 1 ∷ []) (0 ∷ 1 ∷ []))
     ∷ leaves (at-ticket-root two-leaves) (replicate 3 0 ++ replicate 3 1 ++ replicate 3 0) (counters (0 ∷ 1 ∷ []) (0 ∷ 1 ∷ 1 ∷ []) (0 ∷ 1 ∷ 1 ∷ []))
+    -- a raise that shows two children's tickets at once starts a tenure of each
+    ∷ step-leaves (at-ticket-root three-leaves) two-watch 0 (counters [] (0 ∷ 0 ∷ 1 ∷ 1 ∷ []) (0 ∷ 0 ∷ 1 ∷ 1 ∷ []))
     -- 10: the root and unused room
     ∷ run-with two-homes (counters (1 ∷ []) [] []) [] 0 10 0
     ∷ run-with two-homes (counters [] (1 ∷ []) []) [] 0 10 0
@@ -112,6 +125,9 @@ holds (run-with w c is n k p) =
 holds (step-with w is c i k p) =
     let s = lock-state (run (tree-of w) is fresh-words .state) c in
     step-so k p (step-answer w s i) s
+holds (step-leaves w s i c) =
+    let r = step-answer w (uncounted s) i in
+    (eqb (r .number) 0 && eqb (r .place) 0) && same-counters (r .state .counters) c
 
 unfoldable pub all-hold : List Case → Bool
 all-hold [] = true

@@ -36,23 +36,48 @@ pub record Same-up-to (domain : ℕ) (t u : Tree) (i : ℕ) : Type 0 where
   pub parent : (d : ℕ) → on-path t i d ≡ true → domain ≤ d → u .parent d ≡ t .parent d
 
 -- 2. IT LEAVES AS SOON AS IT HAS THE CHILD. A search that finds the child of a domain on the thread's path
-pub record Leaves-at-child (t : Tree) (i l : ℕ) : Type 0 where
-  pub hangs : is-child t l (search t i l .child) ≡ true
-  pub there : on-path t i (search t i l .child) ≡ true
+pub record Leaves-at-child (look : Tree → (thread domain : ℕ) → Found) (t : Tree) (i l : ℕ) : Type 0 where
+  pub hangs : is-child t l (look t i l .child) ≡ true
+  pub there : on-path t i (look t i l .child) ≡ true
   -- as many as the domains from the home up to the child, both among them
-  pub exactly : search t i l .looked + depth t (search t i l .child) ≡ depth t (t .home i) + 1
+  pub exactly : look t i l .looked + depth t (look t i l .child) ≡ depth t (t .home i) + 1
   -- what lies beyond the child is not looked at: no parent there makes a difference
-  pub not-beyond : (u : Tree) → Same-up-to (search t i l .child) t u i → search u i l ≡ search t i l
+  pub not-beyond : (u : Tree) → Same-up-to (look t i l .child) t u i → look u i l ≡ look t i l
 
 pub record Searches (t : Tree) (i : ℕ) : Type 0 where
-  pub above-home : (l : ℕ) → on-path t i l ≡ true → l ≢ t .home i → Leaves-at-child t i l
+  pub above-home : (l : ℕ) → on-path t i l ≡ true → l ≢ t .home i → Leaves-at-child search t i l
   -- of the home, and of a domain off the path, no child is on the path: the search ends at the root and has looked at every domain of the path
   pub no-child : (l : ℕ) → (l ≡ t .home i) ⊎ (on-path t i l ≡ false) → search t i l ≡ found 0 (level t (t .home i))
 
 unfoldable pub Search-law : Type 0
 Search-law = (t : Tree) → tree-refusal t .number ≡ 0 → (i : ℕ) → i < t .threads → Searches t i
 
--- 3. CASES, computed: what is found of the domains from 0 on
+-- 3. NO OTHER SEARCH LEAVES THERE: one that does finds the same child and looks at as many domains
+unfoldable pub Only-search-law : Type 0
+Only-search-law =
+    (look : Tree → (thread domain : ℕ) → Found) (t : Tree) → tree-refusal t .number ≡ 0 → (i : ℕ) → i < t .threads →
+    (l : ℕ) → on-path t i l ≡ true → l ≢ t .home i → Leaves-at-child look t i l → look t i l ≡ search t i l
+
+-- the tree with another parent at one domain
+unfoldable pub with-parent : (domain parent : ℕ) → Tree → Tree
+with-parent d p t =
+    record {
+      domains = t .domains;
+      threads = t .threads;
+      parent = λ c. cond (eqb c d) p (t .parent c);
+      threshold = t .threshold;
+      home = t .home;
+      ticket-root = t .ticket-root;
+    }
+
+-- 4. WHERE A TREE MAY DIFFER. Any parent at one domain beyond leaves it the same up to there; at a domain of the path that is not beyond, only the parent that it has
+unfoldable pub Beyond-law : Type 0
+Beyond-law = (t : Tree) (i c d p : ℕ) → d < c → Same-up-to c t (with-parent d p t) i
+
+unfoldable pub Up-to-law : Type 0
+Up-to-law = (t : Tree) (i c d p : ℕ) → on-path t i d ≡ true → c ≤ d → Same-up-to c t (with-parent d p t) i → p ≡ t .parent d
+
+-- 5. CASES, computed: what is found of the domains from 0 on
 unfoldable pub found-of : TreeWords → (thread many : ℕ) → List Found
 found-of w i n = map (search (tree-of w) i) (count-up 0 n)
 
@@ -67,3 +92,11 @@ Six-levels-searched =
 -- three levels, the thread's home domain 3; domain 2 is off its path
 unfoldable pub Three-levels-searched : Type 0
 Three-levels-searched = found-of three-levels 1 4 ≡ found 1 2 ∷ found 3 1 ∷ found 0 3 ∷ found 0 3 ∷ []
+
+-- six levels, and of domain 3 the child 4 is found: its parent may have any parent, itself too
+unfoldable pub Any-parent-beyond : Type 0
+Any-parent-beyond = map (λ p. search (with-parent 3 p (tree-of six-levels)) 0 3) (count-up 0 7) ≡ replicate 7 (found 4 2)
+
+-- with another parent of the child itself, 3 has no child on the path
+unfoldable pub Another-parent-at-the-child : Type 0
+Another-parent-at-the-child = search (with-parent 4 2 (tree-of six-levels)) 0 3 ≡ found 0 5

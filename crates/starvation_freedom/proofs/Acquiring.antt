@@ -6,7 +6,7 @@ use Prim.Native.Nat.{ℕ, zero, suc, _+_, _*_, _-_, _≤_, _<_}
 use native.Mathlib.Omega.{arith}
 use Rattle.model.specs.declared.Place.{Place}
 use Rattle.model.specs.declared.Place.the-variants.{Idle, Prep, Swap, Link, Wait, Inside, Check, Help, Cas, Linger, Grant, Draw, Watch, Raise, Invalid}
-use Rattle.model.specs.Trees.{Tree}
+use Rattle.model.specs.Trees.{Tree, level}
 use Rattle.model.specs.States.{place}
 use Rattle.model.specs.Laws.{Sixteen-bit}
 use Rattle.model.proofs.Lists.{less-or, first, rest, count, count-rest}
@@ -17,7 +17,7 @@ use Rattle.claims.proofs.Queues.Paths.{Laws, laws}
 use Rattle.claims.proofs.Queues.Meeting.{same-height}
 use Rattle.claims.proofs.Queues.Moves.{queued, ready, low, acts}
 use Rattle.chain.proofs.Reached.Orders.{position}
-use Rattle.starvation_freedom.specs.Bounds.{members, acquire-rounds, acquire-bound}
+use Rattle.starvation_freedom.specs.Bounds.{members, passes, others-passes, entry-rounds, others-rounds, acquire-rounds, acquire-bound}
 use Rattle.starvation_freedom.specs.Laws.{is-acquiring}
 use Rattle.starvation_freedom.proofs.Situations.{Situation, queues, next, next-change}
 use Rattle.starvation_freedom.proofs.Within.{Within, then, longer, at-once, one-round, meanwhile}
@@ -27,8 +27,9 @@ use Rattle.starvation_freedom.proofs.Releasing.{place-round}
 use Rattle.starvation_freedom.proofs.Queues.{holder, queue-change}
 use Rattle.starvation_freedom.proofs.Ready.{ready-enters, ready-lasts}
 use Rattle.starvation_freedom.proofs.Tenures.{Actor}
-use Rattle.starvation_freedom.proofs.Positions.{queue-short, position-within, behind-first, nearer}
-use Rattle.starvation_freedom.proofs.Bounds.{above-rounds, first-rounds, acquire-at, above-some, fewer, above-next}
+use Rattle.starvation_freedom.proofs.Positions.{queue-short, position-within, behind-first}
+use Rattle.starvation_freedom.proofs.Ahead.{ahead, ahead-first, nearer, ahead-others}
+use Rattle.starvation_freedom.proofs.Bounds.{mul-add, above-rounds, first-rounds, acquire-at, above-some, fewer, above-next}
 use Rattle.starvation_freedom.proofs.Waiting.{Woken, woken-round, Stood, stands-on, is-ready, is-woken, is-inside, waits, links, watches, stands-step}
 use Rattle.starvation_freedom.proofs.First.{Enters, Climbing, prepares, swaps, stands, goes-on, Acquired, first-leaves}
 
@@ -57,23 +58,35 @@ module _ (t : Tree) (valid : Accepted t) (bits : Sixteen-bit t) where
           let s = c .queued .represents .invariant .threads a .stands (rw e (omega arith)) in
           rw e at s
 
-      -- while r is first it comes no farther behind, and nearer once r is not
-      abbrev Behind : (r n : ℕ) → Situation t → Type 0
-      Behind r n c =
-          (queues c .stage a ≡ queued m)
-          × (((first (queues c .queue d) ≡ suc r) × (position mine (queues c .queue d) ≤ suc n)) ⊎ (position mine (queues c .queue d) ≤ n))
+      -- those before it in the queue, and their passes
+      abbrev place-of : Situation t → ℕ
+      place-of c = position mine (queues c .queue d)
 
-      behind-lasts : (r n : ℕ) (c : Situation t) (x : ℕ) (h : x < t .threads) → Behind r n c → Behind r n (next t valid bits c x h) ⊎ Freed (next t valid bits c x h)
-      behind-lasts r n c x h (e, q) =
+      abbrev passes-of : Situation t → ℕ
+      passes-of c = ahead (passes t) mine (queues c .queue d)
+
+      -- while r is first it comes no farther behind, and nearer once r is not, with the passes of r fewer before it
+      abbrev Behind : (r n w : ℕ) → Situation t → Type 0
+      Behind r n w c =
+          (queues c .stage a ≡ queued m)
+          × (((first (queues c .queue d) ≡ suc r) × (place-of c ≤ suc n) × (passes-of c ≤ passes t r + w)) ⊎ ((place-of c ≤ n) × (passes-of c ≤ w)))
+
+      behind-lasts : (r n w : ℕ) (c : Situation t) (x : ℕ) (h : x < t .threads) → Behind r n w c → Behind r n w (next t valid bits c x h) ⊎ Freed (next t valid bits c x h)
+      behind-lasts r n w c x h (e, q) =
           let c′ = next t valid bits c x h in
+          let once = c .queued .represents .invariant .once d mine in
           let ch = queue-change t d (next-change t valid bits c x h) in
-          let near = nearer d mine (ch .0) (queues c .queue d) (queues c′ .queue d) (ch .1) (standing c e) (c .queued .represents .invariant .once d mine) in
+          let b = behind-first mine (queues c .queue d) (standing c e) once in
+          let near = nearer (passes t) d mine (b .0) (ch .0) (queues c .queue d) (queues c′ .queue d) (ch .1) (standing c e) once (b .1) in
           elim (stands-step t valid bits a ha m (omega arith) c e x h) [
             | stands-on e′ ↦ inl (
               e′,
               elim q [
-                | inl (o, p) ↦ elim near [ inl (v, u) ↦ inl (v ∙ o, omega arith) | inr u ↦ inr (omega arith) ]
-                | inr p ↦ elim near [ inl (v, u) ↦ inr (omega arith) | inr u ↦ inr (omega arith) ]
+                | inl (o, p, y) ↦ elim near [
+                  | inl (v, u, z) ↦ inl (v ∙ o, omega arith, omega arith)
+                  | inr (u, z) ↦ let same = ap (passes t) (let k = b .1 in let s : b .0 ≡ r = omega arith in s) in inr (omega arith, omega arith)
+                ]
+                | inr (p, y) ↦ elim near [ inl (v, u, z) ↦ inr (omega arith, omega arith) | inr (u, z) ↦ inr (omega arith, omega arith) ]
               ],
             )
             | is-ready y ↦ inr (by-lock y)
@@ -81,24 +94,35 @@ module _ (t : Tree) (valid : Accepted t) (bits : Sixteen-bit t) where
             | is-inside y ↦ inr (by-entry y)
           ]
 
-      -- each member before it is first for so many rounds
-      stands-rounds : (n : ℕ) (c : Situation t) → queues c .stage a ≡ queued m → position mine (queues c .queue d) ≤ n → Within t valid bits (n * first-rounds t d) Freed c
-      stands-rounds zero c e p =
+      -- the rounds of so many members before it, with so many passes
+      abbrev before-rounds : (n w : ℕ) → ℕ
+      before-rounds n w = n * (above-rounds t d + 5 * level t d) + entry-rounds t * w
+
+      tenure-and-rest : (r n w : ℕ) → first-rounds t d r + before-rounds n w ≡ before-rounds (suc n) (passes t r + w)
+      unfolding first-rounds
+      tenure-and-rest r n w = let x = mul-add (entry-rounds t) (passes t r) w in omega arith
+
+      -- each member before it is first for the rounds of its tenure
+      stands-rounds : (n w : ℕ) (c : Situation t) → queues c .stage a ≡ queued m → place-of c ≤ n → passes-of c ≤ w → Within t valid bits (before-rounds n w) Freed c
+      stands-rounds zero w c e p y =
           absurd (let b = behind-first mine (queues c .queue d) (standing c e) (c .queued .represents .invariant .once d mine) in let o = b .2 in omega arith)
-      stands-rounds (suc n) c e p =
+      stands-rounds (suc n) w c e p y =
           let inv = c .queued .represents .invariant in
           let b = behind-first mine (queues c .queue d) (standing c e) (inv .once d mine) in
           let r = b .0 in
+          let enough = ahead-first (passes t) mine r (queues c .queue d) (standing c e) (inv .once d mine) (b .1) in
+          let w′ = w - passes t r in
           let o = holder t tree-laws (queues c) inv d r (b .1) in
           let A : Actor t valid bits d r (o .thread) (o .index) = record { real = o .real; within = o .within; there = o .there; mine = o .mine } in
           let tall = same-height t tree-laws (o .thread) (o .index) a m (o .real) ha (o .within) (omega arith) (o .there) in
-          let w = first-leaves t valid bits f nearer-root d r (o .thread) (o .index) A (omega arith) c (o .first-at) in
-          let z : first-rounds t d + n * first-rounds t d ≡ suc n * first-rounds t d = omega arith in
-          rw (← z) (then t valid bits (first-rounds t d) (n * first-rounds t d)
-          (meanwhile t valid bits (Behind r n) Freed (behind-lasts r n) (first-rounds t d) w (e, inl (b .1, p)))
+          let leaves = first-leaves t valid bits f nearer-root d r (o .thread) (o .index) A (omega arith) c (o .first-at) in
+          let whole : passes t r + w′ ≡ w = omega arith in
+          let z : first-rounds t d r + before-rounds n w′ ≡ before-rounds (suc n) w = tenure-and-rest r n w′ ∙ ap (before-rounds (suc n)) whole in
+          rw (← z) (then t valid bits (first-rounds t d r) (before-rounds n w′)
+          (meanwhile t valid bits (Behind r n w′) Freed (behind-lasts r n w′) (first-rounds t d r) leaves (e, inl (b .1, p, omega arith)))
           (λ c′ q. elim q [
-            | inl (gone, (e′, near)) ↦ elim near [ inl (u, v) ↦ absurd (gone u) | inr v ↦ stands-rounds n c′ e′ v ]
-            | inr y ↦ at-once t valid bits (n * first-rounds t d) y
+            | inl (gone, (e′, near)) ↦ elim near [ inl (u, v, y′) ↦ absurd (gone u) | inr (v, y′) ↦ stands-rounds n w′ c′ e′ v y′ ]
+            | inr v ↦ at-once t valid bits (before-rounds n w′) v
           ]))
 
       -- FROM THE END of its standing on
@@ -121,15 +145,16 @@ module _ (t : Tree) (valid : Accepted t) (bits : Sixteen-bit t) where
 
       -- the rounds behind Swap
       abbrev rest-rounds : ℕ
-      rest-rounds = (members t d - 1) * first-rounds t d + above-rounds t d
+      rest-rounds = others-rounds t d mine (above-rounds t d) + above-rounds t d
 
       stands-inside : (c : Situation t) → queues c .stage a ≡ queued m → Within t valid bits rest-rounds (Enters t valid bits a) c
+      unfolding others-rounds
       stands-inside c e =
           let inv = c .queued .represents .invariant in
           let s = standing c e in
           let p = position-within mine (queues c .queue d) (omega (arith, count-rest mine (queues c .queue d))) in
-          then t valid bits ((members t d - 1) * first-rounds t d) (above-rounds t d)
-          (stands-rounds (members t d - 1) c e (omega (arith, queue-short t valid (queues c) inv d))) freed-inside
+          then t valid bits (others-rounds t d mine (above-rounds t d)) (above-rounds t d)
+          (stands-rounds (members t d - 1) (others-passes t d mine) c e (omega (arith, queue-short t valid (queues c) inv d)) (ahead-others t valid (queues c) inv d mine)) freed-inside
 
       stood-inside : (c : Situation t) → Stood t valid bits a ha m c → Within t valid bits rest-rounds (Enters t valid bits a) c
       stood-inside c (stands-on e) = stands-inside c e
@@ -159,18 +184,18 @@ module _ (t : Tree) (valid : Accepted t) (bits : Sixteen-bit t) where
           (then t valid bits 1 rest-rounds (place-round t valid bits a ha Draw (λ x. Enters t valid bits a x ⊎ (place (x .words) a ≡ Watch)) (λ x h y. draw-turn t valid bits x a h y) e)
           (λ x q. elim q [ inl y ↦ at-once t valid bits rest-rounds y | inr y ↦ watch-inside x z y ]))
 
-      pub acquire-is : acquire-rounds t d ≡ 3 + rest-rounds
-      acquire-is = let z = acquire-at t valid d (ancestor-real t valid a ha m) in omega arith
+      pub acquire-is : acquire-rounds t d mine ≡ 3 + rest-rounds
+      acquire-is = let z = acquire-at t valid d mine (ancestor-real t valid a ha m) in omega arith
 
     climbing-inside : Acquired t valid bits f
     climbing-inside a m ha far c (prepares x) =
-        longer t valid bits (2 + rest-rounds a m ha far) (acquire-rounds t (ancestor t a m)) (let z = acquire-is a m ha far in omega arith) (prepares-inside a m ha far c x)
+        longer t valid bits (2 + rest-rounds a m ha far) (acquire-rounds t (ancestor t a m) (record-at t a m)) (let z = acquire-is a m ha far in omega arith) (prepares-inside a m ha far c x)
     climbing-inside a m ha far c (swaps x) =
-        longer t valid bits (1 + rest-rounds a m ha far) (acquire-rounds t (ancestor t a m)) (let z = acquire-is a m ha far in omega arith) (swap-inside a m ha far c x)
+        longer t valid bits (1 + rest-rounds a m ha far) (acquire-rounds t (ancestor t a m) (record-at t a m)) (let z = acquire-is a m ha far in omega arith) (swap-inside a m ha far c x)
     climbing-inside a m ha far c (stands x) =
-        longer t valid bits (rest-rounds a m ha far) (acquire-rounds t (ancestor t a m)) (let z = acquire-is a m ha far in omega arith) (stands-inside a m ha far c x)
+        longer t valid bits (rest-rounds a m ha far) (acquire-rounds t (ancestor t a m) (record-at t a m)) (let z = acquire-is a m ha far in omega arith) (stands-inside a m ha far c x)
     climbing-inside a m ha far c (goes-on k y w) =
-        longer t valid bits (1 + (2 + rest-rounds a m ha far)) (acquire-rounds t (ancestor t a m)) (let z = acquire-is a m ha far in omega arith)
+        longer t valid bits (1 + (2 + rest-rounds a m ha far)) (acquire-rounds t (ancestor t a m) (record-at t a m)) (let z = acquire-is a m ha far in omega arith)
         (then t valid bits 1 (2 + rest-rounds a m ha far) (woken-round t valid bits a ha k w)
         (λ x q. prepares-inside a m ha far x (let q′ : Acquires t a m (place (x .words) a) = rw (← y) at q in q′)))
 
@@ -185,13 +210,13 @@ module _ (t : Tree) (valid : Accepted t) (bits : Sixteen-bit t) where
   -- FROM EVERY PLACE of an acquisition, in the rounds for the home
   module _ (a : ℕ) (ha : a < t .threads) where
     abbrev home-rounds : ℕ
-    home-rounds = acquire-rounds t (ancestor t a 0)
+    home-rounds = acquire-rounds t (ancestor t a 0) (record-at t a 0)
 
     from-climbing : (c : Situation t) (m : ℕ) → m ≤ height t a → Climbing t valid bits a m ha c → Within t valid bits home-rounds (Enters t valid bits a) c
     from-climbing c m l x =
         let z : 0 + m ≡ m = omega arith in
-        let less : acquire-rounds t (ancestor t a m) ≤ home-rounds = rw z at (fewer t valid a ha m 0 (omega arith)) in
-        longer t valid bits (acquire-rounds t (ancestor t a m)) home-rounds less (acquired (suc (height t a - m)) (height t a - m) (omega arith) a m ha (omega arith) c x)
+        let less : acquire-rounds t (ancestor t a m) (record-at t a m) ≤ home-rounds = rw z at (fewer t valid a ha m 0 (omega arith)) in
+        longer t valid bits (acquire-rounds t (ancestor t a m) (record-at t a m)) home-rounds less (acquired (suc (height t a - m)) (height t a - m) (omega arith) a m ha (omega arith) c x)
 
     -- as far as the home is from the root
     abbrev tall : ℕ
@@ -245,5 +270,5 @@ module _ (t : Tree) (valid : Accepted t) (bits : Sixteen-bit t) where
 
     -- B rounds are enough
     pub inside-within : (c : Situation t) → is-acquiring (place (c .words) a) ≡ true → Within t valid bits (acquire-bound t a) (Enters t valid bits a) c
-    unfolding acquire-bound
+    unfolding acquire-bound record-at
     inside-within c r = rw (← ancestor-home t a) (inside-by c _ refl r)

@@ -18,18 +18,26 @@ use Rattle.model.specs.Laws.{All-threads, Run-law, then-run}
 use Rattle.model.proofs.Tests.{and-both, all-each}
 use Rattle.model.proofs.Laws.Runs.{run-law}
 use Rattle.model.proofs.Counted.{occurrences-join}
-use Rattle.starvation_freedom.specs.Bounds.{members, largest-allowance, levels, entry-rounds, tenure-rounds, acquire-from, acquire-rounds, acquire-bound, release-bound, everyone-bound}
+use Rattle.starvation_freedom.specs.Bounds.{sum-below, members, effective-threshold, effective, passes, others-passes, levels, entry-rounds, others-rounds, acquire-from, acquire-rounds, acquire-bound, release-bound, everyone-bound, largest-allowance, allowance-from, allowance-acquire-bound, allowance-everyone-bound}
 use Rattle.starvation_freedom.specs.Laws.{none, one-more}
-use Rattle.starvation_freedom.specs.Cases.{bound-holds, all-bounds, one-leaf, bound-cases, all-threads, are-rounds, joined, Decides-rounds, round-holds, all-rounds, round-cases, stalled-tree, until-stalled, without-releaser, times, Starves-without-rounds, Cases-hold}
+use Rattle.starvation_freedom.specs.Cases.{bound-holds, all-bounds, one-leaf, two-lone, bound-cases, all-threads, are-rounds, joined, Decides-rounds, round-holds, all-rounds, round-cases, stalled-tree, until-stalled, without-releaser, times, Starves-without-rounds, Cases-hold}
 use Rattle.starvation_freedom.proofs.SameState.{state-same}
 
 bounds-hold : all-bounds bound-cases ≡ true
-unfolding any-below largest-below filter-below read-word tree-of is-child is-leaf depth-from depth level is-member domain-allowance allowance padded tree at-ticket-root two-homes two-in-root members largest-allowance levels entry-rounds tenure-rounds acquire-from acquire-rounds acquire-bound release-bound bound-holds all-bounds one-leaf bound-cases
+unfolding any-below largest-below filter-below read-word tree-of is-child is-leaf depth-from depth level is-member domain-allowance allowance padded tree at-ticket-root two-homes two-in-root effective-threshold effective passes sum-below others-passes members levels entry-rounds others-rounds acquire-from acquire-rounds acquire-bound release-bound bound-holds all-bounds one-leaf two-lone bound-cases
 bounds-hold = refl
 
-everyone-holds : everyone-bound (tree-of two-homes) ≡ 177
-unfolding any-below largest-below filter-below read-word tree-of is-child is-leaf depth-from depth level is-member domain-allowance allowance padded tree two-homes members largest-allowance levels entry-rounds tenure-rounds acquire-from acquire-rounds acquire-bound release-bound everyone-bound
+everyone-holds : everyone-bound (tree-of two-homes) ≡ 57
+unfolding any-below largest-below filter-below read-word tree-of is-child is-leaf depth-from depth level is-member domain-allowance allowance padded tree two-homes effective-threshold effective passes sum-below others-passes members levels entry-rounds others-rounds acquire-from acquire-rounds acquire-bound release-bound everyone-bound
 everyone-holds = refl
+
+lone-holds : everyone-bound (tree-of two-lone) ≡ 29
+unfolding any-below largest-below filter-below read-word tree-of is-child is-leaf depth-from depth level is-member domain-allowance allowance padded tree two-lone effective-threshold effective passes sum-below others-passes members levels entry-rounds others-rounds acquire-from acquire-rounds acquire-bound release-bound everyone-bound
+lone-holds = refl
+
+lone-allowance-holds : allowance-everyone-bound (tree-of two-lone) ≡ 89
+unfolding any-below largest-below filter-below read-word tree-of is-child is-leaf depth-from depth level is-member domain-allowance allowance padded tree two-lone members levels entry-rounds largest-allowance allowance-from allowance-acquire-bound release-bound allowance-everyone-bound
+lone-allowance-holds = refl
 
 rounds-hold : all-rounds round-cases ≡ true
 unfolding any-below all-below filter-below read-word tree-of is-ticket meets on-path child-from child own-record place-of is-watch numbers-at store-numbers fresh-words fresh-state
@@ -131,4 +139,4 @@ starves-without-rounds n =
     (omega arith, omega arith)
 
 pub cases-hold : Cases-hold
-cases-hold = record { bounds = bounds-hold; everyone = everyone-holds; rounds = rounds-hold; rounds-decided = decides-rounds; without-rounds = starves-without-rounds }
+cases-hold = record { bounds = bounds-hold; everyone = everyone-holds; lone = lone-holds; lone-by-allowances = lone-allowance-holds; rounds = rounds-hold; rounds-decided = decides-rounds; without-rounds = starves-without-rounds }

@@ -5,27 +5,25 @@ use Prim.Native.Nat.{ℕ, suc, _+_, _-_, _≤_, _<_}
 use native.Mathlib.Omega.{arith}
 use Rattle.model.specs.declared.Place.{Place}
 use Rattle.model.specs.declared.Place.the-variants.{Idle, Prep, Swap, Link, Wait, Inside, Check, Help, Cas, Linger, Grant, Draw, Watch, Raise, Invalid}
-use Rattle.model.specs.Trees.{Tree, allowance}
+use Rattle.model.specs.Trees.{Tree}
 use Rattle.model.specs.States.{place}
 use Rattle.model.specs.Laws.{Sixteen-bit}
 use Rattle.model.proofs.Trees.Index.{ancestor, height, record-at}
 use Rattle.model.proofs.Trees.Accepted.{Accepted}
-use Rattle.model.proofs.Trees.Records.{member-at}
 use Rattle.claims.proofs.Queues.Paths.{Laws, laws}
 use Rattle.claims.proofs.Queues.Moves.{Stage, climb, queued, ready, holding, low, acts}
-use Rattle.claims.proofs.Queues.Remaining.{left-bound}
 use Rattle.claims.proofs.Words.View.{words-in}
 use Rattle.claims.proofs.Words.Represents.{letting-go, letting-go-low}
-use Rattle.starvation_freedom.specs.Bounds.{largest-allowance, entry-rounds, tenure-rounds, acquire-rounds}
+use Rattle.starvation_freedom.specs.Bounds.{passes, entry-rounds, acquire-rounds}
 use Rattle.starvation_freedom.proofs.Situations.{Situation, queues}
 use Rattle.starvation_freedom.proofs.Within.{Within, then, longer}
 use Rattle.starvation_freedom.proofs.Turns.{Acquires, by-prep, by-draw, by-check}
 use Rattle.starvation_freedom.proofs.Says.{Says, says, Waiting, Granting, pass, release}
 use Rattle.starvation_freedom.proofs.Says as words
 use Rattle.starvation_freedom.proofs.Releasing.{Lets-go, helps, tries, lingers, grants, raises}
-use Rattle.starvation_freedom.proofs.Left.{left-inside, left-holding}
+use Rattle.starvation_freedom.proofs.Effective.{left-within, left-less-inside, left-less-holding}
 use Rattle.starvation_freedom.proofs.Tenures.{Gone, Actor, Left, out-rounds, tenure-rest, lets-gone, pass-gone, releases-gone, inside-gone, ready-gone}
-use Rattle.starvation_freedom.proofs.Bounds.{one-less, checks-few, above-rounds, first-rounds, member-within, above-enough}
+use Rattle.starvation_freedom.proofs.Bounds.{one-less, checks-few, above-rounds, first-rounds, above-enough}
 use Rattle.starvation_freedom.proofs.Waiting.{Woken}
 
 module _ (t : Tree) (valid : Accepted t) (bits : Sixteen-bit t) where
@@ -45,7 +43,7 @@ module _ (t : Tree) (valid : Accepted t) (bits : Sixteen-bit t) where
   -- an acquisition from a domain that is so far from the root
   abbrev pub Acquired : (distance : ℕ) → Type 0
   Acquired f =
-      (a m : ℕ) (ha : a < t .threads) → m + f ≡ height t a → (c : Situation t) → Climbing a m ha c → Within t valid bits (acquire-rounds t (ancestor t a m)) (Enters a) c
+      (a m : ℕ) (ha : a < t .threads) → m + f ≡ height t a → (c : Situation t) → Climbing a m ha c → Within t valid bits (acquire-rounds t (ancestor t a m) (record-at t a m)) (Enters a) c
 
   module _ (f : ℕ) (nearer-root : (g : ℕ) → g < f → Acquired g) where
     -- THE FIRST of a domain leaves its queue
@@ -54,7 +52,7 @@ module _ (t : Tree) (valid : Accepted t) (bits : Sixteen-bit t) where
       ha = A .real
 
       abbrev most : ℕ
-      most = largest-allowance t d
+      most = passes t r
 
       -- the rounds of a tenure whose lock is held
       abbrev held-rounds : ℕ
@@ -67,46 +65,46 @@ module _ (t : Tree) (valid : Accepted t) (bits : Sixteen-bit t) where
       abbrev less-rounds : ℕ
       less-rounds = tenure-rest t valid bits d (most - 1)
 
-      first-is : first-rounds t d ≡ above-rounds t d + held-rounds
-      unfolding first-rounds tenure-rounds
+      first-is : first-rounds t d r ≡ above-rounds t d + held-rounds
+      unfolding first-rounds
       first-is = omega arith
 
-      member-most : allowance t (record-at t a j) ≤ most
-      member-most = member-within t valid d (record-at t a j) (rw (A .there) at (member-at t valid a ha j (A .within)))
+      member-most : passes t (record-at t a j) ≤ most
+      member-most = let z = ap (passes t) (A .mine) in omega arith
 
       -- from here on without the rounds above
-      held : {c : Situation t} → Within t valid bits held-rounds (Gone t valid bits d r) c → Within t valid bits (first-rounds t d) (Gone t valid bits d r) c
-      held w = longer t valid bits held-rounds (first-rounds t d) (let z = first-is in omega arith) w
+      held : {c : Situation t} → Within t valid bits held-rounds (Gone t valid bits d r) c → Within t valid bits (first-rounds t d r) (Gone t valid bits d r) c
+      held w = longer t valid bits held-rounds (first-rounds t d r) (let z = first-is in omega arith) w
 
       inside-leaves : (c : Situation t) → Enters a c → Within t valid bits held-rounds (Gone t valid bits d r) c
       unfolding Says
       inside-leaves c e =
-          let l = left-inside t tree-laws (queues c) (c .queued .represents .invariant) a (says t valid c a ha Inside e) j (A .within) in
+          let l = left-less-inside t valid (queues c) (c .effectively) a j (A .within) (says t valid c a ha Inside e) in
           let b = member-most in
           longer t valid bits (one - 1 + less-rounds) held-rounds (let z = one-less one most (omega arith) in omega arith)
           (inside-gone t valid bits (most - 1) (ready-gone t valid bits (most - 1)) d r a j A c e (omega arith))
 
       holding-left : (c : Situation t) → queues c .stage a ≡ holding → (1 ≤ most) × Left t valid bits a j (most - 1) c
       holding-left c e =
-          let l = left-holding t tree-laws (queues c) (c .queued .represents .invariant) a e j (A .within) in
+          let l = left-less-holding t valid (queues c) (c .effectively) a j (A .within) e in
           let b = member-most in
           (omega arith, omega arith)
 
       ready-leaves : (c : Situation t) → queues c .stage a ≡ ready → Within t valid bits held-rounds (Gone t valid bits d r) c
       unfolding acts
       ready-leaves c e =
-          let l = left-bound t tree-laws (queues c) (c .queued .represents .invariant) a j (rw e (omega (arith, A .within))) in
+          let l = left-within t valid (queues c) (c .effectively) a j (rw e (omega (arith, A .within))) in
           let b = member-most in
           ready-gone t valid bits most d r a j A c e (omega arith)
 
       -- it acquires a domain nearer to the root first
-      climbing-leaves : (c : Situation t) (m : ℕ) → j < m → m ≤ height t a → Climbing a m ha c → Within t valid bits (first-rounds t d) (Gone t valid bits d r) c
+      climbing-leaves : (c : Situation t) (m : ℕ) → j < m → m ≤ height t a → Climbing a m ha c → Within t valid bits (first-rounds t d r) (Gone t valid bits d r) c
       climbing-leaves c m b l x =
-          let above : acquire-rounds t (ancestor t a m) ≤ above-rounds t d = rw (A .there) at (above-enough t valid a ha j m b l) in
+          let above : acquire-rounds t (ancestor t a m) (record-at t a m) ≤ above-rounds t d = rw (A .there) at (above-enough t valid a ha j m b l) in
           rw first-is (then t valid bits (above-rounds t d) held-rounds
-          (longer t valid bits (acquire-rounds t (ancestor t a m)) (above-rounds t d) above (nearer-root (height t a - m) (omega arith) a m ha (omega arith) c x)) inside-leaves)
+          (longer t valid bits (acquire-rounds t (ancestor t a m) (record-at t a m)) (above-rounds t d) above (nearer-root (height t a - m) (omega arith) a m ha (omega arith) c x)) inside-leaves)
 
-      letting-leaves : (c : Situation t) (k : ℕ) → k ≤ height t a → j ≤ k → Lets-go t a k (place (c .words) a) → Within t valid bits (first-rounds t d) (Gone t valid bits d r) c
+      letting-leaves : (c : Situation t) (k : ℕ) → k ≤ height t a → j ≤ k → Lets-go t a k (place (c .words) a) → Within t valid bits (first-rounds t d r) (Gone t valid bits d r) c
       letting-leaves c k l b g = held (longer t valid bits (out-rounds t valid bits d) held-rounds (omega arith) (lets-gone t valid bits d r a j A k l b g))
 
       abbrev pub First-at : Situation t → Type 0
@@ -120,7 +118,7 @@ module _ (t : Tree) (valid : Accepted t) (bits : Sixteen-bit t) where
       letting-by c k b e = let y = first-by c (letting-go (height t a) k) b e in omega (arith, letting-go-low (height t a) k)
 
       wait-leaves : (c : Situation t) (k : ℕ) → First-at c → place (c .words) a ≡ Wait (ancestor t a k) → k ≤ height t a →
-          Waiting t (words-in (c .words)) (queues c) a k (queues c .stage a) → Within t valid bits (first-rounds t d) (Gone t valid bits d r) c
+          Waiting t (words-in (c .words)) (queues c) a k (queues c .stage a) → Within t valid bits (first-rounds t d r) (Gone t valid bits d r) c
       unfolding low
       wait-leaves c k b p l (words.stands y v) = climbing-leaves c k (first-by c (queued k) b y) l (stands y)
       wait-leaves c k b p l (words.woken u y v) =
@@ -128,7 +126,7 @@ module _ (t : Tree) (valid : Accepted t) (bits : Sixteen-bit t) where
       wait-leaves c k b p l (words.granted y v n) = held (ready-leaves c y)
 
       grant-leaves : (c : Situation t) (k m v : ℕ) → First-at c → place (c .words) a ≡ Grant (ancestor t a k) m v → k ≤ height t a →
-          Granting t a k v (queues c .stage a) → Within t valid bits (first-rounds t d) (Gone t valid bits d r) c
+          Granting t a k v (queues c .stage a) → Within t valid bits (first-rounds t d r) (Gone t valid bits d r) c
       grant-leaves c k m v b p l (release x z) = letting-leaves c k l (letting-by c k b x) (grants m (p ∙ ap (Grant (ancestor t a k) m) z))
       grant-leaves c k m v b p l (pass u x z) =
           let y = holding-left c x in
@@ -137,7 +135,7 @@ module _ (t : Tree) (valid : Accepted t) (bits : Sixteen-bit t) where
           (pass-gone t valid bits (most - 1) (ready-gone t valid bits (most - 1)) d r a j A c
           (record { index = k; below = u; to = m; word = v; small = omega (arith, bits (ancestor t a k)); there = p }) (y .1)))
 
-      leaves-by : (c : Situation t) (p : Place) → place (c .words) a ≡ p → First-at c → Within t valid bits (first-rounds t d) (Gone t valid bits d r) c
+      leaves-by : (c : Situation t) (p : Place) → place (c .words) a ≡ p → First-at c → Within t valid bits (first-rounds t d r) (Gone t valid bits d r) c
       unfolding Says low
       leaves-by c Idle e b = absurd (let y = first-by c _ b (says t valid c a ha Idle e) in omega arith)
       leaves-by c (Prep l) e b = let y = says t valid c a ha (Prep l) e in climbing-leaves c (y .0) (first-by c (climb (y .0)) b (y .2)) (y .1 .1) (prepares (by-prep (e ∙ ap Prep (y .1 .0))))
@@ -166,5 +164,5 @@ module _ (t : Tree) (valid : Accepted t) (bits : Sixteen-bit t) where
       leaves-by c Raise e b = letting-leaves c (height t a) (omega arith) (A .within) (raises e refl)
       leaves-by c Invalid e b = absurd (says t valid c a ha Invalid e)
 
-      pub first-leaves : (c : Situation t) → First-at c → Within t valid bits (first-rounds t d) (Gone t valid bits d r) c
+      pub first-leaves : (c : Situation t) → First-at c → Within t valid bits (first-rounds t d r) (Gone t valid bits d r) c
       first-leaves c b = leaves-by c _ refl b

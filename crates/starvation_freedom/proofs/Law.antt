@@ -24,9 +24,15 @@ use Rattle.model.proofs.Trees.Accepted.{Accepted, accepted}
 use Rattle.model.proofs.Laws.Facts.{facts-well-formed}
 use Rattle.model.proofs.Laws.Kinds.{kind-law}
 use Rattle.model.proofs.Counted.{occurrences-join}
-use Rattle.claims.proofs.Claims.Reached.{Queued, from-fresh, threads-take, threads-join}
-use Rattle.starvation_freedom.specs.Bounds.{acquire-bound, release-bound, everyone-bound}
+use Rattle.claims.proofs.Queues.Paths.{laws}
+use Rattle.claims.proofs.Queues.Moves.{State as Queue-state, Event, Run, done, silent, more}
+use Rattle.claims.proofs.Queues.Invariant.{Inv, inv-empty}
+use Rattle.claims.proofs.Queues.Keeps.{keeps}
+use Rattle.claims.proofs.Claims.Reached.{from-fresh, threads-take, threads-join}
+use Rattle.starvation_freedom.specs.Bounds.{effective, acquire-bound, release-bound, everyone-bound}
 use Rattle.starvation_freedom.specs.Laws.{is-acquiring, is-releasing, Rounds, none, one-more, Arrives, Bounded, Starvation-law, in-order, round-robin, Everyone-law, Windows, Bounded-in-windows, Window-law}
+use Rattle.starvation_freedom.proofs.Changes.{moved}
+use Rattle.starvation_freedom.proofs.Effective.{effective-keeps}
 use Rattle.starvation_freedom.proofs.Situations.{Situation, next, next-words, place-other}
 use Rattle.starvation_freedom.proofs.Within.{Covers, covers-less, Reaches, now, later, sequence, longer}
 use Rattle.starvation_freedom.proofs.Says.{Says, says}
@@ -39,7 +45,7 @@ unfolding Covers
 rounds-cover t none = tt
 rounds-cover t (one-more {rounds = S} r x rs) = (r, S, refl, x .everyone, rounds-cover t rs)
 
-rounds-threads : (t : Tree) {n : ℕ} {S : List ℕ} → Rounds t n S → All-threads t S
+pub rounds-threads : (t : Tree) {n : ℕ} {S : List ℕ} → Rounds t n S → All-threads t S
 unfolding All-threads
 rounds-threads t none = tt
 rounds-threads t (one-more {rounds = S} r x rs) = threads-join t r S (x .threads) (rounds-threads t rs)
@@ -50,7 +56,7 @@ unfolding in-order All-threads
 in-order-threads t zero h = tt
 in-order-threads t (suc n) h = threads-join t (in-order n) (n ∷ []) (in-order-threads t n (omega arith)) (omega arith, tt)
 
-in-order-everyone : (n i : ℕ) → i < n → 1 ≤ occurrences i (in-order n)
+pub in-order-everyone : (n i : ℕ) → i < n → 1 ≤ occurrences i (in-order n)
 unfolding in-order occurrences
 in-order-everyone zero i h = absurd (omega arith)
 in-order-everyone (suc n) i h =
@@ -59,18 +65,18 @@ in-order-everyone (suc n) i h =
     (λ z. let one : occurrences i (n ∷ []) ≡ 1 = rw (eq-eqb i n z) refl in omega arith)
     (λ z. let rec = in-order-everyone n i (omega arith) in omega arith)
 
-in-order-length : (n : ℕ) → length (in-order n) ≡ n
+pub in-order-length : (n : ℕ) → length (in-order n) ≡ n
 unfolding in-order
 in-order-length zero = refl
 in-order-length (suc n) = let l = length-append (in-order n) (n ∷ []) in let rec = in-order-length n in omega arith
 
-robin-rounds : (t : Tree) (n : ℕ) → Rounds t n (round-robin (t .threads) n)
+pub robin-rounds : (t : Tree) (n : ℕ) → Rounds t n (round-robin (t .threads) n)
 unfolding round-robin
 robin-rounds t zero = none
 robin-rounds t (suc n) =
     one-more (in-order (t .threads)) (record { threads = in-order-threads t (t .threads) (omega arith); everyone = in-order-everyone (t .threads) }) (robin-rounds t n)
 
-robin-length : (m n : ℕ) → length (round-robin m n) ≡ n * m
+pub robin-length : (m n : ℕ) → length (round-robin m n) ≡ n * m
 unfolding round-robin
 robin-length m zero = omega arith
 robin-length m (suc n) = let l = length-append (in-order m) (round-robin m n) in let o = in-order-length m in let rec = robin-length m n in omega arith
@@ -233,7 +239,7 @@ module _ (t : Tree) (ok : tree-refusal t .number ≡ 0) (bits : Sixteen-bit t) (
     taken-threads n = threads-take t n S (w .threads)
 
     taken-cover : (n : ℕ) → N * n ≤ length S → Covers t n (take (N * n) S)
-    taken-cover n b = windows-cover t N n S (w .everyone) b
+    taken-cover n b = windows-cover t N n S (λ k i room h. w .everyone k i (omega arith) h) b
 
     -- an arrival in the first entries of a schedule is one in the schedule
     widen : (q : Place) (n : ℕ) → n ≤ length S → Arrives t (c .words) (take n S) i q (length (take n S)) → Arrives t (c .words) S i q n
@@ -253,19 +259,30 @@ module _ (t : Tree) (ok : tree-refusal t .number ≡ 0) (bits : Sixteen-bit t) (
         }
 
 -- FROM FRESH
-reached : (t : Tree) → Accepted t → Sixteen-bit t → (start : ℕ) (before : List ℕ) → All-threads t before → Queued t (run t before (fresh-state t start) .state)
-unfolding run run-of
-reached t valid bits start before all = from-fresh t valid bits start before all .there
+module _ (t : Tree) (valid : Accepted t) (bits : Sixteen-bit t) where
+  effective-run : {st st′ : Queue-state} {es : List Event} → Run t st es st′ → Inv t st → Inv (effective t) st → Inv (effective t) st′
+  effective-run done inv w = w
+  effective-run (silent {st = st} m r) inv w = effective-run r (keeps t (laws t valid) st inv m) (effective-keeps t valid inv (moved m) w)
+  effective-run (more {st = st} m r) inv w = effective-run r (keeps t (laws t valid) st inv m) (effective-keeps t valid inv (moved m) w)
+
+  reached : (start : ℕ) (before : List ℕ) → All-threads t before → Situation t
+  unfolding run run-of
+  reached start before all =
+      let l = from-fresh t valid bits start before all in
+      record {
+        words = run t before (fresh-state t start) .state;
+        queued = l .there;
+        effectively = effective-run (l .follows) (inv-empty t) (inv-empty (effective t));
+      }
 
 pub starvation-law : Starvation-law
-unfolding Starvation-law
-starvation-law t bits ok start before all i h =
-    bounded t ok bits i h (record { words = run t before (fresh-state t start) .state; queued = reached t (accepted t ok) bits start before all })
+unfolding Starvation-law reached
+starvation-law t bits ok start before all i h = bounded t ok bits i h (reached t (accepted t ok) bits start before all)
 
 pub everyone-law : Everyone-law
-unfolding Everyone-law
+unfolding Everyone-law reached
 everyone-law t bits ok start before all =
-    let c : Situation t = record { words = run t before (fresh-state t start) .state; queued = reached t (accepted t ok) bits start before all } in
+    let c = reached t (accepted t ok) bits start before all in
     record {
       in-rounds = λ S rs i h. everyone-has t ok bits i h c S rs;
       by-round-robin = λ i h. everyone-has t ok bits i h c (round-robin (t .threads) (everyone-bound t)) (robin-rounds t (everyone-bound t));
@@ -273,6 +290,5 @@ everyone-law t bits ok start before all =
     }
 
 pub window-law : Window-law
-unfolding Window-law
-window-law t bits ok start before all i h N S w =
-    bounded-in-windows t ok bits i h (record { words = run t before (fresh-state t start) .state; queued = reached t (accepted t ok) bits start before all }) N S w
+unfolding Window-law reached
+window-law t bits ok start before all i h N S w = bounded-in-windows t ok bits i h (reached t (accepted t ok) bits start before all) N S w

@@ -14,7 +14,7 @@ use Rattle.claims.proofs.Queues.Keeps.{keeps}
 use Rattle.claims.proofs.Queues.Order.{hit}
 use Rattle.claims.proofs.Queues.Remaining.{left, left-bound, falls}
 use Rattle.tenures.proofs.StepMoves.{started-by}
-use Rattle.starvation_freedom.proofs.Situations.{Changed, unmoved, moved, begun}
+use Rattle.starvation_freedom.proofs.Changes.{Changed, unmoved, moved, begun}
 
 -- the entries of a thread that a step makes
 unfoldable pub hits : (T : Tree) {st st′ : State} → Changed T st st′ → (thread : ℕ) → ℕ

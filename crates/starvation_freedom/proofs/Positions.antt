@@ -1,4 +1,4 @@
--- How far behind the first a member stands: at most as far as the domain has other members, and never farther after a step. Assumes nothing.
+-- How far behind the first a member stands: at most as far as the domain has other members. Assumes nothing.
 use mathlib.Core.Path.{_≡_, refl, sym, ap, _∙_}
 use mathlib.Core.Bool.{Bool, true, cond}
 use mathlib.Core.List.{List, [], _∷_, _++_}
@@ -49,7 +49,7 @@ position-within m (x ∷ xs) h =
     (λ e. omega (arith, position-here m x xs e))
     (λ n. omega (arith, position-past m x xs n, position-within m xs (omega (arith, count-cons m x xs, is-other m x n))))
 
-position-snoc : (m y : ℕ) (q : List ℕ) → 1 ≤ count m q → position m (q ++ (y ∷ [])) ≡ position m q
+pub position-snoc : (m y : ℕ) (q : List ℕ) → 1 ≤ count m q → position m (q ++ (y ∷ [])) ≡ position m q
 position-snoc m y [] h = absurd (omega (arith, count-nil m))
 position-snoc m y (x ∷ xs) h =
     same-or m x _
@@ -63,21 +63,3 @@ behind-first m (x ∷ xs) h o =
     let h′ : 1 ≤ count m xs = rw (rest-cons x xs) at h in
     let n : m ≢ x = λ e. omega (arith, count-cons m x xs, is-same m x e) in
     (x, first-cons x xs, omega (arith, position-past m x xs n))
-
--- ONE STEP: the first stays and the member comes no farther behind it, or the member comes nearer
-pub nearer :
-    (d m : ℕ) (e : Event) (q q′ : List ℕ) → Change d e q q′ → 1 ≤ count m (rest q) → count m q ≤ 1 →
-    ((first q′ ≡ first q) × (position m q′ ≤ position m q)) ⊎ (suc (position m q′) ≤ position m q)
-nearer d m e q q′ (stays z b g) h o = inl (ap first z, let w = ap (position m) z in omega arith)
-nearer d m e q q′ (opens r y z b g) h o = absurd (let w : count m (rest q) ≡ 0 = rw (y, rest-nil) (count-nil m) in omega arith)
-nearer d m e q q′ (grows r a f z b g) h o =
-    let w : position m q′ ≡ position m q = ap (position m) z ∙ position-snoc m r q (omega (arith, count-rest m q)) in
-    inl (ap first z ∙ first-snoc q r a f ∙ sym f, omega arith)
-nearer d m e q q′ (moves a r xs y z b g n) h o =
-    let h′ : 1 ≤ count m (r ∷ xs) = rw (y, rest-cons a (r ∷ xs)) at h in
-    let c : count m q ≡ is m a + count m (r ∷ xs) = ap (count m) y ∙ count-cons m a (r ∷ xs) in
-    let apart : m ≢ a = λ v. omega (arith, is-same m a v) in
-    let w : position m q ≡ suc (position m (r ∷ xs)) = ap (position m) y ∙ position-past m a (r ∷ xs) apart in
-    let u : position m q′ ≡ position m (r ∷ xs) = ap (position m) z in
-    inr (omega arith)
-nearer d m e q q′ (closes a y z b g) h o = absurd (let w : count m (rest q) ≡ 0 = rw (y, rest-cons a []) (count-nil m) in omega arith)

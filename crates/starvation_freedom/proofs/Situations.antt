@@ -20,6 +20,7 @@ use Rattle.model.proofs.Trees.Paths.{ancestor-home, ancestor-zero}
 use Rattle.model.proofs.Laws.Form.{step-keeps}
 use Rattle.model.proofs.Lists.{put-same}
 use Rattle.claims.proofs.Queues.Moves.{Stage, out, climb, queued, State, Event, Move}
+use Rattle.claims.proofs.Queues.Invariant.{Inv}
 use Rattle.claims.proofs.Words.View.{words-in, Room}
 use Rattle.claims.proofs.Words.Represents.{Fits, at-idle, at-prep, at-swap, at-link, at-wait, at-woken, at-ready, at-inside, at-check, at-pass, at-help, at-cas, at-linger, at-grant, at-draw, at-watch, at-shown, at-raise, Represents}
 use Rattle.claims.proofs.Words.Frame.{Others, others-of}
@@ -29,12 +30,9 @@ use Rattle.tenures.proofs.StepMoves.{started-by, Moved, still, quiet, shows, st
 use Rattle.tenures.proofs.Acquiring.{prep-moves, swap-moves, link-moves, wait-moves, woken-moves, ready-moves, draw-moves, watch-moves, shown-moves}
 use Rattle.tenures.proofs.Leaving.{leave-moves, check-moves, help-moves, cas-moves, linger-moves, grant-moves, pass-moves, raise-moves}
 use Rattle.chain.proofs.Reached.Rows.{place-kept}
-
--- the moves of one step: none, one, or a start before them
-pub data Changed (T : Tree) : State → State → Type 0 where
-  unmoved : {st : State} → Changed T st st
-  moved : {st st′ : State} {e : Event} → Move T st e st′ → Changed T st st′
-  begun : {st st′ : State} (i : ℕ) → i < T .threads → st .stage i ≡ out → Changed T (started-by st i) st′ → Changed T st st′
+use Rattle.starvation_freedom.specs.Bounds.{effective}
+pub use Rattle.starvation_freedom.proofs.Changes.{Changed, unmoved, moved, begun}
+use Rattle.starvation_freedom.proofs.Effective.{effective-keeps}
 
 changed : (T : Tree) {st st′ : State} {es : List Event} {gs : List ℕ} → Moved T st es gs st′ → Changed T st st′
 changed T still = unmoved
@@ -102,6 +100,8 @@ module _ (t : Tree) (valid : Accepted t) (bits : Sixteen-bit t) (s : WordState) 
 pub record Situation (t : Tree) : Type 0 where
   pub words : WordState
   pub queued : Queued t words
+  -- the counts are at most the thresholds that have an effect
+  pub effectively : Inv (effective t) (queued .queues)
 
 -- the queues of a situation
 abbrev pub queues : {t : Tree} → Situation t → State
@@ -129,6 +129,7 @@ module _ (t : Tree) (valid : Accepted t) (bits : Sixteen-bit t) where
           facts = step-keeps t bits valid i h (c .words) (c .queued .facts);
           represents = change-at c i h .represents;
         };
+        effectively = effective-keeps t valid (c .queued .represents .invariant) (change-at c i h .change) (c .effectively);
       }
 
   pub next-words : (c : Situation t) (i : ℕ) (h : i < t .threads) → next c i h .words ≡ row t i (place (c .words) i) (c .words) .state

@@ -14,7 +14,6 @@ use Rattle.model.proofs.Trees.Paths.{ancestor-depth}
 use Rattle.claims.proofs.Queues.Paths.{Laws, laws}
 use Rattle.claims.proofs.Queues.Meeting.{follow, follow-record-at, same-height}
 use Rattle.claims.proofs.Queues.Moves.{ready, inside, low, reach, pending}
-use Rattle.claims.proofs.Queues.Remaining.{left}
 use Rattle.starvation_freedom.specs.Bounds.{entry-rounds}
 use Rattle.starvation_freedom.proofs.Situations.{Situation, queues, next, next-change, place-other}
 use Rattle.starvation_freedom.proofs.Within.{Within, then, longer, at-once, within-map, one-round}
@@ -23,7 +22,8 @@ use Rattle.starvation_freedom.proofs.Says.{Says, says, done-stage}
 use Rattle.starvation_freedom.proofs.Releasing.{Lets-go, helps, Done, all-go, Holds, Passing, passing-holds, releases-holds, releases-rounds}
 use Rattle.starvation_freedom.proofs.Queues.{gone, handed}
 use Rattle.starvation_freedom.proofs.Bounds.{checks-few}
-use Rattle.starvation_freedom.proofs.Left.{left-falls, entry-hits, left-some}
+use Rattle.starvation_freedom.proofs.Left.{entry-hits}
+use Rattle.starvation_freedom.proofs.Effective.{left-there, left-less, left-pending-some}
 use Rattle.starvation_freedom.proofs.Ready.{ready-enters, ready-lasts}
 
 module _ (t : Tree) (valid : Accepted t) (bits : Sixteen-bit t) where
@@ -47,7 +47,7 @@ module _ (t : Tree) (valid : Accepted t) (bits : Sixteen-bit t) where
 
   -- what is left at an index is at most n
   abbrev pub Left : (a j n : ℕ) → Situation t → Type 0
-  Left a j n c = left t (queues c .tally) (queues c .stage a) a j ≤ n
+  Left a j n c = left-there t valid (queues c) a j ≤ n
 
   -- rounds for the release of all domains from the root down to d
   abbrev pub out-rounds : (d : ℕ) → ℕ
@@ -78,7 +78,7 @@ module _ (t : Tree) (valid : Accepted t) (bits : Sixteen-bit t) where
     left-keeps : (n : ℕ) (c : Situation t) (x : ℕ) (h : x < t .threads) → j < low (height t a) (queues c .stage a) → j < low (height t a) (queues (next t valid bits c x h) .stage a) →
         Left a j n c → Left a j n (next t valid bits c x h)
     left-keeps n c x h b b′ l =
-        let y = left-falls t tree-laws (next-change t valid bits c x h) (c .queued .represents .invariant) a j a j (record { before = b; after = b′; there = refl; mine = refl }) in
+        let y = left-less t valid (next-change t valid bits c x h) (c .queued .represents .invariant) (c .effectively) a j a j (record { before = b; after = b′; there = refl; mine = refl }) in
         omega arith
 
     holding-first : (c : Situation t) → Holds t valid bits a ha c → j < low (height t a) (queues c .stage a)
@@ -124,7 +124,7 @@ module _ (t : Tree) (valid : Accepted t) (bits : Sixteen-bit t) where
         let tall = same-height t tree-laws s (w .index) a k real ha (w .within) (let u = p .below in omega arith) (w .meets) in
         let inside-path : m ≤ height t s = let u = A .within in omega arith in
         let after : m < low (height t s) (queues c′ .stage s) = rw (w .is-ready) (omega arith) in
-        let y = left-falls t tree-laws (next-change t valid bits c a h) inv a j s m (record { before = holding-first c held; after = after; there = same; mine = mine }) in
+        let y = left-less t valid (next-change t valid bits c a h) inv (c .effectively) a j s m (record { before = holding-first c held; after = after; there = same; mine = mine }) in
         to-other s m (record { real = real; within = inside-path; there = same ∙ A .there; mine = mine ∙ A .mine }) (w .is-ready) (omega arith))
         (λ b. same-or k j (Passed n c′)
         (λ z. left-queue (done-gone c′ (rw z at done)))
@@ -207,12 +207,12 @@ module _ (t : Tree) (valid : Accepted t) (bits : Sixteen-bit t) where
         let p′ = ready-enters t valid bits a (A .real) x p h in
         let ch = next-change t valid bits x a h in
         let made = entry-hits t tree-laws a ch (ap pending p) (ap pending (inside-stage x′ a (A .real) p′)) in
-        let y = left-falls t tree-laws ch (x .queued .represents .invariant) a j a j (record { before = ready-first d r a j A x p; after = inside-first d r a j A x′ p′; there = refl; mine = refl }) in
+        let y = left-less t valid ch (x .queued .represents .invariant) (x .effectively) a j a j (record { before = ready-first d r a j A x p; after = inside-first d r a j A x′ p′; there = refl; mine = refl }) in
         (p′, omega arith))
         (e, i))
         (λ x (p, l). inside-gone x p l))
 
   pub ready-gone : (n : ℕ) → Ready-gone n
   unfolding pending
-  ready-gone zero d r a j A c e i = absurd (omega (arith, left-some t tree-laws (queues c) a j, ap pending e))
+  ready-gone zero d r a j A c e i = absurd (omega (arith, left-pending-some t valid (queues c) a j, ap pending e))
   ready-gone (suc n) d r a j A c e i = ready-gone-next n (ready-gone n) d r a j A c e i

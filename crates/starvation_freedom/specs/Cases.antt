@@ -11,7 +11,7 @@ use Rattle.model.specs.Trees.{Tree, tree-of}
 use Rattle.model.specs.States.{fresh-state}
 use Rattle.model.specs.Runs.{run, occurrences}
 use Rattle.model.specs.Cases.{tree, at-ticket-root, two-homes, two-in-root}
-use Rattle.starvation_freedom.specs.Bounds.{acquire-bound, release-bound, everyone-bound}
+use Rattle.starvation_freedom.specs.Bounds.{acquire-bound, release-bound, everyone-bound, allowance-everyone-bound}
 use Rattle.starvation_freedom.specs.Laws.{Rounds}
 
 -- THE BOUNDS of a thread
@@ -37,6 +37,10 @@ all-bounds (c ∷ cs) = bound-holds c && all-bounds cs
 unfoldable pub one-leaf : TreeWords
 one-leaf = tree 2 2 (0 ∷ 0 ∷ []) (0 ∷ 1 ∷ []) (1 ∷ 1 ∷ [])
 
+-- below the root two leaves of one thread each, thresholds 16
+unfoldable pub two-lone : TreeWords
+two-lone = tree 3 2 (0 ∷ 0 ∷ 0 ∷ []) (0 ∷ 16 ∷ 16 ∷ []) (1 ∷ 2 ∷ [])
+
 unfoldable pub bound-cases : List Bound-case
 bound-cases =
     -- two threads in the root, of either kind
@@ -44,8 +48,10 @@ bound-cases =
     ∷ bound-case (at-ticket-root two-in-root) 1 13 6
     ∷ bound-case one-leaf 0 25 12
     -- a leaf with two threads and threshold 2, beside one with a thread and threshold 16
-    ∷ bound-case two-homes 0 165 12
-    ∷ bound-case two-homes 2 77 12
+    ∷ bound-case two-homes 0 45 12
+    ∷ bound-case two-homes 2 21 12
+    -- two leaves of one thread each: their thresholds of 16 have no effect
+    ∷ bound-case two-lone 0 17 12
     ∷ []
 
 -- ROUNDS, WRITTEN OUT
@@ -130,8 +136,11 @@ Starves-without-rounds =
 
 pub record Cases-hold : Type 0 where
   pub bounds : all-bounds bound-cases ≡ true
-  -- so many rounds, 531 turns, are enough for the three threads
-  pub everyone : everyone-bound (tree-of two-homes) ≡ 177
+  -- so many rounds, 171 turns, are enough for the three threads
+  pub everyone : everyone-bound (tree-of two-homes) ≡ 57
+  -- and so many for the two; by allowances
+  pub lone : everyone-bound (tree-of two-lone) ≡ 29
+  pub lone-by-allowances : allowance-everyone-bound (tree-of two-lone) ≡ 89
   pub rounds : all-rounds round-cases ≡ true
   pub rounds-decided : Decides-rounds
   pub without-rounds : Starves-without-rounds

@@ -13,7 +13,7 @@ use Rattle.model.specs.Runs.{run, occurrences}
 use Rattle.model.specs.Refusals.{tree-refusal}
 use Rattle.model.specs.Laws.{All-threads, Sixteen-bit}
 use Rattle.model.specs.Calls.{state-at}
-use Rattle.starvation_freedom.specs.Bounds.{acquire-bound, release-bound, everyone-bound}
+use Rattle.starvation_freedom.specs.Bounds.{acquire-bound, release-bound, everyone-bound, allowance-acquire-bound, allowance-everyone-bound}
 
 -- Idle, or on the way up
 unfoldable pub is-acquiring : Place → Bool
@@ -108,6 +108,10 @@ pub record Windows (t : Tree) (N : ℕ) (schedule : List ℕ) : Type 0 where
   pub threads : All-threads t schedule
   pub everyone : (k i : ℕ) → k + N ≤ length schedule → i < t .threads → 1 ≤ occurrences i (take N (drop k schedule))
 
+-- round robin is such a schedule: every thread occurs among as many entries as there are threads, wherever they begin
+unfoldable pub Round-robin-law : Type 0
+Round-robin-law = (t : Tree) (rounds : ℕ) → Windows t (t .threads) (round-robin (t .threads) rounds)
+
 -- the same bounds in entries, N for each round
 pub record Bounded-in-windows (t : Tree) (s : State) (i N : ℕ) (S : List ℕ) : Type 0 where
   pub acquiring : is-acquiring (place s i) ≡ true → N * acquire-bound t i ≤ length S → Arrives t s S i Inside (N * acquire-bound t i)
@@ -119,3 +123,11 @@ unfoldable pub Window-law : Type 0
 Window-law =
     (t : Tree) → Sixteen-bit t → tree-refusal t .number ≡ 0 → (start : ℕ) (before : List ℕ) → All-threads t before → (i : ℕ) → i < t .threads →
     (N : ℕ) (S : List ℕ) → Windows t N S → Bounded-in-windows t (run t before (fresh-state t start) .state) i N S
+
+-- SHARPER than by allowances: no bound is larger
+pub record Sharper (t : Tree) : Type 0 where
+  pub acquiring : (i : ℕ) → i < t .threads → acquire-bound t i ≤ allowance-acquire-bound t i
+  pub everyone : everyone-bound t ≤ allowance-everyone-bound t
+
+unfoldable pub Sharper-law : Type 0
+Sharper-law = (t : Tree) → tree-refusal t .number ≡ 0 → Sharper t

@@ -104,7 +104,8 @@ refused-words bytes n p e =
       no-threads = ap (λ w. w .threads) same;
       no-parents = ap (λ w. w .parents) same;
       no-thresholds = ap (λ w. w .thresholds) same;
-      mark-unfit-homes = ap (λ w. w .homes) same;
+      no-homes = ap (λ w. w .homes) same;
+      queue-root = ap (λ w. w .«ticket_root») same;
     }
 
 accepted-number : (bytes : List ℕ) (w : TreeWords) → text-answer bytes ≡ accepted-reply w → text-answer bytes .number ≡ 0

@@ -45,7 +45,8 @@ pub record All-zero (w : TreeWords) : Type 0 where
   pub no-threads : w .threads ≡ 0
   pub no-parents : w .parents ≡ replicate 64 0
   pub no-thresholds : w .thresholds ≡ replicate 64 0
-  pub mark-unfit-homes : w .homes ≡ replicate 256 0
+  pub no-homes : w .homes ≡ replicate 256 0
+  pub queue-root : w .«ticket_root» ≡ 0
 
 pub record Refuses-exactly (bytes : List ℕ) : Type 0 where
   -- 15: the text leaves the grammar

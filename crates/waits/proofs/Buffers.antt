@@ -20,7 +20,7 @@ use Rattle.schedules.specs.Answers.{row-buffer}
 use Rattle.waits.specs.Attempts.{waits-from, under-way-from, waits-below-from, under-way-below, waits-below}
 use Rattle.waits.specs.Rows.{largest, row-with, row-of, rows-below-from, rows-below, all-rows, capped, row-of-all, all-rows-from}
 use Rattle.waits.specs.Answers.{waits-reply, refused-by, waits-answer, waits-trace, waits-rows}
-use Rattle.waits.specs.Laws.{Waits-refusal-law, Runs-as, Waits-run-law, row-at, column, Says, Row-law, Keeps-rest, Row-buffer-law}
+use Rattle.waits.specs.Laws.{Waits-refusal-law, Runs-as, Waits-run-law, Waits-refused-law, row-at, column, Says, Row-law, Keeps-rest, Row-buffer-law}
 use Rattle.waits.proofs.Refusing.{early-passes, early-zero, waits-refusal-law}
 use Rattle.waits.proofs.Sums.{total-join, largest-join}
 
@@ -203,3 +203,9 @@ row-buffer-law w s is b rs = rest-kept w s is b rs
 pub waits-run-law : Waits-run-law
 unfolding Waits-run-law
 waits-run-law w s is b rs n = runs-as w s is b rs n
+
+pub waits-refused-law : Waits-refused-law
+unfolding Waits-refused-law waits-answer waits-reply waits-trace run-reply run-buffer
+waits-refused-law w s is b rs n =
+    let e = ne-eqb (refused-by w s is b rs .number) 0 n in
+    record { counts = rw e; state = rw e; traced = rw e }

@@ -11,7 +11,7 @@ use Rattle.model.specs.Trees.{Tree, tree-of}
 use Rattle.model.specs.States.{fresh-state}
 use Rattle.model.specs.Runs.{steps, run, occurrences}
 use Rattle.model.specs.Refusals.{refusal, first-refusal, run-tests-before-19, tree-refusal, run-refusal}
-use Rattle.model.specs.Answers.{run-answer, trace-answer}
+use Rattle.model.specs.Answers.{no-counts, run-answer, trace-answer}
 use Rattle.model.specs.Laws.{All-threads, Formed, Refuses-exactly, Sixteen-bit}
 use Rattle.schedules.specs.Rows.{total}
 use Rattle.waits.specs.declared.Fraction.{Fraction}
@@ -43,6 +43,16 @@ pub record Runs-as (w : TreeWords) (s : LockState) (schedule trace rows : List �
 unfoldable pub Waits-run-law : Type 0
 Waits-run-law =
     (w : TreeWords) (s : LockState) (schedule trace rows : List ℕ) → refused-by w s schedule trace rows .number ≢ 18 → Runs-as w s schedule trace rows
+
+-- refused, by 18 too: no counts, and state and trace as they came
+pub record Nothing-done (w : TreeWords) (s : LockState) (schedule trace rows : List ℕ) : Type 0 where
+  pub counts : waits-answer w s schedule trace rows .counts ≡ no-counts
+  pub state : waits-answer w s schedule trace rows .state ≡ s
+  pub traced : waits-trace w s schedule trace rows ≡ trace
+
+unfoldable pub Waits-refused-law : Type 0
+Waits-refused-law =
+    (w : TreeWords) (s : LockState) (schedule trace rows : List ℕ) → refused-by w s schedule trace rows .number ≢ 0 → Nothing-done w s schedule trace rows
 
 -- 3. THE MEAN. It is total over attempts, and no number but 1 divides both its parts; without attempts it is 0 over 0, and a total of 0 over some attempts is 0 over 1
 pub record In-lowest-terms (total attempts : ℕ) (f : Fraction) : Type 0 where

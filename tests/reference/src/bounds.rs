@@ -1,6 +1,6 @@
 //! The calls of allowances, which are document 01's, of the rounds in which every thread enters and of the longest waits, each number cut at the largest of 64 bits.
 
-use crate::refusals::{accept_tree, leaves};
+use crate::refusals::accept_tree;
 use crate::standing::allowance;
 use crate::table::*;
 use crate::words::TreeWords;
@@ -51,14 +51,13 @@ fn members(tree: &Tree, domain: usize) -> Vec<usize> {
     (0..tree.threads).filter(|&thread| tree.home(thread) == domain).chain(children).collect()
 }
 
-/// The rounds from a domain on to the entry: three to come there, a tenure of each other member, and those for the domains above, which at the root is one. In a tenure a member acquires the domains above, makes its entries, each of two rounds and one more for each level of the tree, and releases the domains down to this one in five rounds each.
-fn acquire(tree: &Tree, domain: usize) -> u128 {
-    let above = if domain == ROOT { 1 } else { acquire(tree, tree.parent(domain)) };
-    let members = members(tree, domain);
-    let entries = members.iter().map(|&member| allowance(tree, member)).max().unwrap_or(0);
+/// The rounds of a member from its domain on to the entry: three to come there, a tenure of each other member, and those for the domains above, which at the root is one. In a tenure a member acquires the domains above, makes its entries, each of two rounds and one more for each level of the tree, and releases the domains down to this one in five rounds each.
+fn acquire(tree: &Tree, domain: usize, member: usize) -> u128 {
+    let above = if domain == ROOT { 1 } else { acquire(tree, tree.parent(domain), domain_record(domain)) };
     let levels = (0..tree.domains).map(|domain| level(tree, domain)).max().unwrap_or(0);
-    let tenure = above + (2 + levels) * entries + 5 * level(tree, domain);
-    3 + (members.len() as u128 - 1) * tenure + above
+    let tenure = |other| (2 + levels).saturating_mul(passes(tree, other)).saturating_add(above).saturating_add(5 * level(tree, domain));
+    let others = members(tree, domain).into_iter().filter(|&other| other != member);
+    others.fold(3 + above, |sum, other| sum.saturating_add(tenure(other)))
 }
 
 /// A thread enters within the rounds of an acquisition and those of the release before it, six for each level; by round robin a round is one turn of each thread.
@@ -67,10 +66,10 @@ pub fn rounds(words: &TreeWords) -> RoundsReply {
     if let Err(refusal) = accept_tree(&tree) {
         return RoundsReply { number: refusal.number, place: refusal.place, rounds: 0, turns: 0 };
     }
-    let of_home = |home| acquire(&tree, home) + 6 * level(&tree, home);
-    let everyone = (0..tree.domains).filter(|&domain| leaves(&tree)[domain]).map(of_home).max().unwrap_or(0);
+    let of_thread = |thread| acquire(&tree, tree.home(thread), thread).saturating_add(6 * level(&tree, tree.home(thread)));
+    let everyone = (0..tree.threads).map(of_thread).max().unwrap_or(0);
     let capped = |number: u128| number.min(u64::MAX as u128) as u64;
-    RoundsReply { number: 0, place: 0, rounds: capped(everyone), turns: capped(everyone * tree.threads as u128) }
+    RoundsReply { number: 0, place: 0, rounds: capped(everyone), turns: capped(everyone.saturating_mul(tree.threads as u128)) }
 }
 
 /// The form of the call, the reference's and the library's: number and place.

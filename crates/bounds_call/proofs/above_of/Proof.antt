@@ -1,39 +1,73 @@
--- `above_of` meets its contract: the parent is the word that the tree reads. Assumes nothing.
+-- `above_of` meets its contract: one round at the root, and elsewhere the rounds of the own record. Assumes nothing.
 use native.Mathlib.Omega.{arith}
-use borrow.Author.Tests.{eq-eqb, ne-eqb}
 use borrow.Author.Needs.{needs}
 use Rattle.model.proofs.Trees.Reading.{few-domains}
-use Rattle.bounds_call.proofs.RoundWords.{parent-below}
+use Rattle.bounds_call.proofs.RoundWords.{parent-below, above-root, above-inner}
 use Rattle.bounds_call.proofs.above_of.Statement.{statement}
 use Rattle.bounds_call.proofs.above_of.Tie as tie
-use Rattle.model.proofs.Trees.Reading.{parent-read}
 
 returns : tie.Need-returns
-returns c = rw (eq-eqb _ _ (c .if1 .taken))
+returns c = above-root _ (c .before .pre .0) _ (c .if1 .taken)
 
-element-copy-out-byte-index : tie.Need-element-copy-out-byte-index
-element-copy-out-byte-index c =
+element-copy-out-byte-number : tie.Need-element-copy-out-byte-number
+element-copy-out-byte-number c =
     let few = few-domains _ (c .before .pre .0) in
     search (needs, few)
 
-byte-index-requires : tie.Need-byte-index-requires
-byte-index-requires c κs = search needs
+byte-number-requires : tie.Need-byte-number-requires
+byte-number-requires c κs = search needs
 
-mul-result : tie.Need-mul-result
-mul-result c = search needs
+cast-parent : tie.Need-cast-parent
+cast-parent c = search needs
 
-element-copy-out-result : tie.Need-element-copy-out-result
-element-copy-out-result c =
+mul-acquire-of : tie.Need-mul-acquire-of
+mul-acquire-of c = search needs
+
+element-copy-out-acquire-of : tie.Need-element-copy-out-acquire-of
+element-copy-out-acquire-of c =
     let s = c .before .before .before in
     let few = few-domains _ (s .pre .0) in
-    let low = parent-below _ (s .pre .0) _ _ (omega (arith, c .before .before .if1 .left)) (s .pre .1) (c .byte-index .ensures .0) in
-    omega arith
+    let low = parent-below _ (s .pre .0) _ _ (omega (arith, c .before .before .if1 .left)) (s .pre .1 .0) (c .byte-number .ensures) in
+    omega (arith, s .pre .1 .0)
+
+add-acquire-of : tie.Need-add-acquire-of
+add-acquire-of c = search needs
+
+mul-acquire-of-2 : tie.Need-mul-acquire-of-2
+mul-acquire-of-2 c = search needs
+
+element-copy-out-acquire-of-2 : tie.Need-element-copy-out-acquire-of-2
+element-copy-out-acquire-of-2 c =
+    let s = c .before .before .before .before in
+    let few = few-domains _ (s .pre .0) in
+    omega (arith, s .pre .1 .0)
+
+acquire-of-requires : tie.Need-acquire-of-requires
+acquire-of-requires c κs =
+    let s = c .before .before .before .before .before in
+    let low = parent-below _ (s .pre .0) _ _ (omega (arith, c .before .before .before .before .if1 .left)) (s .pre .1 .0) (c .before .before .byte-number .ensures) in
+    (s .pre .0, (omega (arith, s .pre .1 .0), (s .pre .1 .1 .0, s .pre .1 .1 .1 .0)))
 
 returns-2 : tie.Need-returns-2
 returns-2 c =
-    let s = c .before .before .before .before in
-    rw (ne-eqb _ _ (c .before .before .before .if1 .left), parent-read (s .args .t1) (s .args .d) (omega (arith, c .before .before .before .if1 .left)) (s .pre .1), ← c .before .byte-index .ensures .0)
+    let s = c .before .before .before .before .before .before in
+    above-inner _ (s .pre .0) _ _ _ _ _ (c .before .before .before .before .before .if1 .left) (s .pre .1 .0) (c .before .before .before .byte-number .ensures)
+    (s .pre .1 .1 .1 .1 .0)
+    (s .pre .1 .1 .1 .1 .1)
+    (c .acquire-of .ensures)
 
 pub above-of-spec : {M : Type 1} → statement M
 above-of-spec =
-    tie.close (tie.spec returns element-copy-out-byte-index byte-index-requires mul-result element-copy-out-result returns-2)
+    tie.close
+    (tie.spec
+    returns
+    element-copy-out-byte-number
+    byte-number-requires
+    cast-parent
+    mul-acquire-of
+    element-copy-out-acquire-of
+    add-acquire-of
+    mul-acquire-of-2
+    element-copy-out-acquire-of-2
+    acquire-of-requires
+    returns-2)

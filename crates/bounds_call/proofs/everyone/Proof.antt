@@ -6,9 +6,10 @@ use borrow.Author.Needs.{needs}
 use Rattle.model.specs.Scans.{largest-below}
 use Rattle.model.specs.Trees.{tree-of}
 use Rattle.model.specs.Refusals.{tree-refusal}
-use Rattle.starvation_freedom.specs.Bounds.{acquire-bound, release-bound}
+use Rattle.starvation_freedom.specs.Bounds.{levels, acquire-bound, release-bound}
 use Rattle.bounds.specs.Answers.{capped}
-use Rattle.bounds_call.specs.Arrays.{Acquired}
+use Rattle.bounds_call.specs.Arrays.{Rounds-above}
+use Rattle.bounds_call.specs.Waits.{Counted, Others}
 use Rattle.bounds_call.proofs.Filling.{largest-next}
 use Rattle.model.proofs.Trees.Reading.{few-threads}
 use Rattle.bounds_call.proofs.RoundWords.{everyone-word}
@@ -16,19 +17,22 @@ use Rattle.bounds_call.proofs.everyone.Statement.{statement}
 use Rattle.bounds_call.proofs.everyone.Tie as tie
 
 abbrev Inv-loop : tie.InvT-loop
-Inv-loop tree acquired most₀ i₀ most i =
-    (tree-refusal (tree-of tree) .number ≡ 0) × (Acquired (tree-of tree) (tree .domains) acquired) × (tree .threads ≤ 256) × (i ≤ tree .threads)
+Inv-loop tree counts others above deepest most₀ i₀ most i =
+    (tree-refusal (tree-of tree) .number ≡ 0) × ((deepest ≡ levels (tree-of tree)) × (deepest ≤ 6)) × Counted (tree-of tree) counts × Others (tree-of tree) others
+    × Rounds-above (tree-of tree) (tree .domains) above × (tree .threads ≤ 256) × (i ≤ tree .threads)
     × (most ≡ largest-below i (λ j. capped (acquire-bound (tree-of tree) j + release-bound (tree-of tree) j)))
 
 abbrev μ-loop : tie.MeasureT-loop
-μ-loop tree acquired most₀ i₀ most i = tree .threads - i
+μ-loop tree counts others above deepest most₀ i₀ most i = tree .threads - i
 
 loop-holds : tie.Need-loop-holds Inv-loop μ-loop
 unfolding largest-below
-loop-holds c = (c .pre .0, c .pre .1, few-threads _ (c .pre .0), search needs, refl)
+loop-holds c = let p = c .pre in (p .0, p .1 .0, p .1 .1 .0, p .1 .1 .1 .0, p .1 .1 .1 .1, few-threads _ (p .0), omega arith, refl)
 
 thread-rounds-requires : tie.Need-thread-rounds-requires Inv-loop μ-loop
-thread-rounds-requires c κs = search needs
+thread-rounds-requires c κs =
+    let v = c .before .before .loop .inv in
+    (v .0, (omega arith, (v .1, (v .2, (v .3, v .4)))))
 
 larger-requires : tie.Need-larger-requires Inv-loop μ-loop
 larger-requires c κs = search needs
@@ -42,12 +46,12 @@ loop-less c = omega arith
 loop-again : tie.Need-loop-again Inv-loop μ-loop
 loop-again c =
     let v = c .before .before .before .before .loop .inv in
-    (v .0, v .1, v .2, omega arith, largest-next _ _ _ _ _ (v .4) (c .before .thread-rounds .ensures) (c .larger .ensures))
+    (v .0, v .1, v .2, v .3, v .4, v .5, omega arith, largest-next _ _ _ _ _ (v .7) (c .before .thread-rounds .ensures) (c .larger .ensures))
 
 returns : tie.Need-returns Inv-loop μ-loop
 returns c =
     let v = c .before .before .loop .inv in
-    everyone-word _ (v .0) _ _ (omega arith) (v .4)
+    everyone-word _ (v .0) _ _ (omega arith) (v .7)
 
 pub everyone-spec : {M : Type 1} → statement M
 everyone-spec =

@@ -1,27 +1,19 @@
 -- `rounds` meets its contract: the tree's refusal with zeros, or the largest of the threads' rounds and its product with the number of threads. Assumes nothing.
+use mathlib.Core.Path.{_∙_}
 use borrow.Author.Needs.{needs}
-use Rattle.bounds_call.proofs.Words.{accepted-number}
-use Rattle.bounds_call.proofs.RoundAnswers.{allowed-left, rounds-refused, rounds-accepted}
+use Rattle.refusals.proofs.Reading.{refusal-words-same}
+use Rattle.bounds_call.proofs.RoundAnswers.{rounds-refused, rounds-tested, rounds-accepted}
 use Rattle.bounds_call.proofs.rounds.Statement.{statement}
 use Rattle.bounds_call.proofs.rounds.Tie as tie
 
-allowances-requires : tie.Need-allowances-requires
-allowances-requires c κs = search needs
+tree-refusal-of-requires : tie.Need-tree-refusal-of-requires
+tree-refusal-of-requires c κs = search needs
 
 returns : tie.Need-returns
-returns c = rounds-refused _ _ (c .before .before .allowances .ensures .0) (c .if1 .taken)
+returns c = rounds-refused _ _ (c .before .before .tree-refusal-of .ensures ∙ refusal-words-same _) (c .if1 .taken)
 
-acquire-words-requires : tie.Need-acquire-words-requires
-acquire-words-requires c κs =
-    let allowed = c .before .before .before .allowances .ensures in
-    let ok = accepted-number _ _ (allowed .0) (c .before .if1 .left) in
-    (ok, allowed-left _ _ _ ok (allowed .1))
-
-everyone-requires : tie.Need-everyone-requires
-everyone-requires c κs =
-    let allowed = c .before .before .before .before .before .allowances .ensures in
-    let ok = accepted-number _ _ (allowed .0) (c .before .before .before .if1 .left) in
-    (ok, c .before .acquire-words .ensures)
+rounds-of-requires : tie.Need-rounds-of-requires
+rounds-of-requires c κs = rounds-tested _ _ (c .before .before .tree-refusal-of .ensures ∙ refusal-words-same _) (c .if1 .left)
 
 cast-capped-product : tie.Need-cast-capped-product
 cast-capped-product c = search needs
@@ -31,10 +23,8 @@ capped-product-requires c κs = search needs
 
 returns-2 : tie.Need-returns-2
 returns-2 c =
-    let allowed = c .before .before .before .before .before .before .before .before .allowances .ensures in
-    rounds-accepted _ _ _ _ (allowed .0) (c .before .before .before .before .before .before .if1 .left) (c .before .before .everyone .ensures) (c .capped-product .ensures)
+    let tested = c .before .before in
+    rounds-accepted _ _ _ _ (tested .before .before .tree-refusal-of .ensures ∙ refusal-words-same _) (tested .if1 .left) (c .before .rounds-of .ensures) (c .capped-product .ensures)
 
 pub rounds-spec : {M : Type 1} → statement M
-rounds-spec =
-    tie.close
-    (tie.spec allowances-requires returns acquire-words-requires everyone-requires cast-capped-product capped-product-requires returns-2)
+rounds-spec = tie.close (tie.spec tree-refusal-of-requires returns rounds-of-requires cast-capped-product capped-product-requires returns-2)

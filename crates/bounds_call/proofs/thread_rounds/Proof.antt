@@ -1,5 +1,4 @@
 -- `thread_rounds` meets its contract: the home is the word that the tree reads. Assumes nothing.
-use mathlib.Core.Path.{refl}
 use native.Mathlib.Omega.{arith}
 use borrow.Author.Needs.{needs}
 use Rattle.model.proofs.Trees.Reading.{few-domains, few-threads}
@@ -24,26 +23,45 @@ level-of-requires c κs =
     let low = home-below _ (s .pre .0) _ _ (s .pre .1 .0) (c .byte-number .ensures) in
     search (needs, low)
 
-mul-capped-sum : tie.Need-mul-capped-sum
-mul-capped-sum c = search needs
+mul-acquire-of : tie.Need-mul-acquire-of
+mul-acquire-of c = search needs
 
-element-copy-out-capped-sum : tie.Need-element-copy-out-capped-sum
-element-copy-out-capped-sum c =
+element-copy-out-acquire-of : tie.Need-element-copy-out-acquire-of
+element-copy-out-acquire-of c =
     let s = c .before .before .before in
     let few = few-domains _ (s .pre .0) in
     let low = home-below _ (s .pre .0) _ _ (s .pre .1 .0) (c .before .byte-number .ensures) in
     omega arith
 
-mul-capped-sum-2 : tie.Need-mul-capped-sum-2
-mul-capped-sum-2 c = search needs
+mul-acquire-of-2 : tie.Need-mul-acquire-of-2
+mul-acquire-of-2 c = search needs
+
+element-copy-out-acquire-of-2 : tie.Need-element-copy-out-acquire-of-2
+element-copy-out-acquire-of-2 c =
+    let s = c .before .before .before .before in
+    let few = few-threads _ (s .pre .0) in
+    omega (arith, s .pre .1 .0)
+
+acquire-of-requires : tie.Need-acquire-of-requires
+acquire-of-requires c κs =
+    let s = c .before .before .before .before .before in
+    let low = home-below _ (s .pre .0) _ _ (s .pre .1 .0) (c .before .before .before .byte-number .ensures) in
+    (s .pre .0, (low, (s .pre .1 .1 .0, s .pre .1 .1 .1 .0)))
+
+mul-capped-sum : tie.Need-mul-capped-sum
+mul-capped-sum c = search needs
 
 capped-sum-requires : tie.Need-capped-sum-requires
 capped-sum-requires c κs = search needs
 
 returns : tie.Need-returns
 returns c =
-    let s = c .before .before .before .before .before in
-    thread-word _ (s .pre .0) _ _ _ _ _ _ (s .pre .1 .1) (s .pre .1 .0) (c .before .before .before .byte-number .ensures) (c .before .before .level-of .ensures .0) refl (c .capped-sum .ensures)
+    let read = c .before .before .before .before .before in
+    let s = read .before .before in
+    thread-word _ (s .pre .0) _ _ _ _ _ _ _ (s .pre .1 .0) (read .byte-number .ensures) (c .before .before .before .before .level-of .ensures .0) (s .pre .1 .1 .1 .1 .0)
+    (s .pre .1 .1 .1 .1 .1)
+    (c .before .acquire-of .ensures)
+    (c .capped-sum .ensures)
 
 pub thread-rounds-spec : {M : Type 1} → statement M
 thread-rounds-spec =
@@ -53,8 +71,11 @@ thread-rounds-spec =
     byte-number-requires
     cast-h
     level-of-requires
+    mul-acquire-of
+    element-copy-out-acquire-of
+    mul-acquire-of-2
+    element-copy-out-acquire-of-2
+    acquire-of-requires
     mul-capped-sum
-    element-copy-out-capped-sum
-    mul-capped-sum-2
     capped-sum-requires
     returns)

@@ -2,9 +2,9 @@
 use mathlib.Core.Path.{_≡_, refl, ap, _∙_}
 use mathlib.Core.Bool.{true}
 use mathlib.Core.List.{List, [], _∷_, _++_, append-assoc, append-nil}
-use Prim.Native.Nat.{ℕ}
+use Prim.Native.Nat.{ℕ, zero, suc, _<_}
 use native.Mathlib.Omega.{arith}
-use lib.ListN.{length}
+use lib.ListN.{length, replicate, length-replicate}
 use Rattle.model.specs.declared.LockState.{LockState}
 use Rattle.model.specs.Trees.{Tree, tree-of}
 use Rattle.model.specs.Runs.{steps, state-after, run-of, run}
@@ -12,12 +12,12 @@ use Rattle.model.specs.Counters.{good-counts}
 use Rattle.model.specs.CounterLaws.{Counter-form-law, Room-law, Fresh-room-law}
 use Rattle.model.specs.Refusals.{accepted, tree-refusal}
 use Rattle.model.specs.Answers.{fresh-answer}
-use Rattle.model.specs.Laws.{Formed, Form-law}
+use Rattle.model.specs.Laws.{All-threads, Formed, Form-law}
 use Rattle.model.specs.Calls.{Ask, one-step, a-run, Call, state-in, answer, ask-refusal, call-refusal, asked-entries, added, joined, Names}
 use Rattle.claims.specs.Claim.{Demand-three}
-use Rattle.claims.specs.Reached.{last-state, Asks-well, Never-refused, lone-run, Lone-run-law}
+use Rattle.claims.specs.Reached.{last-state, Asks-well, Never-refused, Well-asked-law, Longest-run-law, lone-run, Lone-run-law}
 use Rattle.model.proofs.Laws.Form.{form-law}
-use Rattle.model.proofs.Laws.Calls.{Counts-pass, step-accepted, run-accepted}
+use Rattle.model.proofs.Laws.Calls.{Counts-pass, step-facts, step-accepted, run-facts, run-accepted}
 use Rattle.model.proofs.Laws.Counters.{counter-form-law, room-law, fresh-room, fresh-room-law}
 use Rattle.claims.proofs.Claims.Calls.{reached, starts-here, returned, joined-threads}
 use Rattle.claims.proofs.Claims.Demand.{demand-three}
@@ -39,7 +39,25 @@ asks-accepted :
 unfolding ask-refusal Asks-well asked-entries
 asks-accepted t ok (one-step i) s f g low h = step-accepted t s i (record { tree = ok; form = f .form; counts = g; thread = h }) low
 asks-accepted t ok (a-run is b) s f g low h =
-    run-accepted t s is (length b) (record { tree = ok; form = f .form; counts = g; short = h .1; threads = h .0; fits = h .2 }) low
+    run-accepted t s is (length b) (record { tree = ok; form = f .form; counts = g; short = omega (arith, h .1); threads = h .0; fits = omega (arith, h .2) }) low
+
+pub well-asked-law : Well-asked-law
+unfolding Well-asked-law Asks-well ask-refusal
+well-asked-law t (one-step i) s e = step-facts t s i e .thread
+well-asked-law t (a-run is b) s e =
+    let good = run-facts t s is (length b) e in
+    (good .threads, omega (arith, good .short), omega (arith, good .fits))
+
+same-threads : (t : Tree) (n i : ℕ) → i < t .threads → All-threads t (replicate n i)
+unfolding All-threads
+same-threads t zero i h = tt
+same-threads t (suc n) i h = (h, same-threads t n i h)
+
+pub longest-run-law : Longest-run-law
+unfolding Longest-run-law Asks-well
+longest-run-law t h =
+    let many = length-replicate {A = ℕ} 65536 0 in
+    (same-threads t 65536 0 h, omega (arith, many), omega (arith, many))
 
 pub never-refused : Never-refused
 unfolding Never-refused fresh-answer call-refusal Form-law Counter-form-law Room-law Fresh-room-law

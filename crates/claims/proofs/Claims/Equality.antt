@@ -1,6 +1,6 @@
 -- At every Check reached from fresh the status is a count from 1 to the threshold. Assumes nothing.
 use mathlib.Core.Path.{_≡_, refl, ap, _∙_}
-use mathlib.Core.Logic.{inl, inr}
+use mathlib.Core.Logic.{_⊎_, inl, inr}
 use Prim.Native.Nat.{ℕ, suc, _≤_, _<_}
 use native.Mathlib.Omega.{arith}
 use borrow.Author.Tests.{eq-eqb, ne-eqb}
@@ -51,18 +51,24 @@ checking l e (at-watch k b r c) = absurd (let z : _≡_ {A = ℕ} 0 1 = cc in om
 checking l e (at-shown r c) = absurd (let z : _≡_ {A = ℕ} 0 1 = cc in omega arith)
 checking l e (at-raise r c) = absurd (let z : _≡_ {A = ℕ} 0 1 = cc in omega arith)
 
--- at or below the threshold, below it and other than it are one test, so the row by equality comes to the same
+-- at or below the threshold, below it and other than it are one test, and without a next there is nobody to pass to; so the row by equality comes to the same
 pub same-by-equality :
-    (t : Tree) (i l : ℕ) (s : WordState) → status s (own-record t i l) ≤ t .threshold l → {x : Row-result} → Branch t i s (Check l) x → x ≡ equality-check-row t i l s
+    (t : Tree) (i l : ℕ) (s : WordState) → (status s (own-record t i l) ≤ t .threshold l) ⊎ (next s (own-record t i l) ≡ none) → {x : Row-result} → Branch t i s (Check l) x →
+    x ≡ equality-check-row t i l s
 unfolding equality-check-row
-same-by-equality t i l s within (check-passes _ less some) =
+same-by-equality t i l s (inl within) (check-passes _ less some) =
     rw (ne-eqb (status s (own-record t i l)) (t .threshold l) (λ z. omega arith), ne-eqb (next s (own-record t i l)) none some)
-same-by-equality t i l s within (check-releases _ why) =
+same-by-equality t i l s (inr alone) (check-passes _ less some) = absurd (some alone)
+same-by-equality t i l s (inl within) (check-releases _ why) =
     let v = status s (own-record t i l) in
     let h = t .threshold l in
     let n = next s (own-record t i l) in
     same-or v h _ (λ z. rw (eq-eqb v h z))
     (λ z. elim why [ inl reached ↦ absurd (z (omega arith)) | inr alone ↦ rw (ne-eqb v h z, eq-eqb n none alone) ])
+same-by-equality t i l s (inr alone) (check-releases _ why) =
+    let v = status s (own-record t i l) in
+    let h = t .threshold l in
+    same-or v h _ (λ z. rw (eq-eqb v h z)) (λ z. rw (ne-eqb v h z, eq-eqb (next s (own-record t i l)) none alone))
 
 counts-at-check :
     (t : Tree) → Accepted t → (s : WordState) → Queued t s → (i l : ℕ) → i < t .threads → place s i ≡ Check l → Counts-at-check t s i l
@@ -82,8 +88,8 @@ counts-at-check t valid s q i l h e =
     record {
       started = omega (arith, counts .0);
       within = within;
-      same-row = same-by-equality t i l s within (check-branch t i s l);
-      same-step = rw e (ap (step-from t i (Check l)) (same-by-equality t i l s within (branch t i s (Check l))));
+      same-row = same-by-equality t i l s (inl within) (check-branch t i s l);
+      same-step = rw e (ap (step-from t i (Check l)) (same-by-equality t i l s (inl within) (branch t i s (Check l))));
     }
 
 pub equality-law : Equality-law

@@ -6,13 +6,31 @@ use Prim.Native.Nat.{ℕ, zero, suc, _+_, _-_, _≤_, _<_}
 use native.Mathlib.Omega.{arith}
 use native.Mathlib.Decide.{ℕ-discrete}
 use borrow.Author.Tests.{eq-eqb, ne-eqb}
+use Rattle.model.specs.declared.Found.{Found}
 use Rattle.model.specs.Trees.{Tree, read-word, tree-of, is-child, depth, level, on-path, child-from, child}
 use Rattle.model.specs.Refusals.{tree-refusal}
 use Rattle.model.specs.Cases.{padded, tree, count-up, three-levels}
-use Rattle.model.specs.Search.{found, search-from, search, Same-child-law, Same-up-to, Leaves-at-child, Searches, Search-law, found-of, six-levels, Six-levels-searched, Three-levels-searched}
+use Rattle.model.specs.Search.{found, search-from, search, Same-child-law, Same-up-to, Leaves-at-child, Searches, Search-law, Only-search-law, with-parent, Beyond-law, Up-to-law, found-of, six-levels, Six-levels-searched, Three-levels-searched, Any-parent-beyond, Another-parent-at-the-child}
 use Rattle.model.proofs.Trees.Index.{ancestor, height}
-use Rattle.model.proofs.Trees.Accepted.{Accepted, accepted, child-yes}
-use Rattle.model.proofs.Trees.Paths.{ancestor-home, height-few, ancestor-inner, ancestor-root, ancestor-parent-of, ancestor-strict, ancestor-depth, path-index, on-path-at}
+use Rattle.model.proofs.Trees.Accepted.{Accepted, accepted, child-yes, child-facts}
+use Rattle.model.proofs.Trees.Paths.{ancestor-home, height-few, ancestor-inner, ancestor-root, ancestor-parent-of, ancestor-strict, ancestor-injective, ancestor-depth, path-index, on-path-at}
+
+-- CASES: each is computed
+pub six-levels-searched : Six-levels-searched
+unfolding Six-levels-searched found-of six-levels tree padded count-up search search-from tree-of read-word
+six-levels-searched = refl
+
+pub three-levels-searched : Three-levels-searched
+unfolding Three-levels-searched found-of three-levels tree padded count-up search search-from tree-of read-word
+three-levels-searched = refl
+
+pub any-parent-beyond : Any-parent-beyond
+unfolding Any-parent-beyond with-parent six-levels tree padded count-up search search-from tree-of read-word
+any-parent-beyond = refl
+
+pub another-parent-at-the-child : Another-parent-at-the-child
+unfolding Another-parent-at-the-child with-parent six-levels tree padded count-up search search-from tree-of read-word
+another-parent-at-the-child = refl
 
 -- THE SAME CHILD, whatever was looked at before
 pub same-child-from : (k : ℕ) (t : Tree) (l c n : ℕ) → search-from k t l c n .child ≡ child-from k t l c
@@ -77,7 +95,7 @@ module _ (t : Tree) (valid : Accepted t) (i : ℕ) (h : i < t .threads) where
         | no e ↦ omega (arith, ancestor-strict t valid i h m k (omega arith) (omega arith))
       ])
 
-  leaves-at : (k : ℕ) → k < height t i → Leaves-at-child t i (ancestor t i (suc k))
+  leaves-at : (k : ℕ) → k < height t i → Leaves-at-child search t i (ancestor t i (suc k))
   unfolding height
   leaves-at k b =
       let z = leaves-here k b in
@@ -88,10 +106,26 @@ module _ (t : Tree) (valid : Accepted t) (i : ℕ) (h : i < t .threads) where
         not-beyond = λ u s. leaves-home u k b (s .home) (agrees k b u (rw z at s)) ∙ sym z;
       }
 
-  above-at : (l : ℕ) → on-path t i l ≡ true → l ≢ t .home i → Leaves-at-child t i l
+  -- ANOTHER SEARCH that leaves at the child: its child is the path's too, and what it looked at follows
+  only-at : (look : Tree → (thread domain : ℕ) → Found) (k : ℕ) → k < height t i → Leaves-at-child look t i (ancestor t i (suc k)) → look t i (ancestor t i (suc k)) ≡ search t i (ancestor t i (suc k))
+  unfolding height
+  only-at look k b s =
+      let c = look t i (ancestor t i (suc k)) .child in
+      let o = path-index t valid i h c (s .there) in
+      let up = child-facts t (ancestor t i (suc k)) c (s .hangs) in
+      let inner : o .index < height t i = elim (ℕ-discrete (o .index) (height t i)) [
+        | yes e ↦ absurd (omega (arith, up .no-root, sym (o .there) ∙ ap (ancestor t i) e ∙ ancestor-root t valid i h))
+        | no e ↦ omega (arith, o .within)
+      ] in
+      let above = sym (ancestor-parent-of t valid i h (o .index) inner) ∙ ap (t .parent) (o .there) ∙ up .hangs in
+      let same = ancestor-injective t valid i h (suc (o .index)) (suc k) (omega arith) (omega arith) above in
+      let here : c ≡ ancestor t i k = sym (o .there) ∙ ap (ancestor t i) (omega (arith, same)) in
+      same-found here (omega (arith, s .exactly, ap (depth t) here, ancestor-depth t valid i h k (omega arith))) ∙ sym (leaves-here k b)
+
+  above-at : (l : ℕ) → on-path t i l ≡ true → l ≢ t .home i → Leaves-at-child search t i l
   above-at l e n = let o = path-index t valid i h l e in go (o .index) (o .within) (o .there)
     where
-      go : (k : ℕ) → k ≤ height t i → ancestor t i k ≡ l → Leaves-at-child t i l
+      go : (k : ℕ) → k ≤ height t i → ancestor t i k ≡ l → Leaves-at-child search t i l
       go zero b q = absurd (n (sym q ∙ ancestor-home t i))
       go (suc k) b q = rw (← q) (leaves-at k b)
 
@@ -130,11 +164,19 @@ search-law t e i h =
     let valid = accepted t e in
     record { above-home = above-at t valid i h; no-child = no-child-at t valid i h }
 
--- CASES: each is computed
-pub six-levels-searched : Six-levels-searched
-unfolding Six-levels-searched found-of six-levels tree padded count-up search search-from tree-of read-word
-six-levels-searched = refl
+pub only-search-law : Only-search-law
+unfolding Only-search-law
+only-search-law look t e i h l p n s = let valid = accepted t e in let o = path-index t valid i h l p in go valid (o .index) (o .within) (o .there)
+  where
+    go : Accepted t → (k : ℕ) → k ≤ height t i → ancestor t i k ≡ l → look t i l ≡ search t i l
+    go valid zero b q = absurd (n (sym q ∙ ancestor-home t i))
+    go valid (suc k) b q = rw (← q) (only-at t valid i h look k b (rw q s))
 
-pub three-levels-searched : Three-levels-searched
-unfolding Three-levels-searched found-of three-levels tree padded count-up search search-from tree-of read-word
-three-levels-searched = refl
+-- WHERE A TREE MAY DIFFER
+pub beyond-law : Beyond-law
+unfolding Beyond-law with-parent
+beyond-law t i c d p b = record { home = refl; parent = λ e on far. rw (ne-eqb e d (omega arith)) }
+
+pub up-to-law : Up-to-law
+unfolding Up-to-law with-parent
+up-to-law t i c d p on near s = rw (eq-eqb d d refl) at (s .parent d on near)

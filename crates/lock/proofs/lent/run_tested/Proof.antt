@@ -23,10 +23,19 @@ slice-aggregate-run-lent : tie.Need-slice-aggregate-run-lent
 slice-aggregate-run-lent c = search needs
 
 run-lent-requires : tie.Need-run-lent-requires
-run-lent-requires c κs = (c .before .before .before .before .before .before .before .before .before .before .before .before .before .before .before .before .before .before .before .before .before .before .before .before .before .before .before .before .before .before .before .before .pre, early-passes _ _ _ (c .before .before .before .before .before .before .before .before .before .before .before .before .before .before .before .before .before .before .before .before .before .before .before .before .before .before .before .before .before .before .before .before .args .trace .now) _ (c .before .before .before .before .before .before .before .before .before .before .before .before .before .before .before .before .before .refusal-of .ensures) (c .before .before .before .before .before .before .before .before .before .before .before .before .before .before .before .if1 .left))
+run-lent-requires c κs =
+    let passed = c .before .before .before .before .before .before .before .before .before .before .before .before .before .before .before in
+    let asked = passed .before .before in
+    let first = asked .before .before .before .before .before .before .before .before .before .before .before .before .before .before .before in
+    (first .pre, early-passes _ _ _ (first .args .trace .now) _ (asked .refusal-of .ensures) (passed .if1 .left))
 
 counts-of-requires-2 : tie.Need-counts-of-requires-2
-counts-of-requires-2 c κs = kinds-few _ _ _ (c .before .before .before .before .before .before .before .before .before .before .before .before .before .before .before .before .before .before .before .before .before .before .before .before .before .before .before .before .before .before .before .before .before .before .before .before .before .args .trace .now) _ (c .before .before .before .before .before .before .before .before .before .before .before .before .before .before .before .before .before .before .before .before .before .before .refusal-of .ensures) (c .before .before .before .before .before .before .before .before .before .before .before .before .before .before .before .before .before .before .before .before .if1 .left) _ (c .before .before .before .before .run-lent .ensures .1 .1 .0)
+counts-of-requires-2 c κs =
+    let ran = c .before .before .before .before in
+    let passed = ran .before .before .before .before .before .before .before .before .before .before .before .before .before .before .before .before in
+    let asked = passed .before .before in
+    let first = asked .before .before .before .before .before .before .before .before .before .before .before .before .before .before .before in
+    kinds-few _ _ _ (first .args .trace .now) _ (asked .refusal-of .ensures) (passed .if1 .left) _ (ran .run-lent .ensures .1 .1 .0)
 
 same-length : tie.Need-same-length
 same-length c = search needs

@@ -27,7 +27,11 @@ slice-aggregate-run-lent-3 : tie.Need-slice-aggregate-run-lent-3
 slice-aggregate-run-lent-3 c = search needs
 
 run-lent-requires : tie.Need-run-lent-requires
-run-lent-requires c κs = (c .before .before .before .before .before .before .before .before .before .before .before .before .before .before .before .before .before .before .before .before .before .before .before .before .before .before .before .before .before .before .before .before .pre, one-early _ _ _ _ (c .before .before .before .before .before .before .before .before .before .before .before .before .before .before .before .before .before .before .refusal-of .ensures) (c .before .before .before .before .before .before .before .before .before .before .before .before .before .before .before .before .if1 .left))
+run-lent-requires c κs =
+    let passed = c .before .before .before .before .before .before .before .before .before .before .before .before .before .before .before .before in
+    let asked = passed .before .before in
+    let first = asked .before .before .before .before .before .before .before .before .before .before .before .before .before .before in
+    (first .pre, one-early _ _ _ _ (asked .refusal-of .ensures) (passed .if1 .left))
 
 array-read-code : tie.Need-array-read-code
 array-read-code c = search needs

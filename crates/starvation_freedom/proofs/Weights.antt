@@ -9,8 +9,8 @@ use lib.Dec.{eqb}
 use borrow.Author.Tests.{ne-eqb}
 use Rattle.model.specs.Trees.{Tree, is-member}
 use Rattle.model.proofs.Lists.{less-or, is, is-same, count, count-cons}
-use Rattle.longest_wait.specs.Bounds.{sum-below, passes, others-passes}
-use Rattle.longest_wait.proofs.Sums.{sum-grows, sum-zero, sum-adds, sum-one}
+use Rattle.starvation_freedom.specs.Bounds.{sum-below, passes, others-passes}
+use Rattle.starvation_freedom.proofs.Sums.{sum-grows, sum-zero, sum-adds, sum-one}
 
 -- the sum of a value over a list
 unfoldable pub weight : (ℕ → ℕ) → List ℕ → ℕ

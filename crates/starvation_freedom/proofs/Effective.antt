@@ -11,15 +11,14 @@ use Rattle.model.specs.Trees.{Tree, is-child, is-leaf, depth-from, depth, level
 use Rattle.model.proofs.Trees.Index.{above, ancestor, height, record-at}
 use Rattle.model.proofs.Trees.Accepted.{Accepted}
 use Rattle.claims.proofs.Queues.Paths.{Laws, laws}
-use Rattle.claims.proofs.Queues.Moves.{acts, State, Event, root, lower, Last, Move, start, join-empty, join-root, join-behind, enter, leave, hand-on, release, let-go}
+use Rattle.claims.proofs.Queues.Moves.{inside, holding, pending, acts, State, Event, root, lower, Last, Move, start, join-empty, join-root, join-behind, enter, leave, hand-on, release, let-go}
 use Rattle.claims.proofs.Queues.Invariant.{Inv}
 use Rattle.claims.proofs.Queues.Keeps.{keeps}
 use Rattle.claims.proofs.Queues.Remaining.{left, left-bound}
-use Rattle.starvation_freedom.specs.Bounds.{members}
-use Rattle.starvation_freedom.proofs.Situations.{Changed, unmoved, moved, begun}
+use Rattle.starvation_freedom.proofs.Changes.{Changed, unmoved, moved, begun}
 use Rattle.starvation_freedom.proofs.Positions.{queue-short}
-use Rattle.starvation_freedom.proofs.Left.{hits, Same-first, left-falls}
-use Rattle.longest_wait.specs.Bounds.{effective-threshold, effective, passes}
+use Rattle.starvation_freedom.proofs.Left.{hits, Same-first, left-falls, left-some, left-inside, left-holding}
+use Rattle.starvation_freedom.specs.Bounds.{members, effective-threshold, effective, passes}
 
 module _ (t : Tree) where
   -- THE SAME PATHS
@@ -155,3 +154,17 @@ module _ (t : Tree) where
         }) in
         let z = x .same-hits b in
         omega arith
+
+    pub left-pending-some : (st : State) (a j : ℕ) → pending (st .stage a) ≤ left-there st a j
+    unfolding left-there
+    left-pending-some st a j = left-some T (laws T effective-accepted) st a j
+
+    -- one less where the entry is made
+    module _ (st : State) (inv′ : Inv T st) (a j : ℕ) (h : j ≤ height t a) where
+      pub left-less-inside : st .stage a ≡ inside → left-there st a j + 1 ≤ passes t (record-at t a j)
+      unfolding left-there passes
+      left-less-inside e = let x = left-inside T (laws T effective-accepted) st inv′ a e j (rw (effective-height a) h) in rw (effective-record a j) at x
+
+      pub left-less-holding : st .stage a ≡ holding → left-there st a j + 1 ≤ passes t (record-at t a j)
+      unfolding left-there passes
+      left-less-holding e = let x = left-holding T (laws T effective-accepted) st inv′ a e j (rw (effective-height a) h) in rw (effective-record a j) at x

@@ -10,7 +10,7 @@ use borrow.Author.Tests.{eq-eqb, ne-eqb}
 use Rattle.model.specs.Scans.{filter-below}
 use Rattle.model.proofs.Tests.{and-true}
 use Rattle.model.proofs.Lists.{same-or, is, is-same, is-other}
-use Rattle.longest_wait.specs.Bounds.{sum-below}
+use Rattle.starvation_freedom.specs.Bounds.{sum-below}
 
 pub sum-same : (n : ℕ) (f g : ℕ → ℕ) → ((a : ℕ) → a < n → f a ≡ g a) → sum-below n f ≡ sum-below n g
 unfolding sum-below
