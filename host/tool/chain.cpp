@@ -6,15 +6,6 @@ namespace tool {
 
 namespace {
 
-// Where a thread stands, in words.
-std::string standing(const hmcs::Lock &lock, std::uint16_t thread) {
-    const hmcs::Place place = hmcs::place(lock.state(), thread);
-    if (place.row == HMCS_IDLE || place.row == HMCS_INSIDE) {
-        return place.row == HMCS_IDLE ? "is idle" : "is inside";
-    }
-    return std::string("is in ") + row_name(place.row) + " of domain " + std::to_string(place.domain);
-}
-
 std::string chain(const Words &words) {
     const Input input = read_run(words);
     const std::uint64_t thread = number("THREAD", words.others()[1], UINT32_MAX);
@@ -26,7 +17,7 @@ std::string chain(const Words &words) {
     std::string text;
     for (std::size_t k = 0; k < result.threads.size(); ++k) {
         const bool last = k + 1 == result.threads.size();
-        text += "thread " + std::to_string(result.threads[k]) + " " + standing(lock, result.threads[k]);
+        text += "thread " + std::to_string(result.threads[k]) + " " + standing(lock.state(), result.threads[k]);
         text += last ? " and can move\n" : " and waits for thread " + std::to_string(result.threads[k + 1]) + "\n";
     }
     return text;

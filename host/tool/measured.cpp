@@ -1,5 +1,7 @@
 #include "measured.hpp"
 
+#include <numeric>
+
 namespace tool {
 
 std::string Missing::why_not() const {
@@ -24,13 +26,20 @@ Missing Missing::worst(const Missing &other) const {
 }
 
 Missing Measured::missing() const {
+    std::vector<std::size_t> everybody(threads.size());
+    std::iota(everybody.begin(), everybody.end(), std::size_t{0});
+    return missing(everybody);
+}
+
+Missing Measured::missing(const std::vector<std::size_t> &some) const {
     Missing missing;
-    missing.threads = threads.size();
-    missing.largest_finished = all.largest;
-    for (std::size_t thread = 0; thread < threads.size(); ++thread) {
+    missing.threads = some.size();
+    missing.fewest_entries = some.empty() ? 0 : UINT64_MAX;
+    for (const std::size_t thread : some) {
         const std::uint64_t entries = threads[thread].attempts; // from a fresh lock a thread's entries are its finished attempts
         missing.never_entered += entries == 0 ? 1 : 0;
-        missing.fewest_entries = thread == 0 ? entries : std::min(missing.fewest_entries, entries);
+        missing.fewest_entries = std::min(missing.fewest_entries, entries);
+        missing.largest_finished = std::max(missing.largest_finished, threads[thread].largest);
         if (under_way[thread] != 0) {
             ++missing.under_way;
             missing.longest_under_way = std::max(missing.longest_under_way, under_way[thread] - 1);

@@ -46,6 +46,8 @@ struct Measured {
     hmcs_state state;                     // after the run
 
     Missing missing() const;
+    // The same of some threads alone.
+    Missing missing(const std::vector<std::size_t> &some) const;
 };
 
 // Runs a schedule from a fresh lock of the tree, as many turns at a time as the library takes. The place of a refusal is one in the whole schedule.

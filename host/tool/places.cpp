@@ -46,4 +46,12 @@ const char *row_name(std::uint8_t row) { return rows[row].name; }
 
 const char *row_text(std::uint8_t row) { return rows[row].text; }
 
+std::string standing(const hmcs_state &state, std::uint32_t thread) {
+    const hmcs::Place place = hmcs::place(state, thread);
+    if (place.row == HMCS_IDLE || place.row == HMCS_INSIDE) {
+        return place.row == HMCS_IDLE ? "is idle" : "is inside";
+    }
+    return std::string("is in ") + row_name(place.row) + " of domain " + std::to_string(place.domain);
+}
+
 } // namespace tool

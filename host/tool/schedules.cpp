@@ -1,6 +1,7 @@
 #include "schedules.hpp"
 
 #include "busy.hpp"
+#include "journals.hpp"
 #include "random.hpp"
 #include "tool.hpp"
 
@@ -49,24 +50,12 @@ std::vector<std::uint16_t> in_turn(std::uint64_t count, std::uint32_t threads) {
 
 // The threads of a journal's entries, in their order. What is cut off or has another bit set is refused by the place of its entry.
 std::vector<std::uint16_t> turns_of_journal(const std::string &path) {
-    const std::string bytes = read_bytes(path, SIZE_MAX);
-    const auto byte = [&](std::size_t at) { return static_cast<std::uint8_t>(bytes[at]); };
-    std::vector<std::uint16_t> turns;
-    std::uint16_t thread = 0;
-    for (std::size_t at = 0; at < bytes.size();) {
-        const unsigned bits = byte(at);
-        const std::size_t length = 1 + ((bits & HMCS_JOURNAL_THREAD) != 0 ? 2 : 0) + ((bits & HMCS_JOURNAL_KIND) != 0 ? 1 : 0);
-        if (bits > (HMCS_JOURNAL_THREAD | HMCS_JOURNAL_KIND) || at + length > bytes.size()) {
-            refuse(path, hmcs::Refusal{HMCS_JOURNAL_BROKEN, at});
-        }
-        if ((bits & HMCS_JOURNAL_THREAD) != 0) {
-            thread = static_cast<std::uint16_t>(byte(at + 1) + 256 * byte(at + 2));
-        }
-        turns.push_back(thread);
-        at += length;
+    const Journal journal = journal_of(read_bytes(path, SIZE_MAX));
+    if (journal.broken) {
+        refuse(path, hmcs::Refusal{HMCS_JOURNAL_BROKEN, journal.end});
     }
     warn(path + ": a recording depends on the thresholds of the lock that made it; with others the threads would have come in another order");
-    return turns;
+    return journal.threads();
 }
 
 } // namespace

@@ -15,15 +15,6 @@ void add(Table &table, const hmcs::Waits &waits) {
     table.mean(waits.numerator, waits.denominator);
 }
 
-// An attempt under way, by the entries of others since it began.
-void add_under_way(Table &table, bool is_under_way, std::uint64_t entries) {
-    if (is_under_way) {
-        table.cell("at least " + std::to_string(entries), Value(entries));
-    } else {
-        table.cell("-", Value());
-    }
-}
-
 std::string waits(const Words &words) {
     const Input input = read_run(words);
     const Measured measured = measure(input.tree, input.schedule);
@@ -37,6 +28,14 @@ std::string waits(const Words &words) {
 }
 
 } // namespace
+
+void add_under_way(Table &table, bool is_under_way, std::uint64_t entries) {
+    if (is_under_way) {
+        table.cell("at least " + std::to_string(entries), Value(entries));
+    } else {
+        table.cell("-", Value());
+    }
+}
 
 Table waits_table(const hmcs::Tree &tree, const Measured &measured) {
     Table table;

@@ -61,16 +61,21 @@ struct Missing {
 
 impl Missing {
     fn of(run: &Waited) -> Missing {
-        let threads = run.under_way.len();
-        let entries: Vec<u64> = run.rows[..threads].iter().map(|row| row[0]).collect();
-        let never_entered = entries.iter().filter(|&&count| count == 0).count();
-        let longest_under_way = run.under_way.iter().copied().flatten().max();
+        Missing::among(run, |_| true)
+    }
+
+    /// Of some threads alone.
+    fn among(run: &Waited, is_asked: impl Fn(usize) -> bool) -> Missing {
+        let threads: Vec<usize> = (0..run.under_way.len()).filter(|&thread| is_asked(thread)).collect();
+        let never_entered = threads.iter().filter(|&&thread| run.rows[thread][0] == 0).count();
+        let longest_under_way = threads.iter().filter_map(|&thread| run.under_way[thread]).max();
+        let largest = threads.iter().map(|&thread| run.rows[thread][2]).max().unwrap_or(0);
         Missing {
             never_entered,
-            fewest_entries: entries.into_iter().min().unwrap_or(0),
-            under_way: run.under_way.iter().filter(|one| one.is_some()).count(),
+            fewest_entries: threads.iter().map(|&thread| run.rows[thread][0]).min().unwrap_or(0),
+            under_way: threads.iter().filter(|&&thread| run.under_way[thread].is_some()).count(),
             longest_under_way,
-            comparable: never_entered == 0 && longest_under_way.map_or(true, |so_far| so_far <= run.rows[threads][2]),
+            comparable: never_entered == 0 && longest_under_way.map_or(true, |so_far| so_far <= largest),
         }
     }
 }
@@ -102,7 +107,7 @@ fn counters(run: &Waited) -> Counters {
 
 /// The domains below the root, in the order of the tree's table.
 pub fn tenures_table(accepted: &Accepted) -> String {
-    let mut table = "domain,threshold,entries,tenures,longest tenure,threads that never entered\n".to_string();
+    let mut table = "domain,threshold,entries,tenures,longest tenure,fewest entries,never entered,under way,longest under way\n".to_string();
     push_tenures(&accepted.tree, &waited(&accepted.tree, &accepted.schedule), ROOT, &mut table);
     table
 }
@@ -110,8 +115,9 @@ pub fn tenures_table(accepted: &Accepted) -> String {
 fn push_tenures(tree: &Tree, run: &Waited, domain: usize, table: &mut String) {
     for child in (1..tree.domains).filter(|&child| tree.parent(child) == domain) {
         let [entries, tenures, longest] = counters(run).of(child);
-        let never = (0..tree.threads).filter(|&thread| is_under(tree, thread, child) && run.rows[thread][0] == 0).count();
-        *table += &format!("{child},{},{entries},{tenures},{longest},{never}\n", tree.thresholds[child]);
+        let Missing { never_entered, fewest_entries, under_way, longest_under_way, .. } = Missing::among(run, |thread| is_under(tree, thread, child));
+        let missing = format!("{fewest_entries},{never_entered},{under_way},{}", field(longest_under_way));
+        *table += &format!("{child},{},{entries},{tenures},{longest},{missing}\n", tree.thresholds[child]);
         push_tenures(tree, run, child, table);
     }
 }
