@@ -14,6 +14,7 @@ namespace tool {
 namespace {
 
 constexpr std::uint64_t most_candidates = 4000000;
+constexpr double shown_step = 0.05; // a row is shown where it costs so much less than the row before
 
 // The levels whose thresholds are chosen, and for each its domains and the largest number of members that one of them has.
 std::vector<Level> levels_of(const Words &words, const hmcs::Tree &tree) {
@@ -41,16 +42,6 @@ std::vector<Level> levels_of(const Words &words, const hmcs::Tree &tree) {
         }
     }
     return levels;
-}
-
-hmcs::Tree with_thresholds(const hmcs::Tree &tree, const std::vector<Level> &levels, const std::vector<std::uint16_t> &thresholds) {
-    hmcs_tree words = tree.words();
-    for (std::size_t k = 0; k < levels.size(); ++k) {
-        for (const std::uint32_t domain : levels[k].domains) {
-            words.thresholds[domain] = thresholds[k];
-        }
-    }
-    return hmcs::Tree::of(words);
 }
 
 // What a busy lock is expected to pay for an entry, which decides only what is run: of every tenure of a domain below the root all but the first
@@ -160,70 +151,38 @@ std::vector<Candidate> worth_running(std::vector<Candidate> candidates) {
     return kept;
 }
 
-// Of those that are expected to be unbeaten in both wait and cost, by their waits, every one that is cheaper by a twentieth: what a shorter wait
-// would cost, and what a longer one would bring.
-std::vector<Candidate> unbeaten(std::vector<Candidate> candidates) {
+// Those that no other is expected to beat in both wait and cost, by their waits; each costs less than the one before, by a share of it.
+std::vector<Candidate> unbeaten(std::vector<Candidate> candidates, double share) {
     std::sort(candidates.begin(), candidates.end(), [](const Candidate &a, const Candidate &b) {
         return a.possible_wait != b.possible_wait ? a.possible_wait < b.possible_wait : a.expected < b.expected;
     });
     std::vector<Candidate> kept;
     for (const Candidate &candidate : candidates) {
-        if (kept.empty() || candidate.expected < 0.95 * kept.back().expected) {
+        if (kept.empty() || candidate.expected < (1 - share) * kept.back().expected) {
             kept.push_back(candidate);
         }
     }
     return kept;
 }
 
-double cost_of(const Trial &trial) {
-    if (trial.time) {
-        return *trial.time;
-    }
-    const double entries = std::max<double>(1, static_cast<double>(trial.counts.entries));
-    return (static_cast<double>(trial.counts.root) + 1e-6 * static_cast<double>(trial.counts.crossed)) / entries;
-}
-
-// The runs that can be compared and that no other beats in both wait and cost as they were measured, by their waits; the last costs least.
+// The runs that can be compared and that no other beats in both wait and cost as they were measured, by their waits; the last costs least. Of runs
+// that cost nearly the same the first is kept, and the last one always.
 std::vector<Candidate> measured_best(std::vector<Candidate> tried) {
     std::sort(tried.begin(), tried.end(), [](const Candidate &a, const Candidate &b) {
         return a.possible_wait != b.possible_wait ? a.possible_wait < b.possible_wait : cost_of(a.trial) < cost_of(b.trial);
     });
-    std::vector<Candidate> kept;
+    std::vector<Candidate> best, kept;
     for (const Candidate &candidate : tried) {
-        if (candidate.trial.missing.comparable() && (kept.empty() || cost_of(candidate.trial) < cost_of(kept.back().trial))) {
-            kept.push_back(candidate);
+        if (candidate.trial.missing.comparable() && (best.empty() || cost_of(candidate.trial) < cost_of(best.back().trial))) {
+            best.push_back(candidate);
+        }
+    }
+    for (std::size_t k = 0; k < best.size(); ++k) {
+        if (k + 1 == best.size() || kept.empty() || cost_of(best[k].trial) < (1 - shown_step) * cost_of(kept.back().trial)) {
+            kept.push_back(best[k]);
         }
     }
     return kept;
-}
-
-std::string name_of(const Choice &choice, const Candidate &candidate) {
-    std::string name;
-    for (std::size_t k = 0; k < choice.levels.size(); ++k) {
-        name += (k == 0 ? "level " : ", level ") + std::to_string(choice.levels[k].number) + ": " + std::to_string(candidate.thresholds[k]);
-    }
-    return name;
-}
-
-std::string against(const Choice &choice, const Candidate &other) {
-    const double mine = cost_of(choice.tried[choice.chosen].trial), theirs = cost_of(other.trial);
-    char text[64];
-    std::snprintf(text, sizeof text, "%.0f %%", std::abs(100 * (1 - theirs / mine)));
-    return std::string(text) + (theirs <= mine ? " less " : " more ") + (choice.times ? "time per entry" : "root entries");
-}
-
-std::string advice(const Choice &choice) {
-    const Candidate &best = choice.tried[choice.chosen];
-    const std::optional<std::string> text = text_of(with_thresholds(choice.tree, choice.levels, best.thresholds));
-    std::string words = "Take " + name_of(choice, best) + (text ? ", that is " + *text : "") + ": no thread waits for more than " +
-                        std::to_string(best.possible_wait) + " entries of others as long as nobody stalls, and " +
-                        (choice.times ? "an entry takes " + four_digits(cost_of(best.trial)) + " on average.\n"
-                                      : percent(best.trial.counts.root, best.trial.counts.entries) + " of the entries go through the root.\n");
-    for (const Candidate &other : choice.above) {
-        words += name_of(choice, other) + ": " + against(choice, other) + ", longest possible wait " + std::to_string(other.possible_wait) + ", above " +
-                 std::to_string(choice.limit) + "\n";
-    }
-    return words;
 }
 
 Choice choose_for(const Words &words, const Input &input) {
@@ -244,8 +203,8 @@ Choice choose_for(const Words &words, const Input &input) {
         fail("choose: no thresholds keep every wait to " + std::to_string(choice.limit) + " entries; the smallest longest wait of this tree is " +
              std::to_string(search.smallest));
     }
-    std::vector<Candidate> tried = worth_running(within), above = unbeaten(beyond);
-    for (const Candidate &candidate : unbeaten(within)) {
+    std::vector<Candidate> tried = worth_running(within), above = unbeaten(beyond, shown_step);
+    for (const Candidate &candidate : unbeaten(within, 0)) {
         const auto same = [&](const Candidate &other) { return other.thresholds == candidate.thresholds; };
         if (std::none_of(tried.begin(), tried.end(), same)) {
             tried.push_back(candidate);
@@ -299,46 +258,27 @@ std::string choose(const Words &words) {
         }
     }
     const bool for_people = !words.has("--csv") && !words.has("--json");
-    return (for_people ? advice(choice) + "\n" : "") + printed(words, choice_table(choice));
+    return for_people ? choice_text(choice) : printed(words, choice_table(choice));
 }
 
 } // namespace
 
-Table choice_table(const Choice &choice) {
-    Table table;
-    for (const Level &level : choice.levels) {
-        table.column("threshold of level " + std::to_string(level.number));
-    }
-    const Shown shown{choice.times.has_value(), false, choice.hold.has_value()};
-    add_trial_columns(table, shown);
-    table.column("choice", Side::left);
-    const auto add = [&](const Candidate &candidate, const char *said) {
-        table.row();
-        for (const std::uint16_t threshold : candidate.thresholds) {
-            table.cell(threshold);
+hmcs::Tree with_thresholds(const hmcs::Tree &tree, const std::vector<Level> &levels, const std::vector<std::uint16_t> &thresholds) {
+    hmcs_tree words = tree.words();
+    for (std::size_t k = 0; k < levels.size(); ++k) {
+        for (const std::uint32_t domain : levels[k].domains) {
+            words.thresholds[domain] = thresholds[k];
         }
-        add_trial(table, candidate.trial, shown);
-        table.cell(said, *said == '\0' ? Value() : Value::of_text(said));
-        if (!candidate.trial.missing.comparable()) {
-            table.mark();
-        }
-    };
-    for (std::size_t k = 0; k < choice.tried.size(); ++k) {
-        add(choice.tried[k], k == choice.chosen ? "chosen" : "");
     }
-    for (const Candidate &candidate : choice.above) {
-        add(candidate, "waits too long");
-    }
-    return table;
+    return hmcs::Tree::of(words);
 }
 
-std::string choice_page(const Choice &choice) {
-    return page_of("Which thresholds?", advice(choice),
-                   "Every row is a run of " + choice.schedule + " from a fresh lock. The longest possible wait is proved for every schedule as long as nobody stalls; "
-                   "the other figures are those of the run.",
-                   section("Time against the longest wait", "Each dot is a row of the table; the chosen one is filled.", choice_picture(choice)) +
-                       section("The rows that nothing else beats", "", "<div class=\"scroll\">" + choice_table(choice).html("One row for each choice of thresholds") + "</div>\n") +
-                       section("The tree", "", "<div class=\"scroll\">" + tree_table(choice.tree).html("The domains, each below its parent") + "</div>\n"));
+double cost_of(const Trial &trial) {
+    if (trial.time) {
+        return *trial.time;
+    }
+    const double entries = std::max<double>(1, static_cast<double>(trial.counts.entries));
+    return (static_cast<double>(trial.counts.root) + 1e-6 * static_cast<double>(trial.counts.crossed)) / entries;
 }
 
 Command choose_command() {
@@ -349,7 +289,8 @@ Command choose_command() {
             "any schedule, as long as nobody stalls, which is proved; and among these the one with the least\n"
             "time per entry on the schedule S (busy:65536:1 if none is named). Without --times it is the one\n"
             "with the fewest root and then crossed entries. Prints the choice, what the next ones would cost,\n"
-            "and a row for each choice that nothing else beats.\n"
+            "and a row for each choice that nothing else beats and that costs a twentieth less than the row\n"
+            "before.\n"
             "\n"
             "  --max-wait N      how many entries of others a thread may wait for\n"
             "  --times P1,P2,P3  how long it takes to pass the lock on at home, between homes and across the root\n"
@@ -357,8 +298,8 @@ Command choose_command() {
             "  --level L         chooses for these levels only and leaves the others as they are\n"
             "  --schedule S      what is run\n"
             "  --jobs N          how many runs at a time, by default as many as there are processors\n"
-            "  --csv, --json     the table for programs\n"
-            "  --page OUT.html   writes a page as well\n"
+            "  --csv, --json     the table for programs, with every column of `sweep`\n"
+            "  --page OUT.html   writes a page as well, with every column\n"
             "  --ticket          the root of a text is a ticket lock\n"
             "\n"
             "  hmcs choose \"$(hmcs machine)\" --max-wait 200 --times 0.05,0.2,1\n",

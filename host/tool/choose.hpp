@@ -31,6 +31,13 @@ struct Choice {
     std::vector<Candidate> above; // the next ones, which wait too long
 };
 
+hmcs::Tree with_thresholds(const hmcs::Tree &tree, const std::vector<Level> &levels, const std::vector<std::uint16_t> &thresholds);
+// What an entry cost: its time or, without passing times, the share of root entries and, where these are as many, of crossed ones.
+double cost_of(const Trial &trial);
+
+// The choice in a sentence, and what decides, for people.
+std::string choice_text(const Choice &choice);
+// Every column, for programs and the page.
 Table choice_table(const Choice &choice);
 std::string choice_page(const Choice &choice);
 // Time per entry, or root entries, against the longest wait.

@@ -49,7 +49,8 @@ std::string fault(const hmcs::Lock &lock, const Journal &journal, std::size_t at
     hmcs::Lock next = lock;
     const hmcs::StepResult step = next.step(entry.thread);
     return thread + " " + standing(lock.state(), entry.thread) + ", where it " + row_text(lock.state().places.rows[entry.thread]) + "; the step is `" +
-           hmcs::text(step.kind) + "`, and the journal says `" + hmcs_kind_text(entry.kind) + "`";
+           hmcs::text(step.kind) + "`, and the journal says " +
+           (entry.kind > HMCS_LEAVING ? "kind " + std::to_string(entry.kind) + ", which no step has" : std::string("`") + hmcs_kind_text(entry.kind) + "`");
 }
 
 [[noreturn]] void explain(const std::string &path, const Input &input, const std::string &bytes, const hmcs::Refusal &refusal) {

@@ -60,6 +60,8 @@ std::optional<double> time_per_entry(const Totals &counts, const hmcs::PassingTi
     return (times.p1 * counts.passed + times.p2 * counts.crossed + times.p3 * counts.root) / counts.entries;
 }
 
+} // namespace
+
 void add_time(Table &table, const std::optional<double> &time) {
     if (!time) {
         table.cell("-", Value());
@@ -67,8 +69,6 @@ void add_time(Table &table, const std::optional<double> &time) {
     }
     table.cell(four_digits(*time), Value::of_decimal(shortest(*time)));
 }
-
-} // namespace
 
 namespace {
 

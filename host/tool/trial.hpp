@@ -38,6 +38,8 @@ double real_number(const std::string &name, const std::string &word);
 // The shortest digits that read back as the same number; for people, four after the point.
 std::string shortest(double number);
 std::string four_digits(double number);
+// A cell for a time, or for none.
+void add_time(Table &table, const std::optional<double> &time);
 
 // The columns from the entries to the waits and times, and the cells of a row there.
 struct Shown {

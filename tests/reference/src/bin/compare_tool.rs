@@ -158,7 +158,7 @@ fn compare_choice(tool: &Tool, random: &mut Random) -> Result<(), String> {
         return (output.status.code() == Some(2)).then_some(()).ok_or_else(|| format!("{words:?} says {said}, and no thresholds keep to the limit"));
     };
     let printed = String::from_utf8_lossy(&output.stdout).into_owned();
-    let chosen = printed.lines().find(|line| line.ends_with(",chosen")).ok_or_else(|| format!("{words:?} chooses nothing: {printed}"))?;
+    let chosen = printed.lines().find(|line| line.contains(",chosen,")).ok_or_else(|| format!("{words:?} chooses nothing: {printed}"))?;
     let fields: Vec<&str> = chosen.split(',').collect();
     let thresholds: Vec<u16> = fields[..sizes.len()].iter().map(|field| field.parse().expect("a threshold")).collect();
     let cost = cost_within(&tree, &thresholds, limit).ok_or_else(|| format!("{words:?} chooses {thresholds:?}, which let a thread wait longer"))?;
