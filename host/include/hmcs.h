@@ -25,6 +25,12 @@
 #define HMCS_VERSION_TEXT(major, minor, patch) #major "." #minor "." #patch
 #define HMCS_VERSION_OF(major, minor, patch) HMCS_VERSION_TEXT(major, minor, patch)
 #define HMCS_VERSION HMCS_VERSION_OF(HMCS_VERSION_MAJOR, HMCS_VERSION_MINOR, HMCS_VERSION_PATCH)
+#define HMCS_VERSION_NUMBER (HMCS_VERSION_MAJOR * 10000 + HMCS_VERSION_MINOR * 100 + HMCS_VERSION_PATCH) /* as hmcs_version() returns it */
+
+/* Texts are inline functions of this header; the installed library has them as functions too, for other languages. */
+#ifndef HMCS_TEXT
+#define HMCS_TEXT static inline
+#endif
 
 #ifdef __cplusplus
 extern "C" {
@@ -65,6 +71,47 @@ enum hmcs_row {
     HMCS_WATCH = 12, /* waits until the grant is its ticket */
     HMCS_RAISE = 13  /* shows the next ticket */
 };
+
+/* The name of a row, and what the next step of a thread there does, for people. */
+HMCS_TEXT const char *hmcs_row_name(uint32_t row) {
+    switch (row) {
+    case HMCS_IDLE: return "Idle";
+    case HMCS_PREP: return "Prep";
+    case HMCS_SWAP: return "Swap";
+    case HMCS_LINK: return "Link";
+    case HMCS_WAIT: return "Wait";
+    case HMCS_INSIDE: return "Inside";
+    case HMCS_CHECK: return "Check";
+    case HMCS_HELP: return "Help";
+    case HMCS_CAS: return "Cas";
+    case HMCS_LINGER: return "Linger";
+    case HMCS_GRANT: return "Grant";
+    case HMCS_DRAW: return "Draw";
+    case HMCS_WATCH: return "Watch";
+    case HMCS_RAISE: return "Raise";
+    default: return "no row has this number";
+    }
+}
+
+HMCS_TEXT const char *hmcs_row_text(uint32_t row) {
+    switch (row) {
+    case HMCS_IDLE: return "sets out";
+    case HMCS_PREP: return "prepares its record";
+    case HMCS_SWAP: return "joins the queue";
+    case HMCS_LINK: return "links itself to the one ahead";
+    case HMCS_WAIT: return "looks at its status";
+    case HMCS_INSIDE: return "leaves";
+    case HMCS_CHECK: return "compares its count with the threshold";
+    case HMCS_HELP: return "looks for the next in the queue";
+    case HMCS_CAS: return "empties the queue if it is the last";
+    case HMCS_LINGER: return "waits for the next to link itself";
+    case HMCS_GRANT: return "grants the next in the queue";
+    case HMCS_DRAW: return "draws a ticket";
+    case HMCS_WATCH: return "looks at the grant";
+    case HMCS_RAISE: return "raises the grant";
+    default: return "no row has this number";
+    }
+}
 
 /* Where the threads stand: an array for each part of a place, by the thread's number. A part that the row does not have is 0. */
 typedef struct hmcs_places {
@@ -136,7 +183,7 @@ enum hmcs_refusal {
 };
 
 /* The sentence of a refusal number, for people. */
-static inline const char *hmcs_refusal_text(uint32_t number) {
+HMCS_TEXT const char *hmcs_refusal_text(uint32_t number) {
     switch (number) {
     case HMCS_ACCEPTED: return "accepted";
     case HMCS_FILE_TOO_LONG: return "the lock file is longer than 65,536 bytes";
@@ -187,7 +234,7 @@ enum hmcs_kind {
 };
 
 /* A kind in words, for people. */
-static inline const char *hmcs_kind_text(uint32_t kind) {
+HMCS_TEXT const char *hmcs_kind_text(uint32_t kind) {
     switch (kind) {
     case HMCS_STAY: return "stays";
     case HMCS_OTHER_MOVE: return "moves on";
@@ -423,6 +470,74 @@ typedef struct hmcs_rate_reply {
  * root. Every bit of the rate is fixed, given that the calling thread rounds to nearest, as threads do unless told otherwise; whether it flushes
  * subnormals to zero changes nothing. Refused by 8 (place 1 for h1, 2 for h2), then 24 (place 1 to 3 for p1 to p3). */
 hmcs_rate_reply hmcs_rate(uint16_t h1, uint16_t h2, hmcs_passing_times times);
+
+/* The version of the library that is linked: HMCS_VERSION_NUMBER of the header that belongs to it. */
+uint32_t hmcs_version(void);
+
+/* The structs of this header, by their place in what hmcs_sizes fills. */
+enum hmcs_struct {
+    HMCS_STRUCT_TREE = 0,
+    HMCS_STRUCT_STATE = 1,
+    HMCS_STRUCT_ANSWER = 2,
+    HMCS_STRUCT_STEP_ANSWER = 3,
+    HMCS_STRUCT_FRESH_REPLY = 4,
+    HMCS_STRUCT_STEP_REPLY = 5,
+    HMCS_STRUCT_RUN_REPLY = 6,
+    HMCS_STRUCT_WAITS_REPLY = 7,
+    HMCS_STRUCT_MANY_REPLY = 8,
+    HMCS_STRUCT_ROUNDS_REPLY = 9,
+    HMCS_STRUCT_JOURNAL_ANSWER = 10,
+    HMCS_STRUCT_READ_REPLY = 11,
+    HMCS_STRUCT_TEXT_REPLY = 12,
+    HMCS_STRUCT_PASSING_TIMES = 13,
+    HMCS_STRUCT_RATE_REPLY = 14,
+    HMCS_STRUCTS = 32 /* room for more; their sizes are 0 */
+};
+
+/* How many bytes each struct has in the library that is linked. */
+void hmcs_sizes(uint32_t sizes[HMCS_STRUCTS]);
+
+/* The sizes that this header gives, in the same order. */
+static inline void hmcs_header_sizes(uint32_t sizes[HMCS_STRUCTS]) {
+    int k;
+    for (k = 0; k < HMCS_STRUCTS; ++k) {
+        sizes[k] = 0;
+    }
+    sizes[HMCS_STRUCT_TREE] = sizeof(hmcs_tree);
+    sizes[HMCS_STRUCT_STATE] = sizeof(hmcs_state);
+    sizes[HMCS_STRUCT_ANSWER] = sizeof(hmcs_answer);
+    sizes[HMCS_STRUCT_STEP_ANSWER] = sizeof(hmcs_step_answer);
+    sizes[HMCS_STRUCT_FRESH_REPLY] = sizeof(hmcs_fresh_reply);
+    sizes[HMCS_STRUCT_STEP_REPLY] = sizeof(hmcs_step_reply);
+    sizes[HMCS_STRUCT_RUN_REPLY] = sizeof(hmcs_run_reply);
+    sizes[HMCS_STRUCT_WAITS_REPLY] = sizeof(hmcs_waits_reply);
+    sizes[HMCS_STRUCT_MANY_REPLY] = sizeof(hmcs_many_reply);
+    sizes[HMCS_STRUCT_ROUNDS_REPLY] = sizeof(hmcs_rounds_reply);
+    sizes[HMCS_STRUCT_JOURNAL_ANSWER] = sizeof(hmcs_journal_answer);
+    sizes[HMCS_STRUCT_READ_REPLY] = sizeof(hmcs_read_reply);
+    sizes[HMCS_STRUCT_TEXT_REPLY] = sizeof(hmcs_text_reply);
+    sizes[HMCS_STRUCT_PASSING_TIMES] = sizeof(hmcs_passing_times);
+    sizes[HMCS_STRUCT_RATE_REPLY] = sizeof(hmcs_rate_reply);
+}
+
+/* Whether this header fits the library that is linked: of the same major version, not later, and with the same structs. If it does not, call nothing
+ * else. */
+static inline int hmcs_library_fits(void) {
+    uint32_t here[HMCS_STRUCTS], there[HMCS_STRUCTS];
+    const uint32_t library = hmcs_version();
+    int k;
+    if (library / 10000 != HMCS_VERSION_MAJOR || library / 100 < HMCS_VERSION_NUMBER / 100) {
+        return 0;
+    }
+    hmcs_header_sizes(here);
+    hmcs_sizes(there);
+    for (k = 0; k < HMCS_STRUCTS; ++k) {
+        if (here[k] != 0 && here[k] != there[k]) {
+            return 0;
+        }
+    }
+    return 1;
+}
 
 #ifdef __cplusplus
 }

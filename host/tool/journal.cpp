@@ -28,7 +28,7 @@ Table steps_table(hmcs::Lock &lock, const std::vector<JournalEntry> &entries, st
         table.cell(entry.byte);
         table.cell(entry.thread);
         table.cell(step.domain);
-        table.cell(row_name(row));
+        table.cell(hmcs_row_name(row));
         table.cell(hmcs::text(step.kind));
     }
     return table;
@@ -48,7 +48,7 @@ std::string fault(const hmcs::Lock &lock, const Journal &journal, std::size_t at
     }
     hmcs::Lock next = lock;
     const hmcs::StepResult step = next.step(entry.thread);
-    return thread + " " + standing(lock.state(), entry.thread) + ", where it " + row_text(lock.state().places.rows[entry.thread]) + "; the step is `" +
+    return thread + " " + standing(lock.state(), entry.thread) + ", where it " + hmcs_row_text(lock.state().places.rows[entry.thread]) + "; the step is `" +
            hmcs::text(step.kind) + "`, and the journal says " +
            (entry.kind > HMCS_LEAVING ? "kind " + std::to_string(entry.kind) + ", which no step has" : std::string("`") + hmcs_kind_text(entry.kind) + "`");
 }

@@ -11,9 +11,6 @@ enum Doing { idle, rising, waiting, inside, releasing, doings };
 
 Doing doing_at(std::uint8_t row);
 const char *doing_text(Doing doing);
-const char *row_name(std::uint8_t row);
-// What the next step of a thread there does.
-const char *row_text(std::uint8_t row);
 // Where a thread stands: "is idle", "is in Help of domain 2".
 std::string standing(const hmcs_state &state, std::uint32_t thread);
 

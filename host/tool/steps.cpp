@@ -35,8 +35,8 @@ std::string steps(const Words &words) {
         table.cell(k);
         table.cell(thread);
         table.cell(step.domain);
-        table.cell(row_name(row));
-        table.cell(row_text(row));
+        table.cell(hmcs_row_name(row));
+        table.cell(hmcs_row_text(row));
         table.cell(hmcs::text(step.kind));
         table.cell(holder ? "thread " + std::to_string(*holder) : "nobody");
     }

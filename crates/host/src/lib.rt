@@ -4,6 +4,7 @@ ghost use Rattle.bounds.specs.Answers.{allowances-answer, allowances-left, roun
 ghost use Rattle.chain.specs.Answers.{chain-answer, buffer-answer};
 ghost use Rattle.model.specs.Answers.{fresh-answer, step-answer, run-answer, trace-answer};
 ghost use Rattle.host.specs.Answers.{answer-of};
+ghost use Rattle.host.specs.Versions.{version-number, struct-sizes};
 ghost use Rattle.host.specs.InPlace.{fresh-kept, fresh-left, fresh-without-state, step-without-state};
 ghost use Rattle.file_answers.specs.FileAnswers.{file-answer, output-answer};
 ghost use Rattle.file_writer.specs.Answers.{write-answer, file-buffer-answer};
@@ -294,4 +295,53 @@ pub extern "C" fn hmcs_wait_bounds(tree: TreeWords, bounds: &mut [u64; 256]) -> 
         number: r.number,
         place: r.place,
     }
+}
+
+// The version of the library, for a host that was compiled with the header of another.
+#[no_mangle]
+pub extern "C" fn hmcs_version() -> u32
+    ensures { λ r. ⌜ r ≡ version-number ⌝ }
+{
+    30000
+}
+
+// How many bytes each struct of the header has in the library.
+#[no_mangle]
+pub extern "C" fn hmcs_sizes(sizes: &mut [u32; 32])
+    ensures { λ r. ⌜ now (sizes .exit) ≡ struct-sizes ⌝ }
+{
+    *sizes = [
+        460u32,
+        7944,
+        8,
+        16,
+        7952,
+        7960,
+        7976,
+        7984,
+        16,
+        24,
+        16,
+        472,
+        480,
+        24,
+        16,
+        0,
+        0,
+        0,
+        0,
+        0,
+        0,
+        0,
+        0,
+        0,
+        0,
+        0,
+        0,
+        0,
+        0,
+        0,
+        0,
+        0,
+    ];
 }
