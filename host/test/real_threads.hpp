@@ -1,0 +1,161 @@
+// Real locks on real threads: trees, a trace that shakes the threads and ends runs that hang, and the comparison of steps with the model. Shared by the
+// tests and the bench of real locks.
+#ifndef HMCS_TEST_REAL_THREADS_HPP
+#define HMCS_TEST_REAL_THREADS_HPP
+
+#include "hmcs_lock.hpp"
+
+#include <algorithm>
+#include <atomic>
+#include <chrono>
+#include <cstdint>
+#include <memory>
+#include <thread>
+#include <vector>
+
+// Thrown by a trace where a thread gives up waiting.
+struct Abandoned {};
+
+// A trace in which threads yield at random, so that they meet at every row, and at each stay. Where no thread of the lock has taken another step for
+// longer than the patience, the threads that wait give up; no thread gives up elsewhere.
+template <class Inner> class Shaken : public Inner {
+public:
+    explicit Shaken(std::size_t threads) : Inner(threads), own_(threads) {
+        for (std::size_t i = 0; i < threads; ++i) {
+            own_[i].random = static_cast<std::uint32_t>(i) + 1;
+        }
+    }
+
+    void seed(std::uint32_t seed) {
+        for (Own &own : own_) {
+            own.random ^= seed * 2654435761u;
+            own.random += own.random == 0;
+        }
+    }
+
+    void patience(std::chrono::milliseconds patience) { patience_ = patience; }
+
+    bool abandoned() const { return stop_; }
+
+    template <class Take> hmcs::Kind step(std::uint32_t thread, std::uint32_t domain, Take &&take) {
+        Own &own = own_[thread];
+        own.random ^= own.random << 13, own.random ^= own.random >> 17, own.random ^= own.random << 5;
+        if (own.random % 8 == 0) {
+            std::this_thread::yield();
+        }
+        const hmcs::Kind kind = Inner::step(thread, domain, take);
+        if (kind == hmcs::Kind::stay) {
+            stay(own);
+        } else {
+            moves_.fetch_add(1, std::memory_order_relaxed);
+            own.stays = 0;
+        }
+        return kind;
+    }
+
+private:
+    struct alignas(64) Own {
+        std::uint32_t random = 1;
+        std::uint64_t stays = 0;
+        std::uint64_t moves = 0; // of all threads, when it last looked
+        std::chrono::steady_clock::time_point since; // when it saw as many for the first time
+    };
+
+    void stay(Own &own) {
+        std::this_thread::yield();
+        if (++own.stays % 64 == 0) {
+            const auto now = std::chrono::steady_clock::now();
+            const std::uint64_t moves = moves_.load(std::memory_order_relaxed);
+            if (moves != own.moves || own.stays == 64) {
+                own.moves = moves;
+                own.since = now;
+            } else if (now - own.since > patience_) {
+                stop_.store(true, std::memory_order_relaxed);
+            }
+        }
+        if (stop_.load(std::memory_order_relaxed)) {
+            throw Abandoned{};
+        }
+    }
+
+    std::vector<Own> own_;
+    std::chrono::milliseconds patience_{60000};
+    std::atomic<std::uint64_t> moves_{0};
+    std::atomic<bool> stop_{false};
+};
+
+// A tree of some levels: domains in a chain, and beside the deepest of them further leaves, as many as the threads, two for each leaf, can fill.
+inline hmcs::Tree tree_of_levels(hmcs::RootKind root, std::uint32_t levels, std::uint32_t threads, std::uint32_t threshold) {
+    hmcs::Tree tree(root);
+    std::vector<std::uint32_t> chain = {0};
+    while (chain.size() < levels) {
+        chain.push_back(tree.add_domain(chain.back(), threshold));
+    }
+    std::vector<std::uint32_t> leaves = {chain.back()};
+    for (std::size_t k = chain.size() - 1; k > 0 && (leaves.size() + 1) * 2 <= threads; --k) {
+        leaves.push_back(tree.add_domain(chain[k - 1], threshold + 1));
+    }
+    for (std::uint32_t i = 0; i < threads; ++i) {
+        tree.add_thread(leaves[i % leaves.size()]);
+    }
+    return tree;
+}
+
+// Yields so many times: others run meanwhile.
+inline void yield(std::uint32_t times) {
+    for (std::uint32_t k = 0; k < times; ++k) {
+        std::this_thread::yield();
+    }
+}
+
+// Every thread enters so many times, once all have started, and does something inside and after it left; a thread that gives up waiting ends.
+template <class Lock, class Inside, class Outside> void enter(Lock &lock, std::uint32_t threads, std::uint32_t times, Inside inside, Outside outside) {
+    std::vector<std::thread> running;
+    std::atomic<std::uint32_t> started{0};
+    for (std::uint32_t i = 0; i < threads; ++i) {
+        running.emplace_back([&lock, &started, i, threads, times, &inside, &outside] {
+            for (started.fetch_add(1); started.load() < threads;) {
+                std::this_thread::yield();
+            }
+            try {
+                for (std::uint32_t k = 0; k < times; ++k) {
+                    lock.lock(i);
+                    inside();
+                    lock.unlock(i);
+                    outside();
+                }
+            } catch (const Abandoned &) {
+            }
+        });
+    }
+    for (std::thread &thread : running) {
+        thread.join();
+    }
+}
+
+// How steps compare with the model's, from a fresh lock: where the first has another kind, and where the first has another kind or another domain; the
+// number of steps if none has. How many entries the model had before, and how many threads were not idle at the end.
+struct Compared {
+    std::size_t kind = 0;
+    std::size_t kind_or_domain = 0;
+    std::size_t entries = 0;
+    std::size_t not_idle = 0;
+};
+
+inline Compared compared(const hmcs::Tree &tree, const hmcs::trace::Steps &steps) {
+    Compared result{steps.size(), steps.size(), 0, 0};
+    hmcs::Lock model(tree);
+    for (std::size_t k = 0; k < steps.size() && result.kind == steps.size(); ++k) {
+        const hmcs::StepResult step = model.step(steps.threads[k]);
+        const bool other_kind = step.refused() || static_cast<std::uint32_t>(step.kind) != steps.kinds[k];
+        result.kind = other_kind ? k : result.kind;
+        result.kind_or_domain = other_kind || step.domain != steps.domains[k] ? std::min(k, result.kind_or_domain) : result.kind_or_domain;
+        result.entries += step.kind == hmcs::Kind::root_entry || step.kind == hmcs::Kind::passed_entry || step.kind == hmcs::Kind::crossed_entry;
+    }
+    for (std::size_t i = 0; i < tree.words().threads; ++i) {
+        result.not_idle += model.state().places.rows[i] != HMCS_IDLE;
+    }
+    return result;
+}
+
+#endif
