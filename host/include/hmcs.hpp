@@ -1,4 +1,5 @@
-// Lyumadeon for C++17: a lock that the host keeps and steps, runs, and lock files. Only the allocator throws exceptions.
+// Lyumadeon for C++17: a lock that the host keeps and steps, runs, and lock files. Only the allocator throws exceptions, and the first use of a library
+// that does not fit this header.
 #ifndef HMCS_HPP
 #define HMCS_HPP
 
@@ -11,6 +12,7 @@
 #include <iterator>
 #include <numeric>
 #include <optional>
+#include <stdexcept>
 #include <string>
 #include <string_view>
 #include <vector>
@@ -110,6 +112,21 @@ inline bool same(const hmcs_state &a, const hmcs_state &b) {
 
 namespace detail {
 
+inline std::string version_text(std::uint32_t number) {
+    return std::to_string(number / 10000) + "." + std::to_string(number / 100 % 100) + "." + std::to_string(number % 100);
+}
+
+// Throws std::runtime_error where the library that is linked does not fit this header; it is asked once.
+inline void check_library() {
+    static const bool fits = hmcs_library_fits() != 0;
+    if (!fits) {
+        const std::uint32_t library = hmcs_version();
+        throw std::runtime_error("hmcs: the header is version " HMCS_VERSION " and the library " + version_text(library) +
+                                 (library == HMCS_VERSION_NUMBER ? ", with other structs; compile both from one source"
+                                                                 : "; compile again with the header that belongs to the library"));
+    }
+}
+
 // A threshold, or 0, which is refused (8), where it does not fit.
 inline std::uint16_t threshold_of(std::uint32_t threshold) { return static_cast<std::uint16_t>(threshold <= 65535 ? threshold : 0); }
 
@@ -128,6 +145,7 @@ public:
     Tree() : Tree(RootKind::queue) {}
 
     explicit Tree(RootKind root) : words_{} {
+        detail::check_library(); // every call takes a tree, or asks itself
         words_.domains = 1;
         words_.ticket_root = root == RootKind::ticket ? 1 : 0;
     }
@@ -533,6 +551,7 @@ struct [[nodiscard]] FileResult : Result {
 
 // The file call, with as much room for the listing as it can need.
 inline FileResult run_file(const std::uint8_t *file, std::size_t length) {
+    detail::check_library();
     FileResult result;
     result.listing.resize(HMCS_LISTING_ROOM);
     std::uint32_t place = 0;
@@ -591,6 +610,7 @@ struct [[nodiscard]] RateResult : Result {
 // The rate of a busy three-level lock whose threads' homes have threshold h1 and the domains between them and the root h2. A threshold above 65,535
 // is refused as 0 is (8).
 inline RateResult rate(std::uint32_t h1, std::uint32_t h2, const PassingTimes &times) {
+    detail::check_library();
     const hmcs_rate_reply reply = hmcs_rate(detail::threshold_of(h1), detail::threshold_of(h2), times);
     return RateResult{{Refusal{reply.number, reply.place}}, reply.rate};
 }
@@ -650,6 +670,7 @@ inline std::string text_message(const Refusal &refusal, std::string_view text) {
 
 // A tree from its text, such as `(2(#2) 16(#1))`; its root is a queue. A line feed after it belongs to the file and not to the text.
 inline TextResult read_tree(std::string_view text) {
+    detail::check_library();
     const hmcs_text_reply reply = hmcs_read_text(reinterpret_cast<const std::uint8_t *>(text.data()), text.size());
     TextResult result;
     result.refusal = Refusal{reply.number, reply.place};
