@@ -37,8 +37,8 @@ void add(Table &table, const std::string &name, const Schedule &schedule, const 
     table.cell(comparable ? "yes" : "NO", Value::of_truth(comparable));
     if (!comparable) {
         table.mark();
-        warn(name + ": " + trial.missing.why_not() + "; its waits cannot be compared");
     }
+    warn_of(name, trial);
 }
 
 std::string compare(const Words &words) {

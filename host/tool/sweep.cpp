@@ -162,9 +162,7 @@ std::string sweep(const Words &words) {
         }
     }
     for (const SweepRow &row : sweep.rows) {
-        if (!row.trial.missing.comparable()) {
-            warn(name_of(sweep, row) + ": " + row.trial.missing.why_not() + "; its waits cannot be compared");
-        }
+        warn_of(name_of(sweep, row), row.trial);
     }
     if (words.has("--page")) {
         std::vector<std::string> inputs = words.values("--schedule");

@@ -147,8 +147,10 @@ std::string sweep_page(const Sweep &sweep) {
     body += section("The numbers", "", "<div class=\"scroll\">" + sweep_table(sweep).html("One row for each run") + "</div>\n");
     const std::optional<std::string> text = text_of(sweep.tree);
     body += section("The tree", text ? "As it was given: " + *text : "", "<div class=\"scroll\">" + tree_table(sweep.tree).html("The domains, each below its parent") + "</div>\n");
+    const bool stalled = std::any_of(sweep.rows.begin(), sweep.rows.end(), [](const SweepRow &row) { return row.trial.stalled(); });
     return page_of("Which threshold?", first_words(sweep),
-                   "Waits are counted in entries of other threads, not in time. They are those of attempts that ended; each row also says which threads and attempts they leave out.",
+                   std::string("Waits are counted in entries of other threads, not in time. They are those of attempts that ended; each row also says which threads and attempts they leave out.") +
+                       (stalled ? " Where a largest wait is above the longest possible one, a thread that could move was passed over meanwhile." : ""),
                    body);
 }
 

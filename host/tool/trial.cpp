@@ -131,6 +131,20 @@ std::string shortest(double number) {
     return std::string(text, written.ptr);
 }
 
+void warn_of(const std::string &name, const Trial &trial) {
+    if (!trial.missing.comparable()) {
+        warn(name + ": " + trial.missing.why_not() + "; its waits cannot be compared");
+    }
+    if (trial.stalled()) {
+        warn(name + ": " + above_possible(trial.waits.largest, trial.possible_wait));
+    }
+}
+
+std::string above_possible(std::uint64_t seen, std::uint64_t possible) {
+    return "a wait of " + std::to_string(seen) + " was seen, above the longest possible wait of " + std::to_string(possible) +
+           ": on this schedule a thread that could move was passed over meanwhile";
+}
+
 std::string four_digits(double number) {
     char text[64];
     std::snprintf(text, sizeof text, "%.4f", number);

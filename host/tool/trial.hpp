@@ -24,7 +24,15 @@ struct Trial {
     std::optional<double> time;         // per entry, where passing times are given
     std::optional<double> longest_time; // what the longest possible wait is in time at most, where the time inside is given
     std::optional<double> proved_time;  // the same by the proved rate, in an even tree of two or three levels
+
+    // A wait above the longest possible one was seen, so somebody stalled.
+    bool stalled() const { return waits.largest > possible_wait; }
 };
+
+// What it means that a wait above the longest possible one was seen.
+std::string above_possible(std::uint64_t seen, std::uint64_t possible);
+// Says on standard error what a reader of the row must know: that it cannot be compared, or that somebody stalled.
+void warn_of(const std::string &name, const Trial &trial);
 
 // Runs the schedule from a fresh lock of the tree; of several seeds each, and then the counts are sums and the waits the worst.
 Trial try_tree(const hmcs::Tree &tree, const Schedule &schedule, const std::optional<hmcs::PassingTimes> &times, const std::optional<double> &hold);

@@ -3,6 +3,7 @@
 
 #include "tool.hpp"
 #include "trees.hpp"
+#include "trial.hpp"
 
 namespace tool {
 
@@ -23,6 +24,12 @@ std::string waits(const Words &words) {
     }
     if (const Missing missing = measured.missing(); !missing.comparable()) {
         warn(words.others()[0] + ": " + missing.why_not() + "; its waits cannot be compared");
+    }
+    const hmcs::WaitBoundsResult bounds = hmcs::wait_bounds(input.tree);
+    for (std::size_t thread = 0; thread < measured.threads.size(); ++thread) {
+        if (measured.threads[thread].largest > bounds.threads[thread]) {
+            warn("thread " + std::to_string(thread) + ": " + above_possible(measured.threads[thread].largest, bounds.threads[thread]));
+        }
     }
     return printed(words, waits_table(input.tree, measured));
 }
