@@ -9,8 +9,8 @@
  * may run at once unless one writes what the other reads or writes. hmcs_run_file and hmcs_run_many need 200 KB of stack, hmcs_run_waits and
  * hmcs_run_waits_on 96 KB, every other function at most 72 KB, besides its arguments and its result, which take up to 19 KB in the caller.
  *
- * Compare two states field by field, never by memcmp: struct hmcs_state has padding, and so do struct hmcs_text_reply, struct hmcs_journal_answer
- * and struct hmcs_waits_reply.
+ * Compare two states field by field, never by memcmp: struct hmcs_state has padding, and so do struct hmcs_text_reply, struct hmcs_journal_answer,
+ * struct hmcs_waits_reply and struct hmcs_kinds_reply.
  */
 #ifndef HMCS_H
 #define HMCS_H
@@ -178,8 +178,9 @@ enum hmcs_refusal {
     HMCS_BAD_TIME = 24,        /* A passing time is not a number from 1/1024 to 1,048,576, the place being 1 to 3. */
     HMCS_JOURNAL_BROKEN = 25,  /* A journal entry is cut off or has another bit set, the place being its first byte. */
     HMCS_OTHER_KIND = 26,      /* The kind that a journal entry names is not the step's, the place being the journal entry's first byte. */
-    HMCS_BAD_UNDER_WAY = 27    /* A number of an attempt under way is above HMCS_MOST_COUNTED, or is not 0 after the last thread, the place being the
+    HMCS_BAD_UNDER_WAY = 27,   /* A number of an attempt under way is above HMCS_MOST_COUNTED, or is not 0 after the last thread, the place being the
                                 * thread. Tested last before 19. */
+    HMCS_KINDS_SHORT = 28      /* The buffer of kinds holds fewer rows than the schedule has turns. Tested last before 19. */
 };
 
 /* The sentence of a refusal number, for people. */
@@ -213,6 +214,7 @@ HMCS_TEXT const char *hmcs_refusal_text(uint32_t number) {
     case HMCS_JOURNAL_BROKEN: return "a journal entry is cut off or has another bit set";
     case HMCS_OTHER_KIND: return "the kind that a journal entry names is not the step's";
     case HMCS_BAD_UNDER_WAY: return "a number of an attempt under way is above 2^63, or is not 0 after the last thread";
+    case HMCS_KINDS_SHORT: return "the buffer of kinds holds fewer rows than the schedule has turns";
     default: return "no refusal has this number";
     }
 }
@@ -296,6 +298,32 @@ hmcs_step_reply hmcs_step(hmcs_tree tree, hmcs_state state, uint16_t thread);
  * trace are as they came. Accepted, the entering threads are written at the front of the trace, reply.entries of them, and nothing after them. The trace must
  * have room for as many elements as the schedule has. */
 hmcs_run_reply hmcs_run(hmcs_tree tree, hmcs_state state, const uint16_t *schedule, size_t schedule_length, uint16_t *trace, size_t trace_length);
+
+/* Whether every call takes up a state that a host kept: refused by 4 to 9, 16 and 10, and by nothing else. It answers what hmcs_run answers
+ * for a schedule without turns. A state that is taken up may still be refused by 19, which depends on the steps. */
+hmcs_answer hmcs_check_state(hmcs_tree tree, hmcs_state state);
+
+/* How many numbers a row of kinds has: the step's kind and the domain that it was at, in this order, as hmcs_step_answer has them. */
+enum { HMCS_KIND_NUMBERS = 2 };
+
+/* What a run that tells its steps returns: what hmcs_run returns, and how many rows were written, one for each turn; 0 if refused. */
+typedef struct hmcs_kinds_reply {
+    uint32_t number;
+    uint32_t place;
+    uint32_t steps;
+    uint32_t entries;
+    uint32_t stays;
+    uint32_t root;
+    uint32_t passed;
+    uint32_t crossed;
+    uint32_t rows;
+    hmcs_state state;
+} hmcs_kinds_reply;
+
+/* The steps of a schedule as hmcs_run takes them, and for each step a row of its kind and domain: what hmcs_step would tell of each, one step after
+ * another. At the front of the rows stands a row for each turn, in the schedule's order; nothing after them is written. Refused as hmcs_run is, with
+ * 28 between 13 and 19; then the counts are 0, and state, trace and rows are as they came. A buffer of k numbers holds k / 2 rows, rounded down. */
+hmcs_kinds_reply hmcs_run_kinds(hmcs_tree tree, hmcs_state state, const uint16_t *schedule, size_t schedule_length, uint16_t *trace, size_t trace_length, uint16_t *rows, size_t rows_length);
 
 /* How many numbers a row of waits has: attempts finished, total wait, largest wait, and the mean's numerator and denominator, in this order. */
 enum { HMCS_WAIT_NUMBERS = 5 };
@@ -585,6 +613,9 @@ HMCS_OFFSET(hmcs_run_reply, state, 32);
 HMCS_LAYOUT(hmcs_waits_reply, 7984, 8);
 HMCS_OFFSET(hmcs_waits_reply, rows, 32);
 HMCS_OFFSET(hmcs_waits_reply, state, 40);
+HMCS_LAYOUT(hmcs_kinds_reply, 7984, 8);
+HMCS_OFFSET(hmcs_kinds_reply, rows, 32);
+HMCS_OFFSET(hmcs_kinds_reply, state, 40);
 HMCS_LAYOUT(hmcs_many_reply, 16, 8);
 HMCS_OFFSET(hmcs_many_reply, place, 4);
 HMCS_OFFSET(hmcs_many_reply, rows, 8);

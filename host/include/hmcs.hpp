@@ -16,6 +16,9 @@
 #include <string>
 #include <string_view>
 #include <vector>
+#if __cplusplus >= 202002L
+#include <span>
+#endif
 
 namespace hmcs {
 
@@ -24,17 +27,17 @@ struct [[nodiscard]] Refusal {
     std::uint32_t number = 0;
     std::size_t place = 0; // for 15, 25 and 26 a position in a text or a journal of any length
 
-    bool accepted() const { return number == 0; }
-    bool refused() const { return number != 0; }
-    const char *text() const { return hmcs_refusal_text(number); }
+    bool accepted() const noexcept { return number == 0; }
+    bool refused() const noexcept { return number != 0; }
+    const char *text() const noexcept { return hmcs_refusal_text(number); }
 };
 
 // What every result begins with.
 struct [[nodiscard]] Result {
     Refusal refusal;
 
-    bool accepted() const { return refusal.accepted(); }
-    bool refused() const { return refusal.refused(); }
+    bool accepted() const noexcept { return refusal.accepted(); }
+    bool refused() const noexcept { return refusal.refused(); }
 };
 
 // Where a thread stands: a row of the step table (enum hmcs_row) and the parts that it has; the others are 0.
@@ -46,11 +49,11 @@ struct Place {
 };
 
 // The place of a thread, which is below HMCS_THREADS.
-inline Place place(const hmcs_state &state, std::size_t thread) {
+inline Place place(const hmcs_state &state, std::size_t thread) noexcept {
     return Place{state.places.rows[thread], state.places.domains[thread], state.places.peers[thread], state.places.words[thread]};
 }
 
-inline void set_place(hmcs_state &state, std::size_t thread, const Place &place) {
+inline void set_place(hmcs_state &state, std::size_t thread, const Place &place) noexcept {
     state.places.rows[thread] = place.row;
     state.places.domains[thread] = place.domain;
     state.places.peers[thread] = place.peer;
@@ -78,7 +81,7 @@ struct StateOfVersion2 {
 static_assert(sizeof(StateOfVersion2) == 8968, "the layout of version 2");
 
 // The same state as it is laid out now. Any state is read; the calls refuse by 10 what is not well formed.
-inline hmcs_state from_version_2(const StateOfVersion2 &saved) {
+inline hmcs_state from_version_2(const StateOfVersion2 &saved) noexcept {
     hmcs_state state{};
     std::copy(std::begin(saved.tails), std::end(saved.tails), std::begin(state.tails));
     std::copy(std::begin(saved.nexts), std::end(saved.nexts), std::begin(state.nexts));
@@ -96,7 +99,7 @@ inline hmcs_state from_version_2(const StateOfVersion2 &saved) {
 }
 
 // Whether two states are the same, field by field: their padding may differ.
-inline bool same(const hmcs_state &a, const hmcs_state &b) {
+inline bool same(const hmcs_state &a, const hmcs_state &b) noexcept {
     return std::equal(std::begin(a.tails), std::end(a.tails), std::begin(b.tails)) &&
            std::equal(std::begin(a.nexts), std::end(a.nexts), std::begin(b.nexts)) &&
            std::equal(std::begin(a.statuses), std::end(a.statuses), std::begin(b.statuses)) &&
@@ -128,10 +131,10 @@ inline void check_library() {
 }
 
 // A threshold, or 0, which is refused (8), where it does not fit.
-inline std::uint16_t threshold_of(std::uint32_t threshold) { return static_cast<std::uint16_t>(threshold <= 65535 ? threshold : 0); }
+inline std::uint16_t threshold_of(std::uint32_t threshold) noexcept { return static_cast<std::uint16_t>(threshold <= 65535 ? threshold : 0); }
 
 // A thread number, or 65,535, which is refused (12), where it does not fit.
-inline std::uint16_t thread_of(std::uint32_t thread) { return static_cast<std::uint16_t>(std::min<std::uint32_t>(thread, 65535)); }
+inline std::uint16_t thread_of(std::uint32_t thread) noexcept { return static_cast<std::uint16_t>(std::min<std::uint32_t>(thread, 65535)); }
 
 } // namespace detail
 
@@ -150,11 +153,11 @@ public:
         words_.ticket_root = root == RootKind::ticket ? 1 : 0;
     }
 
-    RootKind root() const { return words_.ticket_root != 0 ? RootKind::ticket : RootKind::queue; }
+    RootKind root() const noexcept { return words_.ticket_root != 0 ? RootKind::ticket : RootKind::queue; }
 
     // Adds a domain below another and returns its number. What does not fit is refused and never cut: a parent above 255 as 255 is (6), a threshold
     // above 65,535 as 0 is (8). A domain that gets no thread, in it or below it, is refused by 16.
-    std::uint32_t add_domain(std::uint32_t parent, std::uint32_t threshold) {
+    std::uint32_t add_domain(std::uint32_t parent, std::uint32_t threshold) noexcept {
         const std::uint32_t d = words_.domains++;
         if (d < HMCS_DOMAINS) {
             words_.parents[d] = byte_of(parent);
@@ -164,7 +167,7 @@ public:
     }
 
     // Adds a thread in a domain and returns its number. A home above 255 is refused as 255 is (9).
-    std::uint32_t add_thread(std::uint32_t home) {
+    std::uint32_t add_thread(std::uint32_t home) noexcept {
         const std::uint32_t i = words_.threads++;
         if (i < HMCS_THREADS) {
             words_.homes[i] = byte_of(home);
@@ -172,7 +175,7 @@ public:
         return i;
     }
 
-    const hmcs_tree &words() const { return words_; }
+    const hmcs_tree &words() const noexcept { return words_; }
 
     // The tree that has these words.
     static Tree of(const hmcs_tree &words) {
@@ -183,7 +186,7 @@ public:
 
 private:
     // No domain has the number 255, so a number that does not fit is refused and not cut.
-    static std::uint8_t byte_of(std::uint32_t domain) { return static_cast<std::uint8_t>(std::min<std::uint32_t>(domain, 255)); }
+    static std::uint8_t byte_of(std::uint32_t domain) noexcept { return static_cast<std::uint8_t>(std::min<std::uint32_t>(domain, 255)); }
 
     hmcs_tree words_;
 };
@@ -208,7 +211,7 @@ struct Waits {
 };
 
 // The waits of both: attempts and totals added, the larger largest wait, and the mean in lowest terms.
-inline Waits joined(const Waits &a, const Waits &b) {
+inline Waits joined(const Waits &a, const Waits &b) noexcept {
     const auto sum = [](std::uint64_t x, std::uint64_t y) { return x > UINT64_MAX - y ? UINT64_MAX : x + y; };
     Waits waits{sum(a.attempts, b.attempts), sum(a.total, b.total), std::max(a.largest, b.largest), 0, 0};
     if (waits.attempts != 0) {
@@ -228,8 +231,8 @@ struct [[nodiscard]] WaitsResult {
     std::vector<Waits> threads; // one for each thread
     Waits all;                  // of all threads together
 
-    bool accepted() const { return run.accepted(); }
-    bool refused() const { return run.refused(); }
+    bool accepted() const noexcept { return run.accepted(); }
+    bool refused() const noexcept { return run.refused(); }
 };
 
 // The waits of several runs one after another.
@@ -286,7 +289,7 @@ enum class Kind : std::uint32_t {
     leaving = HMCS_LEAVING
 };
 
-inline const char *text(Kind kind) { return hmcs_kind_text(static_cast<std::uint32_t>(kind)); }
+inline const char *text(Kind kind) noexcept { return hmcs_kind_text(static_cast<std::uint32_t>(kind)); }
 
 // What a step did; if refused, kind stay and domain 0.
 struct [[nodiscard]] StepResult : Result {
@@ -298,6 +301,27 @@ struct [[nodiscard]] StepResult : Result {
 struct [[nodiscard]] ChainResult : Result {
     std::vector<std::uint16_t> threads; // the thread itself first; each waits for the next, and the last can move
 };
+
+// What one step of a run was: a row of hmcs_run_kinds.
+struct Told {
+    Kind kind = Kind::stay;
+    std::uint32_t domain = 0; // where it was; the thread's home where it was idle or inside
+};
+
+// A run that tells its steps; if refused, none.
+struct [[nodiscard]] KindsResult {
+    RunResult run;
+    std::vector<Told> steps; // one for each turn, in the schedule's order
+
+    bool accepted() const noexcept { return run.accepted(); }
+    bool refused() const noexcept { return run.refused(); }
+};
+
+// Whether every call takes up a state that was kept: refused by 4 to 9 and 16 for its tree, and by 10.
+inline Refusal check_state(const Tree &tree, const hmcs_state &state) {
+    const hmcs_answer answer = hmcs_check_state(tree.words(), state);
+    return Refusal{answer.number, answer.place};
+}
 
 // What a lock has counted for a domain. A tenure is a domain's period at the head of the queue above it, and its length is how many of the
 // domain's members have the lock in it, one after another.
@@ -316,24 +340,22 @@ public:
         refusal_ = of(hmcs_fresh_in_place(tree_, &state_, start));
     }
 
-    // A lock whose state was kept. It is tested by a run without turns: a state that is not well formed is refused by 10, and then every
-    // step is refused as well.
+    // A lock whose state was kept. It is tested: a state that is not well formed is refused by 10, and then every step is refused as well.
     static Lock saved(const Tree &tree, const hmcs_state &state) {
         Lock lock(tree);
         lock.state_ = state;
-        const hmcs_run_reply reply = hmcs_run(lock.tree_, state, nullptr, 0, nullptr, 0);
-        lock.refusal_ = Refusal{reply.number, reply.place};
+        lock.refusal_ = check_state(tree, state);
         return lock;
     }
 
-    const Refusal &refusal() const { return refusal_; }
-    bool accepted() const { return refusal_.accepted(); }
-    bool refused() const { return refusal_.refused(); }
-    const hmcs_state &state() const { return state_; }
-    const hmcs_tree &tree() const { return tree_; }
+    const Refusal &refusal() const noexcept { return refusal_; }
+    bool accepted() const noexcept { return refusal_.accepted(); }
+    bool refused() const noexcept { return refusal_.refused(); }
+    const hmcs_state &state() const noexcept { return state_; }
+    const hmcs_tree &tree() const noexcept { return tree_; }
 
     // One step of a thread. If refused, the state is as it was. A number above 65,535 is refused as 65,535 is.
-    StepResult step(std::uint32_t thread) {
+    StepResult step(std::uint32_t thread) noexcept {
         const hmcs_step_answer a = hmcs_step_in_place(tree_, &state_, detail::thread_of(thread));
         under_way_known_ = under_way_known_ && a.number != 0;
         return StepResult{{Refusal{a.number, a.place}}, static_cast<Kind>(a.kind), a.domain};
@@ -350,6 +372,32 @@ public:
     }
 
     RunResult run(const std::vector<std::uint16_t> &schedule) { return run(schedule.data(), schedule.size()); }
+#if __cplusplus >= 202002L
+    RunResult run(std::span<const std::uint16_t> schedule) { return run(schedule.data(), schedule.size()); }
+#endif
+
+    // Runs a schedule, and tells kind and domain of each step. If refused, the state is as it was and no step is taken.
+    KindsResult run_kinds(const std::uint16_t *schedule, std::size_t length) {
+        KindsResult result;
+        const std::size_t room = std::min<std::size_t>(length, 65536); // a longer schedule is refused (11) before the buffers are looked at
+        std::vector<std::uint16_t> numbers(room * HMCS_KIND_NUMBERS);
+        result.steps.reserve(room); // after the call nothing allocates, so that no result is lost
+        result.run.trace.resize(room);
+        const hmcs_kinds_reply reply =
+            hmcs_run_kinds(tree_, state_, schedule, length, result.run.trace.data(), result.run.trace.size(), numbers.data(), numbers.size());
+        detail::keep(reply, state_, result.run);
+        under_way_known_ = under_way_known_ && result.run.counts.steps == 0;
+        for (std::size_t row = 0; row < reply.rows; ++row) {
+            const std::uint16_t *n = numbers.data() + row * HMCS_KIND_NUMBERS;
+            result.steps.push_back(Told{static_cast<Kind>(n[0]), n[1]});
+        }
+        return result;
+    }
+
+    KindsResult run_kinds(const std::vector<std::uint16_t> &schedule) { return run_kinds(schedule.data(), schedule.size()); }
+#if __cplusplus >= 202002L
+    KindsResult run_kinds(std::span<const std::uint16_t> schedule) { return run_kinds(schedule.data(), schedule.size()); }
+#endif
 
     // Runs a schedule, and gives the waits of the attempts that finish within it. The lock keeps the attempts under way, so that the waits go on
     // from one such run to the next; after a step or a run without waits they are not known, and attempts that began before it are not counted. If
@@ -369,6 +417,9 @@ public:
     }
 
     WaitsResult run_waits(const std::vector<std::uint16_t> &schedule) { return run_waits(schedule.data(), schedule.size()); }
+#if __cplusplus >= 202002L
+    WaitsResult run_waits(std::span<const std::uint16_t> schedule) { return run_waits(schedule.data(), schedule.size()); }
+#endif
 
     // The waits of all runs with waits so far, and the attempts under way.
     WaitsSoFar waits() const {
@@ -396,7 +447,7 @@ public:
     }
 
     // What has been counted for a domain. For the root nothing is counted: all three are 0, as for a number that is not a domain of the tree.
-    Tenures tenures(std::uint32_t domain) const {
+    Tenures tenures(std::uint32_t domain) const noexcept {
         if (domain == 0 || domain >= tree_.domains || domain >= HMCS_DOMAINS) {
             return Tenures{};
         }
@@ -404,7 +455,7 @@ public:
     }
 
     // The thread that is Inside, if there is one.
-    std::optional<std::uint16_t> holder() const {
+    std::optional<std::uint16_t> holder() const noexcept {
         for (std::size_t i = 0; i < HMCS_THREADS; ++i) {
             if (state_.places.rows[i] == HMCS_INSIDE) {
                 return static_cast<std::uint16_t>(i);
@@ -414,9 +465,9 @@ public:
     }
 
 private:
-    std::size_t threads() const { return std::min<std::size_t>(tree_.threads, HMCS_THREADS); }
+    std::size_t threads() const noexcept { return std::min<std::size_t>(tree_.threads, HMCS_THREADS); }
 
-    static Refusal of(hmcs_answer a) { return Refusal{a.number, a.place}; }
+    static Refusal of(hmcs_answer a) noexcept { return Refusal{a.number, a.place}; }
 
     hmcs_tree tree_;
     hmcs_state state_;
@@ -486,6 +537,18 @@ struct [[nodiscard]] ManyResult : Result {
 };
 
 // Many schedules on one tree, each from its own fresh lock. Traces are not kept.
+inline ManyResult run_many(const Tree &tree, const std::uint32_t *lengths, std::size_t schedules, const std::uint16_t *entries, std::size_t entries_length) {
+    std::vector<std::uint32_t> numbers(schedules * HMCS_ROW_NUMBERS);
+    const hmcs_many_reply reply = hmcs_run_many(tree.words(), lengths, schedules, entries, entries_length, numbers.data(), numbers.size());
+    ManyResult result;
+    result.refusal = Refusal{reply.number, reply.place};
+    for (std::size_t row = 0; row < reply.rows; ++row) {
+        const std::uint32_t *n = numbers.data() + row * HMCS_ROW_NUMBERS;
+        result.rows.push_back(Row{{Refusal{n[0], n[1]}}, Counts{n[2], n[3], n[4], n[5], n[6], n[7]}});
+    }
+    return result;
+}
+
 inline ManyResult run_many(const Tree &tree, const std::vector<std::vector<std::uint16_t>> &schedules) {
     constexpr std::size_t longest = 65537; // a longer schedule is refused (11) as this one is
     std::vector<std::uint32_t> lengths;
@@ -495,15 +558,7 @@ inline ManyResult run_many(const Tree &tree, const std::vector<std::vector<std::
         lengths.push_back(static_cast<std::uint32_t>(length));
         entries.insert(entries.end(), schedule.begin(), schedule.begin() + static_cast<std::ptrdiff_t>(length));
     }
-    std::vector<std::uint32_t> numbers(schedules.size() * HMCS_ROW_NUMBERS);
-    const hmcs_many_reply reply = hmcs_run_many(tree.words(), lengths.data(), lengths.size(), entries.data(), entries.size(), numbers.data(), numbers.size());
-    ManyResult result;
-    result.refusal = Refusal{reply.number, reply.place};
-    for (std::size_t row = 0; row < reply.rows; ++row) {
-        const std::uint32_t *n = numbers.data() + row * HMCS_ROW_NUMBERS;
-        result.rows.push_back(Row{{Refusal{n[0], n[1]}}, Counts{n[2], n[3], n[4], n[5], n[6], n[7]}});
-    }
-    return result;
+    return run_many(tree, lengths.data(), lengths.size(), entries.data(), entries.size());
 }
 
 // Checks a journal against steps from a fresh lock. The place is a position in it, or for 4 to 9 and 16 one in the tree.
@@ -517,7 +572,8 @@ inline Refusal check_journal(const Tree &tree, const std::vector<std::uint8_t> &
 }
 
 // Writes a journal, one journal entry for each step, without the fields that it can leave out. A debug build adds each step that it takes from a
-// fresh lock.
+// fresh lock. A writer has no lock of its own: threads add one at a time, each under the mutex under which it took its step, since entries must be in
+// the order of the steps. hmcs_trace.hpp does that, or finds the order afterwards.
 class JournalWriter {
 public:
     // Adds a journal entry, or nothing if memory runs out. A thread above 65,535 is refused by the check as 65,535 is.
@@ -538,7 +594,21 @@ public:
         thread_ = number;
     }
 
-    const std::vector<std::uint8_t> &bytes() const { return bytes_; }
+    // What was added since the beginning, or since the last drain.
+    const std::vector<std::uint8_t> &bytes() const noexcept { return bytes_; }
+
+    // Takes these bytes out, for a file or a socket; the journal goes on. All that was drained, in its order, is the journal.
+    std::vector<std::uint8_t> drain() {
+        std::vector<std::uint8_t> taken;
+        taken.swap(bytes_);
+        return taken;
+    }
+
+    // Begins another journal, which starts with a fresh lock.
+    void clear() noexcept {
+        bytes_.clear();
+        thread_ = 0;
+    }
 
 private:
     std::vector<std::uint8_t> bytes_;
@@ -589,15 +659,19 @@ struct [[nodiscard]] WriteResult : Result {
 };
 
 // The lock file of a tree and a schedule, as short as one can be.
-inline WriteResult write_file(const Tree &tree, const std::vector<std::uint16_t> &schedule) {
+inline WriteResult write_file(const Tree &tree, const std::uint16_t *schedule, std::size_t length) {
     WriteResult result;
     result.file.resize(65536); // a longer file is refused (1)
     std::uint32_t place = 0;
     std::uint32_t written = 0;
-    const std::uint32_t number = hmcs_write_file(tree.words(), schedule.data(), schedule.size(), result.file.data(), result.file.size(), &place, &written);
+    const std::uint32_t number = hmcs_write_file(tree.words(), schedule, length, result.file.data(), result.file.size(), &place, &written);
     result.refusal = Refusal{number, place};
     result.file.resize(written);
     return result;
+}
+
+inline WriteResult write_file(const Tree &tree, const std::vector<std::uint16_t> &schedule) {
+    return write_file(tree, schedule.data(), schedule.size());
 }
 
 // How long it takes to pass the lock on: p1 within a home, p2 between homes below one domain, p3 across the root; all in one unit.
@@ -680,6 +754,14 @@ inline TextResult read_tree(std::string_view text) {
     }
     return result;
 }
+
+#if __cplusplus >= 202002L
+// The same for spans.
+inline Refusal check_journal(const Tree &tree, std::span<const std::uint8_t> journal) { return check_journal(tree, journal.data(), journal.size()); }
+inline FileResult run_file(std::span<const std::uint8_t> file) { return run_file(file.data(), file.size()); }
+inline ReadResult read_file(std::span<const std::uint8_t> file) { return read_file(file.data(), file.size()); }
+inline WriteResult write_file(const Tree &tree, std::span<const std::uint16_t> schedule) { return write_file(tree, schedule.data(), schedule.size()); }
+#endif
 
 } // namespace hmcs
 

@@ -9,12 +9,15 @@ ghost use Rattle.host.specs.InPlace.{fresh-kept, fresh-left, fresh-witho
 ghost use Rattle.file_answers.specs.FileAnswers.{file-answer, output-answer};
 ghost use Rattle.file_writer.specs.Answers.{write-answer, file-buffer-answer};
 ghost use Rattle.journal.specs.Answers.{journal-answer};
+ghost use Rattle.kinds.specs.Answers.{kinds-answer, kinds-trace, kinds-rows};
 ghost use Rattle.lock_file.specs.Answers.{read-answer, schedule-answer};
 ghost use Rattle.rate.specs.Answers.{rate-answer, reply-of};
 ghost use Rattle.schedules.specs.Answers.{many-reply, rows-answer};
+ghost use Rattle.state_check.specs.Answers.{check-answer};
 ghost use Rattle.text_tree.specs.Answers.{text-answer};
 use bounds::RoundsReply;
 use journal::JournalReply;
+use kinds::KindsReply;
 use lock_file::ReadReply;
 ghost use Rattle.waits.specs.Answers.{waits-answer, waits-trace, waits-rows, waits-on-answer, waits-on-trace, waits-on-rows, waits-on-under-way};
 use model::FreshReply;
@@ -240,6 +243,34 @@ pub extern "C" fn hmcs_run_waits_on(
     ensures { λ r. ⌜ now («under_way» .exit) ≡ waits-on-under-way tree state (now (schedule .entry)) (now (trace .entry)) (now (rows .entry)) (now («under_way» .entry)) ⌝ }
 {
     waits_call::run_waits_on(tree, state, schedule, trace, rows, under_way)
+}
+
+// A run, and in a buffer of its own two numbers for each step, its kind and the domain that it was at; refused, trace and rows as they came.
+#[no_mangle]
+pub extern "C" fn hmcs_run_kinds(
+    tree: TreeWords,
+    state: LockState,
+    schedule: &[u16],
+    trace: &mut [u16],
+    rows: &mut [u16],
+) -> KindsReply
+    ensures { λ r. ⌜ r ≡ kinds-answer tree state (now (schedule .entry)) (now (trace .entry)) (now (rows .entry)) ⌝ }
+    ensures { λ r. ⌜ now (trace .exit) ≡ kinds-trace tree state (now (schedule .entry)) (now (trace .entry)) (now (rows .entry)) ⌝ }
+    ensures { λ r. ⌜ now (rows .exit) ≡ kinds-rows tree state (now (schedule .entry)) (now (trace .entry)) (now (rows .entry)) ⌝ }
+{
+    kinds_call::run_kinds(tree, state, schedule, trace, rows)
+}
+
+// The check of a state that a host kept: what refuses it, 4 to 9, 16 or 10; 0 and 0 where every call takes it up.
+#[no_mangle]
+pub extern "C" fn hmcs_check_state(tree: TreeWords, state: LockState) -> Answer
+    ensures { λ r. ⌜ r ≡ answer-of (check-answer tree state) ⌝ }
+{
+    let r = state_check::check_state(tree, state);
+    Answer {
+        number: r.number,
+        place: r.place,
+    }
 }
 
 // The chain of threads that a thread waits for, itself first, at the front of the chain buffer; refused, that buffer as it came. The number is returned; place and length go where the host says.

@@ -1,5 +1,6 @@
-//! The fresh call, the single step, the step in place and the run on words, by the step table.
+//! The fresh call, the single step, the step in place, the run and the check of a state on words, by the step table.
 
+use crate::kinds::{check_state, run_kinds, CheckState, RunKinds};
 use crate::refusals::*;
 use crate::table::*;
 use crate::words::*;
@@ -12,9 +13,11 @@ pub struct Calls {
     pub step: fn(&TreeWords, &StateWords, u16) -> StepReply,
     pub step_in_place: fn(&TreeWords, &mut StateWords, u16) -> StepAnswer,
     pub run: fn(&TreeWords, &StateWords, &[u16], &mut [u16]) -> RunReply,
+    pub run_kinds: RunKinds,
+    pub check_state: CheckState,
 }
 
-pub const TABLE: Calls = Calls { fresh, fresh_in_place, step: step_words, step_in_place, run: run_words };
+pub const TABLE: Calls = Calls { fresh, fresh_in_place, step: step_words, step_in_place, run: run_words, run_kinds, check_state };
 
 fn number_and_place<T>(outcome: &Outcome<T>) -> (u32, u32) {
     match outcome {

@@ -7,6 +7,7 @@ pub mod counters;
 pub mod draft;
 pub mod file_writer;
 pub mod journal;
+pub mod kinds;
 pub mod library;
 pub mod listing;
 pub mod lock_file;

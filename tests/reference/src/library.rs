@@ -45,6 +45,7 @@ pub fn run_file() -> Option<RunFile> {
 /// The calls on a caller's tree and state; built only where HMCS_CALLS says that the library has them.
 #[cfg(calls)]
 mod call_entries {
+    use crate::kinds::KindsReply;
     use crate::words::*;
 
     /// Number and place alone.
@@ -60,6 +61,8 @@ mod call_entries {
         fn hmcs_step(tree: TreeWords, state: StateWords, thread: u16) -> StepReply;
         fn hmcs_step_in_place(tree: TreeWords, state: *mut StateWords, thread: u16) -> StepAnswer;
         fn hmcs_run(tree: TreeWords, state: StateWords, schedule: *const u16, schedule_len: usize, trace: *mut u16, trace_len: usize) -> RunReply;
+        fn hmcs_run_kinds(tree: TreeWords, state: StateWords, schedule: *const u16, schedule_len: usize, trace: *mut u16, trace_len: usize, rows: *mut u16, rows_len: usize) -> KindsReply;
+        fn hmcs_check_state(tree: TreeWords, state: StateWords) -> Answer;
     }
 
     pub fn fresh(tree: &TreeWords, start: u16) -> Reply {
@@ -82,13 +85,23 @@ mod call_entries {
     pub fn run(tree: &TreeWords, state: &StateWords, schedule: &[u16], trace: &mut [u16]) -> RunReply {
         unsafe { hmcs_run(*tree, *state, schedule.as_ptr(), schedule.len(), trace.as_mut_ptr(), trace.len()) }
     }
+
+    pub fn run_kinds(tree: &TreeWords, state: &StateWords, schedule: &[u16], trace: &mut [u16], rows: &mut [u16]) -> KindsReply {
+        // The pointers are valid for their lengths, and nothing else uses what they point to during the call.
+        unsafe { hmcs_run_kinds(*tree, *state, schedule.as_ptr(), schedule.len(), trace.as_mut_ptr(), trace.len(), rows.as_mut_ptr(), rows.len()) }
+    }
+
+    pub fn check_state(tree: &TreeWords, state: &StateWords) -> (u32, u32) {
+        let answer = unsafe { hmcs_check_state(*tree, *state) };
+        (answer.number, answer.place)
+    }
 }
 
 /// The library's calls on a caller's tree and state, if the program was built with them.
 #[cfg(calls)]
 pub fn calls() -> Option<Calls> {
     use call_entries::*;
-    Some(Calls { fresh, fresh_in_place, step, step_in_place, run })
+    Some(Calls { fresh, fresh_in_place, step, step_in_place, run, run_kinds, check_state })
 }
 
 #[cfg(not(calls))]

@@ -1,7 +1,7 @@
 //! How often a comparison met each number, and whether it met all that it must.
 
 /// One more than the largest number of a refusal.
-const NUMBERS: usize = 28;
+const NUMBERS: usize = 31;
 
 pub struct Met {
     must: &'static [usize],

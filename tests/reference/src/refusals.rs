@@ -219,6 +219,12 @@ fn accept_state(tree: &Tree, state: &State) -> Outcome<()> {
     refuse_if(10, !well_formed(tree, state))
 }
 
+/// 4 to 9, 16 and 10.
+pub fn accept_kept(tree: &Tree, state: &State) -> Outcome<()> {
+    accept_tree(tree)?;
+    accept_state(tree, state)
+}
+
 /// 12.
 pub fn accept_entries(tree: &Tree, schedule: impl Iterator<Item = u16>) -> Outcome<()> {
     for (position, thread) in schedule.enumerate() {

@@ -1,6 +1,7 @@
-//! Compares the library's calls on a caller's tree and state with the step table's; without the library it only counts what the cases meet.
+//! Compares the library's calls on a caller's tree and state, a run that tells its steps among them, with the step table's; without the library it only counts what the cases meet.
 
 use reference::calls::{Calls, TABLE};
+use reference::kinds::ROW;
 use reference::library;
 use reference::met::Met;
 use reference::options::{conclude, Options};
@@ -13,7 +14,7 @@ use reference::words::*;
 use std::process::exit;
 
 const CANARY: usize = 16;
-const REFUSALS: [usize; 12] = [4, 5, 6, 7, 8, 9, 16, 10, 11, 12, 13, 19];
+const REFUSALS: [usize; 13] = [4, 5, 6, 7, 8, 9, 16, 10, 11, 12, 13, 28, 19];
 
 #[derive(Clone, Copy, Debug)]
 enum Call {
@@ -22,9 +23,11 @@ enum Call {
     Step,
     StepInPlace,
     Run,
+    RunKinds,
+    CheckState,
 }
 
-/// What one call is given; the trace buffer stands between canaries.
+/// What one call is given; the buffers of trace and kinds stand between canaries.
 struct Case {
     call: Call,
     tree: TreeWords,
@@ -32,6 +35,7 @@ struct Case {
     state: StateWords,
     schedule: Vec<u16>,
     trace: Vec<u16>,
+    rows: Vec<u16>,
 }
 
 /// What a call returned and left in its buffers; a call that is no run has no counts, and one that is no step tells no kind and no domain.
@@ -40,10 +44,12 @@ struct Left {
     reply: RunReply,
     told: StepAnswer,
     trace: Vec<u16>,
+    written: u32,
+    rows: Vec<u16>,
 }
 
 fn random_case(random: &mut Random) -> Case {
-    let call = random.pick(&[Call::Fresh, Call::FreshInPlace, Call::Step, Call::StepInPlace, Call::Run, Call::Run, Call::Run]);
+    let call = random.pick(&[Call::Fresh, Call::FreshInPlace, Call::Step, Call::StepInPlace, Call::Run, Call::Run, Call::Run, Call::RunKinds, Call::RunKinds, Call::CheckState]);
     let draft = if random.one_in(5) { broken_draft(random) } else { valid_draft(random) };
     let tree = tree_words(random, &draft);
     let schedule = case_schedule(random, draft.schedule, tree.threads);
@@ -54,7 +60,13 @@ fn random_case(random: &mut Random) -> Case {
         _ => schedule.len() + random.below(20),
     };
     let trace = (0..CANARY + room + CANARY).map(|_| random.below(65_536) as u16).collect();
-    Case { call, tree, start: random_start(random), state, schedule, trace }
+    let row_room = match random.below(6) {
+        0 => (ROW * schedule.len()).saturating_sub(random.between(1, 3)),
+        1..=3 => ROW * schedule.len(),
+        _ => ROW * schedule.len() + random.below(20),
+    };
+    let rows = (0..CANARY + row_room + CANARY).map(|_| random.below(65_536) as u16).collect();
+    Case { call, tree, start: random_start(random), state, schedule, trace, rows }
 }
 
 fn case_state(random: &mut Random, words: &TreeWords, length: usize) -> StateWords {
@@ -92,7 +104,8 @@ fn case_schedule(random: &mut Random, mut schedule: Vec<u16>, threads: u32) -> V
 }
 
 fn make(calls: Calls, case: &Case) -> Left {
-    let (mut state, mut trace) = (case.state, case.trace.clone());
+    let (mut state, mut trace, mut rows) = (case.state, case.trace.clone(), case.rows.clone());
+    let mut written = 0;
     let mut told = StepAnswer::default();
     let reply = match case.call {
         Call::Fresh => without_counts((calls.fresh)(&case.tree, case.start)),
@@ -113,8 +126,18 @@ fn make(calls: Calls, case: &Case) -> Left {
             let end = trace.len() - CANARY;
             (calls.run)(&case.tree, &state, &case.schedule, &mut trace[CANARY..end])
         }
+        Call::RunKinds => {
+            let (end, rows_end) = (trace.len() - CANARY, rows.len() - CANARY);
+            let reply = (calls.run_kinds)(&case.tree, &state, &case.schedule, &mut trace[CANARY..end], &mut rows[CANARY..rows_end]);
+            written = reply.rows;
+            reply.run()
+        }
+        Call::CheckState => {
+            let (number, place) = (calls.check_state)(&case.tree, &state);
+            without_counts(Reply { number, place, state })
+        }
     };
-    Left { reply, told, trace }
+    Left { reply, told, trace, written, rows }
 }
 
 fn without_counts(Reply { number, place, state }: Reply) -> RunReply {
@@ -140,7 +163,11 @@ fn main() {
         }
         met.count(table.reply.number);
         if !matches!(case.call, Call::Fresh | Call::FreshInPlace) {
-            let schedule = if matches!(case.call, Call::Run) { &case.schedule[..] } else { &case.schedule[..1] };
+            let schedule = match case.call {
+                Call::Run | Call::RunKinds => &case.schedule[..],
+                Call::CheckState => &[],
+                _ => &case.schedule[..1],
+            };
             let RunReply { number, place, .. } = table.reply;
             state_met.count(&case.tree, &case.state, Told { number, place, schedule });
         }
@@ -161,12 +188,13 @@ fn report(case: &Case, table: &Left, other: &Left) {
     println!("step table: {}", summary(table));
     println!("library:    {}", summary(other));
     println!("state, step table's and library's where they differ: {}", differences(&table.reply.state, &other.reply.state));
+    println!("buffers of kinds are {}", if table.rows == other.rows { "the same" } else { "not the same" });
     println!("trace buffers are {}", if table.trace == other.trace { "the same" } else { "not the same" });
 }
 
-fn summary(Left { reply, told, .. }: &Left) -> String {
+fn summary(Left { reply, told, written, .. }: &Left) -> String {
     let RunReply { number, place, steps, entries, stays, root, passed, crossed, .. } = reply;
-    format!("number {number} place {place} steps {steps} entries {entries} stays {stays} root {root} passed {passed} crossed {crossed} kind {} domain {}", told.kind, told.domain)
+    format!("number {number} place {place} steps {steps} entries {entries} stays {stays} root {root} passed {passed} crossed {crossed} kind {} domain {} rows {written}", told.kind, told.domain)
 }
 
 fn differences(one: &StateWords, other: &StateWords) -> String {

@@ -6,6 +6,7 @@ mod calls;
 mod chain;
 mod files;
 mod journals;
+mod kinds;
 mod many;
 mod texts;
 mod writing;
@@ -124,6 +125,7 @@ fn main() {
     many::print(&mut worst);
     journals::print(&mut worst);
     waits::print(&mut worst);
+    kinds::print(&mut worst);
     chain::print();
     texts::print();
     writing::print();

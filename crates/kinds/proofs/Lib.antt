@@ -1,0 +1,5 @@
+-- The proofs.
+pub mod Refusing
+pub mod Buffers
+pub mod Telling
+pub mod Cases

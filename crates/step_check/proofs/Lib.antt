@@ -1,0 +1,3 @@
+-- The proofs.
+pub mod Checking
+pub mod Keeping

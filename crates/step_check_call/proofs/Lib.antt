@@ -1,0 +1,5 @@
+-- The proofs that belong to no function.
+pub mod Comparing
+pub mod Stretching
+pub mod Piecing
+pub mod Wholes
