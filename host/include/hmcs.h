@@ -6,8 +6,8 @@
  *
  * Pointers are the one thing that no function can test. A buffer must be valid for its length, and may be null where the length is 0; the
  * pointers to a state, a place, a length, allowances or numbers under way must be valid, aligned and not null. No two things that the pointers of one call name may overlap. Two calls
- * may run at once unless one writes what the other reads or writes. hmcs_run_file and hmcs_run_many need 200 KB of stack, hmcs_run_waits and
- * hmcs_run_waits_on 96 KB, every other function at most 72 KB, besides its arguments and its result, which take up to 19 KB in the caller.
+ * may run at once unless one writes what the other reads or writes. hmcs_run_file and hmcs_run_many need 160 KB of stack, hmcs_run_waits and
+ * hmcs_run_waits_on 56 KB, every other function at most 36 KB, besides its arguments and its result, which take up to 19 KB in the caller.
  *
  * Compare two states field by field, never by memcmp: struct hmcs_state has padding, and so do struct hmcs_text_reply, struct hmcs_journal_answer,
  * struct hmcs_waits_reply and struct hmcs_kinds_reply.

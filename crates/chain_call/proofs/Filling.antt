@@ -95,9 +95,6 @@ module _ (w : TreeWords) (ok : tree-refusal (tree-of w) .number ≡ 0) (s : Stat
       let g = place-good t valid s form n real in
       rw (words-of-place words (not-invalid t n (place s n) g)) at (domain-there (place s n) g)
 
-  pub root-on-path : on-path t n 0 ≡ true
-  root-on-path = on-path-root t valid n real
-
   pub fill-next :
       (a l k a′ : List ℕ) → Tables t s n a l k → Noted t (s .nexts) from n (suc (height t n)) a a′ → length a′ ≡ 320 →
       Tables t s (suc n) a′ (set l n (link-key words)) (set k n (ticket-key from root-status))

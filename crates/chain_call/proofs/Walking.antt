@@ -1,18 +1,15 @@
 -- A walk up a thread's path: at which domain it is, with which record. Assumes nothing.
 use mathlib.Core.Path.{_≡_, sym, ap, _∙_}
-use mathlib.Core.Bool.{true}
-use mathlib.Core.Logic.{_≢_}
 use Prim.Native.Nat.{ℕ, suc, _+_, _≤_, _<_}
 use native.Mathlib.Omega.{arith}
 use lib.ListN.{getD}
 use Rattle.model.specs.declared.TreeWords.{TreeWords}
-use Rattle.model.specs.Trees.{Tree, tree-of, on-path, own-record}
+use Rattle.model.specs.Trees.{Tree, tree-of}
 use Rattle.model.specs.Refusals.{tree-refusal}
 use Rattle.model.proofs.Trees.Index.{ancestor, height, record-at}
 use Rattle.model.proofs.Trees.Accepted.{Accepted, accepted}
-use Rattle.model.proofs.Trees.Paths.{ancestor-home, ancestor-real, ancestor-strict, ancestor-parent-of, ancestor-not-root, path-index}
-use Rattle.model.proofs.Trees.Records.{record-own, record-suc, record-small, own-record-at}
-use Rattle.model.proofs.Lists.{same-or, less-or}
+use Rattle.model.proofs.Trees.Paths.{ancestor-home, ancestor-real, ancestor-parent-of, ancestor-not-root}
+use Rattle.model.proofs.Trees.Records.{record-own, record-suc, record-small}
 use Rattle.model.proofs.Trees.Reading.{home-read, parent-read, domains-read, threads-read}
 
 -- the walk is at the domain c, with the record r there
@@ -43,9 +40,6 @@ module _ (w : TreeWords) (ok : tree-refusal (tree-of w) .number ≡ 0) where
       pub at-record : r < 320
       at-record = rw (a .mine) at (record-small t valid i real (a .index) (a .within))
 
-      pub at-own : own-record t i c ≡ r
-      at-own = ap (own-record t i) (sym (a .there)) ∙ own-record-at t valid i real (a .index) (a .within) ∙ a .mine
-
       unfoldable pub at-next : 0 < c → At t i (256 + c) (getD (w .parents) c 0)
       at-next p =
           let l = ancestor-not-root t valid i real (a .index) (a .within) (rw (a .there) p) in
@@ -60,27 +54,3 @@ module _ (w : TreeWords) (ok : tree-refusal (tree-of w) .number ≡ 0) where
       at-falls p =
           let low = valid .parent-lower c p (rw (domains-read w) at-real) in
           omega (arith, parent-read w c p at-real)
-
-      -- not past a domain of the path: on a path the numbers fall
-      pub still-below : (l : ℕ) → on-path t i l ≡ true → l ≤ c → c ≢ l → l ≤ getD (w .parents) c 0
-      unfolding at-next
-      still-below l o b n =
-          let p = path-index t valid i real l o in
-          let k = a .index in
-          let past : k < p .index = less-or k (p .index) _ (λ z. z) (λ z. absurd (
-          same-or (p .index) k _ (λ e. n (sym (a .there) ∙ ap (ancestor t i) (sym e) ∙ p .there))
-          (λ e. let f = ancestor-strict t valid i real (p .index) k (omega arith) (a .within) in let y = p .there in let x = a .there in omega arith))) in
-          let up : 0 < c = omega (arith, n) in
-          let m = at-next up in
-          same-or (suc k) (p .index) _
-          (λ e. let z : getD (w .parents) c 0 ≡ l = sym (m .there) ∙ ap (ancestor t i) e ∙ p .there in omega arith)
-          (λ e. let f = ancestor-strict t valid i real (suc k) (p .index) (omega arith) (p .within) in let x = m .there in let y = p .there in omega arith)
-
-    pub home-below : (l : ℕ) → on-path t i l ≡ true → l ≤ getD (w .homes) i 0
-    unfolding at-home
-    home-below l o =
-        let p = path-index t valid i real l o in
-        let z : ancestor t i 0 ≡ getD (w .homes) i 0 = at-home .there in
-        same-or 0 (p .index) _
-        (λ e. let y : l ≡ ancestor t i 0 = sym (p .there) ∙ ap (ancestor t i) (sym e) in omega arith)
-        (λ e. let f = ancestor-strict t valid i real 0 (p .index) (omega arith) (p .within) in let y = p .there in omega arith)

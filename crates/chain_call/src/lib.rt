@@ -45,12 +45,21 @@ pub fn chain(tree: TreeWords, state: LockState, thread: u16, buffer: &mut [u16])
     ensures { λ r. ⌜ now (buffer .exit) ≡ buffer-answer tree state thread (now (buffer .entry)) ⌝ }
 {
     let schedule = [thread];
-    let r = run_refusals::run_refusal_of(
+    let counters = state.counters;
+    let r = run_refusals::lent_refusal_of(
         tree,
-        state.words,
-        &state.counters.entries,
-        &state.counters.tenures,
-        &state.counters.longest,
+        &state.words.tails,
+        &state.words.nexts,
+        &state.words.statuses,
+        &state.words.places.rows,
+        &state.words.places.domains,
+        &state.words.places.peers,
+        &state.words.places.words,
+        state.words.ticket,
+        state.words.grant,
+        &counters.entries,
+        &counters.tenures,
+        &counters.longest,
         &schedule,
         1,
     );

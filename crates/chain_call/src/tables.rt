@@ -3,7 +3,7 @@ ghost use mathlib.Core.Path.{_≡_};
 ghost use mathlib.Core.Bool.{true};
 ghost use Prim.Native.Nat.{suc, _<_, _≤_};
 ghost use lib.ListN.{length};
-ghost use Rattle.model.specs.Trees.{tree-of, on-path, own-record};
+ghost use Rattle.model.specs.Trees.{tree-of, own-record};
 ghost use Rattle.model.specs.WellFormed.{well-formed};
 ghost use Rattle.model.specs.Refusals.{tree-refusal};
 ghost use Rattle.model.specs.Acts.{sends-inside};
@@ -25,7 +25,7 @@ pub(crate) fn more_at(count: u16, j: u16) -> u16
     300
 }
 
-// The record with which a thread works at a domain on its path.
+// The record with which a thread works at a domain.
 pub(crate) fn own_record_at<'a>(
     parents: &'a [u8; 64],
     thresholds: &'a [u16; 64],
@@ -38,18 +38,11 @@ pub(crate) fn own_record_at<'a>(
 ) -> u16
     requires { ⌜ tree-refusal (tree-at domains threads (now parents) (now thresholds) (now homes) «ticket_root») .number ≡ 0 ⌝ }
     requires { ⌜ i < threads ⌝ }
-    requires { ⌜ on-path (tree-at domains threads (now parents) (now thresholds) (now homes) «ticket_root») i l ≡ true ⌝ }
     ensures { λ r. ⌜ (r ≡ own-record (tree-at domains threads (now (parents .entry)) (now (thresholds .entry)) (now (homes .entry)) «ticket_root») i l) × (r < 320) ⌝ }
 {
-    let mut r = i;
     let at = i as usize;
-    let mut c = homes[at];
-    while c != l {
-        r = 256 + c as u16;
-        let at = c as usize;
-        c = parents[at];
-    }
-    r
+    let home = homes[at];
+    paths::record_at(parents, domains, i, home, l)
 }
 
 // A status that sends a thread in Wait Inside.

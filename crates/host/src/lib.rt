@@ -223,8 +223,7 @@ pub extern "C" fn hmcs_run_waits(
     ensures { λ r. ⌜ now (trace .exit) ≡ waits-trace tree state (now (schedule .entry)) (now (trace .entry)) (now (rows .entry)) ⌝ }
     ensures { λ r. ⌜ now (rows .exit) ≡ waits-rows tree state (now (schedule .entry)) (now (trace .entry)) (now (rows .entry)) ⌝ }
 {
-    let mut under_way = [0u64; 256];
-    hmcs_run_waits_on(tree, state, schedule, trace, rows, &mut under_way)
+    waits_call::run_waits(tree, state, schedule, trace, rows)
 }
 
 // The same from the attempts under way, whose numbers after the run stand where those before it stood; refused, trace, rows and numbers as they came.

@@ -1,22 +1,32 @@
--- A step and a run on lent arrays: the state that they are, and what is told beside it. Assumes nothing: these are definitions.
+-- A run on lent arrays: the state that they are, and what is told beside it. Assumes nothing: these are definitions.
+use mathlib.Core.Bool.{cond}
 use mathlib.Core.List.{List}
-use Prim.Native.Nat.{ℕ}
+use Prim.Native.Nat.{ℕ, _/_, _%_}
+use lib.Dec.{eqb}
+use lib.ListN.{getD, length}
 use Rattle.model.specs.declared.LockState.{LockState}
-use Rattle.model.specs.declared.StepReply.{StepReply}
 use Rattle.model.specs.declared.RunReply.{RunReply}
+use Rattle.model.specs.Steps.{Step}
 use Rattle.model.specs.Counters.{lock-state}
+use Rattle.model.specs.Answers.{first-kind, first-domain}
 use Rattle.refusals.specs.Arrays.{lent-state}
 use Rattle.run_refusals.specs.Counts.{counters-in}
-use Rattle.lock.specs.declared.lent.Stepped.{Stepped}
+use Rattle.members.specs.Standing.{row-domain}
+use Rattle.lock.specs.declared.lent.Told.{Told}
 use Rattle.lock.specs.declared.lent.Ran.{Ran}
 
 -- a lock's state by the arrays that are lent
 abbrev pub lent-lock : (tails nexts statuses rows domains peers words : List ℕ) → (ticket grant : ℕ) → (entries tenures longest : List ℕ) → LockState
 lent-lock ts ns vs rs ds ps ws v g es ms ls = lock-state (lent-state ts ns vs rs ds ps ws v g) (counters-in es ms ls)
 
--- beside it, of a step and of a run
-abbrev pub step-told : StepReply → Stepped
-step-told r = record { number = r .number; place = r .place; kind = r .kind; domain = r .domain }
+-- kind and domain of a schedule's first step, by the number that tells what it was
+abbrev pub told-by : (homes schedule : List ℕ) → (code : ℕ) → Told
+told-by hs is v =
+    let none = eqb (length is) 0 in
+    record { kind = cond none 0 (v % 8); domain = cond none 0 (row-domain (getD hs (getD is 0 0) 0) ((v / 8) % 16) (v / 128)) }
 
-abbrev pub run-told : RunReply → Ran
-run-told r = record { number = r .number; place = r .place; counts = r .counts }
+-- all of a run's answer but the state, with kind and domain of its first step
+unfoldable pub run-told : RunReply → (taken : List Step) → Ran
+run-told r xs =
+    let accepted = eqb (r .number) 0 in
+    record { number = r .number; place = r .place; kind = cond accepted (first-kind xs) 0; domain = cond accepted (first-domain xs) 0; counts = r .counts }

@@ -80,7 +80,9 @@ pub fn step_lock(tree: TreeWords, state: LockState, thread: u16) -> StepReply
     let mut entries = state.counters.entries;
     let mut tenures = state.counters.tenures;
     let mut longest = state.counters.longest;
-    let r = lent::step_lent(
+    let schedule = [thread];
+    let mut trace = [0u16];
+    let r = lent::run_tested(
         tree,
         &mut tails,
         &mut nexts,
@@ -94,7 +96,8 @@ pub fn step_lock(tree: TreeWords, state: LockState, thread: u16) -> StepReply
         &mut entries,
         &mut tenures,
         &mut longest,
-        thread,
+        &schedule,
+        &mut trace,
     );
     let places = PlaceArrays {
         rows,

@@ -1,4 +1,3 @@
-pub mod Children
 pub mod RowPlaces
 pub mod Counts
 pub mod Shown

@@ -21,7 +21,7 @@ fn taken_at(parents: &[u8; 64], domains: u32, home: u8, l: u8) -> u8
     if l == home {
         return 0;
     }
-    let found = crate::search_at(parents, domains, home, l);
+    let found = paths::search_at(parents, domains, home, l);
     found.child
 }
 

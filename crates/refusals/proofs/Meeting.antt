@@ -45,27 +45,3 @@ pub child-same : (k : ℕ) (t u : Tree) (l c : ℕ) → ((e : ℕ) → t .parent
 unfolding child-from
 child-same zero t u l c h = refl
 child-same (suc k) t u l c h = rw (h c, child-same k t u l (u .parent c) h)
-
--- the domain below the root, one step at a time
-pub child-root : (k : ℕ) (t : Tree) (c : ℕ) → c ≡ 0 → child-from k t 0 c ≡ c
-unfolding child-from
-child-root zero t c e = refl
-child-root (suc k) t c e = rw (eq-eqb c 0 e)
-
-pub child-here : (k n : ℕ) (ps : List ℕ) (c : ℕ) → 0 < k → (c ≡ 0 → ⊥) → c < n → getD ps c 0 ≡ 0 → child-from k (parents-in n ps) 0 c ≡ c
-unfolding child-from
-child-here zero n ps c p g l e = absurd (omega arith)
-child-here (suc k) n ps c p g l e = rw (ne-eqb c 0 g, parent-in n 0 ps [] [] c (omega arith) l, eq-eqb (getD ps c 0) 0 e)
-
-pub child-up :
-    (k n : ℕ) (ps : List ℕ) (c : ℕ) → 0 < k → (c ≡ 0 → ⊥) → c < n → (getD ps c 0 ≡ 0 → ⊥) →
-    child-from k (parents-in n ps) 0 c ≡ child-from (k - 1) (parents-in n ps) 0 (getD ps c 0)
-unfolding child-from
-child-up zero n ps c p g l e = absurd (omega arith)
-child-up (suc k) n ps c p g l e =
-    rw (ne-eqb c 0 g, parent-in n 0 ps [] [] c (omega arith) l, ne-eqb (getD ps c 0) 0 e, sub-one (suc k))
-
-pub child-end : (k : ℕ) (t : Tree) (c : ℕ) → k ≤ 0 → child-from k t 0 c ≡ c
-unfolding child-from
-child-end zero t c p = refl
-child-end (suc k) t c p = absurd (omega arith)

@@ -2,7 +2,7 @@ pub mod Owning
 pub mod Members
 pub mod RowShapes
 pub mod PlaceTests
-pub mod RestNumbers
+pub mod Resting
 pub mod Folds
 pub mod Formed
 pub mod Counts

@@ -3,7 +3,7 @@ use mathlib.Core.Path.{_≡_, refl, sym, ap, _∙_}
 use mathlib.Core.Bool.{Bool, true, false, _&&_, false≢true}
 use mathlib.Core.Logic.{_≢_, _⊎_, inl, inr, ⊎-elim}
 use mathlib.Core.List.{List, []}
-use Prim.Native.Nat.{ℕ, _+_, _*_, _-_, _≤_, _<_}
+use Prim.Native.Nat.{ℕ, _+_, _-_, _≤_, _<_}
 use lib.Dec.{eqb}
 use native.Mathlib.Omega.{arith}
 use native.Mathlib.Decide.{ℕ-discrete, decLt}
@@ -19,7 +19,7 @@ use Rattle.model.specs.States.{numbers-at}
 use Rattle.model.proofs.Tests.{and-both, or-cases, all-each, all-true, and-false}
 use Rattle.model.proofs.Trees.Accepted.{Accepted, accepted, leaf-childless}
 use Rattle.refusals.specs.Arrays.{tree-in, parents-in}
-use Rattle.run_refusals.specs.Tables.{Owners, member-in, next-in, record-in, domain-words-in, tail-and-next-in, ticket-in, barred-in, root-in, idle-in, resting-row, Rest-number, of-wait, of-idle, Homes-there, used-in, clear-in, unused-in, thread-in}
+use Rattle.run_refusals.specs.Tables.{Owners, member-in, next-in, record-in, domain-words-in, tail-and-next-in, ticket-in, barred-in, root-in, idle-in, resting-row, Rest, of-wait, of-idle, Homes-there, used-in, clear-in, unused-in, thread-in}
 use Rattle.refusals.proofs.Reading.{parent-in}
 use Rattle.refusals.proofs.Scanning.{all-fails}
 use Rattle.refusals.proofs.TreeTests.{Shape}
@@ -79,24 +79,23 @@ module _ (w : TreeWords) (z : tree-refusal (tree-of w) .number ≡ 0) where
         let home = sym (owner-home w real os owned i l) ∙ z in
         leaf-childless (tree-of w) (tree-of w .home i) 1 (real .home-leaf i l) (omega arith) (omega (arith, n)) (omega (arith, home))
 
-    rest-number : (i : ℕ) → i < w .threads → (n : ℕ) → n ≡ resting-row (w .«ticket_root») (w .domains) + 256 * getD os i 0 → Rest-number (w .«ticket_root») (getD os i 0) n
-    rest-number i l n e = by (ticket-in (w .«ticket_root»)) (eqb (w .domains) 1) refl refl
+    rest-row : (i : ℕ) → i < w .threads → (r : ℕ) → r ≡ resting-row (w .«ticket_root») (w .domains) → Rest (w .«ticket_root») (getD os i 0) r
+    rest-row i l r e = by (ticket-in (w .«ticket_root»)) (eqb (w .domains) 1) refl refl
       where
-        wait : barred-in (w .«ticket_root») 4 (getD os i 0) ≡ false → n ≡ 4 + 256 * getD os i 0 → Rest-number (w .«ticket_root») (getD os i 0) n
+        wait : barred-in (w .«ticket_root») 4 (getD os i 0) ≡ false → r ≡ 4 → Rest (w .«ticket_root») (getD os i 0) r
         wait b z = rw z (of-wait b)
 
-        by : (a b : Bool) → ticket-in (w .«ticket_root») ≡ a → eqb (w .domains) 1 ≡ b → Rest-number (w .«ticket_root») (getD os i 0) n
+        by : (a b : Bool) → ticket-in (w .«ticket_root») ≡ a → eqb (w .domains) 1 ≡ b → Rest (w .«ticket_root») (getD os i 0) r
         by true true x y =
             let one = eqb-true (w .domains) 1 y in
             let real-home = home-real i l in
-            let z : n ≡ 0 + 256 * getD os i 0 = rw (x, y) at e in
-            let none : n ≡ 0 = omega arith in
-            rw none of-idle
+            let z : r ≡ 0 = rw (x, y) at e in
+            rw z (of-idle (omega arith))
         by true false x y = wait (rw (ne-eqb (getD os i 0) 0 (home-inner i l (eqb-false (w .domains) 1 y)))) (rw (x, y) at e)
         by false b x y = wait (rw x (and-false (eqb (getD os i 0) 0))) (rw x at e)
 
     pub homes-there : Homes-there (w .«ticket_root») (w .domains) (w .threads) os
-    homes-there = record { home = home-real; rest = λ i l. rest-number i l _ refl }
+    homes-there = record { home = home-real; rest = λ i l. rest-row i l _ refl }
 
     module _ (s : State) where
       abbrev domain-at : ℕ → Bool

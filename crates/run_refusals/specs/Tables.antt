@@ -1,8 +1,8 @@
 -- The tests of a state by a table of the records' owners. proofs/ shows that they are those of the model. Assumes nothing: these are definitions.
 use mathlib.Core.Path.{_≡_}
-use mathlib.Core.Bool.{Bool, true, false, _&&_, _||_, not, cond}
+use mathlib.Core.Bool.{Bool, false, _&&_, _||_, not, cond}
 use mathlib.Core.List.{List}
-use Prim.Native.Nat.{ℕ, _+_, _*_, _-_, _<_}
+use Prim.Native.Nat.{ℕ, _+_, _-_, _<_}
 use lib.Dec.{eqb, ltb, leb}
 use lib.ListN.{getD, length}
 use Rattle.model.specs.declared.PlaceArrays.{PlaceArrays}
@@ -10,7 +10,8 @@ use Rattle.model.specs.declared.PlaceWords.{PlaceWords}
 use Rattle.model.specs.declared.State.{State}
 use Rattle.model.specs.Scans.{all-below}
 use Rattle.model.specs.Places.{has-domain, has-peer, has-word}
-use Rattle.model.specs.Trees.{Tree, meets, child-from, is-record, owner-domain}
+use Rattle.model.specs.Trees.{Tree, meets, is-record, owner-domain}
+use Rattle.paths.specs.Records.{own-record-in}
 
 -- a thread's record: its home, or 255 where there is no such thread
 abbrev pub thread-owner : (threads : ℕ) → (homes : List ℕ) → (number : ℕ) → ℕ
@@ -62,15 +63,11 @@ barred-in k r l = eqb l 0 && (eqb r 6 || ticket-in k)
 abbrev pub domain-in : (kind : ℕ) → Tree → (owners : List ℕ) → (home row domain peer : ℕ) → Bool
 domain-in k t os h r l p = not (barred-in k r l) && (meets 6 t h l && peer-in os r l p)
 
--- the record with which a thread works at the root, by its home
-abbrev pub root-record-in : Tree → (thread home : ℕ) → ℕ
-root-record-in t i h = cond (eqb 0 h) i (256 + child-from 6 t 0 h)
-
 -- Draw, Watch and Raise: at a ticket root alone; a watched status is at most 65,535
 unfoldable pub ticket-place-in : (kind : ℕ) → Tree → (statuses : List ℕ) → (thread home : ℕ) → PlaceWords → Bool
 ticket-place-in k t vs i h q =
     ticket-in k && (not (ltb 13 (q .row)) && (eqb (q .word) 0 && (eqb (q .domain) 0 && (eqb (q .peer) 0
-    && (not (eqb (q .row) 12) || leb (getD vs (root-record-in t i h) 0) 65535)))))
+    && (not (eqb (q .row) 12) || leb (getD vs (own-record-in t i h 0) 0) 65535)))))
 
 unfoldable pub place-in : (kind : ℕ) → Tree → (owners statuses : List ℕ) → (thread home : ℕ) → PlaceWords → Bool
 place-in k t os vs i h q =
@@ -85,33 +82,23 @@ root-in k b v g = cond (eqb k 0) (eqb v 0 && eqb g 0) (eqb b 0)
 abbrev pub idle-in : PlaceWords → Bool
 idle-in q = eqb (q .row) 0 && (eqb (q .domain) 0 && (eqb (q .peer) 0 && eqb (q .word) 0))
 
--- row, domain and record of a place in one number, from which each can be told
-pub record Joined (row domain peer joined : ℕ) : Type 0 where
-  pub row-small : row < 256
-  pub domain-small : domain < 256
-  pub is-sum : joined ≡ row + 256 * domain + 65536 * peer
-
--- Idle, or a row without record and word at a domain
+-- a row without record and word at a domain, or Idle
 abbrev pub rests-in : (row domain : ℕ) → PlaceWords → Bool
-rests-in r h q = idle-in q || (eqb (q .row) r && (eqb (q .domain) h && (eqb (q .peer) 0 && eqb (q .word) 0)))
+rests-in r h q = eqb (q .word) 0 && (eqb (q .peer) 0 && cond (eqb (q .row) r) (eqb (q .domain) h) (eqb (q .row) 0 && eqb (q .domain) 0))
 
 -- the row of threads that rest: Wait, but Idle where their home is a ticket root, which is then the only domain
 abbrev pub resting-row : (kind domains : ℕ) → ℕ
 resting-row k n = cond (ticket-in k && eqb n 1) 0 4
 
--- an answer that is true only where a place rests, for the row and the domain that have the number
-pub record Rests (resting : ℕ) (q : PlaceWords) (answer : Bool) : Type 0 where
-  pub rests : answer ≡ true → (r h : ℕ) → r < 256 → h < 256 → resting ≡ r + 256 * h → rests-in r h q ≡ true
-
--- the number of a thread that rests: of Wait at its home, which is then no ticket root; or of Idle
-pub data Rest-number (kind home : ℕ) : (number : ℕ) → Type 0 where
-  of-wait : barred-in kind 4 home ≡ false → Rest-number kind home (4 + 256 * home)
-  of-idle : Rest-number kind home 0
+-- the row of a thread that rests: Wait at its home, which is then no ticket root; or Idle, where its home is the root
+pub data Rest (kind home : ℕ) : (row : ℕ) → Type 0 where
+  of-wait : barred-in kind 4 home ≡ false → Rest kind home 4
+  of-idle : home ≡ 0 → Rest kind home 0
 
 -- every thread's home is a domain of the tree, and at rest there its place is good
 pub record Homes-there (kind domains threads : ℕ) (owners : List ℕ) : Type 0 where
   pub home : (i : ℕ) → i < threads → getD owners i 0 < domains
-  pub rest : (i : ℕ) → i < threads → Rest-number kind (getD owners i 0) (resting-row kind domains + 256 * getD owners i 0)
+  pub rest : (i : ℕ) → i < threads → Rest kind (getD owners i 0) (resting-row kind domains)
 
 -- what the state has of a thread: the next of its record, and its place
 abbrev pub used-in : (kind : ℕ) → Tree → (owners statuses : List ℕ) → (thread : ℕ) → PlaceWords → (next : ℕ) → Bool

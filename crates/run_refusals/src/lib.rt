@@ -14,7 +14,6 @@ mod shapes;
 mod states;
 mod unused;
 
-use model::State;
 use model::TreeWords;
 use refusals::Refusal;
 
@@ -121,35 +120,4 @@ pub fn lent_refusal_of<'s, 'c>(
         return refusals::refusal_at(10, 0);
     }
     refusals::schedule_refusal_of(tree.threads, schedule, room)
-}
-
-// The same of a state that is taken by value.
-pub fn run_refusal_of<'c>(
-    tree: TreeWords,
-    state: State,
-    entries: &'c [u64; 64],
-    tenures: &'c [u64; 64],
-    longest: &'c [u64; 64],
-    schedule: &[u16],
-    room: usize,
-) -> Refusal
-    ensures { λ r. ⌜ r ≡ refusal-words (first-refusal (run-tests-before-19 (tree-of tree) (lock-state state (counters-in (now (entries .entry)) (now (tenures .entry)) (now (longest .entry)))) (now (schedule .entry)) room)) ⌝ }
-{
-    lent_refusal_of(
-        tree,
-        &state.tails,
-        &state.nexts,
-        &state.statuses,
-        &state.places.rows,
-        &state.places.domains,
-        &state.places.peers,
-        &state.places.words,
-        state.ticket,
-        state.grant,
-        entries,
-        tenures,
-        longest,
-        schedule,
-        room,
-    )
 }

@@ -1,13 +1,13 @@
 // The tests of the homes and of a state that is handed in, in a tree that 4 to 8 do not refuse.
 ghost use mathlib.Core.Path.{_≡_};
 ghost use mathlib.Core.Bool.{_&&_};
-ghost use Prim.Native.Nat.{_+_, _*_, _<_, _≤_};
+ghost use Prim.Native.Nat.{_+_, _<_, _≤_};
 ghost use lib.ListN.{getD};
 ghost use Rattle.model.specs.Scans.{all-below};
-ghost use Rattle.model.specs.Trees.{meets, child-from};
+ghost use Rattle.model.specs.Trees.{meets};
 ghost use Rattle.model.specs.States.{numbers-at};
 ghost use Rattle.refusals.specs.Arrays.{parents-in, places-in, Lower};
-ghost use Rattle.run_refusals.specs.Tables.{member-in, next-in, tail-and-next-in, peer-in, barred-in, domain-in, root-record-in, ticket-place-in, place-in, root-in, Joined, resting-row, Rests, Rest-number, Homes-there, used-in};
+ghost use Rattle.run_refusals.specs.Tables.{member-in, next-in, tail-and-next-in, peer-in, barred-in, domain-in, ticket-place-in, place-in, root-in, rests-in, resting-row, Rest, Homes-there, used-in};
 use crate::places;
 use crate::shapes;
 use model::PlaceWords;
@@ -108,44 +108,6 @@ fn is_barred_at(ticket_root: u32, row: u8, l: u8) -> bool
     ticket_root != 0
 }
 
-// The domain below the root on the way up from a home other than the root.
-fn root_child_at(parents: &[u8; 64], domains: u32, home: u8) -> u8
-    requires { ⌜ domains ≤ 64 ⌝ }
-    requires { ⌜ Lower domains (now parents) ⌝ }
-    requires { ⌜ home < domains ⌝ }
-    ensures { λ r. ⌜ (r ≡ child-from 6 (parents-in domains (now (parents .entry))) 0 home) × (r < 64) ⌝ }
-{
-    let mut c = home;
-    let mut left: u32 = 6;
-    while 0 < left {
-        if c == 0 {
-            return c;
-        }
-        let at = c as usize;
-        let p = parents[at];
-        if p == 0 {
-            return c;
-        }
-        c = p;
-        left -= 1;
-    }
-    c
-}
-
-// The record with which a thread works at the root.
-fn root_record_at(parents: &[u8; 64], domains: u32, i: u16, home: u8) -> u16
-    requires { ⌜ (domains ≤ 64) × (i < 256) ⌝ }
-    requires { ⌜ Lower domains (now parents) ⌝ }
-    requires { ⌜ home < domains ⌝ }
-    ensures { λ r. ⌜ (r ≡ root-record-in (parents-in domains (now (parents .entry))) i home) × (r < 320) ⌝ }
-{
-    if home == 0 {
-        return i;
-    }
-    let c = root_child_at(parents, domains, home);
-    256 + c as u16
-}
-
 // Draw, Watch and Raise: at a ticket root alone, a watched status at most 65,535.
 fn good_ticket_place_at(
     parents: &[u8; 64],
@@ -179,7 +141,7 @@ fn good_ticket_place_at(
     if q.row != 12 {
         return true;
     }
-    let r = root_record_at(parents, domains, i, home);
+    let r = paths::record_at(parents, domains, i, home, 0);
     let at = r as usize;
     statuses[at] <= 65535
 }
@@ -260,13 +222,6 @@ fn good_place_at(
     peer == 0
 }
 
-// The numbers of a place before its word, as one number, so that one comparison tests all three.
-fn joined(row: u8, domain: u8, peer: u16) -> u32
-    ensures { λ r. ⌜ Joined row domain peer r ⌝ }
-{
-    row as u32 + 256 * (domain as u32) + 65536 * (peer as u32)
-}
-
 // The row of the threads that rest.
 pub(crate) fn resting_row_of(ticket_root: u32, domains: u32) -> u8
     ensures { λ r. ⌜ r ≡ resting-row «ticket_root» domains ⌝ }
@@ -281,17 +236,22 @@ pub(crate) fn resting_row_of(ticket_root: u32, domains: u32) -> u8
 }
 
 // Wait at home, as most threads are under contention, or Idle: the places that need no further test.
-fn rests_at(resting: u32, q: PlaceWords) -> bool
-    ensures { λ r. ⌜ Rests resting q r ⌝ }
+fn rests_at(row: u8, home: u8, q: PlaceWords) -> bool
+    ensures { λ r. ⌜ r ≡ rests-in row home q ⌝ }
 {
     if q.word != 0 {
         return false;
     }
-    let numbers = joined(q.row, q.domain, q.peer);
-    if numbers == resting {
-        return true;
+    if q.peer != 0 {
+        return false;
     }
-    numbers == 0
+    if q.row == row {
+        return q.domain == home;
+    }
+    if q.row != 0 {
+        return false;
+    }
+    q.domain == 0
 }
 
 // What the state has of a thread: its record and its place.
@@ -304,12 +264,12 @@ fn good_thread_at(
     i: u16,
     q: PlaceWords,
     next: u16,
-    resting: u32,
+    resting: u8,
 ) -> bool
     requires { ⌜ (domains ≤ 64) × (i < 256) ⌝ }
     requires { ⌜ Lower domains (now parents) ⌝ }
     requires { ⌜ getD (now owners) i 0 < domains ⌝ }
-    requires { ⌜ Rest-number «ticket_root» (getD (now owners) i 0) resting ⌝ }
+    requires { ⌜ Rest «ticket_root» (getD (now owners) i 0) resting ⌝ }
     ensures { λ r. ⌜ r ≡ used-in «ticket_root» (parents-in domains (now (parents .entry))) (now (owners .entry)) (now (statuses .entry)) i q next ⌝ }
 {
     let at = i as usize;
@@ -317,7 +277,7 @@ fn good_thread_at(
     if !good_next_at(owners, home, next) {
         return false;
     }
-    if rests_at(resting, q) {
+    if rests_at(resting, home, q) {
         return true;
     }
     good_place_at(parents, owners, statuses, domains, ticket_root, i, home, q)
@@ -348,7 +308,6 @@ pub(crate) fn good_threads<'s>(
         let at = i as usize;
         let q = places::place_at(rows, domains, peers, words, at);
         let next = nexts[at];
-        let resting = joined(row, owners[at], 0);
         if !good_thread_at(
             parents,
             owners,
@@ -358,7 +317,7 @@ pub(crate) fn good_threads<'s>(
             i,
             q,
             next,
-            resting,
+            row,
         ) {
             return false;
         }

@@ -1,10 +1,11 @@
 -- From what the refusals and the run answer to the answers of the calls. Assumes nothing.
 use mathlib.Core.Path.{_≡_, refl, sym, ap, _∙_}
-use mathlib.Core.Bool.{Bool, true, false}
+use mathlib.Core.Bool.{Bool, true, false, cond}
 use mathlib.Core.List.{List, [], _∷_, _++_}
 use Prim.Native.Nat.{ℕ, _/_, _%_, _≤_, _<_}
 use native.Mathlib.Omega.{arith}
 use native.Mathlib.Decide.{ℕ-discrete}
+use lib.Dec.{eqb}
 use lib.ListN.{length, getD}
 use borrow.Author.Tests.{ne-eqb, eq-eqb}
 use Rattle.model.specs.declared.TreeWords.{TreeWords}
@@ -15,9 +16,10 @@ use Rattle.model.specs.declared.Counts.{Counts}
 use Rattle.model.specs.declared.RunReply.{RunReply}
 use Rattle.model.specs.Trees.{Tree, tree-of}
 use Rattle.model.specs.States.{place}
-use Rattle.model.specs.Steps.{kind-number, Step, step}
-use Rattle.model.specs.Runs.{steps, state-after, counts-of, run-of, run}
+use Rattle.model.specs.Steps.{Step, step}
+use Rattle.model.specs.Runs.{steps, state-after, counts-of, Run, run-of, run}
 use Rattle.model.specs.Counters.{lock-state, counters-after}
+use Rattle.model.specs.Refusals as model
 use Rattle.model.specs.Refusals.{refusal, Test, first-refusal, entry-tests, room-tests, tree-tests, counter-tests, has-number, bad-length, bad-entry, bad-room, step-tests-before-19, step-tests, run-tests-before-19, run-tests, step-refusal, run-refusal}
 use Rattle.model.specs.Answers.{counters-behind, first-kind, first-domain, step-reply, step-answer, run-refused, run-reply, run-buffer, run-answer, trace-answer}
 use Rattle.model.proofs.Laws.Runs.{steps-length}
@@ -92,38 +94,42 @@ module _ (t : Tree) (i : ℕ) where
         | no z ↦ first-decides xs zs z ∙ early-refusal s ∙ sym (first-decides ys zs (λ y. z (ap (λ r. r .number) (early-refusal s) ∙ y)))
       ]
 
-module _ (w : TreeWords) (s : LockState) (i : ℕ) (r : Refusal) (e : r ≡ refusal-words (run-refusal (tree-of w) s (i ∷ []) 1)) where
-  pub step-refuses : (r .number ≡ 0 → ⊥) → record { number = r .number; place = r .place; kind = 0; domain = 0; state = s } ≡ step-answer w s i
-  unfolding step-answer step-reply
-  step-refuses n = rw (e, one-refusal (tree-of w) i s, ne-eqb (run-refusal (tree-of w) s (i ∷ []) 1 .number) 0 (refusal-words-not r _ e n))
+-- all but the counts of a run's reply, with kind and domain of its first step
+reply-told :
+    (r : model.Refusal) (s : LockState) (xs : List Step) (x : Run) (c : Counters) → x .state ≡ state-after (s .words) xs → (b : Bool) → eqb (r .number) 0 ≡ b →
+    (let y = run-reply r s x c in
+    record { number = y .number; place = y .place; kind = cond (eqb (y .number) 0) (first-kind xs) 0; domain = cond (eqb (y .number) 0) (first-domain xs) 0; state = y .state } ≡ step-reply r s xs c)
+unfolding step-reply run-reply
+reply-told r s xs x c f true e = rw (e, f)
+reply-told r s xs x c f false e = rw (e, e)
 
-  module _ (z : r .number ≡ 0) where
-    one-runs : run-refusal (tree-of w) s (i ∷ []) 1 .number ≡ 0
-    one-runs = refusal-words-zero r _ e z
+-- is a step's reply: a step is a run of its one entry
+pub step-told :
+    (w : TreeWords) (s : LockState) (i : ℕ) (b : List ℕ) → length b ≡ 1 →
+    (let y = run-answer w s (i ∷ []) b in let xs = steps (tree-of w) (i ∷ []) (s .words) in
+    record { number = y .number; place = y .place; kind = cond (eqb (y .number) 0) (first-kind xs) 0; domain = cond (eqb (y .number) 0) (first-domain xs) 0; state = y .state } ≡ step-answer w s i)
+unfolding step-answer run-answer run run-of
+step-told w s i b e =
+    rw (e, one-refusal (tree-of w) i s)
+    (reply-told (run-refusal (tree-of w) s (i ∷ []) 1) s (steps (tree-of w) (i ∷ []) (s .words)) (run-of (s .words) (steps (tree-of w) (i ∷ []) (s .words))) (counters-behind (tree-of w) (i ∷ []) s) refl _ refl)
 
-    pub one-early : first-refusal (run-tests-before-19 (tree-of w) s (i ∷ []) 1) .number ≡ 0
-    one-early = early-run (tree-of w) s (i ∷ []) 1 one-runs
-
-    pub one-small : i < 256
-    one-small = let R = run-facts (tree-of w) s (i ∷ []) 1 one-runs in below (tree-of w) (i ∷ []) (R .tree) (R .threads) 0 (omega arith)
-
-    pub step-answered :
-        (n : State) (codes₀ codes : List ℕ) (domain : ℕ) (c : Counters) → n ≡ run (tree-of w) (i ∷ []) (s .words) .state → length codes₀ ≡ 1 →
-        codes ≡ codes-front codes₀ (steps (tree-of w) (i ∷ []) (s .words)) →
-        domain ≡ row-domain (getD (w .homes) i 0) ((getD codes 0 0 / 8) % 16) (getD codes 0 0 / 128) →
-        c ≡ counters-after (tree-of w) (s .counters) (steps (tree-of w) (i ∷ []) (s .words)) →
-        record { number = 0; place = 0; kind = getD codes 0 0 % 8; domain = domain; state = lock-state n c } ≡ step-answer w s i
-    unfolding step-answer step-reply first-kind first-domain counters-behind run run-of steps state-after step step-refusal
-    step-answered n codes₀ codes domain c f room e′ at counted =
-        let R = run-facts (tree-of w) s (i ∷ []) 1 one-runs in
-        let x = step (tree-of w) i (s .words) in
-        let code : getD codes 0 0 ≡ step-code x = ap (λ v. getD v 0 0) e′ ∙ first-code codes₀ x [] (omega (arith, room)) in
-        let kind : getD codes 0 0 % 8 ≡ kind-number (x .kind) = ap (λ v. v % 8) code ∙ code-kind x in
-        let where-at : domain ≡ x .domain =
-        at ∙ ap (λ v. row-domain (getD (w .homes) i 0) ((v / 8) % 16) (v / 128)) code
-        ∙ domain-of-code w (s .words) i (R .form) (thread-at (tree-of w) (i ∷ []) (R .threads) 0 (omega arith)) (below (tree-of w) (i ∷ []) (R .tree) (R .threads) 0 (omega arith)) in
-        let y = ap (λ x. x .number) (one-refusal (tree-of w) i s) ∙ one-runs in
-        rw (f, kind, where-at, counted, eq-eqb (step-refusal (tree-of w) s i .number) 0 y)
+-- what is told of a run's first step, by its one number
+pub told-first :
+    (w : TreeWords) (s : LockState) (is : List ℕ) (room : ℕ) → run-refusal (tree-of w) s is room .number ≡ 0 → (codes₀ codes : List ℕ) → length codes₀ ≡ 1 →
+    codes ≡ codes-front codes₀ (steps (tree-of w) is (s .words)) →
+    (cond (eqb (length is) 0) 0 (getD codes 0 0 % 8) ≡ first-kind (steps (tree-of w) is (s .words)))
+    × (cond (eqb (length is) 0) 0 (row-domain (getD (w .homes) (getD is 0 0) 0) ((getD codes 0 0 / 8) % 16) (getD codes 0 0 / 128)) ≡ first-domain (steps (tree-of w) is (s .words)))
+unfolding steps first-kind first-domain
+told-first w s [] room z codes₀ codes l e = (refl, refl)
+told-first w s (i ∷ is) room z codes₀ codes l e =
+    let R = run-facts (tree-of w) s (i ∷ is) room z in
+    let x = step (tree-of w) i (s .words) in
+    let code : getD codes 0 0 ≡ step-code x = ap (λ v. getD v 0 0) e ∙ first-code codes₀ x _ (omega (arith, l)) in
+    let some = ne-eqb (length (i ∷ is)) 0 (λ z. omega arith) in (
+      rw some (ap (λ v. v % 8) code ∙ code-kind x),
+      rw some (ap (λ v. row-domain (getD (w .homes) i 0) ((v / 8) % 16) (v / 128)) code
+          ∙ domain-of-code w (s .words) i (R .form) (thread-at (tree-of w) (i ∷ is) (R .threads) 0 (omega arith)) (below (tree-of w) (i ∷ is) (R .tree) (R .threads) 0 (omega arith))),
+    )
 
 -- A RUN
 module _ (w : TreeWords) (s : LockState) (is b : List ℕ) (r : Refusal) (e : r ≡ refusal-words (run-refusal (tree-of w) s is (length b))) where
@@ -146,6 +152,9 @@ module _ (w : TreeWords) (s : LockState) (is b : List ℕ) (r : Refusal) (e : r 
     kinds-few kinds f =
         let n : counts-by kinds .steps ≡ length (steps (tree-of w) is (s .words)) = ap (λ v. counts-by v .steps) f ∙ ap (λ v. v .steps) (counts-kinds (steps (tree-of w) is (s .words))) in
         omega (arith, n, steps-length (tree-of w) is (s .words), run-facts (tree-of w) s is (length b) run-passes .short)
+
+    pub first-small : 0 < length is → getD is 0 0 < 256
+    first-small l = let R = run-facts (tree-of w) s is (length b) run-passes in below (tree-of w) is (R .tree) (R .threads) 0 l
 
     pub run-answered :
         (n : State) (b′ kinds : List ℕ) (counts : Counts) (c : Counters) → n ≡ run (tree-of w) is (s .words) .state → b′ ≡ trace-front b (run (tree-of w) is (s .words)) →

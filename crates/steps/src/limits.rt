@@ -12,7 +12,6 @@ ghost use Rattle.run_refusals.specs.Counts.{counters-in};
 ghost use Rattle.refusals.specs.Lowest.{Lowest};
 ghost use Rattle.steps.specs.Counting.{Room-answered};
 use crate::run;
-use model::State;
 use model::TreeWords;
 use refusals::Refusal;
 
@@ -178,36 +177,6 @@ pub fn lent_counter_refusal_of<'s, 'c>(
         number: 0,
         place: 0,
     }
-}
-
-// The same of a state that is taken by value.
-pub fn counter_refusal_of<'c>(
-    tree: TreeWords,
-    state: State,
-    entries: &'c [u64; 64],
-    tenures: &'c [u64; 64],
-    longest: &'c [u64; 64],
-    schedule: &[u16],
-) -> Refusal
-    requires { ⌜ first-refusal (run-tests-before-19 (tree-of tree) (lock-state state (counters-in (now entries) (now tenures) (now longest))) (now schedule) (length (now schedule))) .number ≡ 0 ⌝ }
-    ensures { λ r. ⌜ r ≡ refusal-words (first-refusal (counter-tests (tree-of tree) (lock-state state (counters-in (now (entries .entry)) (now (tenures .entry)) (now (longest .entry)))) (now (schedule .entry)))) ⌝ }
-{
-    lent_counter_refusal_of(
-        tree,
-        &state.tails,
-        &state.nexts,
-        &state.statuses,
-        &state.places.rows,
-        &state.places.domains,
-        &state.places.peers,
-        &state.places.words,
-        state.ticket,
-        state.grant,
-        entries,
-        tenures,
-        longest,
-        schedule,
-    )
 }
 
 // A run meets 4 to 9, 16, 10 to 13 and 19. A step is a run of one entry, with room for one.

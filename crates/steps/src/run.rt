@@ -14,9 +14,7 @@ ghost use Rattle.refusals.specs.Arrays.{places-in, lent-state};
 ghost use Rattle.steps.specs.Running.{kinds-of, counted, counts-by, traced-at, trace-front, code-of, code-stored, codes-front, placed};
 use members::counting;
 use model::Counts;
-use model::PlaceArrays;
 use model::PlaceWords;
-use model::State;
 use model::TreeWords;
 use run_refusals::places;
 
@@ -214,67 +212,4 @@ pub fn run_lent(
     *kinds = tally;
     *ticket = drawn;
     *granted = raised;
-}
-
-// The steps of a schedule on a state: it is taken apart, so that its arrays can be lent, and put together again. How many of them are of each kind, what each of the first was, as many as there is room for, and the counters of the domains are written where the caller lends room.
-pub fn run_steps(
-    tree: TreeWords,
-    state: State,
-    schedule: &[u16],
-    trace: &mut [u16],
-    kinds: &mut [u32; 6],
-    codes: &mut [u16],
-    entries: &mut [u64; 64],
-    tenures: &mut [u64; 64],
-    longest: &mut [u64; 64],
-) -> State
-    requires { ⌜ first-refusal (run-tests-before-19 (tree-of tree) (lock-state state (counters-in (now entries) (now tenures) (now longest))) (now schedule) (length (now trace))) .number ≡ 0 ⌝ }
-    ensures { λ r. ⌜ r ≡ run (tree-of tree) (now (schedule .entry)) state .state ⌝ }
-    ensures { λ r. ⌜ now (trace .exit) ≡ trace-front (now (trace .entry)) (run (tree-of tree) (now (schedule .entry)) state) ⌝ }
-    ensures { λ r. ⌜ now (kinds .exit) ≡ kinds-of (steps (tree-of tree) (now (schedule .entry)) state) ⌝ }
-    ensures { λ r. ⌜ now (codes .exit) ≡ codes-front (now (codes .entry)) (steps (tree-of tree) (now (schedule .entry)) state) ⌝ }
-    ensures { λ r. ⌜ counters-in (now (entries .exit)) (now (tenures .exit)) (now (longest .exit)) ≡ counters-after (tree-of tree) (counters-in (now (entries .entry)) (now (tenures .entry)) (now (longest .entry))) (steps (tree-of tree) (now (schedule .entry)) state) ⌝ }
-{
-    let mut tails = state.tails;
-    let mut nexts = state.nexts;
-    let mut statuses = state.statuses;
-    let mut ticket = state.ticket;
-    let mut grant = state.grant;
-    let mut rows = state.places.rows;
-    let mut domains = state.places.domains;
-    let mut peers = state.places.peers;
-    let mut words = state.places.words;
-    run_lent(
-        tree,
-        &mut tails,
-        &mut nexts,
-        &mut statuses,
-        &mut rows,
-        &mut domains,
-        &mut peers,
-        &mut words,
-        &mut ticket,
-        &mut grant,
-        schedule,
-        trace,
-        kinds,
-        codes,
-        entries,
-        tenures,
-        longest,
-    );
-    let places = PlaceArrays {
-        rows,
-        domains,
-        peers,
-        words,
-    };
-    State {
-        tails,
-        nexts,
-        statuses,
-        places,
-        ticket,
-        grant,
-    }
 }

@@ -2,20 +2,22 @@
 ghost use mathlib.Core.Path.{_≡_};
 ghost use Rattle.model.specs.Trees.{tree-of};
 ghost use Rattle.model.specs.Counters.{lock-state};
+ghost use Rattle.model.specs.Laws.{Typed};
 ghost use Rattle.model.specs.Refusals.{first-refusal};
-ghost use Rattle.refusals.specs.Arrays.{refusal-words};
+ghost use Rattle.refusals.specs.Arrays.{refusal-words, lent-state};
 ghost use Rattle.refusals.specs.Lowest.{Lowest};
 ghost use Rattle.run_refusals.specs.Counts.{counters-in};
 ghost use Rattle.waits.specs.Rows.{greatest-divisor, mean};
 ghost use Rattle.waits.specs.Refusals.{waits-tests-before-19, bad-under-way, waits-on-refusal};
-ghost use Rattle.waits.specs.Answers.{waits-on-answer, waits-on-trace, waits-on-rows, waits-on-under-way};
+ghost use Rattle.waits.specs.Answers.{waits-answer, waits-trace, waits-rows, waits-on-answer, waits-on-trace, waits-on-rows, waits-on-under-way};
 ghost use Rattle.waits_call.specs.Waiting.{bad-number};
 
+mod tested;
 mod waiting;
 
 use model::Counters;
-use model::Counts;
 use model::LockState;
+use model::PlaceArrays;
 use model::State;
 use model::TreeWords;
 use refusals::Refusal;
@@ -56,10 +58,18 @@ pub fn mean_of(total: u64, attempts: u64) -> Fraction
     }
 }
 
-// A run with waits meets 4 to 9, 16 and 10 to 13, then 18; whoever takes its steps tests 19. The counters are lent, so that the words alone are copied.
-pub fn waits_refusal_of<'c>(
+// A run with waits meets 4 to 9, 16 and 10 to 13, then 18; whoever takes its steps tests 19. The arrays of the state are lent.
+pub fn waits_refusal_of<'s, 'c>(
     tree: TreeWords,
-    state: State,
+    tails: &'s [u16; 64],
+    nexts: &'s [u16; 320],
+    statuses: &'s [u64; 320],
+    places: &'s [u8; 256],
+    domains: &'s [u8; 256],
+    peers: &'s [u16; 256],
+    words: &'s [u64; 256],
+    ticket: u16,
+    granted: u16,
     entries: &'c [u64; 64],
     tenures: &'c [u64; 64],
     longest: &'c [u64; 64],
@@ -67,9 +77,25 @@ pub fn waits_refusal_of<'c>(
     room: usize,
     row_room: usize,
 ) -> Refusal
-    ensures { λ r. ⌜ r ≡ refusal-words (first-refusal (waits-tests-before-19 (tree-of tree) (lock-state state (counters-in (now (entries .entry)) (now (tenures .entry)) (now (longest .entry)))) (now (schedule .entry)) room «row_room»)) ⌝ }
+    ensures { λ r. ⌜ r ≡ refusal-words (first-refusal (waits-tests-before-19 (tree-of tree) (lock-state (lent-state (now (tails .entry)) (now (nexts .entry)) (now (statuses .entry)) (now (places .entry)) (now (domains .entry)) (now (peers .entry)) (now (words .entry)) ticket granted) (counters-in (now (entries .entry)) (now (tenures .entry)) (now (longest .entry)))) (now (schedule .entry)) room «row_room»)) ⌝ }
 {
-    let r = run_refusals::run_refusal_of(tree, state, entries, tenures, longest, schedule, room);
+    let r = run_refusals::lent_refusal_of(
+        tree,
+        tails,
+        nexts,
+        statuses,
+        places,
+        domains,
+        peers,
+        words,
+        ticket,
+        granted,
+        entries,
+        tenures,
+        longest,
+        schedule,
+        room,
+    );
     if r.number != 0 {
         return r;
     }
@@ -111,9 +137,17 @@ fn lowest_bad_number(tree: TreeWords, under_way: &[u64; 256]) -> u32
 }
 
 // With 27 and 19 after them.
-fn refusal_of<'c>(
+pub(crate) fn refusal_of<'s, 'c>(
     tree: TreeWords,
-    state: State,
+    tails: &'s [u16; 64],
+    nexts: &'s [u16; 320],
+    statuses: &'s [u64; 320],
+    places: &'s [u8; 256],
+    domains: &'s [u8; 256],
+    peers: &'s [u16; 256],
+    words: &'s [u64; 256],
+    ticket: u16,
+    granted: u16,
     entries: &'c [u64; 64],
     tenures: &'c [u64; 64],
     longest: &'c [u64; 64],
@@ -122,11 +156,20 @@ fn refusal_of<'c>(
     row_room: usize,
     under_way: &[u64; 256],
 ) -> Refusal
-    ensures { λ r. ⌜ r ≡ refusal-words (waits-on-refusal (tree-of tree) (lock-state state (counters-in (now (entries .entry)) (now (tenures .entry)) (now (longest .entry)))) (now (schedule .entry)) room «row_room» (now («under_way» .entry))) ⌝ }
+    requires { ⌜ Typed (lent-state (now tails) (now nexts) (now statuses) (now places) (now domains) (now peers) (now words) ticket granted) ⌝ }
+    ensures { λ r. ⌜ r ≡ refusal-words (waits-on-refusal (tree-of tree) (lock-state (lent-state (now (tails .entry)) (now (nexts .entry)) (now (statuses .entry)) (now (places .entry)) (now (domains .entry)) (now (peers .entry)) (now (words .entry)) ticket granted) (counters-in (now (entries .entry)) (now (tenures .entry)) (now (longest .entry)))) (now (schedule .entry)) room «row_room» (now («under_way» .entry))) ⌝ }
 {
     let r = waits_refusal_of(
         tree,
-        state,
+        tails,
+        nexts,
+        statuses,
+        places,
+        domains,
+        peers,
+        words,
+        ticket,
+        granted,
         entries,
         tenures,
         longest,
@@ -144,10 +187,102 @@ fn refusal_of<'c>(
             place: k,
         };
     }
-    steps::limits::counter_refusal_of(tree, state, entries, tenures, longest, schedule)
+    steps::limits::lent_counter_refusal_of(
+        tree,
+        tails,
+        nexts,
+        statuses,
+        places,
+        domains,
+        peers,
+        words,
+        ticket,
+        granted,
+        entries,
+        tenures,
+        longest,
+        schedule,
+    )
 }
 
-// A run, and in a row buffer of its own the waits of each thread's attempts and of all together, five numbers a row, from the attempts under way; their numbers after the run stand where those before it stood. Refused, state, trace, rows and numbers as they came.
+// A run, and in a row buffer of its own the waits of each thread's attempts and of all together, five numbers a row; refused, state, trace and rows as they came.
+pub fn run_waits(
+    tree: TreeWords,
+    state: LockState,
+    schedule: &[u16],
+    trace: &mut [u16],
+    rows: &mut [u64],
+) -> WaitsReply
+    ensures { λ r. ⌜ r ≡ waits-answer tree state (now (schedule .entry)) (now (trace .entry)) (now (rows .entry)) ⌝ }
+    ensures { λ r. ⌜ now (trace .exit) ≡ waits-trace tree state (now (schedule .entry)) (now (trace .entry)) (now (rows .entry)) ⌝ }
+    ensures { λ r. ⌜ now (rows .exit) ≡ waits-rows tree state (now (schedule .entry)) (now (trace .entry)) (now (rows .entry)) ⌝ }
+{
+    let mut tails = state.words.tails;
+    let mut nexts = state.words.nexts;
+    let mut statuses = state.words.statuses;
+    let mut places = state.words.places.rows;
+    let mut domains = state.words.places.domains;
+    let mut peers = state.words.places.peers;
+    let mut words = state.words.places.words;
+    let mut ticket = state.words.ticket;
+    let mut grant = state.words.grant;
+    let mut entries = state.counters.entries;
+    let mut tenures = state.counters.tenures;
+    let mut longest = state.counters.longest;
+    let mut under_way = [0u64; 256];
+    let r = tested::waits_tested(
+        tree,
+        &mut tails,
+        &mut nexts,
+        &mut statuses,
+        &mut places,
+        &mut domains,
+        &mut peers,
+        &mut words,
+        &mut ticket,
+        &mut grant,
+        &mut entries,
+        &mut tenures,
+        &mut longest,
+        schedule,
+        trace,
+        rows,
+        &mut under_way,
+    );
+    let stood = PlaceArrays {
+        rows: places,
+        domains,
+        peers,
+        words,
+    };
+    let after = State {
+        tails,
+        nexts,
+        statuses,
+        places: stood,
+        ticket,
+        grant,
+    };
+    let counters = Counters {
+        entries,
+        tenures,
+        longest,
+    };
+    let left = LockState {
+        words: after,
+        counters,
+    };
+    let counts = r.counts;
+    WaitsReply {
+        number: r.number,
+        place: r.place,
+        counts,
+        rows: r.rows,
+        state: left,
+    }
+}
+
+// The same from the attempts under way; their numbers after the run stand where those before it stood. Refused, the numbers as they came too.
 pub fn run_waits_on(
     tree: TreeWords,
     state: LockState,
@@ -161,67 +296,66 @@ pub fn run_waits_on(
     ensures { λ r. ⌜ now (rows .exit) ≡ waits-on-rows tree state (now (schedule .entry)) (now (trace .entry)) (now (rows .entry)) (now («under_way» .entry)) ⌝ }
     ensures { λ r. ⌜ now («under_way» .exit) ≡ waits-on-under-way tree state (now (schedule .entry)) (now (trace .entry)) (now (rows .entry)) (now («under_way» .entry)) ⌝ }
 {
-    let words = state.words;
-    let counters = state.counters;
-    let mut entries = counters.entries;
-    let mut tenures = counters.tenures;
-    let mut longest = counters.longest;
-    let r = refusal_of(
+    let mut tails = state.words.tails;
+    let mut nexts = state.words.nexts;
+    let mut statuses = state.words.statuses;
+    let mut places = state.words.places.rows;
+    let mut domains = state.words.places.domains;
+    let mut peers = state.words.places.peers;
+    let mut words = state.words.places.words;
+    let mut ticket = state.words.ticket;
+    let mut grant = state.words.grant;
+    let mut entries = state.counters.entries;
+    let mut tenures = state.counters.tenures;
+    let mut longest = state.counters.longest;
+    let r = tested::waits_tested(
         tree,
-        words,
-        &entries,
-        &tenures,
-        &longest,
-        schedule,
-        trace.len(),
-        rows.len(),
-        under_way,
-    );
-    if r.number != 0 {
-        return WaitsReply {
-            number: r.number,
-            place: r.place,
-            counts: Counts {
-                steps: 0,
-                entries: 0,
-                stays: 0,
-                root: 0,
-                passed: 0,
-                crossed: 0,
-            },
-            rows: 0,
-            state,
-        };
-    }
-    let mut kinds = [0u32; 6];
-    let after = waiting::run_counted(
-        tree,
-        words,
-        schedule,
-        trace,
-        &mut kinds,
-        rows,
-        under_way,
+        &mut tails,
+        &mut nexts,
+        &mut statuses,
+        &mut places,
+        &mut domains,
+        &mut peers,
+        &mut words,
+        &mut ticket,
+        &mut grant,
         &mut entries,
         &mut tenures,
         &mut longest,
+        schedule,
+        trace,
+        rows,
+        under_way,
     );
-    let counts = steps::run::counts_of(&kinds);
-    let counted = Counters {
+    let stood = PlaceArrays {
+        rows: places,
+        domains,
+        peers,
+        words,
+    };
+    let after = State {
+        tails,
+        nexts,
+        statuses,
+        places: stood,
+        ticket,
+        grant,
+    };
+    let counters = Counters {
         entries,
         tenures,
         longest,
     };
     let left = LockState {
         words: after,
-        counters: counted,
+        counters,
     };
-    let written = tree.threads + 1;
+    let counts = r.counts;
     WaitsReply {
-        number: 0,
-        place: 0,
+        number: r.number,
+        place: r.place,
         counts,
-        rows: written,
+        rows: r.rows,
         state: left,
     }
 }

@@ -7,14 +7,15 @@ ghost use lib.Seq.{sets};
 ghost use Rattle.model.specs.Trees.{tree-of};
 ghost use Rattle.model.specs.Runs.{steps, run};
 ghost use Rattle.model.specs.Counters.{lock-state, counters-after, most-counted};
+ghost use Rattle.model.specs.Laws.{Typed};
 ghost use Rattle.model.specs.Refusals.{run-refusal};
+ghost use Rattle.refusals.specs.Arrays.{lent-state};
 ghost use Rattle.run_refusals.specs.Counts.{counters-in};
 ghost use Rattle.waits.specs.Attempts.{under-way-below};
 ghost use Rattle.waits.specs.Rows.{row-with, capped, all-rows-from};
 ghost use Rattle.waits_call.specs.Tallies.{first, begins-number, mark-with, mark-of, number-of, finishes, wait-of, noted, rows-by, numbers-by};
 ghost use Rattle.steps.specs.Running.{kinds-of, counts-by, trace-front};
 ghost use Rattle.waits_call.specs.Waiting.{kinds-added, ticket-home, mark-at, Fits, Countable, Counted, Small, Marks-of, Handed-in, Marks-fit};
-use model::State;
 use model::TreeWords;
 
 // The entries are counted from 2^63 on, so that a mark can stand for every number that may be under way before them.
@@ -272,35 +273,43 @@ fn piece_end(from: usize, whole: usize) -> usize
     from + 1024
 }
 
-// The run of a whole schedule in pieces, the rows of its waits from the attempts under way and the numbers of those under way after it, and the counters of the domains. Each piece copies the state once, and what its steps were has room for one piece.
+// The run of a whole schedule in pieces on the arrays that are lent, the rows of its waits from the attempts under way and the numbers of those under way after it, and the counters of the domains. What its steps were has room for one piece.
 pub(crate) fn run_counted(
     tree: TreeWords,
-    state: State,
+    tails: &mut [u16; 64],
+    nexts: &mut [u16; 320],
+    statuses: &mut [u64; 320],
+    places: &mut [u8; 256],
+    domains: &mut [u8; 256],
+    peers: &mut [u16; 256],
+    words: &mut [u64; 256],
+    ticket: &mut u16,
+    granted: &mut u16,
+    entries: &mut [u64; 64],
+    tenures: &mut [u64; 64],
+    longest: &mut [u64; 64],
     schedule: &[u16],
     trace: &mut [u16],
     kinds: &mut [u32; 6],
     rows: &mut [u64],
     under_way: &mut [u64; 256],
-    entries: &mut [u64; 64],
-    tenures: &mut [u64; 64],
-    longest: &mut [u64; 64],
-) -> State
-    requires { ⌜ run-refusal (tree-of tree) (lock-state state (counters-in (now entries) (now tenures) (now longest))) (now schedule) (length (now trace)) .number ≡ 0 ⌝ }
+)
+    requires { ⌜ Typed (lent-state (now tails) (now nexts) (now statuses) (now places) (now domains) (now peers) (now words) (now ticket) (now granted)) ⌝ }
+    requires { ⌜ run-refusal (tree-of tree) (lock-state (lent-state (now tails) (now nexts) (now statuses) (now places) (now domains) (now peers) (now words) (now ticket) (now granted)) (counters-in (now entries) (now tenures) (now longest))) (now schedule) (length (now trace)) .number ≡ 0 ⌝ }
     requires { ⌜ 5 * (tree-of tree .threads + 1) ≤ length (now rows) ⌝ }
     requires { ⌜ Handed-in (now «under_way») ⌝ }
-    ensures { λ r. ⌜ r ≡ run (tree-of tree) (now (schedule .entry)) state .state ⌝ }
-    ensures { λ r. ⌜ now (trace .exit) ≡ trace-front (now (trace .entry)) (run (tree-of tree) (now (schedule .entry)) state) ⌝ }
-    ensures { λ r. ⌜ now (kinds .exit) ≡ kinds-of (steps (tree-of tree) (now (schedule .entry)) state) ⌝ }
-    ensures { λ r. ⌜ now (rows .exit) ≡ sets (now (rows .entry)) 0 (all-rows-from (tree-of tree) (now («under_way» .entry)) (steps (tree-of tree) (now (schedule .entry)) state)) ⌝ }
-    ensures { λ r. ⌜ now («under_way» .exit) ≡ sets (replicate 256 0) 0 (under-way-below (tree-of tree) (now («under_way» .entry)) (tree-of tree .threads) (steps (tree-of tree) (now (schedule .entry)) state)) ⌝ }
-    ensures { λ r. ⌜ counters-in (now (entries .exit)) (now (tenures .exit)) (now (longest .exit)) ≡ counters-after (tree-of tree) (counters-in (now (entries .entry)) (now (tenures .entry)) (now (longest .entry))) (steps (tree-of tree) (now (schedule .entry)) state) ⌝ }
+    ensures { λ r. ⌜ lent-state (now (tails .exit)) (now (nexts .exit)) (now (statuses .exit)) (now (places .exit)) (now (domains .exit)) (now (peers .exit)) (now (words .exit)) (now (ticket .exit)) (now (granted .exit)) ≡ run (tree-of tree) (now (schedule .entry)) (lent-state (now (tails .entry)) (now (nexts .entry)) (now (statuses .entry)) (now (places .entry)) (now (domains .entry)) (now (peers .entry)) (now (words .entry)) (now (ticket .entry)) (now (granted .entry))) .state ⌝ }
+    ensures { λ r. ⌜ now (trace .exit) ≡ trace-front (now (trace .entry)) (run (tree-of tree) (now (schedule .entry)) (lent-state (now (tails .entry)) (now (nexts .entry)) (now (statuses .entry)) (now (places .entry)) (now (domains .entry)) (now (peers .entry)) (now (words .entry)) (now (ticket .entry)) (now (granted .entry)))) ⌝ }
+    ensures { λ r. ⌜ now (kinds .exit) ≡ kinds-of (steps (tree-of tree) (now (schedule .entry)) (lent-state (now (tails .entry)) (now (nexts .entry)) (now (statuses .entry)) (now (places .entry)) (now (domains .entry)) (now (peers .entry)) (now (words .entry)) (now (ticket .entry)) (now (granted .entry)))) ⌝ }
+    ensures { λ r. ⌜ now (rows .exit) ≡ sets (now (rows .entry)) 0 (all-rows-from (tree-of tree) (now («under_way» .entry)) (steps (tree-of tree) (now (schedule .entry)) (lent-state (now (tails .entry)) (now (nexts .entry)) (now (statuses .entry)) (now (places .entry)) (now (domains .entry)) (now (peers .entry)) (now (words .entry)) (now (ticket .entry)) (now (granted .entry))))) ⌝ }
+    ensures { λ r. ⌜ now («under_way» .exit) ≡ sets (replicate 256 0) 0 (under-way-below (tree-of tree) (now («under_way» .entry)) (tree-of tree .threads) (steps (tree-of tree) (now (schedule .entry)) (lent-state (now (tails .entry)) (now (nexts .entry)) (now (statuses .entry)) (now (places .entry)) (now (domains .entry)) (now (peers .entry)) (now (words .entry)) (now (ticket .entry)) (now (granted .entry))))) ⌝ }
+    ensures { λ r. ⌜ counters-in (now (entries .exit)) (now (tenures .exit)) (now (longest .exit)) ≡ counters-after (tree-of tree) (counters-in (now (entries .entry)) (now (tenures .entry)) (now (longest .entry))) (steps (tree-of tree) (now (schedule .entry)) (lent-state (now (tails .entry)) (now (nexts .entry)) (now (statuses .entry)) (now (places .entry)) (now (domains .entry)) (now (peers .entry)) (now (words .entry)) (now (ticket .entry)) (now (granted .entry)))) ⌝ }
 {
     let mut marks = [0u64; 256];
     set_marks(&mut marks, under_way);
     let mut attempts = [0u64; 256];
     let mut totals = [0u64; 256];
     let mut largest = [0u64; 256];
-    let mut n = state;
     let mut tally = [0u32; 6];
     let mut entered: u64 = FIRST;
     let mut from: usize = 0;
@@ -309,9 +318,17 @@ pub(crate) fn run_counted(
         let mut codes = [0u16; 1024];
         let mut piece = [0u32; 6];
         let written = (entered - FIRST) as usize;
-        n = steps::run::run_steps(
+        steps::run::run_lent(
             tree,
-            n,
+            tails,
+            nexts,
+            statuses,
+            places,
+            domains,
+            peers,
+            words,
+            ticket,
+            granted,
             &schedule[from..end],
             &mut trace[written..],
             &mut piece,
@@ -338,5 +355,4 @@ pub(crate) fn run_counted(
     let mut numbers = [0u64; 256];
     put_numbers(&mut numbers, tree.threads, &marks, entered);
     *under_way = numbers;
-    n
 }

@@ -1,5 +1,6 @@
 -- `lock::run_lock` meets its contract: the run on the state's arrays, which fit what its type fixes. Assumes nothing.
 use Rattle.steps.proofs.Typing.{typed}
+use Rattle.lock.specs.Lent.{run-told}
 use borrow.Author.Needs.{needs}
 use Rattle.lock.proofs.run_lock.Statement.{statement}
 use Rattle.lock.proofs.run_lock.Tie as tie
@@ -15,6 +16,7 @@ same-length : tie.Need-same-length
 same-length c = search needs
 
 returns : tie.Need-returns
+unfolding run-told
 returns c =
     let ran = c .before .before .before .run-tested .ensures in
     (rw (ran .0, ran .1 .0), ran .1 .1)

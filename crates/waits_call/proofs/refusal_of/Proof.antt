@@ -24,19 +24,20 @@ returns-2 c =
     let passed = found .before in
     number-answered _ _ _ _ _ _ _ (passed .before .before .waits-refusal-of .ensures) (passed .if1 .left) _ (found .lowest-bad-number .ensures) (c .if2 .taken)
 
-counter-refusal-of-requires : tie.Need-counter-refusal-of-requires
-counter-refusal-of-requires c κs =
+lent-counter-refusal-of-requires : tie.Need-lent-counter-refusal-of-requires
+lent-counter-refusal-of-requires c κs =
     let found = c .before in
     let passed = found .before in
-    passes-alone _ _ _ _ (run-passes _ _ _ _ _ (found .before .before .before .before .before .args .under-way .now) _ (passed .before .before .waits-refusal-of .ensures) (passed .if1 .left) _ (found .lowest-bad-number .ensures))
+    let first = found .before .before .before .before .before in
+    (first .pre, passes-alone _ _ _ _ (run-passes _ _ _ _ _ (first .args .under-way .now) _ (passed .before .before .waits-refusal-of .ensures) (passed .if1 .left) _ (found .lowest-bad-number .ensures)))
 
 returns-3 : tie.Need-returns-3
 returns-3 c =
     let found = c .before .before in
     let passed = found .before in
-    c .counter-refusal-of .ensures
+    c .lent-counter-refusal-of .ensures
     ∙ ap refusal-words (sym (counters-left _ _ _ _ _ _ _ (passed .before .before .waits-refusal-of .ensures) (passed .if1 .left) _ (found .lowest-bad-number .ensures) (c .before .if2 .left)))
 
 pub refusal-of-spec : {M : Type 1} → statement M
 refusal-of-spec =
-    tie.close (tie.spec waits-refusal-of-requires returns lowest-bad-number-requires returns-2 counter-refusal-of-requires returns-3)
+    tie.close (tie.spec waits-refusal-of-requires returns lowest-bad-number-requires returns-2 lent-counter-refusal-of-requires returns-3)

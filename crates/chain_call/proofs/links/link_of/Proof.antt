@@ -6,7 +6,7 @@ use Rattle.chain_call.proofs.links.link_of.Statement.{statement}
 use Rattle.chain_call.proofs.links.link_of.Tie as tie
 
 own-record-at-requires : tie.Need-own-record-at-requires
-own-record-at-requires c κs = (c .pre .0, (c .pre .1 .0, c .pre .1 .1 .there))
+own-record-at-requires c κs = (c .pre .0, c .pre .1 .0)
 
 cast-at : tie.Need-cast-at
 cast-at c = let r = c .own-record-at .ensures .1 in omega (arith, r)

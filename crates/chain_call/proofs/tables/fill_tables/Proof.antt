@@ -7,7 +7,7 @@ use Rattle.chain_call.specs.Tables.{Tables}
 use Rattle.model.proofs.Trees.Accepted.{accepted}
 use Rattle.model.proofs.Trees.Reading.{few-threads}
 use Rattle.chain_call.proofs.Facts.{owned-nexts}
-use Rattle.chain_call.proofs.Filling.{fill-first, on-its-path, root-on-path, fill-turn}
+use Rattle.chain_call.proofs.Filling.{fill-first, fill-turn}
 use borrow.Author.Needs.{needs}
 use Rattle.chain_call.proofs.tables.fill_tables.Statement.{statement}
 use Rattle.chain_call.proofs.tables.fill_tables.Tie as tie
@@ -40,8 +40,7 @@ place-at-requires c κs =
 own-record-at-requires : tie.Need-own-record-at-requires Inv-loop μ-loop
 own-record-at-requires c κs =
     let s = c .before .before .before .before .before .before .before .before .before .before .before .before .before .before .before in
-    let l = c .before .before .before .before .before .before .before .before .before .before .before .loop .inv in
-    (s .pre .0, (c .before .before .before .before .before .before .before .before .before .before .loop-test .taken, rw (c .before .before .before .before .place-at .ensures) (on-its-path (s .args .t1) (s .pre .0) (s .args .t2) (s .pre .1) _ (c .before .before .before .before .before .before .before .before .before .before .loop-test .taken))))
+    (s .pre .0, c .before .before .before .before .before .before .before .before .before .before .loop-test .taken)
 
 cast-there : tie.Need-cast-there Inv-loop μ-loop
 cast-there c =
@@ -82,8 +81,7 @@ element-write-linking c =
 own-record-at-requires-2 : tie.Need-own-record-at-requires-2 Inv-loop μ-loop
 own-record-at-requires-2 c κs =
     let s = c .before .before .before .before .before .before .before .before .before .before .before .before .before .before .before .before .before .before .before .before .before .before .before in
-    let l = c .before .before .before .before .before .before .before .before .before .before .before .before .before .before .before .before .before .before .before .loop .inv in
-    (s .pre .0, (c .before .before .before .before .before .before .before .before .before .before .before .before .before .before .before .before .before .before .loop-test .taken, root-on-path (s .args .t1) (s .pre .0) (s .args .t2) (s .pre .1) _ (c .before .before .before .before .before .before .before .before .before .before .before .before .before .before .before .before .before .before .loop-test .taken)))
+    (s .pre .0, c .before .before .before .before .before .before .before .before .before .before .before .before .before .before .before .before .before .before .loop-test .taken)
 
 cast-root : tie.Need-cast-root Inv-loop μ-loop
 cast-root c =

@@ -1,11 +1,9 @@
 -- `run_refusals::states::good_thread_at` meets its contract: the next's test; then a place that rests passes every test, and any other is tested. Assumes nothing.
 use mathlib.Core.Bool.{true, false}
-use native.Mathlib.Omega.{arith}
-use lib.ListN.{getD}
 use borrow.Author.Tests.{not-true, not-false}
 use Rattle.refusals.specs.Arrays.{parents-in}
 use Rattle.refusals.proofs.Scanning.{by-answer}
-use Rattle.run_refusals.proofs.RestNumbers.{rests-good}
+use Rattle.run_refusals.proofs.Resting.{rests-good}
 use borrow.Author.Needs.{needs}
 use Rattle.run_refusals.proofs.states.good_thread_at.Statement.{statement}
 use Rattle.run_refusals.proofs.states.good_thread_at.Tie as tie
@@ -26,9 +24,7 @@ returns-2 : tie.Need-returns-2
 returns-2 c =
     let s = c .before .before .before .before .before in
     let n = by-answer _ true (c .before .before .before .good-next-at .ensures) (not-false _ (c .before .before .if1 .left)) in
-    let home = getD (s .args .owners .now) (s .args .i) 0 in
-    let p = rests-good (s .args .ticket-root) (parents-in (s .args .domains) (s .args .parents .now)) (s .args .owners .now) (s .args .statuses .now) (s .args .i) home (s .args .q)
-    (s .args .resting) (s .pre .1 .1 .1) (omega (arith, s .pre .1 .1 .0, s .pre .0 .0)) (c .before .rests-at .ensures .rests (c .if2 .taken)) in
+    let p = rests-good (s .args .ticket-root) (parents-in (s .args .domains) (s .args .parents .now)) (s .args .owners .now) (s .args .statuses .now) (s .args .i) _ (s .args .q) (s .args .resting) (s .pre .1 .1 .1) (by-answer _ true (c .before .rests-at .ensures) (c .if2 .taken)) in
     rw (n, p)
 
 good-place-at-requires : tie.Need-good-place-at-requires

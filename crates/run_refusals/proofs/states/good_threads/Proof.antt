@@ -1,14 +1,14 @@
 -- `run_refusals::states::good_threads` meets its contract: all threads passed have good records and places. Assumes nothing.
-use mathlib.Core.Path.{_≡_, sym, ap, _∙_}
+use mathlib.Core.Path.{_≡_, sym}
 use mathlib.Core.Bool.{true, false}
-use Prim.Native.Nat.{ℕ, _+_, _*_, _≤_, _<_, _-_}
+use Prim.Native.Nat.{ℕ, _≤_, _<_, _-_}
 use native.Mathlib.Omega.{arith}
 use lib.ListN.{getD}
 use borrow.Author.Tests.{not-true, not-false}
 use Rattle.model.specs.States.{numbers-at}
 use Rattle.model.proofs.Tests.{all-true}
 use Rattle.refusals.specs.Arrays.{parents-in, places-in}
-use Rattle.run_refusals.specs.Tables.{resting-row, used-in}
+use Rattle.run_refusals.specs.Tables.{used-in}
 use Rattle.refusals.proofs.Scanning.{one-more, all-fails, by-answer}
 use borrow.Author.Needs.{needs}
 use Rattle.run_refusals.proofs.states.good_threads.Statement.{statement}
@@ -43,25 +43,17 @@ mul-next c = omega arith
 element-copy-out-next : tie.Need-element-copy-out-next Inv-loop μ-loop
 element-copy-out-next c = omega arith
 
-element-copy-out-joined : tie.Need-element-copy-out-joined Inv-loop μ-loop
-element-copy-out-joined c = omega arith
-
-joined-requires : tie.Need-joined-requires Inv-loop μ-loop
-joined-requires c κs = search needs
-
 good-thread-at-requires : tie.Need-good-thread-at-requires Inv-loop μ-loop
 good-thread-at-requires c κs =
-    let l = c .before .before .before .before .before in
+    let l = c .before .before .before in
     let s = l .before .before in
     let i = l .loop .i in
-    let h = c .before .before .before .before .loop-test .taken in
-    let rest = s .pre .1 .1 .rest i h in
-    let e : c .joined .result ≡ resting-row (s .args .ticket-root) (s .args .count) + 256 * getD (s .args .owners .now) i 0 = omega (arith, c .joined .ensures .is-sum, l .before .resting-row-of .ensures) in
-    ((s .pre .0 .0, omega (arith, s .pre .0 .1)), (s .pre .1 .0, (s .pre .1 .1 .home i h, rw e rest)))
+    let h = c .before .before .loop-test .taken in
+    ((s .pre .0 .0, omega (arith, s .pre .0 .1)), (s .pre .1 .0, (s .pre .1 .1 .home i h, rw (l .before .resting-row-of .ensures) (s .pre .1 .1 .rest i h))))
 
 returns : tie.Need-returns Inv-loop μ-loop
 returns c =
-    let q = c .before .before .before .before .before in
+    let q = c .before .before .before in
     sym (all-fails _ _ _ (q .before .loop-test .taken) (rw (← q .place-at .ensures) (by-answer _ false (c .before .good-thread-at .ensures) (not-true _ (c .if1 .taken)))))
 
 add-i : tie.Need-add-i Inv-loop μ-loop
@@ -72,7 +64,7 @@ loop-less c = omega arith
 
 loop-again : tie.Need-loop-again Inv-loop μ-loop
 loop-again c =
-    let q = c .before .before .before .before .before in
+    let q = c .before .before .before in
     (omega arith, search needs, one-more _ true _ (q .before .before .loop .inv .2) (rw (← q .place-at .ensures) (by-answer _ true (c .before .good-thread-at .ensures) (not-false _ (c .if1 .left)))))
 
 returns-2 : tie.Need-returns-2 Inv-loop μ-loop
@@ -91,8 +83,6 @@ good-threads-spec =
     place-at-requires
     mul-next
     element-copy-out-next
-    element-copy-out-joined
-    joined-requires
     good-thread-at-requires
     returns
     add-i

@@ -29,8 +29,8 @@ returns-6 : tie.Need-returns-6
 unfolding ticket-place-in
 returns-6 c = rw (ne-eqb _ _ (c .before .before .before .before .before .before .before .before .before .before .if1 .left), le-ltb _ _ (c .before .before .before .before .before .before .before .before .if2 .left), eq-eqb _ _ (c .before .before .before .before .before .before .if3 .left), eq-eqb _ _ (c .before .before .before .before .if4 .left), eq-eqb _ _ (c .before .before .if5 .left), ne-eqb _ _ (c .if6 .taken))
 
-root-record-at-requires : tie.Need-root-record-at-requires
-root-record-at-requires c κs = search needs
+record-at-requires : tie.Need-record-at-requires
+record-at-requires c κs = search needs
 
 cast-at : tie.Need-cast-at
 cast-at c = search needs
@@ -45,7 +45,7 @@ returns-7 : tie.Need-returns-7
 unfolding ticket-place-in
 returns-7 c =
     let d = c .before .before in
-    rw (c .before .root-record-at .ensures .0, ne-eqb _ _ (d .before .before .before .before .before .before .before .before .before .before .if1 .left), le-ltb _ _ (d .before .before .before .before .before .before .before .before .if2 .left), eq-eqb _ _ (d .before .before .before .before .before .before .if3 .left), eq-eqb _ _ (d .before .before .before .before .if4 .left), eq-eqb _ _ (d .before .before .if5 .left), eq-eqb _ _ (d .if6 .left))
+    rw (c .before .record-at .ensures .0, ne-eqb _ _ (d .before .before .before .before .before .before .before .before .before .before .if1 .left), le-ltb _ _ (d .before .before .before .before .before .before .before .before .if2 .left), eq-eqb _ _ (d .before .before .before .before .before .before .if3 .left), eq-eqb _ _ (d .before .before .before .before .if4 .left), eq-eqb _ _ (d .before .before .if5 .left), eq-eqb _ _ (d .if6 .left))
 
 pub good-ticket-place-at-spec : {M : Type 1} → statement M
 good-ticket-place-at-spec =
@@ -57,7 +57,7 @@ good-ticket-place-at-spec =
     returns-4
     returns-5
     returns-6
-    root-record-at-requires
+    record-at-requires
     cast-at
     mul-result
     element-copy-out-result

@@ -1,13 +1,13 @@
--- `members::search_at` meets its contract: from the domain reached on, with the levels left and the domains looked at, the search gives what the whole gives. Assumes nothing.
+-- `paths::search_at` meets its contract: from the domain reached on, with the levels left and the domains looked at, the search gives what the whole gives. Assumes nothing.
 use mathlib.Core.Path.{_≡_, refl, sym, _∙_}
 use Prim.Native.Nat.{_+_, _-_, _≤_, _<_}
 use native.Mathlib.Omega.{arith}
 use Rattle.model.specs.Search.{search-from}
 use Rattle.refusals.specs.Arrays.{parents-in}
-use Rattle.members.proofs.Children.{search-root, search-hit, search-up, search-end}
+use Rattle.paths.proofs.Children.{search-root, search-hit, search-up, search-end}
 use borrow.Author.Needs.{needs}
-use Rattle.members.proofs.search_at.Statement.{statement}
-use Rattle.members.proofs.search_at.Tie as tie
+use Rattle.paths.proofs.search_at.Statement.{statement}
+use Rattle.paths.proofs.search_at.Tie as tie
 
 abbrev Inv-loop : tie.InvT-loop
 Inv-loop parents domains home l c₀ looked₀ c looked =
