@@ -31,8 +31,8 @@ static bool play(hmcs::Lock &lock, const std::vector<std::uint16_t> &schedule) {
 // What a thread on a chain does if it does not wait.
 static const char *standing(const hmcs::Lock &lock, std::uint16_t thread) {
     switch (lock.state().places.rows[thread]) {
-    case HMCS_IDLE: return "is idle";
-    case HMCS_INSIDE: return "is inside";
+    case HMCS_ROW_IDLE: return "is idle";
+    case HMCS_ROW_INSIDE: return "is inside";
     default: return "can go on";
     }
 }

@@ -82,25 +82,22 @@ private:
     Word tail_;
 };
 
-// Compares the steps with the model's, kinds and domains.
+// Compares the steps with the model's, kinds and domains, and looks at who is left at the end.
 bool right(const hmcs::Tree &tree, const hmcs::trace::Written &written) {
-    hmcs::Lock model(tree);
-    for (std::size_t k = 0; k < written.steps.size(); ++k) {
-        const std::uint16_t thread = written.steps.threads[k];
-        const hmcs::StepResult step = model.step(thread);
-        if (step.refused() || static_cast<std::uint32_t>(step.kind) != written.steps.kinds[k] || step.domain != written.steps.domains[k]) {
-            std::printf("step %zu, thread %u: expected \"%s\" at domain %u, got \"%s\" at domain %u\n", k, unsigned{thread}, hmcs::text(step.kind), step.domain,
-                        hmcs_kind_text(written.steps.kinds[k]), written.steps.domains[k]);
-            return false;
-        }
+    const hmcs::trace::Steps &steps = written.steps;
+    hmcs_state state = hmcs::Lock(tree).state();
+    const hmcs::StepsResult found = hmcs::check_steps(tree, state, steps.threads, steps.kinds, steps.domains);
+    if (found.refused()) {
+        std::printf("step %zu, thread %u: %s\n", found.refusal.place, unsigned{steps.threads[found.refusal.place]}, found.refusal.text());
+        return false;
     }
     for (std::size_t i = 0; i < tree.words().threads; ++i) {
-        if (hmcs::place(model.state(), i).row != HMCS_IDLE) {
+        if (hmcs::place(state, i).row != HMCS_ROW_IDLE) {
             std::printf("at the end thread %zu still has or wants the lock\n", i);
             return false;
         }
     }
-    return written.whole && hmcs::check_journal(tree, written.steps.journal()).accepted();
+    return written.whole;
 }
 
 template <class Trace> bool try_with(const char *name) {

@@ -10,7 +10,7 @@
  * hmcs_run_waits_on 56 KB, every other function at most 36 KB, besides its arguments and its result, which take up to 19 KB in the caller.
  *
  * Compare two states field by field, never by memcmp: struct hmcs_state has padding, and so do struct hmcs_text_reply, struct hmcs_journal_answer,
- * struct hmcs_waits_reply and struct hmcs_kinds_reply.
+ * struct hmcs_waits_reply, struct hmcs_kinds_reply and struct hmcs_steps_reply.
  */
 #ifndef HMCS_H
 #define HMCS_H
@@ -56,59 +56,59 @@ typedef struct hmcs_tree {
 
 /* Rows of the step table (SPECIFICATION.md), as a thread's place names them. */
 enum hmcs_row {
-    HMCS_IDLE = 0,
-    HMCS_PREP = 1,
-    HMCS_SWAP = 2,
-    HMCS_LINK = 3,
-    HMCS_WAIT = 4,
-    HMCS_INSIDE = 5,
-    HMCS_CHECK = 6,
-    HMCS_HELP = 7,
-    HMCS_CAS = 8,
-    HMCS_LINGER = 9,
-    HMCS_GRANT = 10,
-    HMCS_DRAW = 11,  /* like the next two, only at a ticket root: takes a ticket */
-    HMCS_WATCH = 12, /* waits until the grant is its ticket */
-    HMCS_RAISE = 13  /* shows the next ticket */
+    HMCS_ROW_IDLE = 0,
+    HMCS_ROW_PREP = 1,
+    HMCS_ROW_SWAP = 2,
+    HMCS_ROW_LINK = 3,
+    HMCS_ROW_WAIT = 4,
+    HMCS_ROW_INSIDE = 5,
+    HMCS_ROW_CHECK = 6,
+    HMCS_ROW_HELP = 7,
+    HMCS_ROW_CAS = 8,
+    HMCS_ROW_LINGER = 9,
+    HMCS_ROW_GRANT = 10,
+    HMCS_ROW_DRAW = 11,  /* like the next two, only at a ticket root: takes a ticket */
+    HMCS_ROW_WATCH = 12, /* waits until the grant is its ticket */
+    HMCS_ROW_RAISE = 13  /* shows the next ticket */
 };
 
 /* The name of a row, and what the next step of a thread there does, for people. */
 HMCS_TEXT const char *hmcs_row_name(uint32_t row) {
     switch (row) {
-    case HMCS_IDLE: return "Idle";
-    case HMCS_PREP: return "Prep";
-    case HMCS_SWAP: return "Swap";
-    case HMCS_LINK: return "Link";
-    case HMCS_WAIT: return "Wait";
-    case HMCS_INSIDE: return "Inside";
-    case HMCS_CHECK: return "Check";
-    case HMCS_HELP: return "Help";
-    case HMCS_CAS: return "Cas";
-    case HMCS_LINGER: return "Linger";
-    case HMCS_GRANT: return "Grant";
-    case HMCS_DRAW: return "Draw";
-    case HMCS_WATCH: return "Watch";
-    case HMCS_RAISE: return "Raise";
+    case HMCS_ROW_IDLE: return "Idle";
+    case HMCS_ROW_PREP: return "Prep";
+    case HMCS_ROW_SWAP: return "Swap";
+    case HMCS_ROW_LINK: return "Link";
+    case HMCS_ROW_WAIT: return "Wait";
+    case HMCS_ROW_INSIDE: return "Inside";
+    case HMCS_ROW_CHECK: return "Check";
+    case HMCS_ROW_HELP: return "Help";
+    case HMCS_ROW_CAS: return "Cas";
+    case HMCS_ROW_LINGER: return "Linger";
+    case HMCS_ROW_GRANT: return "Grant";
+    case HMCS_ROW_DRAW: return "Draw";
+    case HMCS_ROW_WATCH: return "Watch";
+    case HMCS_ROW_RAISE: return "Raise";
     default: return "no row has this number";
     }
 }
 
 HMCS_TEXT const char *hmcs_row_text(uint32_t row) {
     switch (row) {
-    case HMCS_IDLE: return "sets out";
-    case HMCS_PREP: return "prepares its record";
-    case HMCS_SWAP: return "joins the queue";
-    case HMCS_LINK: return "links itself to the one ahead";
-    case HMCS_WAIT: return "looks at its status";
-    case HMCS_INSIDE: return "leaves";
-    case HMCS_CHECK: return "compares its count with the threshold";
-    case HMCS_HELP: return "looks for the next in the queue";
-    case HMCS_CAS: return "empties the queue if it is the last";
-    case HMCS_LINGER: return "waits for the next to link itself";
-    case HMCS_GRANT: return "grants the next in the queue";
-    case HMCS_DRAW: return "draws a ticket";
-    case HMCS_WATCH: return "looks at the grant";
-    case HMCS_RAISE: return "raises the grant";
+    case HMCS_ROW_IDLE: return "sets out";
+    case HMCS_ROW_PREP: return "prepares its record";
+    case HMCS_ROW_SWAP: return "joins the queue";
+    case HMCS_ROW_LINK: return "links itself to the one ahead";
+    case HMCS_ROW_WAIT: return "looks at its status";
+    case HMCS_ROW_INSIDE: return "leaves";
+    case HMCS_ROW_CHECK: return "compares its count with the threshold";
+    case HMCS_ROW_HELP: return "looks for the next in the queue";
+    case HMCS_ROW_CAS: return "empties the queue if it is the last";
+    case HMCS_ROW_LINGER: return "waits for the next to link itself";
+    case HMCS_ROW_GRANT: return "grants the next in the queue";
+    case HMCS_ROW_DRAW: return "draws a ticket";
+    case HMCS_ROW_WATCH: return "looks at the grant";
+    case HMCS_ROW_RAISE: return "raises the grant";
     default: return "no row has this number";
     }
 }
@@ -142,11 +142,11 @@ typedef struct hmcs_state {
 } hmcs_state;
 
 /* Status words. */
-#define HMCS_COHORT_START UINT64_C(1)
-#define HMCS_ACQUIRE_PARENT (UINT64_MAX - 1)
-#define HMCS_WAIT_WORD UINT64_MAX
-#define HMCS_UNLOCKED UINT64_C(0) /* at the root */
-#define HMCS_LOCKED UINT64_C(1)   /* at the root */
+#define HMCS_STATUS_COHORT_START UINT64_C(1)
+#define HMCS_STATUS_ACQUIRE_PARENT (UINT64_MAX - 1)
+#define HMCS_STATUS_WAIT UINT64_MAX
+#define HMCS_STATUS_UNLOCKED UINT64_C(0) /* at the root */
+#define HMCS_STATUS_LOCKED UINT64_C(1)   /* at the root */
 
 /* What an answer's number means; 0 means accepted. An answer's place is what the sentence says it is, and otherwise 0. */
 enum hmcs_refusal {
@@ -169,7 +169,7 @@ enum hmcs_refusal {
     HMCS_TEXT_WRONG = 15,      /* The text leaves the grammar, the place being the first byte that no text could continue with, or the length. */
     HMCS_EMPTY_DOMAIN = 16,    /* A domain has no thread under it, the place being the lowest such domain. Tested straight after 9. */
     HMCS_FILE_SHORT = 17,      /* The file buffer is shorter than the lock file. */
-    HMCS_WAITS_SHORT = 18,     /* The row buffer of waits holds fewer rows than threads plus one. */
+    HMCS_WAITS_BUFFER_SHORT = 18,     /* The row buffer of waits holds fewer rows than threads plus one. */
     HMCS_COUNTER_FULL = 19,    /* A step would push a counter past HMCS_MOST_COUNTED, the place being its position in the schedule from 0. Tested last. */
     HMCS_CHAIN_SHORT = 20,     /* The chain buffer has fewer elements than there are threads. */
     HMCS_NO_CHAIN = 21,        /* A thread of the chain looks to nobody, to several, or to one that is already on it. */
@@ -177,10 +177,13 @@ enum hmcs_refusal {
     HMCS_ROWS_SHORT = 23,      /* The row buffer holds fewer rows than there are schedules. */
     HMCS_BAD_TIME = 24,        /* A passing time is not a number from 1/1024 to 1,048,576, the place being 1 to 3. */
     HMCS_JOURNAL_BROKEN = 25,  /* A journal entry is cut off or has another bit set, the place being its first byte. */
-    HMCS_OTHER_KIND = 26,      /* The kind that a journal entry names is not the step's, the place being the journal entry's first byte. */
+    HMCS_OTHER_KIND = 26,      /* The kind that is named for a step is not the step's, the place being the journal entry's first byte, or its position from 0
+                                * in a list of steps. */
     HMCS_BAD_UNDER_WAY = 27,   /* A number of an attempt under way is above HMCS_MOST_COUNTED, or is not 0 after the last thread, the place being the
                                 * thread. Tested last before 19. */
-    HMCS_KINDS_SHORT = 28      /* The buffer of kinds holds fewer rows than the schedule has turns. Tested last before 19. */
+    HMCS_KINDS_SHORT = 28,     /* The buffer of kinds holds fewer rows than the schedule has turns. Tested last before 19. */
+    HMCS_OTHER_DOMAIN = 29,    /* The domain that is named for a step is not the step's, the place being its position from 0. */
+    HMCS_LISTS_UNEQUAL = 30    /* Lists that belong together are not of one length. */
 };
 
 /* The sentence of a refusal number, for people. */
@@ -204,7 +207,7 @@ HMCS_TEXT const char *hmcs_refusal_text(uint32_t number) {
     case HMCS_TEXT_WRONG: return "the text leaves the grammar of trees";
     case HMCS_EMPTY_DOMAIN: return "a domain has no thread under it";
     case HMCS_FILE_SHORT: return "the file buffer is shorter than the lock file";
-    case HMCS_WAITS_SHORT: return "the row buffer holds fewer rows than threads plus one";
+    case HMCS_WAITS_BUFFER_SHORT: return "the row buffer holds fewer rows than threads plus one";
     case HMCS_COUNTER_FULL: return "a step would push a counter past 2^63";
     case HMCS_CHAIN_SHORT: return "the chain buffer has fewer elements than there are threads";
     case HMCS_NO_CHAIN: return "a thread of the chain looks to nobody, to several, or to one that is already on it";
@@ -215,6 +218,8 @@ HMCS_TEXT const char *hmcs_refusal_text(uint32_t number) {
     case HMCS_OTHER_KIND: return "the kind that a journal entry names is not the step's";
     case HMCS_BAD_UNDER_WAY: return "a number of an attempt under way is above 2^63, or is not 0 after the last thread";
     case HMCS_KINDS_SHORT: return "the buffer of kinds holds fewer rows than the schedule has turns";
+    case HMCS_OTHER_DOMAIN: return "the domain that is named for a step is not the step's";
+    case HMCS_LISTS_UNEQUAL: return "lists that belong together are not of one length";
     default: return "no refusal has this number";
     }
 }
@@ -304,7 +309,7 @@ hmcs_run_reply hmcs_run(hmcs_tree tree, hmcs_state state, const uint16_t *schedu
 hmcs_answer hmcs_check_state(hmcs_tree tree, hmcs_state state);
 
 /* How many numbers a row of kinds has: the step's kind and the domain that it was at, in this order, as hmcs_step_answer has them. */
-enum { HMCS_KIND_NUMBERS = 2 };
+enum { HMCS_NUMBERS_PER_KINDS_ROW = 2 };
 
 /* What a run that tells its steps returns: what hmcs_run returns, and how many rows were written, one for each turn; 0 if refused. */
 typedef struct hmcs_kinds_reply {
@@ -326,7 +331,7 @@ typedef struct hmcs_kinds_reply {
 hmcs_kinds_reply hmcs_run_kinds(hmcs_tree tree, hmcs_state state, const uint16_t *schedule, size_t schedule_length, uint16_t *trace, size_t trace_length, uint16_t *rows, size_t rows_length);
 
 /* How many numbers a row of waits has: attempts finished, total wait, largest wait, and the mean's numerator and denominator, in this order. */
-enum { HMCS_WAIT_NUMBERS = 5 };
+enum { HMCS_NUMBERS_PER_WAITS_ROW = 5 };
 
 /* What a run with waits returns: what hmcs_run returns, and how many rows were written, one more than there are threads; 0 if refused. */
 typedef struct hmcs_waits_reply {
@@ -403,7 +408,7 @@ typedef struct hmcs_rounds_reply {
 hmcs_rounds_reply hmcs_rounds(hmcs_tree tree);
 
 /* How many numbers a row has: number, place, steps, entries, stays, root, passed and crossed, in this order, as hmcs_run_reply has them. */
-enum { HMCS_ROW_NUMBERS = 8 };
+enum { HMCS_NUMBERS_PER_MANY_ROW = 8 };
 
 /* What many schedules in one call return: number and place of the whole call, and how many rows were written, one for each schedule; 0 if
  * refused. */
@@ -438,6 +443,23 @@ enum {
  * 9 and 16 for the tree; then at the first wrong journal entry, the place being its first byte: by 25 where it is cut off or has
  * another bit set, else by 12 where its thread is not one of the tree, else by 26 where its kind is not the step's. The journal may have any length. */
 hmcs_journal_answer hmcs_check_journal(hmcs_tree tree, const uint8_t *journal, size_t journal_length);
+
+/* What the check of steps returns: number and place, how many steps were found right, and the state after those. */
+typedef struct hmcs_steps_reply {
+    uint32_t number;
+    size_t place;
+    size_t checked;
+    hmcs_state state;
+} hmcs_steps_reply;
+
+/* Checks steps that a host took down, each by its thread, its kind and the domain that it was at, from a state: the lists are of one length, any
+ * length, and accepted exactly if the threads' steps, one after another, have these kinds and these domains. Refused by 4 to 9, 16 and 10, then by 30
+ * where the lists are not of one length; then nothing is checked and the state is as it came. Otherwise refused at the first wrong step, the place being its
+ * position from 0: by 12 where its thread is not one of the tree, else by 19 where it would push a counter past HMCS_MOST_COUNTED, else by 26 where its
+ * kind is not the step's, else by 29 where its domain is not; then reply.checked is the place too, and the state is the one before that step, so that hmcs_chain can
+ * say why threads wait there. Accepted, reply.checked is the lists' length and the state the one after the last step: the next piece of a trace is
+ * checked from it, and pieces answer what the whole would. */
+hmcs_steps_reply hmcs_check_steps(hmcs_tree tree, hmcs_state state, const uint16_t *threads, size_t threads_length, const uint16_t *kinds, size_t kinds_length, const uint16_t *domains, size_t domains_length);
 
 /* The file call: reads a lock file, runs its schedule from a fresh lock (of start 0), and writes the listing at the front of the output. Returns the
  * number; *place is its place, *length the listing's length, 0 if refused. Refused by 1 to 9, 16, 12 and 14; then the output is as
@@ -519,6 +541,8 @@ enum hmcs_struct {
     HMCS_STRUCT_TEXT_REPLY = 12,
     HMCS_STRUCT_PASSING_TIMES = 13,
     HMCS_STRUCT_RATE_REPLY = 14,
+    HMCS_STRUCT_KINDS_REPLY = 15,
+    HMCS_STRUCT_STEPS_REPLY = 16,
     HMCS_STRUCTS = 32 /* room for more; their sizes are 0 */
 };
 
@@ -546,6 +570,8 @@ static inline void hmcs_header_sizes(uint32_t sizes[HMCS_STRUCTS]) {
     sizes[HMCS_STRUCT_TEXT_REPLY] = sizeof(hmcs_text_reply);
     sizes[HMCS_STRUCT_PASSING_TIMES] = sizeof(hmcs_passing_times);
     sizes[HMCS_STRUCT_RATE_REPLY] = sizeof(hmcs_rate_reply);
+    sizes[HMCS_STRUCT_KINDS_REPLY] = sizeof(hmcs_kinds_reply);
+    sizes[HMCS_STRUCT_STEPS_REPLY] = sizeof(hmcs_steps_reply);
 }
 
 /* Whether this header fits the library that is linked: of the same major version, not later, and with the same structs. If it does not, call nothing
@@ -616,6 +642,10 @@ HMCS_OFFSET(hmcs_waits_reply, state, 40);
 HMCS_LAYOUT(hmcs_kinds_reply, 7984, 8);
 HMCS_OFFSET(hmcs_kinds_reply, rows, 32);
 HMCS_OFFSET(hmcs_kinds_reply, state, 40);
+HMCS_LAYOUT(hmcs_steps_reply, 7968, 8);
+HMCS_OFFSET(hmcs_steps_reply, place, 8);
+HMCS_OFFSET(hmcs_steps_reply, checked, 16);
+HMCS_OFFSET(hmcs_steps_reply, state, 24);
 HMCS_LAYOUT(hmcs_many_reply, 16, 8);
 HMCS_OFFSET(hmcs_many_reply, place, 4);
 HMCS_OFFSET(hmcs_many_reply, rows, 8);

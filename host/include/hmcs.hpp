@@ -25,7 +25,7 @@ namespace hmcs {
 // Number and place of an answer; 0 and 0 for accepted. It is not a bool, so that nobody reads it the wrong way round.
 struct [[nodiscard]] Refusal {
     std::uint32_t number = 0;
-    std::size_t place = 0; // for 15, 25 and 26 a position in a text or a journal of any length
+    std::size_t place = 0; // for 15, 25, 26 and 29 a position in a text, a journal or a list of steps of any length
 
     bool accepted() const noexcept { return number == 0; }
     bool refused() const noexcept { return number != 0; }
@@ -42,7 +42,7 @@ struct [[nodiscard]] Result {
 
 // Where a thread stands: a row of the step table (enum hmcs_row) and the parts that it has; the others are 0.
 struct Place {
-    std::uint8_t row = HMCS_IDLE;
+    std::uint8_t row = HMCS_ROW_IDLE;
     std::uint8_t domain = 0;
     std::uint16_t peer = 0;
     std::uint64_t word = 0;
@@ -258,14 +258,14 @@ template <typename Reply> void keep(const Reply &reply, hmcs_state &state, RunRe
 // that begin and finish within the run. Both are then those after the run; if refused, they are as they were.
 inline WaitsResult run_waits(const Tree &tree, hmcs_state &state, UnderWay &under_way, const std::uint16_t *schedule, std::size_t length) {
     WaitsResult result;
-    std::vector<std::uint64_t> numbers((HMCS_THREADS + 1) * HMCS_WAIT_NUMBERS);
+    std::vector<std::uint64_t> numbers((HMCS_THREADS + 1) * HMCS_NUMBERS_PER_WAITS_ROW);
     result.threads.reserve(HMCS_THREADS + 1); // after the call nothing allocates, so that no result is lost
     result.run.trace.resize(std::min<std::size_t>(length, 65536)); // a longer schedule is refused (11) before the trace is looked at
     const hmcs_waits_reply reply = hmcs_run_waits_on(tree.words(), state, schedule, length, result.run.trace.data(), result.run.trace.size(), numbers.data(),
                                                      numbers.size(), under_way.data());
     detail::keep(reply, state, result.run);
     for (std::size_t row = 0; row < reply.rows; ++row) {
-        const std::uint64_t *n = numbers.data() + row * HMCS_WAIT_NUMBERS;
+        const std::uint64_t *n = numbers.data() + row * HMCS_NUMBERS_PER_WAITS_ROW;
         result.threads.push_back(Waits{n[0], n[1], n[2], n[3], n[4]});
     }
     if (result.accepted()) {
@@ -380,7 +380,7 @@ public:
     KindsResult run_kinds(const std::uint16_t *schedule, std::size_t length) {
         KindsResult result;
         const std::size_t room = std::min<std::size_t>(length, 65536); // a longer schedule is refused (11) before the buffers are looked at
-        std::vector<std::uint16_t> numbers(room * HMCS_KIND_NUMBERS);
+        std::vector<std::uint16_t> numbers(room * HMCS_NUMBERS_PER_KINDS_ROW);
         result.steps.reserve(room); // after the call nothing allocates, so that no result is lost
         result.run.trace.resize(room);
         const hmcs_kinds_reply reply =
@@ -388,7 +388,7 @@ public:
         detail::keep(reply, state_, result.run);
         under_way_known_ = under_way_known_ && result.run.counts.steps == 0;
         for (std::size_t row = 0; row < reply.rows; ++row) {
-            const std::uint16_t *n = numbers.data() + row * HMCS_KIND_NUMBERS;
+            const std::uint16_t *n = numbers.data() + row * HMCS_NUMBERS_PER_KINDS_ROW;
             result.steps.push_back(Told{static_cast<Kind>(n[0]), n[1]});
         }
         return result;
@@ -457,7 +457,7 @@ public:
     // The thread that is Inside, if there is one.
     std::optional<std::uint16_t> holder() const noexcept {
         for (std::size_t i = 0; i < HMCS_THREADS; ++i) {
-            if (state_.places.rows[i] == HMCS_INSIDE) {
+            if (state_.places.rows[i] == HMCS_ROW_INSIDE) {
                 return static_cast<std::uint16_t>(i);
             }
         }
@@ -538,12 +538,12 @@ struct [[nodiscard]] ManyResult : Result {
 
 // Many schedules on one tree, each from its own fresh lock. Traces are not kept.
 inline ManyResult run_many(const Tree &tree, const std::uint32_t *lengths, std::size_t schedules, const std::uint16_t *entries, std::size_t entries_length) {
-    std::vector<std::uint32_t> numbers(schedules * HMCS_ROW_NUMBERS);
+    std::vector<std::uint32_t> numbers(schedules * HMCS_NUMBERS_PER_MANY_ROW);
     const hmcs_many_reply reply = hmcs_run_many(tree.words(), lengths, schedules, entries, entries_length, numbers.data(), numbers.size());
     ManyResult result;
     result.refusal = Refusal{reply.number, reply.place};
     for (std::size_t row = 0; row < reply.rows; ++row) {
-        const std::uint32_t *n = numbers.data() + row * HMCS_ROW_NUMBERS;
+        const std::uint32_t *n = numbers.data() + row * HMCS_NUMBERS_PER_MANY_ROW;
         result.rows.push_back(Row{{Refusal{n[0], n[1]}}, Counts{n[2], n[3], n[4], n[5], n[6], n[7]}});
     }
     return result;
@@ -569,6 +569,24 @@ inline Refusal check_journal(const Tree &tree, const std::uint8_t *journal, std:
 
 inline Refusal check_journal(const Tree &tree, const std::vector<std::uint8_t> &journal) {
     return check_journal(tree, journal.data(), journal.size());
+}
+
+// What the check of steps found.
+struct [[nodiscard]] StepsResult : Result {
+    std::size_t checked = 0; // steps found right: all of them if accepted, else those before the place; 0 where 4 to 10, 16 or 30 refuses
+};
+
+// Checks steps that were taken down by thread, kind and domain, from a state that the host keeps, which is then the one before the first wrong step, or the one
+// after the last: a trace may be checked in pieces. Refused by 4 to 10, 16 or 30, the state is as it was.
+inline StepsResult check_steps(const Tree &tree, hmcs_state &state, const std::vector<std::uint16_t> &threads, const std::vector<std::uint16_t> &kinds,
+                               const std::vector<std::uint16_t> &domains) noexcept {
+    const hmcs_steps_reply reply =
+        hmcs_check_steps(tree.words(), state, threads.data(), threads.size(), kinds.data(), kinds.size(), domains.data(), domains.size());
+    state = reply.state;
+    StepsResult result;
+    result.refusal = Refusal{reply.number, reply.place};
+    result.checked = reply.checked;
+    return result;
 }
 
 // Writes a journal, one journal entry for each step, without the fields that it can leave out. A debug build adds each step that it takes from a

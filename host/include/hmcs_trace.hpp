@@ -37,18 +37,18 @@
 namespace hmcs {
 namespace trace {
 
-// Steps in the order in which they were taken: of each the thread, the kind and the domain.
+// Steps in the order in which they were taken: of each the thread, the kind and the domain, for hmcs::check_steps.
 struct Steps {
     std::vector<std::uint16_t> threads;
-    std::vector<std::uint32_t> kinds;
-    std::vector<std::uint32_t> domains;
+    std::vector<std::uint16_t> kinds;
+    std::vector<std::uint16_t> domains;
 
     std::size_t size() const { return threads.size(); }
 
     void add(std::uint32_t thread, Kind kind, std::uint32_t domain) {
         threads.push_back(hmcs::detail::thread_of(thread));
-        kinds.push_back(static_cast<std::uint32_t>(kind));
-        domains.push_back(domain);
+        kinds.push_back(static_cast<std::uint16_t>(kind));
+        domains.push_back(static_cast<std::uint16_t>(std::min<std::uint32_t>(domain, 65535))); // no domain has that number
     }
 
     // The journal of the steps, for hmcs::check_journal; it has no domains.

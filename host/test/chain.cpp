@@ -80,12 +80,12 @@ void queue_root() {
     const hmcs::Lock waits = after(two, {0, 0, 1, 1, 1});
     CHECK(explains(waits, 1, {1, 0}) && explains(waits, 0, {0}));
     const hmcs::Lock lingers = after(two, {0, 0, 1, 1, 0, 0, 0});
-    CHECK(lingers.state().places.rows[0] == HMCS_LINGER && explains(lingers, 0, {0, 1}) && explains(lingers, 1, {1}));
+    CHECK(lingers.state().places.rows[0] == HMCS_ROW_LINGER && explains(lingers, 0, {0, 1}) && explains(lingers, 1, {1}));
     CHECK(explains(after(root_alone(RootKind::queue, 3), {0, 0, 1, 1, 1, 2, 2, 2}), 2, {2, 1, 0}));
     hmcs::Lock across = after(two_domains(RootKind::queue), {2, 2, 2, 2, 0, 0, 0, 0, 0, 1, 1, 1});
     CHECK(explains(across, 1, {1, 0, 2}) && across.holder() == std::optional<std::uint16_t>(2));
     CHECK(across.step(2).accepted()); // in Check, lower than the root
-    CHECK(across.state().places.rows[2] == HMCS_CHECK && explains(across, 1, {1, 0, 2}));
+    CHECK(across.state().places.rows[2] == HMCS_ROW_CHECK && explains(across, 1, {1, 0, 2}));
 }
 
 void ticket_root() {
@@ -94,7 +94,7 @@ void ticket_root() {
         hmcs::Lock lock = after(three, {0, 1, 2}, start);
         CHECK(explains(lock, 2, {2, 1, 0}) && explains(lock, 1, {1, 0}) && explains(lock, 0, {0}));
         CHECK(lock.step(0).accepted());
-        CHECK(lock.state().places.rows[0] == HMCS_RAISE && explains(lock, 2, {2, 1, 0}));
+        CHECK(lock.state().places.rows[0] == HMCS_ROW_RAISE && explains(lock, 2, {2, 1, 0}));
         CHECK(lock.step(0).accepted());
         CHECK(explains(lock, 2, {2, 1}) && explains(lock, 1, {1}) && explains(lock, 0, {0}));
     }
@@ -121,15 +121,15 @@ void longest() {
 // Thread 2 in Wait at the root, of three.
 hmcs_state third_waits() {
     hmcs_state state{};
-    state.places.rows[2] = HMCS_WAIT;
-    state.statuses[2] = HMCS_LOCKED;
+    state.places.rows[2] = HMCS_ROW_WAIT;
+    state.statuses[2] = HMCS_STATUS_LOCKED;
     return state;
 }
 
 // Thread 2 watches with ticket 6, while the grant is 4.
 hmcs_state third_watches() {
     hmcs_state state{};
-    state.places.rows[2] = HMCS_WATCH;
+    state.places.rows[2] = HMCS_ROW_WATCH;
     state.statuses[2] = 6;
     state.ticket = 7;
     state.grant = 4;
@@ -142,22 +142,22 @@ void nobody() {
     CHECK(breaks(three, third_waits(), 2));
     hmcs_state swaps = third_waits();
     swaps.nexts[0] = 3;
-    swaps.places.rows[0] = HMCS_SWAP;
+    swaps.places.rows[0] = HMCS_ROW_SWAP;
     CHECK(breaks(three, swaps, 2));
-    swaps.places.rows[0] = HMCS_IDLE;
+    swaps.places.rows[0] = HMCS_ROW_IDLE;
     CHECK(breaks(three, swaps, 2));
-    swaps.places.rows[0] = HMCS_CAS;
+    swaps.places.rows[0] = HMCS_ROW_CAS;
     CHECK(gives(three, swaps, 2, {2, 0}));
     hmcs_state lingers{};
-    lingers.places.rows[0] = HMCS_LINGER;
+    lingers.places.rows[0] = HMCS_ROW_LINGER;
     lingers.tails[0] = 2;
-    lingers.places.rows[1] = HMCS_LINK;
+    lingers.places.rows[1] = HMCS_ROW_LINK;
     lingers.places.peers[1] = 2;
     CHECK(breaks(three, lingers, 0));
     lingers.places.peers[1] = 0;
     CHECK(gives(three, lingers, 0, {0, 1}));
     hmcs_state watches = third_watches();
-    watches.places.rows[0] = HMCS_INSIDE;
+    watches.places.rows[0] = HMCS_ROW_INSIDE;
     watches.statuses[0] = 4;
     CHECK(breaks(root_alone(RootKind::ticket, 3), watches, 2));
     watches.statuses[0] = 5;
@@ -170,17 +170,17 @@ void nobody() {
 void several() {
     hmcs_state waits = third_waits();
     waits.nexts[0] = waits.nexts[1] = 3;
-    waits.places.rows[0] = waits.places.rows[1] = HMCS_INSIDE;
+    waits.places.rows[0] = waits.places.rows[1] = HMCS_ROW_INSIDE;
     CHECK(breaks(root_alone(RootKind::queue, 3), waits, 2));
-    waits.places.rows[0] = HMCS_IDLE;
+    waits.places.rows[0] = HMCS_ROW_IDLE;
     CHECK(gives(root_alone(RootKind::queue, 3), waits, 2, {2, 1}));
     hmcs_state lingers{};
-    lingers.places.rows[0] = HMCS_LINGER;
-    lingers.places.rows[1] = lingers.places.rows[2] = HMCS_LINK;
+    lingers.places.rows[0] = HMCS_ROW_LINGER;
+    lingers.places.rows[1] = lingers.places.rows[2] = HMCS_ROW_LINK;
     CHECK(breaks(root_alone(RootKind::queue, 3), lingers, 0));
     hmcs_state watches = third_watches();
-    watches.places.rows[0] = HMCS_INSIDE;
-    watches.places.rows[1] = HMCS_RAISE;
+    watches.places.rows[0] = HMCS_ROW_INSIDE;
+    watches.places.rows[1] = HMCS_ROW_RAISE;
     watches.statuses[0] = watches.statuses[1] = 5;
     CHECK(breaks(root_alone(RootKind::ticket, 3), watches, 2));
 }
@@ -195,8 +195,8 @@ void comes_back() {
     waits.nexts[1] = 3;
     waits.nexts[0] = 2;
     for (int i = 0; i < 2; ++i) {
-        waits.places.rows[i] = HMCS_WAIT;
-        waits.statuses[i] = HMCS_LOCKED;
+        waits.places.rows[i] = HMCS_ROW_WAIT;
+        waits.statuses[i] = HMCS_STATUS_LOCKED;
     }
     CHECK(breaks(three, waits, 2)); // 2, 1, 0 and then nobody
     waits.nexts[2] = 1;
@@ -207,15 +207,15 @@ void comes_back() {
     CHECK(breaks(three, waits, 0));
     // thread 0 waits at home for thread 1, which waits at the root for thread 2, which waits there for thread 1
     hmcs_state across{};
-    hmcs::set_place(across, 0, hmcs::Place{HMCS_WAIT, 1, 0, 0});
-    across.places.rows[1] = across.places.rows[2] = HMCS_WAIT;
-    across.statuses[0] = HMCS_WAIT_WORD;
-    across.statuses[257] = across.statuses[258] = HMCS_LOCKED;
+    hmcs::set_place(across, 0, hmcs::Place{HMCS_ROW_WAIT, 1, 0, 0});
+    across.places.rows[1] = across.places.rows[2] = HMCS_ROW_WAIT;
+    across.statuses[0] = HMCS_STATUS_WAIT;
+    across.statuses[257] = across.statuses[258] = HMCS_STATUS_LOCKED;
     across.nexts[1] = 1;
     across.nexts[257] = 259;
     across.nexts[258] = 258;
     CHECK(breaks(two_domains(RootKind::queue), across, 0) && breaks(two_domains(RootKind::queue), across, 2));
-    across.statuses[258] = HMCS_UNLOCKED;
+    across.statuses[258] = HMCS_STATUS_UNLOCKED;
     CHECK(gives(two_domains(RootKind::queue), across, 0, {0, 1, 2}));
 }
 
@@ -223,7 +223,7 @@ void comes_back() {
 void trees() {
     const hmcs_tree good = two_domains(RootKind::queue).words();
     hmcs_state bad_state{};
-    bad_state.places.rows[0] = HMCS_CHECK;
+    bad_state.places.rows[0] = HMCS_ROW_CHECK;
     for (const std::uint32_t kind : {0u, 1u}) {
         hmcs_tree tree = good;
         tree.ticket_root = kind;

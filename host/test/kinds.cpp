@@ -120,7 +120,7 @@ void kept() {
     CHECK(lock.run(schedule22).accepted() && hmcs::check_state(tree, lock.state()).accepted());
     CHECK(hmcs::Lock::saved(tree, lock.state()).accepted());
     hmcs_state spoilt = lock.state();
-    spoilt.places.rows[255] = HMCS_INSIDE;
+    spoilt.places.rows[255] = HMCS_ROW_INSIDE;
     CHECK(hmcs::check_state(tree, spoilt).number == HMCS_BAD_STATE && hmcs::Lock::saved(tree, spoilt).refusal().number == HMCS_BAD_STATE);
     spoilt = lock.state();
     spoilt.longest[1] = 3;

@@ -13,7 +13,7 @@
 namespace {
 
 using Schedule = std::vector<std::uint16_t>;
-using Numbers = std::array<std::uint32_t, HMCS_ROW_NUMBERS>;
+using Numbers = std::array<std::uint32_t, HMCS_NUMBERS_PER_MANY_ROW>;
 
 // What a run of the schedule alone answers, from a fresh state, with a trace buffer of its length.
 Numbers alone(const hmcs::Tree &tree, const Schedule &schedule) {

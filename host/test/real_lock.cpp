@@ -37,6 +37,7 @@ template <class Trace> void right(const hmcs::Tree &tree, std::uint32_t times, s
     CHECK(!lock.trace().abandoned() && inside == std::size_t{threads} * times);
     CHECK(written.whole && !written.too_long && hmcs::check_journal(tree, written.steps.journal()).accepted());
     CHECK(seen.kind_or_domain == written.steps.size() && seen.not_idle == 0 && seen.entries == inside);
+    CHECK(first_wrong(tree, written.steps) == written.steps.size());
     std::size_t taken = 0;
     for (std::uint32_t i = 0; i < threads; ++i) {
         taken += lock.trace().taken(i);
@@ -139,6 +140,7 @@ template <class Trace> hmcs::trace::Written faulty(const hmcs::Tree &tree, Fault
     const Compared seen = compared(tree, written.steps);
     const std::size_t size = written.steps.size();
     CHECK(hmcs::check_journal(tree, written.steps.journal()).refused() == (seen.kind < size));
+    CHECK(first_wrong(tree, written.steps) == seen.kind_or_domain);
     const bool waits = lock.trace().abandoned() || seen.not_idle != 0;
     if (lock.faults().happened) {
         const std::size_t position = lock.faults().position(written.steps);

@@ -142,18 +142,35 @@ struct Compared {
     std::size_t not_idle = 0;
 };
 
+// The position of the first step that the library's check refuses, or the number of steps. It is checked in pieces.
+inline std::size_t first_wrong(const hmcs::Tree &tree, const hmcs::trace::Steps &steps) {
+    constexpr std::size_t piece = 50;
+    hmcs_state state = hmcs::Lock(tree).state();
+    for (std::size_t from = 0; from < steps.size(); from += piece) {
+        const std::size_t to = std::min(from + piece, steps.size());
+        const auto part = [&](const std::vector<std::uint16_t> &all) {
+            return std::vector<std::uint16_t>(all.begin() + static_cast<std::ptrdiff_t>(from), all.begin() + static_cast<std::ptrdiff_t>(to));
+        };
+        const hmcs::StepsResult found = hmcs::check_steps(tree, state, part(steps.threads), part(steps.kinds), part(steps.domains));
+        if (found.refused()) {
+            return from + found.refusal.place;
+        }
+    }
+    return steps.size();
+}
+
 inline Compared compared(const hmcs::Tree &tree, const hmcs::trace::Steps &steps) {
     Compared result{steps.size(), steps.size(), 0, 0};
     hmcs::Lock model(tree);
     for (std::size_t k = 0; k < steps.size() && result.kind == steps.size(); ++k) {
         const hmcs::StepResult step = model.step(steps.threads[k]);
-        const bool other_kind = step.refused() || static_cast<std::uint32_t>(step.kind) != steps.kinds[k];
+        const bool other_kind = step.refused() || static_cast<std::uint16_t>(step.kind) != steps.kinds[k];
         result.kind = other_kind ? k : result.kind;
         result.kind_or_domain = other_kind || step.domain != steps.domains[k] ? std::min(k, result.kind_or_domain) : result.kind_or_domain;
         result.entries += step.kind == hmcs::Kind::root_entry || step.kind == hmcs::Kind::passed_entry || step.kind == hmcs::Kind::crossed_entry;
     }
     for (std::size_t i = 0; i < tree.words().threads; ++i) {
-        result.not_idle += model.state().places.rows[i] != HMCS_IDLE;
+        result.not_idle += model.state().places.rows[i] != HMCS_ROW_IDLE;
     }
     return result;
 }

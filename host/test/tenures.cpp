@@ -70,7 +70,7 @@ void acquire_parent() {
     tree.add_thread(second);
     hmcs::Lock lock(tree);
     CHECK(lock.run({0, 0, 0, 0, 0, 0, 1, 1, 1, 1, 1, 0, 0, 0, 0, 0, 0}).accepted());
-    CHECK(lock.state().places.rows[0] == HMCS_GRANT && lock.state().places.words[0] == HMCS_ACQUIRE_PARENT && lock.state().places.peers[0] == 256 + second);
+    CHECK(lock.state().places.rows[0] == HMCS_ROW_GRANT && lock.state().places.words[0] == HMCS_STATUS_ACQUIRE_PARENT && lock.state().places.peers[0] == 256 + second);
     CHECK((three(lock, socket) == Three{1, 1, 1}) && (three(lock, first) == Three{1, 1, 1}) && (three(lock, second) == Three{0, 0, 0}));
     CHECK(lock.step(0).accepted() && (three(lock, second) == Three{0, 1, 1}) && (three(lock, socket) == Three{1, 1, 1}));
     CHECK(lock.run({1, 1, 1}).counts.root == 1);
@@ -85,8 +85,8 @@ void ticket_root() {
     CHECK(lock.step(0).accepted() && (three(lock, 2) == Three{0, 1, 1}));
     CHECK(lock.step(2).kind == hmcs::Kind::root_entry && (three(lock, 2) == Three{1, 1, 1}));
     hmcs_state several{};
-    several.places.rows[0] = several.places.rows[1] = HMCS_WATCH;
-    several.places.rows[2] = HMCS_RAISE;
+    several.places.rows[0] = several.places.rows[1] = HMCS_ROW_WATCH;
+    several.places.rows[2] = HMCS_ROW_RAISE;
     several.statuses[257] = several.statuses[258] = 1;
     hmcs::Lock handed = hmcs::Lock::saved(two_domains(hmcs::RootKind::ticket), several);
     CHECK(handed.step(2).accepted() && (three(handed, 1) == Three{0, 1, 1}) && (three(handed, 2) == Three{0, 0, 0}));
@@ -187,7 +187,7 @@ void order() {
     CHECK(hmcs_run(tree, state, late.data(), 23, trace.data(), 22).number == HMCS_BAD_ENTRY);
     CHECK(hmcs_run(tree, state, schedule22.data(), 22, trace.data(), 21).number == HMCS_TRACE_SHORT);
     CHECK(hmcs_run_waits(tree, state, schedule22.data(), 22, trace.data(), 21, rows.data(), 19).number == HMCS_TRACE_SHORT);
-    CHECK(hmcs_run_waits(tree, state, schedule22.data(), 22, trace.data(), 22, rows.data(), 19).number == HMCS_WAITS_SHORT);
+    CHECK(hmcs_run_waits(tree, state, schedule22.data(), 22, trace.data(), 22, rows.data(), 19).number == HMCS_WAITS_BUFFER_SHORT);
     CHECK(hmcs_run_waits(tree, state, schedule22.data(), 22, trace.data(), 22, rows.data(), 20).number == HMCS_COUNTER_FULL);
     // threads 0, 0 .. alone: an entry of domain 1 each ten steps, so that the 5,000th is at position 4999 * 10 + 3
     hmcs_state near{};

@@ -190,7 +190,7 @@ void saved_states() {
     CHECK(again.step(1).kind == lock.step(1).kind && same(again.state(), lock.state()));
 
     hmcs_state spoilt = kept;
-    spoilt.places.rows[0] = HMCS_CHECK;
+    spoilt.places.rows[0] = HMCS_ROW_CHECK;
     spoilt.places.domains[0] = 0;
     CHECK(!same(spoilt, kept));
     hmcs::Lock refused = hmcs::Lock::saved(example_tree(), spoilt);
@@ -298,13 +298,13 @@ void kinds(hmcs::RootKind root) {
             const auto thread = static_cast<std::uint16_t>(random(tree.words().threads));
             schedule.push_back(thread);
             const hmcs::Place place = hmcs::place(by_value, thread);
-            const bool at_home = place.row == HMCS_IDLE || place.row == HMCS_INSIDE;
+            const bool at_home = place.row == HMCS_ROW_IDLE || place.row == HMCS_ROW_INSIDE;
             const hmcs_step_reply step = hmcs_step(tree.words(), by_value, thread);
             const hmcs::StepResult kept = lock.step(thread);
             CHECK(step.number == 0 && kept.accepted() && step.kind < 6 && same(lock.state(), step.state));
             CHECK(static_cast<std::uint32_t>(kept.kind) == step.kind && kept.domain == step.domain);
             CHECK(step.domain == (at_home ? tree.words().homes[thread] : place.domain));
-            CHECK((step.kind == HMCS_LEAVING) == (place.row == HMCS_INSIDE));
+            CHECK((step.kind == HMCS_LEAVING) == (place.row == HMCS_ROW_INSIDE));
             CHECK((step.kind == HMCS_STAY) == same(by_value, step.state));
             ++told[step.kind];
             by_value = step.state;

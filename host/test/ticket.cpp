@@ -65,11 +65,11 @@ void three_draws() {
     CHECK(lock.state().statuses[0] == 65535 && lock.state().statuses[1] == 0 && lock.state().statuses[2] == 1);
     for (int i = 1; i < 3; ++i) {
         const hmcs::Place place = hmcs::place(lock.state(), i);
-        CHECK(place.row == HMCS_WATCH && place.domain == 0 && place.peer == 0 && place.word == 0);
+        CHECK(place.row == HMCS_ROW_WATCH && place.domain == 0 && place.peer == 0 && place.word == 0);
         CHECK(lock.step(static_cast<std::uint32_t>(i)).kind == hmcs::Kind::stay);
     }
-    CHECK(lock.step(0).kind == hmcs::Kind::leaving && lock.state().places.rows[0] == HMCS_RAISE);
-    CHECK(lock.step(0).kind == hmcs::Kind::other_move && lock.state().grant == 0 && lock.state().places.rows[0] == HMCS_IDLE);
+    CHECK(lock.step(0).kind == hmcs::Kind::leaving && lock.state().places.rows[0] == HMCS_ROW_RAISE);
+    CHECK(lock.step(0).kind == hmcs::Kind::other_move && lock.state().grant == 0 && lock.state().places.rows[0] == HMCS_ROW_IDLE);
     CHECK(lock.step(2).kind == hmcs::Kind::stay && lock.step(1).kind == hmcs::Kind::root_entry);
     const hmcs::RunResult run = lock.run({1, 1, 2});
     CHECK(run.accepted() && run.counts.root == 1 && run.trace == (std::vector<std::uint16_t>{2}));
@@ -88,7 +88,7 @@ void two_levels() {
     for (const std::uint16_t i : schedule) {
         const hmcs::Place before = hmcs::place(other.state(), i);
         const hmcs::StepResult step = other.step(i);
-        const bool at_home = before.row == HMCS_IDLE || before.row == HMCS_INSIDE;
+        const bool at_home = before.row == HMCS_ROW_IDLE || before.row == HMCS_ROW_INSIDE;
         CHECK(step.accepted() && step.domain == (at_home ? 1u : before.domain));
     }
     CHECK(same(lock.state(), other.state()));
@@ -108,16 +108,16 @@ void not_well_formed() {
     const hmcs::Tree queue = two_domains(hmcs::RootKind::queue);
     const hmcs::Tree ticket = two_domains(hmcs::RootKind::ticket);
     const hmcs_state zero{};
-    for (const std::uint8_t row : {HMCS_DRAW, HMCS_WATCH, HMCS_RAISE}) {
+    for (const std::uint8_t row : {HMCS_ROW_DRAW, HMCS_ROW_WATCH, HMCS_ROW_RAISE}) {
         hmcs_state state = zero;
         state.places.rows[0] = row;
         CHECK(refused(queue, state) && !refused(ticket, state));
         state.places.domains[0] = 1;
         CHECK(refused(queue, state) && refused(ticket, state));
     }
-    for (const std::uint8_t row : {HMCS_PREP, HMCS_SWAP, HMCS_LINK, HMCS_WAIT, HMCS_HELP, HMCS_CAS, HMCS_LINGER, HMCS_GRANT}) {
+    for (const std::uint8_t row : {HMCS_ROW_PREP, HMCS_ROW_SWAP, HMCS_ROW_LINK, HMCS_ROW_WAIT, HMCS_ROW_HELP, HMCS_ROW_CAS, HMCS_ROW_LINGER, HMCS_ROW_GRANT}) {
         hmcs_state state = zero;
-        const bool has_peer = row == HMCS_LINK || row == HMCS_GRANT;
+        const bool has_peer = row == HMCS_ROW_LINK || row == HMCS_ROW_GRANT;
         state.places.rows[0] = row;
         state.places.peers[0] = has_peer ? 258 : 0;
         CHECK(!refused(queue, state) && refused(ticket, state));
@@ -129,12 +129,12 @@ void not_well_formed() {
     tail.tails[0] = 258;
     CHECK(!refused(queue, tail) && refused(ticket, tail));
     hmcs_state watched = zero;
-    watched.places.rows[2] = HMCS_WATCH;
+    watched.places.rows[2] = HMCS_ROW_WATCH;
     watched.statuses[258] = 65535;
     CHECK(!refused(ticket, watched));
     watched.statuses[258] = 65536;
     CHECK(refused(ticket, watched));
-    watched.places.rows[2] = HMCS_RAISE;
+    watched.places.rows[2] = HMCS_ROW_RAISE;
     CHECK(!refused(ticket, watched));
     for (int counter = 0; counter < 2; ++counter) {
         hmcs_state counters = zero;
@@ -149,8 +149,8 @@ void one_ticket_for_two() {
     hmcs_state state{};
     state.ticket = 40000;
     state.grant = 65535;
-    state.places.rows[0] = HMCS_RAISE;
-    state.places.rows[1] = state.places.rows[2] = HMCS_WATCH;
+    state.places.rows[0] = HMCS_ROW_RAISE;
+    state.places.rows[1] = state.places.rows[2] = HMCS_ROW_WATCH;
     const std::uint16_t schedule[4] = {1, 0, 1, 2};
     std::uint16_t trace[4] = {9, 9, 9, 9};
     const hmcs_run_reply run = hmcs_run(tree.words(), state, schedule, 4, trace, 4);

@@ -89,7 +89,7 @@ void other_accesses() {
     trace.step(1, 4, [](auto) { return Kind::leaving; });
     const Written written = trace.written();
     CHECK(written.whole && (order(written) == std::vector<std::pair<int, int>>{{1, 1}, {0, 2}, {1, 3}, {1, 4}}));
-    CHECK((written.steps.kinds == std::vector<std::uint32_t>{1, 0, 1, 5}));
+    CHECK((written.steps.kinds == std::vector<std::uint16_t>{1, 0, 1, 5}));
     CHECK((written.steps.journal() == std::vector<std::uint8_t>{3, 1, 0, 1, 1, 0, 0, 3, 1, 0, 1, 2, 5}));
 }
 

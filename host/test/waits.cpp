@@ -15,7 +15,7 @@ using hmcs::same;
 namespace {
 
 using Schedule = std::vector<std::uint16_t>;
-using Numbers = std::array<std::uint64_t, HMCS_WAIT_NUMBERS>;
+using Numbers = std::array<std::uint64_t, HMCS_NUMBERS_PER_WAITS_ROW>;
 
 Numbers numbers_of(const hmcs::Waits &w) { return {w.attempts, w.total, w.largest, w.numerator, w.denominator}; }
 
@@ -67,7 +67,7 @@ void buffers() {
                 std::memset(rows.as<void>(), 0x33, room * 8);
                 const hmcs_waits_reply r = hmcs_run_waits(tree.words(), fresh, schedule.as<std::uint16_t>(), schedule22.size(), trace.as<std::uint16_t>(), length,
                                                         rows.as<std::uint64_t>(), room);
-                const std::uint32_t number = length < schedule22.size() ? HMCS_TRACE_SHORT : room < 20 ? HMCS_WAITS_SHORT : HMCS_ACCEPTED;
+                const std::uint32_t number = length < schedule22.size() ? HMCS_TRACE_SHORT : room < 20 ? HMCS_WAITS_BUFFER_SHORT : HMCS_ACCEPTED;
                 CHECK(r.number == number && r.place == 0 && r.entries == (number == 0 ? 3U : 0U) && r.rows == (number == 0 ? 4U : 0U));
                 CHECK(number == 0 || same(r.state, fresh));
                 for (std::size_t k = 0; k < length; ++k) {
@@ -80,7 +80,7 @@ void buffers() {
             }
         }
     }
-    CHECK(hmcs_run_waits(tree.words(), fresh, nullptr, 0, nullptr, 0, nullptr, 0).number == HMCS_WAITS_SHORT);
+    CHECK(hmcs_run_waits(tree.words(), fresh, nullptr, 0, nullptr, 0, nullptr, 0).number == HMCS_WAITS_BUFFER_SHORT);
 }
 
 // The numbers between guard pages: thread 1 is left waiting, and a number that cannot be leaves everything.
@@ -178,7 +178,7 @@ void numbers() {
     CHECK(hmcs::run_waits(tree, state, under_way, Schedule{}).run.refusal.number == HMCS_BAD_UNDER_WAY);
     // 18 before 27
     const hmcs_waits_reply few = hmcs_run_waits_on(tree.words(), state, nullptr, 0, nullptr, 0, nullptr, 0, under_way.data());
-    CHECK(few.number == HMCS_WAITS_SHORT && few.rows == 0 && under_way[2] == HMCS_MOST_COUNTED + 1);
+    CHECK(few.number == HMCS_WAITS_BUFFER_SHORT && few.rows == 0 && under_way[2] == HMCS_MOST_COUNTED + 1);
 }
 
 } // namespace

@@ -13,7 +13,7 @@ public:
     explicit Movers(const hmcs::Tree &tree) : lock_(tree), moving_(tree.words().threads, true), workers_(HMCS_RECORDS), ticket_holders_(65536) {}
 
     bool can_move(std::size_t thread) const { return moving_[thread]; }
-    bool is_idle(std::size_t thread) const { return lock_.state().places.rows[thread] == HMCS_IDLE; }
+    bool is_idle(std::size_t thread) const { return lock_.state().places.rows[thread] == HMCS_ROW_IDLE; }
 
     void step(std::uint16_t thread) {
         const hmcs::Place before = hmcs::place(lock_.state(), thread);
@@ -21,9 +21,9 @@ public:
             return;
         }
         look_at(thread);
-        if (before.row == HMCS_LINK || before.row == HMCS_GRANT) {
+        if (before.row == HMCS_ROW_LINK || before.row == HMCS_ROW_GRANT) {
             look_at(workers_[before.peer]);
-        } else if (before.row == HMCS_RAISE) {
+        } else if (before.row == HMCS_ROW_RAISE) {
             look_at(ticket_holders_[lock_.state().grant]);
         }
     }
@@ -35,13 +35,13 @@ private:
         const hmcs::Place place = hmcs::place(state, thread);
         const std::size_t own = record_of(thread, place.domain);
         moving_[thread] = true;
-        if (place.row == HMCS_WAIT) {
+        if (place.row == HMCS_ROW_WAIT) {
             workers_[own] = thread;
-            moving_[thread] = state.statuses[own] != (place.domain == 0 ? HMCS_LOCKED : HMCS_WAIT_WORD);
-        } else if (place.row == HMCS_LINGER) {
+            moving_[thread] = state.statuses[own] != (place.domain == 0 ? HMCS_STATUS_LOCKED : HMCS_STATUS_WAIT);
+        } else if (place.row == HMCS_ROW_LINGER) {
             workers_[own] = thread;
             moving_[thread] = state.nexts[own] != 0;
-        } else if (place.row == HMCS_WATCH) {
+        } else if (place.row == HMCS_ROW_WATCH) {
             ticket_holders_[static_cast<std::uint16_t>(state.statuses[own])] = thread;
             moving_[thread] = state.statuses[own] == state.grant;
         }

@@ -88,7 +88,7 @@ std::string on_their_way(const hmcs::Lock &lock) {
     std::size_t count = 0;
     for (std::uint32_t thread = 0; thread < lock.tree().threads; ++thread) {
         const std::uint8_t row = lock.state().places.rows[thread];
-        if (row != HMCS_IDLE && row != HMCS_INSIDE) {
+        if (row != HMCS_ROW_IDLE && row != HMCS_ROW_INSIDE) {
             lines += chain_line(lock, thread);
             ++count;
         }

@@ -24,8 +24,8 @@ const char *doing_text(Doing doing) {
 
 std::string standing(const hmcs_state &state, std::uint32_t thread) {
     const hmcs::Place place = hmcs::place(state, thread);
-    if (place.row == HMCS_IDLE || place.row == HMCS_INSIDE) {
-        return place.row == HMCS_IDLE ? "is idle" : "is inside";
+    if (place.row == HMCS_ROW_IDLE || place.row == HMCS_ROW_INSIDE) {
+        return place.row == HMCS_ROW_IDLE ? "is idle" : "is inside";
     }
     return std::string("is in ") + hmcs_row_name(place.row) + " of domain " + std::to_string(place.domain);
 }

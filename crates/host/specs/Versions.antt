@@ -9,5 +9,5 @@ version-number = 30000
 -- of each struct in the order of the header's enum hmcs_struct; 0 where there is none
 abbrev pub struct-sizes : List ℕ
 struct-sizes =
-    460 ∷ 7944 ∷ 8 ∷ 16 ∷ 7952 ∷ 7960 ∷ 7976 ∷ 7984 ∷ 16 ∷ 24 ∷ 16 ∷ 472 ∷ 480 ∷ 24 ∷ 16 ∷ 0 ∷ 0 ∷ 0 ∷ 0 ∷ 0 ∷ 0 ∷ 0 ∷ 0 ∷ 0 ∷ 0 ∷ 0 ∷ 0 ∷ 0 ∷ 0 ∷ 0 ∷
+    460 ∷ 7944 ∷ 8 ∷ 16 ∷ 7952 ∷ 7960 ∷ 7976 ∷ 7984 ∷ 16 ∷ 24 ∷ 16 ∷ 472 ∷ 480 ∷ 24 ∷ 16 ∷ 7984 ∷ 7968 ∷ 0 ∷ 0 ∷ 0 ∷ 0 ∷ 0 ∷ 0 ∷ 0 ∷ 0 ∷ 0 ∷ 0 ∷ 0 ∷ 0 ∷ 0 ∷
     0 ∷ 0 ∷ []

@@ -14,6 +14,7 @@ ghost use Rattle.lock_file.specs.Answers.{read-answer, schedule-answer};
 ghost use Rattle.rate.specs.Answers.{rate-answer, reply-of};
 ghost use Rattle.schedules.specs.Answers.{many-reply, rows-answer};
 ghost use Rattle.state_check.specs.Answers.{check-answer};
+ghost use Rattle.step_check.specs.Answers.{steps-answer};
 ghost use Rattle.text_tree.specs.Answers.{text-answer};
 use bounds::RoundsReply;
 use journal::JournalReply;
@@ -28,6 +29,7 @@ use model::TreeWords;
 use rate::PassingTimes;
 use rate::RateReply;
 use schedules::ManyReply;
+use step_check::StepsReply;
 use text_tree::TextReply;
 use waits::WaitsReply;
 
@@ -210,6 +212,20 @@ pub extern "C" fn hmcs_check_journal(tree: TreeWords, journal: &[u8]) -> Journal
     journal_call::check_journal(tree, journal)
 }
 
+// The check of steps that are named by thread, kind and domain, from a state: the number that refuses the first wrong one and its position, how many are before it and the state after those; accepted, the state after the last.
+#[no_mangle]
+pub extern "C" fn hmcs_check_steps(
+    tree: TreeWords,
+    state: LockState,
+    threads: &[u16],
+    kinds: &[u16],
+    domains: &[u16],
+) -> StepsReply
+    ensures { λ r. ⌜ r ≡ steps-answer tree state (now (threads .entry)) (now (kinds .entry)) (now (domains .entry)) ⌝ }
+{
+    step_check_call::check_steps(tree, state, threads, kinds, domains)
+}
+
 // A run, and in a row buffer of its own the waits of each thread's attempts and of all together; refused, trace and rows as they came.
 #[no_mangle]
 pub extern "C" fn hmcs_run_waits(
@@ -356,8 +372,8 @@ pub extern "C" fn hmcs_sizes(sizes: &mut [u32; 32])
         480,
         24,
         16,
-        0,
-        0,
+        7984,
+        7968,
         0,
         0,
         0,

@@ -82,10 +82,10 @@ abbrev pub Right : Tree → LockState → (threads kinds domains : List ℕ) →
 Right t s is ks ds m = (j : ℕ) → j < m → number-at t s is ks ds j ≡ 0
 
 -- of the first step, and of those behind it
-first-number : (t : Tree) (s : LockState) (i k d : ℕ) (is ks ds : List ℕ) → number-at t s (i ∷ is) (k ∷ ks) (d ∷ ds) 0 ≡ step-number t s i k d
+pub first-number : (t : Tree) (s : LockState) (i k d : ℕ) (is ks ds : List ℕ) → number-at t s (i ∷ is) (k ∷ ks) (d ∷ ds) 0 ≡ step-number t s i k d
 first-number t s i k d is ks ds = ap (λ v. step-number t v i k d) (after-none t s (i ∷ is))
 
-later-number : (t : Tree) (s : LockState) (i k d : ℕ) (is ks ds : List ℕ) (j : ℕ) → number-at t s (i ∷ is) (k ∷ ks) (d ∷ ds) (suc j) ≡ number-at t (next t s i) is ks ds j
+pub later-number : (t : Tree) (s : LockState) (i k d : ℕ) (is ks ds : List ℕ) (j : ℕ) → number-at t s (i ∷ is) (k ∷ ks) (d ∷ ds) (suc j) ≡ number-at t (next t s i) is ks ds j
 later-number t s i k d is ks ds j = ap (λ v. step-number t v (getD is j 0) (getD ks j 0) (getD ds j 0)) (after-next t s i is j)
 
 -- a named step that is right, and one that is not

@@ -84,3 +84,16 @@ checked-full t s (i ∷ is) [] ds a b e = absurd (omega arith)
 checked-full t s (i ∷ is) (k ∷ ks) [] a b e = absurd (omega arith)
 checked-full t s (i ∷ is) (k ∷ ks) (d ∷ ds) a b e =
     all-or-stop (step-number t s i k d) (length is) (checked t (next t s i) is ks ds) s (λ z. checked-full t (next t s i) is ks ds (omega arith) (omega arith) z) (eqb (step-number t s i k d) 0) refl e
+
+-- no more are counted than are named
+few-or-stop : (n m : ℕ) (c : Checked) (s : LockState) → c .steps ≤ m → (v : Bool) → cond v (one-more c) (stopped n s) .steps ≤ suc m
+few-or-stop n m c s f true = omega arith
+few-or-stop n m c s f false = omega arith
+
+pub checked-few : (t : Tree) (s : LockState) (is ks ds : List ℕ) → checked t s is ks ds .steps ≤ length is
+unfolding checked
+checked-few t s [] ks ds = omega arith
+checked-few t s (i ∷ is) [] ds = omega arith
+checked-few t s (i ∷ is) (k ∷ ks) [] = omega arith
+checked-few t s (i ∷ is) (k ∷ ks) (d ∷ ds) =
+    few-or-stop (step-number t s i k d) (length is) (checked t (next t s i) is ks ds) s (checked-few t (next t s i) is ks ds) (eqb (step-number t s i k d) 0)

@@ -3,3 +3,4 @@ pub mod Comparing
 pub mod Stretching
 pub mod Piecing
 pub mod Wholes
+pub mod Answering

@@ -14,23 +14,23 @@ use Rattle.model.specs.Trees.{Tree, tree-of}
 use Rattle.model.proofs.Trees.Accepted.{sixteen-bit}
 use Rattle.step_check.specs.Answers.{Checked, checked}
 use Rattle.step_check.proofs.Checking.{shifted, then-checked, checked-join}
-use Rattle.step_check.proofs.Keeping.{checked-kept, checked-full}
+use Rattle.step_check.proofs.Keeping.{checked-kept, checked-full, checked-few}
 use Rattle.step_check_call.specs.Stretches.{found-of, Ready, Piece-fits}
+
+-- so many steps are checked, and those ahead decide the rest
+pub record So-far (t : Tree) (s₀ : LockState) (is ks ds : List ℕ) (s : LockState) (at : ℕ) : Type 0 where
+  pub ready : Ready t s
+  pub within : at ≤ length is
+  pub ahead : checked t s₀ is ks ds ≡ shifted at (checked t s (drop at is) (drop at ks) (drop at ds))
 
 module _ (w : TreeWords) (s₀ : LockState) (is ks ds : List ℕ) (a : length ks ≡ length is) (b : length ds ≡ length is) where
   abbrev t : Tree
   t = tree-of w
 
-  -- so many steps are checked, and those ahead decide the rest
-  pub record So-far (s : LockState) (at : ℕ) : Type 0 where
-    pub ready : Ready t s
-    pub within : at ≤ length is
-    pub ahead : checked t s₀ is ks ds ≡ shifted at (checked t s (drop at is) (drop at ks) (drop at ds))
-
-  pub none-yet : Ready t s₀ → So-far s₀ 0
+  pub none-yet : Ready t s₀ → So-far t s₀ is ks ds s₀ 0
   none-yet g = record { ready = g; within = omega arith; ahead = let z : 0 + checked t s₀ is ks ds .steps ≡ checked t s₀ is ks ds .steps = omega arith in rw z }
 
-  module _ (s : LockState) (at end : ℕ) (g : So-far s at) (from : at ≤ end) (to : end ≤ length is) where
+  module _ (s : LockState) (at end : ℕ) (g : So-far t s₀ is ks ds s at) (from : at ≤ end) (to : end ≤ length is) where
     abbrev piece : List ℕ → List ℕ
     piece l = take (end - at) (drop at l)
 
@@ -71,7 +71,7 @@ module _ (w : TreeWords) (s₀ : LockState) (is ks ds : List ℕ) (a : length ks
         (ap found-of (sym all), ap (λ v. v .state) (sym all))
 
     -- none is: on with the next piece
-    pub goes-on : c .number ≡ 0 → (s′ : LockState) → s′ ≡ c .state → So-far s′ end
+    pub goes-on : c .number ≡ 0 → (s′ : LockState) → s′ ≡ c .state → So-far t s₀ is ks ds s′ end
     unfolding then-checked
     goes-on z s′ e =
         let full : c .steps ≡ end - at = checked-full t s (piece is) (piece ks) (piece ds) (piece-long ks a ∙ sym (piece-long is refl)) (piece-long ds b ∙ sym (piece-long is refl)) z ∙ piece-long is refl in
@@ -92,3 +92,7 @@ module _ (w : TreeWords) (s₀ : LockState) (is ks ds : List ℕ) (a : length ks
         let same : c ≡ checked t s (drop at is) (drop at ks) (drop at ds) = rw (rest is refl, rest ks a, rest ds b) in
         let all : checked t s₀ is ks ds ≡ shifted at c = g .ahead ∙ ap (shifted at) (sym same) in
         (ap found-of (sym all), ap (λ v. v .state) (sym all))
+
+    -- the steps so far are at most all
+    pub steps-few : (n : ℕ) → n ≡ c .steps → at + n ≤ length is
+    steps-few n e = omega (arith, e, checked-few t s (piece is) (piece ks) (piece ds), piece-long is refl)

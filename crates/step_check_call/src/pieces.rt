@@ -205,6 +205,8 @@ fn check_piece(
     requires { ⌜ Piece-fits (now threads) (now kinds) (now domains) (now trace) (now codes) ⌝ }
     ensures { λ r. ⌜ r ≡ found-of (checked (tree-of tree) (lent-lock (now (tails .entry)) (now (nexts .entry)) (now (statuses .entry)) (now (rows .entry)) (now (places .entry)) (now (peers .entry)) (now (words .entry)) (now (ticket .entry)) (now (granted .entry)) (now (entries .entry)) (now (tenures .entry)) (now (longest .entry))) (now (threads .entry)) (now (kinds .entry)) (now (domains .entry))) ⌝ }
     ensures { λ r. ⌜ lent-lock (now (tails .exit)) (now (nexts .exit)) (now (statuses .exit)) (now (rows .exit)) (now (places .exit)) (now (peers .exit)) (now (words .exit)) (now (ticket .exit)) (now (granted .exit)) (now (entries .exit)) (now (tenures .exit)) (now (longest .exit)) ≡ checked (tree-of tree) (lent-lock (now (tails .entry)) (now (nexts .entry)) (now (statuses .entry)) (now (rows .entry)) (now (places .entry)) (now (peers .entry)) (now (words .entry)) (now (ticket .entry)) (now (granted .entry)) (now (entries .entry)) (now (tenures .entry)) (now (longest .entry))) (now (threads .entry)) (now (kinds .entry)) (now (domains .entry)) .state ⌝ }
+    ensures { λ r. ⌜ length (now (trace .exit)) ≡ length (now (trace .entry)) ⌝ }
+    ensures { λ r. ⌜ length (now (codes .exit)) ≡ length (now (codes .entry)) ⌝ }
 {
     let stretch = stretch_of(
         tree,
@@ -296,5 +298,92 @@ fn check_piece(
     Found {
         number,
         steps: same,
+    }
+}
+
+// All named steps, 1,024 of them at a time; each piece goes on from the state that the one before it left, in arrays that are lent to all of them.
+pub(crate) fn check_all(
+    tree: TreeWords,
+    tails: &mut [u16; 64],
+    nexts: &mut [u16; 320],
+    statuses: &mut [u64; 320],
+    rows: &mut [u8; 256],
+    places: &mut [u8; 256],
+    peers: &mut [u16; 256],
+    words: &mut [u64; 256],
+    ticket: &mut u16,
+    granted: &mut u16,
+    entries: &mut [u64; 64],
+    tenures: &mut [u64; 64],
+    longest: &mut [u64; 64],
+    threads: &[u16],
+    kinds: &[u16],
+    domains: &[u16],
+    trace: &mut [u16],
+    codes: &mut [u16],
+) -> Found
+    requires { ⌜ Ready (tree-of tree) (lent-lock (now tails) (now nexts) (now statuses) (now rows) (now places) (now peers) (now words) (now ticket) (now granted) (now entries) (now tenures) (now longest)) ⌝ }
+    requires { ⌜ length (now kinds) ≡ length (now threads) ⌝ }
+    requires { ⌜ length (now domains) ≡ length (now threads) ⌝ }
+    requires { ⌜ length (now trace) ≡ 1024 ⌝ }
+    requires { ⌜ length (now codes) ≡ 1024 ⌝ }
+    ensures { λ r. ⌜ r ≡ found-of (checked (tree-of tree) (lent-lock (now (tails .entry)) (now (nexts .entry)) (now (statuses .entry)) (now (rows .entry)) (now (places .entry)) (now (peers .entry)) (now (words .entry)) (now (ticket .entry)) (now (granted .entry)) (now (entries .entry)) (now (tenures .entry)) (now (longest .entry))) (now (threads .entry)) (now (kinds .entry)) (now (domains .entry))) ⌝ }
+    ensures { λ r. ⌜ lent-lock (now (tails .exit)) (now (nexts .exit)) (now (statuses .exit)) (now (rows .exit)) (now (places .exit)) (now (peers .exit)) (now (words .exit)) (now (ticket .exit)) (now (granted .exit)) (now (entries .exit)) (now (tenures .exit)) (now (longest .exit)) ≡ checked (tree-of tree) (lent-lock (now (tails .entry)) (now (nexts .entry)) (now (statuses .entry)) (now (rows .entry)) (now (places .entry)) (now (peers .entry)) (now (words .entry)) (now (ticket .entry)) (now (granted .entry)) (now (entries .entry)) (now (tenures .entry)) (now (longest .entry))) (now (threads .entry)) (now (kinds .entry)) (now (domains .entry)) .state ⌝ }
+{
+    let mut at: usize = 0;
+    while 1024 < threads.len() - at {
+        let end = at + 1024;
+        let found = check_piece(
+            tree,
+            tails,
+            nexts,
+            statuses,
+            rows,
+            places,
+            peers,
+            words,
+            ticket,
+            granted,
+            entries,
+            tenures,
+            longest,
+            &threads[at..end],
+            &kinds[at..end],
+            &domains[at..end],
+            trace,
+            codes,
+        );
+        if found.number != 0 {
+            return Found {
+                number: found.number,
+                steps: at + found.steps,
+            };
+        }
+        at = end;
+    }
+    let end = threads.len();
+    let last = check_piece(
+        tree,
+        tails,
+        nexts,
+        statuses,
+        rows,
+        places,
+        peers,
+        words,
+        ticket,
+        granted,
+        entries,
+        tenures,
+        longest,
+        &threads[at..end],
+        &kinds[at..end],
+        &domains[at..end],
+        trace,
+        codes,
+    );
+    Found {
+        number: last.number,
+        steps: at + last.steps,
     }
 }

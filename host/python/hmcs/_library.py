@@ -102,8 +102,16 @@ class RateReply(ctypes.Structure):
     _fields_ = _ANSWER + [("rate", c_double)]
 
 
+class KindsReply(ctypes.Structure):
+    _fields_ = WaitsReply._fields_
+
+
+class StepsReply(ctypes.Structure):
+    _fields_ = [("number", c_uint32), ("place", c_size_t), ("checked", c_size_t), ("state", State)]
+
+
 # In the order of the header's enum hmcs_struct.
-STRUCT_ORDER = [TreeWords, State, Answer, StepAnswer, FreshReply, StepReply, RunReply, WaitsReply, ManyReply, RoundsReply, JournalAnswer, ReadReply, TextReply, PassingTimes, RateReply]
+STRUCT_ORDER = [TreeWords, State, Answer, StepAnswer, FreshReply, StepReply, RunReply, WaitsReply, ManyReply, RoundsReply, JournalAnswer, ReadReply, TextReply, PassingTimes, RateReply, KindsReply, StepsReply]
 
 _bytes, _turns, _number = POINTER(c_uint8), POINTER(c_uint16), POINTER(c_uint32)
 _large = POINTER(c_uint64)
@@ -123,6 +131,9 @@ FUNCTIONS = {
     "hmcs_run": (RunReply, [TreeWords, State, _turns, c_size_t, _turns, c_size_t]),
     "hmcs_run_waits": (WaitsReply, [TreeWords, State, _turns, c_size_t, _turns, c_size_t, _large, c_size_t]),
     "hmcs_run_waits_on": (WaitsReply, [TreeWords, State, _turns, c_size_t, _turns, c_size_t, _large, c_size_t, _large]),
+    "hmcs_run_kinds": (KindsReply, [TreeWords, State, _turns, c_size_t, _turns, c_size_t, _turns, c_size_t]),
+    "hmcs_check_state": (Answer, [TreeWords, State]),
+    "hmcs_check_steps": (StepsReply, [TreeWords, State, _turns, c_size_t, _turns, c_size_t, _turns, c_size_t]),
     "hmcs_chain": (c_uint32, [TreeWords, State, c_uint16, _turns, c_size_t, _number, _number]),
     "hmcs_allowances": (Answer, [TreeWords, _large]),
     "hmcs_wait_bounds": (Answer, [TreeWords, _large]),

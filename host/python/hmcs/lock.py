@@ -98,7 +98,7 @@ class Lock:
         """A lock whose state was kept; refused by 10 if it is not well formed."""
         lock = cls(tree)
         lock.state = State.from_buffer_copy(state)
-        lock.run([])
+        lock._answered(library.hmcs_check_state(lock.tree.words, lock.state))
         return lock
 
     @staticmethod
@@ -119,6 +119,33 @@ class Lock:
         accepted(reply.number, reply.place)
         self.state = reply.state
         return Run(counts_of(reply), list(trace)[: reply.entries])
+
+    def run_kinds(self, schedule: Sequence[int]) -> List[Step]:
+        """A run that tells what each of its steps was.
+
+        >>> [step.text for step in Lock(Tree.parse("(#1)")).run_kinds([0, 0, 0])]
+        ['moves on', 'enters through the root', 'leaves']
+        """
+        given = turns(schedule)
+        trace = (ctypes.c_uint16 * max(1, len(schedule)))()
+        rows = (ctypes.c_uint16 * max(1, 2 * len(schedule)))()
+        reply = library.hmcs_run_kinds(self.tree.words, self.state, given, len(schedule), trace, len(schedule), rows, 2 * len(schedule))
+        accepted(reply.number, reply.place)
+        self.state = reply.state
+        return [Step(rows[2 * k], library.hmcs_kind_text(rows[2 * k]).decode(), rows[2 * k + 1]) for k in range(reply.rows)]
+
+    def check_steps(self, threads: Sequence[int], kinds: Sequence[int], domains: Sequence[int]) -> None:
+        """Nothing where the threads' steps from here have these kinds and domains, and then the lock stands after them; else hmcs.Refused, the place being
+        the first wrong step, and the lock stands before it.
+
+        >>> lock = Lock(Tree.parse("(#1)"))
+        >>> lock.check_steps([0, 0], [1, 2], [0, 0])
+        >>> lock.holder
+        0
+        """
+        reply = library.hmcs_check_steps(self.tree.words, self.state, turns(threads), len(threads), turns(kinds), len(kinds), turns(domains), len(domains))
+        self.state = reply.state
+        accepted(reply.number, reply.place)
 
     def run_waits(self, schedule: Sequence[int]) -> WaitsRun:
         """A run, and the waits of the attempts that ended in it. Attempts go on from one such run to the next.

@@ -1,6 +1,7 @@
 //! The fresh call, the single step, the step in place, the run and the check of a state on words, by the step table.
 
 use crate::kinds::{check_state, run_kinds, CheckState, RunKinds};
+use crate::named_steps::{check_steps, CheckSteps};
 use crate::refusals::*;
 use crate::table::*;
 use crate::words::*;
@@ -15,9 +16,10 @@ pub struct Calls {
     pub run: fn(&TreeWords, &StateWords, &[u16], &mut [u16]) -> RunReply,
     pub run_kinds: RunKinds,
     pub check_state: CheckState,
+    pub check_steps: CheckSteps,
 }
 
-pub const TABLE: Calls = Calls { fresh, fresh_in_place, step: step_words, step_in_place, run: run_words, run_kinds, check_state };
+pub const TABLE: Calls = Calls { fresh, fresh_in_place, step: step_words, step_in_place, run: run_words, run_kinds, check_state, check_steps };
 
 fn number_and_place<T>(outcome: &Outcome<T>) -> (u32, u32) {
     match outcome {

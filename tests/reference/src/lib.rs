@@ -13,6 +13,7 @@ pub mod listing;
 pub mod lock_file;
 pub mod many;
 pub mod met;
+pub mod named_steps;
 pub mod opaque;
 pub mod options;
 pub mod random;

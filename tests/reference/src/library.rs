@@ -46,6 +46,7 @@ pub fn run_file() -> Option<RunFile> {
 #[cfg(calls)]
 mod call_entries {
     use crate::kinds::KindsReply;
+    use crate::named_steps::StepsReply;
     use crate::words::*;
 
     /// Number and place alone.
@@ -63,6 +64,16 @@ mod call_entries {
         fn hmcs_run(tree: TreeWords, state: StateWords, schedule: *const u16, schedule_len: usize, trace: *mut u16, trace_len: usize) -> RunReply;
         fn hmcs_run_kinds(tree: TreeWords, state: StateWords, schedule: *const u16, schedule_len: usize, trace: *mut u16, trace_len: usize, rows: *mut u16, rows_len: usize) -> KindsReply;
         fn hmcs_check_state(tree: TreeWords, state: StateWords) -> Answer;
+        fn hmcs_check_steps(
+            tree: TreeWords,
+            state: StateWords,
+            threads: *const u16,
+            threads_len: usize,
+            kinds: *const u16,
+            kinds_len: usize,
+            domains: *const u16,
+            domains_len: usize,
+        ) -> StepsReply;
     }
 
     pub fn fresh(tree: &TreeWords, start: u16) -> Reply {
@@ -91,6 +102,11 @@ mod call_entries {
         unsafe { hmcs_run_kinds(*tree, *state, schedule.as_ptr(), schedule.len(), trace.as_mut_ptr(), trace.len(), rows.as_mut_ptr(), rows.len()) }
     }
 
+    pub fn check_steps(tree: &TreeWords, state: &StateWords, threads: &[u16], kinds: &[u16], domains: &[u16]) -> StepsReply {
+        // The pointers are valid for their lengths.
+        unsafe { hmcs_check_steps(*tree, *state, threads.as_ptr(), threads.len(), kinds.as_ptr(), kinds.len(), domains.as_ptr(), domains.len()) }
+    }
+
     pub fn check_state(tree: &TreeWords, state: &StateWords) -> (u32, u32) {
         let answer = unsafe { hmcs_check_state(*tree, *state) };
         (answer.number, answer.place)
@@ -101,7 +117,7 @@ mod call_entries {
 #[cfg(calls)]
 pub fn calls() -> Option<Calls> {
     use call_entries::*;
-    Some(Calls { fresh, fresh_in_place, step, step_in_place, run, run_kinds, check_state })
+    Some(Calls { fresh, fresh_in_place, step, step_in_place, run, run_kinds, check_state, check_steps })
 }
 
 #[cfg(not(calls))]

@@ -14,7 +14,7 @@ use reference::words::*;
 use std::process::exit;
 
 const CANARY: usize = 16;
-const REFUSALS: [usize; 13] = [4, 5, 6, 7, 8, 9, 16, 10, 11, 12, 13, 28, 19];
+const REFUSALS: [usize; 16] = [4, 5, 6, 7, 8, 9, 16, 10, 11, 12, 13, 28, 19, 30, 26, 29];
 
 #[derive(Clone, Copy, Debug)]
 enum Call {
@@ -25,6 +25,7 @@ enum Call {
     Run,
     RunKinds,
     CheckState,
+    CheckSteps,
 }
 
 /// What one call is given; the buffers of trace and kinds stand between canaries.
@@ -36,6 +37,14 @@ struct Case {
     schedule: Vec<u16>,
     trace: Vec<u16>,
     rows: Vec<u16>,
+    named: Named,
+}
+
+/// Kinds and domains as they are named for the schedule's steps: those of the table, at times with one of them changed or one missing.
+#[derive(Default)]
+struct Named {
+    kinds: Vec<u16>,
+    domains: Vec<u16>,
 }
 
 /// What a call returned and left in its buffers; a call that is no run has no counts, and one that is no step tells no kind and no domain.
@@ -49,7 +58,7 @@ struct Left {
 }
 
 fn random_case(random: &mut Random) -> Case {
-    let call = random.pick(&[Call::Fresh, Call::FreshInPlace, Call::Step, Call::StepInPlace, Call::Run, Call::Run, Call::Run, Call::RunKinds, Call::RunKinds, Call::CheckState]);
+    let call = random.pick(&[Call::Fresh, Call::FreshInPlace, Call::Step, Call::StepInPlace, Call::Run, Call::Run, Call::Run, Call::RunKinds, Call::RunKinds, Call::CheckState, Call::CheckSteps, Call::CheckSteps]);
     let draft = if random.one_in(5) { broken_draft(random) } else { valid_draft(random) };
     let tree = tree_words(random, &draft);
     let schedule = case_schedule(random, draft.schedule, tree.threads);
@@ -66,7 +75,27 @@ fn random_case(random: &mut Random) -> Case {
         _ => ROW * schedule.len() + random.below(20),
     };
     let rows = (0..CANARY + row_room + CANARY).map(|_| random.below(65_536) as u16).collect();
-    Case { call, tree, start: random_start(random), state, schedule, trace, rows }
+    let named = if matches!(call, Call::CheckSteps) { named_steps(random, &tree, &state, &schedule) } else { Named::default() };
+    Case { call, tree, start: random_start(random), state, schedule, trace, rows, named }
+}
+
+fn named_steps(random: &mut Random, tree: &TreeWords, state: &StateWords, schedule: &[u16]) -> Named {
+    let short = &schedule[..schedule.len().min(LONGEST_SCHEDULE)];
+    let (mut trace, mut rows) = (vec![0; short.len()], vec![0; ROW * short.len()]);
+    (TABLE.run_kinds)(tree, state, short, &mut trace, &mut rows);
+    let column = |at: usize| (0..schedule.len()).map(|k| rows.get(ROW * k + at).copied().unwrap_or(0)).collect::<Vec<u16>>();
+    let mut named = Named { kinds: column(0), domains: column(1) };
+    let position = random.below(schedule.len());
+    match random.below(8) {
+        0 => named.kinds[position] = random.pick(&[0, 1, 2, 5, 8, 9, 65_535]),
+        1 => named.domains[position] = random.pick(&[0, 1, 2, 63, 64, 65_535]),
+        2 => {
+            named.kinds.pop();
+        }
+        3 => named.domains.push(0),
+        _ => {}
+    }
+    named
 }
 
 fn case_state(random: &mut Random, words: &TreeWords, length: usize) -> StateWords {
@@ -132,6 +161,11 @@ fn make(calls: Calls, case: &Case) -> Left {
             written = reply.rows;
             reply.run()
         }
+        Call::CheckSteps => {
+            let reply = (calls.check_steps)(&case.tree, &state, &case.schedule, &case.named.kinds, &case.named.domains);
+            written = reply.checked as u32;
+            without_counts(Reply { number: reply.number, place: reply.place as u32, state: reply.state })
+        }
         Call::CheckState => {
             let (number, place) = (calls.check_state)(&case.tree, &state);
             without_counts(Reply { number, place, state })
@@ -162,7 +196,7 @@ fn main() {
             exit(1);
         }
         met.count(table.reply.number);
-        if !matches!(case.call, Call::Fresh | Call::FreshInPlace) {
+        if !matches!(case.call, Call::Fresh | Call::FreshInPlace | Call::CheckSteps) {
             let schedule = match case.call {
                 Call::Run | Call::RunKinds => &case.schedule[..],
                 Call::CheckState => &[],

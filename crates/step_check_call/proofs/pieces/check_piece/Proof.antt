@@ -59,7 +59,7 @@ returns c =
     let q = f .pre .1 in
     let S = st .stretch-of .ensures in
     let answer = piece-passes _ _ _ (a .kinds .now) (a .domains .now) g _ S (q .kinds-long) (q .domains-long) _ _ (q .codes-room) (q .few) (r .run-part .ensures .1 .0) _ (d .first-difference .ensures) (c .if1 .taken) in
-    (answer .0, r .run-part .ensures .0 ∙ answer .1)
+    (answer .0, (r .run-part .ensures .0 ∙ answer .1, (r .run-part .ensures .1 .1, ap length (r .run-part .ensures .1 .0) ∙ told-front-length _ _)))
 
 mul-number-of : tie.Need-mul-number-of
 mul-number-of c =
@@ -147,7 +147,8 @@ returns-2 c =
     let q = f .pre .1 in
     let S = st .stretch-of .ensures in
     let answer = piece-stops _ _ _ (a .kinds .now) (a .domains .now) g _ S (q .kinds-long) (q .domains-long) _ _ (q .codes-room) (q .few) (r .run-part .ensures .1 .0) _ (d .first-difference .ensures) (c .before .before .before .before .before .before .before .before .before .before .before .before .before .before .before .before .before .before .before .before .before .before .if1 .left) _ (c .before .before .before .before .before .before .before .before .before .before .before .before .before .before .before .before .before .before .before .number-of .ensures) in
-    (answer .0, c .before .before .before .before .«run-part2» .ensures .0 ∙ answer .1)
+    let again = c .before .before .before .before .«run-part2» .ensures in
+    (answer .0, (again .0 ∙ answer .1, (again .1 .1 ∙ r .run-part .ensures .1 .1, ap length (again .1 .0) ∙ told-front-length _ _ ∙ ap length (r .run-part .ensures .1 .0) ∙ told-front-length _ _)))
 
 pub check-piece-spec : {M : Type 1} → statement M
 check-piece-spec =

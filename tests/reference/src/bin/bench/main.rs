@@ -8,6 +8,7 @@ mod files;
 mod journals;
 mod kinds;
 mod many;
+mod named_steps;
 mod texts;
 mod writing;
 mod waits;
@@ -126,6 +127,7 @@ fn main() {
     journals::print(&mut worst);
     waits::print(&mut worst);
     kinds::print(&mut worst);
+    named_steps::print(&mut worst);
     chain::print();
     texts::print();
     writing::print();
