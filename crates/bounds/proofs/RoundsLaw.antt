@@ -8,9 +8,9 @@ use Rattle.model.specs.declared.TreeWords.{TreeWords}
 use Rattle.model.specs.Trees.{tree-of}
 use Rattle.model.specs.Refusals.{tree-refusal}
 use Rattle.model.proofs.Trees.Accepted.{accepted, sixteen-bit}
-use Rattle.starvation_freedom.specs.Bounds.{everyone-bound}
-use Rattle.starvation_freedom.specs.Laws.{Everyone-law}
-use Rattle.starvation_freedom.proofs.Law.{everyone-law}
+use Rattle.bounds.specs.StarvationFreedom.Bounds.{everyone-bound}
+use Rattle.bounds.specs.StarvationFreedom.Laws.{Everyone-law}
+use Rattle.bounds.proofs.starvation_freedom.Law.{everyone-law}
 use Rattle.bounds.specs.Answers.{capped, rounds-answer}
 use Rattle.bounds.specs.Laws.{Rounds-law, Entering-law}
 use Rattle.bounds.proofs.Law.{small, large}

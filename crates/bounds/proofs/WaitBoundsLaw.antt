@@ -10,7 +10,7 @@ use Rattle.model.specs.declared.TreeWords.{TreeWords}
 use Rattle.model.specs.Trees.{tree-of}
 use Rattle.model.proofs.Lists.{less-or}
 use Rattle.model.proofs.Trees.Accepted.{accepted}
-use Rattle.longest_wait.specs.Bounds.{wait-bound}
+use Rattle.bounds.specs.LongestWait.Bounds.{wait-bound}
 use Rattle.bounds.specs.Answers.{capped, wait-word, words-from, wait-bounds-answer, wait-bounds-left}
 use Rattle.bounds.specs.Laws.{Wait-bounds-law}
 use Rattle.bounds.proofs.Law.{word-at, small, large}

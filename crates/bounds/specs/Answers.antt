@@ -6,8 +6,8 @@ use lib.Dec.{eqb, ltb}
 use Rattle.model.specs.declared.TreeWords.{TreeWords}
 use Rattle.model.specs.Trees.{Tree, tree-of, allowance}
 use Rattle.model.specs.Refusals.{Refusal, tree-refusal}
-use Rattle.starvation_freedom.specs.Bounds.{everyone-bound}
-use Rattle.longest_wait.specs.Bounds.{wait-bound}
+use Rattle.bounds.specs.StarvationFreedom.Bounds.{everyone-bound}
+use Rattle.bounds.specs.LongestWait.Bounds.{wait-bound}
 use Rattle.bounds.specs.declared.RoundsReply.{RoundsReply}
 
 -- a number, or the largest of 64 bits where it is larger

@@ -9,9 +9,9 @@ use Rattle.model.specs.Trees.{tree-of, allowance}
 use Rattle.model.specs.States.{fresh-state}
 use Rattle.model.specs.Runs.{run, occurrences}
 use Rattle.model.specs.Laws.{All-threads}
-use Rattle.starvation_freedom.specs.Bounds.{everyone-bound}
-use Rattle.starvation_freedom.specs.Laws.{Rounds, round-robin}
-use Rattle.longest_wait.specs.Bounds.{wait-bound}
+use Rattle.bounds.specs.StarvationFreedom.Bounds.{everyone-bound}
+use Rattle.bounds.specs.StarvationFreedom.Laws.{Rounds, round-robin}
+use Rattle.bounds.specs.LongestWait.Bounds.{wait-bound}
 use Rattle.bounds.specs.Answers.{allowances-answer, allowances-left, rounds-answer, wait-bounds-answer, wait-bounds-left}
 
 -- ALLOWANCES. Accepted, the word of a domain other than the root is its allowance wherever that is a number of 64 bits, and else 2 ^ 64 less 1

@@ -2,3 +2,5 @@
 pub mod Answers
 pub mod Laws
 pub mod Cases
+pub mod StarvationFreedom
+pub mod LongestWait

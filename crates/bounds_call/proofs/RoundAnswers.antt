@@ -8,7 +8,7 @@ use Rattle.model.specs.Trees.{tree-of}
 use Rattle.model.specs.Refusals.{tree-refusal}
 use Rattle.refusals.specs.declared.Refusal.{Refusal}
 use Rattle.refusals.specs.Arrays.{refusal-words}
-use Rattle.starvation_freedom.specs.Bounds.{everyone-bound}
+use Rattle.bounds.specs.StarvationFreedom.Bounds.{everyone-bound}
 use Rattle.bounds.specs.declared.RoundsReply.{RoundsReply}
 use Rattle.bounds.specs.Answers.{capped, rounds-answer}
 use Rattle.bounds_call.proofs.Capped.{capped-first}

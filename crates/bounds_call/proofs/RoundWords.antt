@@ -17,8 +17,8 @@ use Rattle.model.proofs.Lists.{same-or}
 use Rattle.model.proofs.Trees.Accepted.{Accepted, accepted}
 use Rattle.model.proofs.Trees.Paths.{depth-child, depth-zero}
 use Rattle.model.proofs.Trees.Reading.{home-read, parent-read, few-domains, few-threads}
-use Rattle.starvation_freedom.specs.Bounds.{members, others-passes, levels, entry-rounds, others-rounds, acquire-rounds, acquire-bound, release-bound, everyone-bound}
-use Rattle.starvation_freedom.proofs.Bounds.{above-rounds, acquire-at}
+use Rattle.bounds.specs.StarvationFreedom.Bounds.{members, others-passes, levels, entry-rounds, others-rounds, acquire-rounds, acquire-bound, release-bound, everyone-bound}
+use Rattle.bounds.proofs.starvation_freedom.Bounds.{above-rounds, acquire-at}
 use Rattle.bounds.specs.Answers.{capped}
 use Rattle.bounds_call.specs.Arrays.{rounds-above, Acquires, Rounds-above}
 use Rattle.bounds_call.specs.Waits.{Counted, Others}

@@ -13,8 +13,8 @@ use Rattle.model.specs.Scans.{filter-below}
 use Rattle.model.specs.Trees.{Tree, is-member}
 use Rattle.model.proofs.Lists.{same-or, less-or}
 use Rattle.model.proofs.Laws.Counters.{zeros}
-use Rattle.starvation_freedom.specs.Bounds.{members}
-use Rattle.longest_wait.specs.Bounds.{sum-below, passes, others-passes}
+use Rattle.bounds.specs.StarvationFreedom.Bounds.{members}
+use Rattle.bounds.specs.LongestWait.Bounds.{sum-below, passes, others-passes}
 use Rattle.bounds.specs.Answers.{capped}
 use Rattle.bounds_call.specs.Waits.{added, sum-of, weight, Owned, Counted, Before, Others}
 use Rattle.bounds_call.proofs.Filling.{capped-small}

@@ -22,10 +22,10 @@ use Rattle.model.proofs.Trees.Reading.{home-read, parent-read, few-domains, few
 use Rattle.refusals.specs.declared.Refusal.{Refusal}
 use Rattle.refusals.specs.Arrays.{parents-in, refusal-words}
 use Rattle.refusals.proofs.Reading.{threshold-in}
-use Rattle.starvation_freedom.specs.Bounds.{members}
-use Rattle.longest_wait.specs.Bounds.{effective-threshold, effective, passes, others-passes, tenures-for-all, member-wait, wait-bound}
-use Rattle.starvation_freedom.proofs.Effective.{effective-accepted}
-use Rattle.longest_wait.proofs.Waits.{above-wait, wait-at}
+use Rattle.bounds.specs.StarvationFreedom.Bounds.{members}
+use Rattle.bounds.specs.LongestWait.Bounds.{effective-threshold, effective, passes, others-passes, tenures-for-all, member-wait, wait-bound}
+use Rattle.bounds.proofs.starvation_freedom.Effective.{effective-accepted}
+use Rattle.bounds.proofs.longest_wait.Waits.{above-wait, wait-at}
 use Rattle.bounds.specs.Answers.{capped, words-from, wait-word, wait-bounds-answer, wait-bounds-left}
 use Rattle.bounds_call.specs.Arrays.{Allowed}
 use Rattle.bounds_call.specs.Waits.{word-of, added-above, Owned, Counted, Others, Above}

@@ -6,7 +6,7 @@ use Prim.Native.Nat.{ℕ, _+_, _<_}
 use lib.Dec.{eqb}
 use lib.ListN.{getD, length}
 use Rattle.model.specs.Trees.{Tree, allowance}
-use Rattle.starvation_freedom.specs.Bounds.{others-passes, acquire-rounds}
+use Rattle.bounds.specs.StarvationFreedom.Bounds.{others-passes, acquire-rounds}
 use Rattle.bounds.specs.Answers.{capped}
 
 -- the word of each domain other than the root is its allowance

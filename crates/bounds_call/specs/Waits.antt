@@ -6,8 +6,8 @@ use Prim.Native.Nat.{ℕ, _+_, _-_, _*_, _≤_, _<_}
 use lib.Dec.{eqb, ltb}
 use lib.ListN.{getD, set, length}
 use Rattle.model.specs.Trees.{Tree, is-member}
-use Rattle.starvation_freedom.specs.Bounds.{members}
-use Rattle.longest_wait.specs.Bounds.{sum-below, passes, others-passes, tenures-for-all, member-wait}
+use Rattle.bounds.specs.StarvationFreedom.Bounds.{members}
+use Rattle.bounds.specs.LongestWait.Bounds.{sum-below, passes, others-passes, tenures-for-all, member-wait}
 use Rattle.bounds.specs.Answers.{capped}
 
 -- a record's owner: the record is a member's of that domain and of no other

@@ -5,7 +5,7 @@ ghost use lib.ListN.{getD};
 ghost use Rattle.model.specs.Trees.{tree-of, level};
 ghost use Rattle.model.specs.Refusals.{tree-refusal};
 ghost use Rattle.refusals.specs.Arrays.{refusal-words};
-ghost use Rattle.starvation_freedom.specs.Bounds.{levels, acquire-bound, release-bound, everyone-bound};
+ghost use Rattle.bounds.specs.StarvationFreedom.Bounds.{levels, acquire-bound, release-bound, everyone-bound};
 ghost use Rattle.bounds.specs.Answers.{capped, allowances-answer, allowances-left, rounds-answer};
 ghost use Rattle.bounds_call.specs.Arrays.{rounds-above, Acquires, Rounds-above};
 ghost use Rattle.bounds_call.specs.Waits.{Counted, Others};

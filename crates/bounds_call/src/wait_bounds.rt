@@ -6,7 +6,7 @@ ghost use lib.Dec.{ltb};
 ghost use Rattle.model.specs.Trees.{tree-of};
 ghost use Rattle.model.specs.Refusals.{tree-refusal};
 ghost use Rattle.refusals.specs.Arrays.{refusal-words};
-ghost use Rattle.longest_wait.specs.Bounds.{effective};
+ghost use Rattle.bounds.specs.LongestWait.Bounds.{effective};
 ghost use Rattle.bounds.specs.Answers.{capped, words-from, wait-word, wait-bounds-answer, wait-bounds-left};
 ghost use Rattle.bounds_call.specs.Arrays.{Allowed};
 ghost use Rattle.bounds_call.specs.Waits.{added, sum-of, word-of, added-above, Owned, Counted, Before, Others, Above};

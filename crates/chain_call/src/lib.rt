@@ -46,7 +46,7 @@ pub fn chain(tree: TreeWords, state: LockState, thread: u16, buffer: &mut [u16])
 {
     let schedule = [thread];
     let counters = state.counters;
-    let r = run_refusals::lent_refusal_of(
+    let r = refusals::of_runs::lent_refusal_of(
         tree,
         &state.words.tails,
         &state.words.nexts,

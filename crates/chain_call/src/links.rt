@@ -14,7 +14,7 @@ use crate::tables;
 use model::PlaceWords;
 use model::State;
 use model::TreeWords;
-use run_refusals::places;
+use refusals::of_runs::places;
 
 fn more_if_at(hit: bool, count: u16, j: u16) -> u16
     requires { ⌜ j < 256 ⌝ }

@@ -12,7 +12,7 @@ ghost use Rattle.model.proofs.Trees.Index.{height};
 use model::PlaceWords;
 use model::State;
 use model::TreeWords;
-use run_refusals::places;
+use refusals::of_runs::places;
 
 // A count of threads with one more: 0 is none, one more than its number the only one, 300 several.
 pub(crate) fn more_at(count: u16, j: u16) -> u16
@@ -42,7 +42,7 @@ pub(crate) fn own_record_at<'a>(
 {
     let at = i as usize;
     let home = homes[at];
-    paths::record_at(parents, domains, i, home, l)
+    refusals::paths::record_at(parents, domains, i, home, l)
 }
 
 // A status that sends a thread in Wait Inside.

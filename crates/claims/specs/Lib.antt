@@ -3,3 +3,4 @@ pub mod Claim
 pub mod Reached
 pub mod RefusedCalls
 pub mod MoveCases
+pub mod Tenures

@@ -10,7 +10,7 @@ fn run(name: &[u8]) {
     let read = io::read_full(fd, &mut file);
     libc::close(fd);
     let mut output = [0u8; 65536];
-    let r = file_call::run_file(&file[..read], &mut output);
+    let r = file_calls::running::run_file(&file[..read], &mut output);
     io::write_all(libc::STDOUT_FILENO, name);
     number(r.number);
     number(r.place);

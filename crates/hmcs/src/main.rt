@@ -10,11 +10,11 @@ fn main() {
     let mut file = [0u8; 65537];
     let read = io::read_full(libc::STDIN_FILENO, &mut file);
     let mut output = [0u8; 65536];
-    let r = file_call::run_file(&file[..read], &mut output);
+    let r = file_calls::running::run_file(&file[..read], &mut output);
     if r.number == 0 {
         print(&output, r.length as usize);
         return;
     }
-    let length = printed_listing_call::write_refusal(r.number, r.place, &mut output);
+    let length = file_calls::printing::write_refusal(r.number, r.place, &mut output);
     print(&output, length);
 }

@@ -6,21 +6,22 @@ ghost use Rattle.model.specs.Answers.{fresh-answer, step-answer, run-answer, tr
 ghost use Rattle.host.specs.Answers.{answer-of};
 ghost use Rattle.host.specs.Versions.{version-number, struct-sizes};
 ghost use Rattle.host.specs.InPlace.{fresh-kept, fresh-left, fresh-without-state, step-without-state};
-ghost use Rattle.file_answers.specs.FileAnswers.{file-answer, output-answer};
-ghost use Rattle.file_writer.specs.Answers.{write-answer, file-buffer-answer};
+ghost use Rattle.lock_file.specs.FileAnswers.FileAnswers.{file-answer, output-answer};
+ghost use Rattle.lock_file.specs.FileWriter.Answers.{write-answer, file-buffer-answer};
 ghost use Rattle.journal.specs.Answers.{journal-answer};
 ghost use Rattle.kinds.specs.Answers.{kinds-answer, kinds-trace, kinds-rows};
 ghost use Rattle.lock_file.specs.Answers.{read-answer, schedule-answer};
 ghost use Rattle.rate.specs.Answers.{rate-answer, reply-of};
 ghost use Rattle.schedules.specs.Answers.{many-reply, rows-answer};
-ghost use Rattle.state_check.specs.Answers.{check-answer};
-ghost use Rattle.step_check.specs.Answers.{steps-answer};
+ghost use Rattle.refusals.specs.StateCheck.Answers.{check-answer};
+ghost use Rattle.journal.specs.StepCheck.Answers.{steps-answer};
 ghost use Rattle.text_tree.specs.Answers.{text-answer};
 use bounds::RoundsReply;
 use journal::JournalReply;
 use kinds::KindsReply;
 use lock_file::ReadReply;
 ghost use Rattle.waits.specs.Answers.{waits-answer, waits-trace, waits-rows, waits-on-answer, waits-on-trace, waits-on-rows, waits-on-under-way};
+use journal::step_check::StepsReply;
 use model::FreshReply;
 use model::LockState;
 use model::RunReply;
@@ -29,7 +30,6 @@ use model::TreeWords;
 use rate::PassingTimes;
 use rate::RateReply;
 use schedules::ManyReply;
-use step_check::StepsReply;
 use text_tree::TextReply;
 use waits::WaitsReply;
 
@@ -139,7 +139,7 @@ pub extern "C" fn hmcs_run_file(
     ensures { λ r. ⌜ now (length .exit) ≡ file-answer (now (file .entry)) (now (output .entry)) .length ⌝ }
     ensures { λ r. ⌜ now (output .exit) ≡ output-answer (now (file .entry)) (now (output .entry)) ⌝ }
 {
-    let r = file_call::run_file(file, output);
+    let r = file_calls::running::run_file(file, output);
     *place = r.place;
     *length = r.length;
     r.number
@@ -168,7 +168,7 @@ pub extern "C" fn hmcs_write_file(
     ensures { λ r. ⌜ now (length .exit) ≡ write-answer tree (now (schedule .entry)) (now (file .entry)) .length ⌝ }
     ensures { λ r. ⌜ now (file .exit) ≡ file-buffer-answer tree (now (schedule .entry)) (now (file .entry)) ⌝ }
 {
-    let r = file_writer_call::write_file(tree, schedule, file);
+    let r = file_calls::writing::write_file(tree, schedule, file);
     *place = r.place;
     *length = r.length;
     r.number
@@ -201,7 +201,7 @@ pub extern "C" fn hmcs_run_many(
     ensures { λ r. ⌜ r ≡ many-reply tree (now (lengths .entry)) (now (entries .entry)) (now (rows .entry)) ⌝ }
     ensures { λ r. ⌜ now (rows .exit) ≡ rows-answer tree (now (lengths .entry)) (now (entries .entry)) (now (rows .entry)) ⌝ }
 {
-    schedules_call::run_many(tree, lengths, entries, rows)
+    runs_call::many_schedules::run_many(tree, lengths, entries, rows)
 }
 
 // The check of a journal: 0 where its threads, stepped one after another from a fresh lock, give its kinds; else the number and the first byte of the first entry that is refused.
@@ -223,7 +223,7 @@ pub extern "C" fn hmcs_check_steps(
 ) -> StepsReply
     ensures { λ r. ⌜ r ≡ steps-answer tree state (now (threads .entry)) (now (kinds .entry)) (now (domains .entry)) ⌝ }
 {
-    step_check_call::check_steps(tree, state, threads, kinds, domains)
+    journal_call::step_check::check_steps(tree, state, threads, kinds, domains)
 }
 
 // A run, and in a row buffer of its own the waits of each thread's attempts and of all together; refused, trace and rows as they came.
@@ -239,7 +239,7 @@ pub extern "C" fn hmcs_run_waits(
     ensures { λ r. ⌜ now (trace .exit) ≡ waits-trace tree state (now (schedule .entry)) (now (trace .entry)) (now (rows .entry)) ⌝ }
     ensures { λ r. ⌜ now (rows .exit) ≡ waits-rows tree state (now (schedule .entry)) (now (trace .entry)) (now (rows .entry)) ⌝ }
 {
-    waits_call::run_waits(tree, state, schedule, trace, rows)
+    runs_call::with_waits::run_waits(tree, state, schedule, trace, rows)
 }
 
 // The same from the attempts under way, whose numbers after the run stand where those before it stood; refused, trace, rows and numbers as they came.
@@ -257,7 +257,7 @@ pub extern "C" fn hmcs_run_waits_on(
     ensures { λ r. ⌜ now (rows .exit) ≡ waits-on-rows tree state (now (schedule .entry)) (now (trace .entry)) (now (rows .entry)) (now («under_way» .entry)) ⌝ }
     ensures { λ r. ⌜ now («under_way» .exit) ≡ waits-on-under-way tree state (now (schedule .entry)) (now (trace .entry)) (now (rows .entry)) (now («under_way» .entry)) ⌝ }
 {
-    waits_call::run_waits_on(tree, state, schedule, trace, rows, under_way)
+    runs_call::with_waits::run_waits_on(tree, state, schedule, trace, rows, under_way)
 }
 
 // A run, and in a buffer of its own two numbers for each step, its kind and the domain that it was at; refused, trace and rows as they came.
@@ -273,7 +273,7 @@ pub extern "C" fn hmcs_run_kinds(
     ensures { λ r. ⌜ now (trace .exit) ≡ kinds-trace tree state (now (schedule .entry)) (now (trace .entry)) (now (rows .entry)) ⌝ }
     ensures { λ r. ⌜ now (rows .exit) ≡ kinds-rows tree state (now (schedule .entry)) (now (trace .entry)) (now (rows .entry)) ⌝ }
 {
-    kinds_call::run_kinds(tree, state, schedule, trace, rows)
+    runs_call::with_kinds::run_kinds(tree, state, schedule, trace, rows)
 }
 
 // The check of a state that a host kept: what refuses it, 4 to 9, 16 or 10; 0 and 0 where every call takes it up.
@@ -281,7 +281,7 @@ pub extern "C" fn hmcs_run_kinds(
 pub extern "C" fn hmcs_check_state(tree: TreeWords, state: LockState) -> Answer
     ensures { λ r. ⌜ r ≡ answer-of (check-answer tree state) ⌝ }
 {
-    let r = state_check::check_state(tree, state);
+    let r = refusals::state_check::check_state(tree, state);
     Answer {
         number: r.number,
         place: r.place,

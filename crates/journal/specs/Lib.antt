@@ -4,3 +4,4 @@ pub mod Reading
 pub mod Answers
 pub mod Laws
 pub mod Cases
+pub mod StepCheck

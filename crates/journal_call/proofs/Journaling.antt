@@ -30,16 +30,16 @@ use Rattle.refusals.specs.Lowest.{Lowest}
 use Rattle.refusals.specs.declared.Refusal.{Refusal as Refusal-words}
 use Rattle.refusals.specs.Arrays.{refusal-words}
 use Rattle.refusals.proofs.RunTests.{refusal-words-not, refusal-words-zero}
-use Rattle.journal_reader.specs.declared.Piece.{Piece}
-use Rattle.journal_reader.specs.Stretches.{position-after, Stretch}
-use Rattle.journal_pieces.specs.Pieces.{Piece-read}
+use Rattle.journal_call.specs.declared.reader.Piece.{Piece}
+use Rattle.journal_call.specs.Reader.Stretches.{position-after, Stretch}
+use Rattle.journal_call.specs.Pieces.Pieces.{Piece-read}
 use Rattle.journal.specs.Answers.{fresh-lock, checked, journal-refusal, replied, journal-answer}
 use Rattle.journal.specs.Laws.{kind-numbers}
 use Rattle.journal_call.proofs.Stepping.{stretch-threads, stretch-moves, Same-kinds, goes-on, stops-here, stopped-by, ended}
-use Rattle.steps.specs.Running.{step-code, codes-front, fresh-from}
+use Rattle.lock.specs.Steps.Running.{step-code, codes-front, fresh-from}
 use Rattle.journal_call.specs.Kinds.{other-kind}
-use Rattle.steps.proofs.Starting.{fresh-from-zero}
-use Rattle.steps.proofs.StepCodes.{code-kind}
+use Rattle.lock.proofs.steps.Starting.{fresh-from-zero}
+use Rattle.lock.proofs.steps.StepCodes.{code-kind}
 
 -- WHAT IS TOLD OF A STEP has its kind in the lowest three bits
 kind-of-code : (b : List ℕ) (xs : List Step) (j : ℕ) → j < length xs → length xs ≤ length b → getD (codes-front b xs) j 0 % 8 ≡ getD (kind-numbers xs) j 0

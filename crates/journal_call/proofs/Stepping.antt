@@ -11,11 +11,11 @@ use Rattle.model.specs.Steps.{step}
 use Rattle.model.specs.Runs.{steps, state-after}
 use Rattle.model.specs.Refusals.{refusal, accepted}
 use Rattle.model.specs.Laws.{All-threads}
-use Rattle.journal_reader.specs.Stretches.{position-after, Stretch, none-read, one-read, Stops, for-room, for-broken, for-thread}
+use Rattle.journal_call.specs.Reader.Stretches.{position-after, Stretch, none-read, one-read, Stops, for-room, for-broken, for-thread}
 use Rattle.journal.specs.Answers.{checked}
 use Rattle.journal.specs.Laws.{kind-numbers}
 use Rattle.journal.proofs.Facts.{moves-on}
-use Rattle.journal_reader.proofs.Stretching.{position-next, position-none}
+use Rattle.journal_call.proofs.reader.Stretching.{position-next, position-none}
 use Rattle.journal.proofs.Checking.{unknown-thread, same-kind, other-kind, broken-entry, journal-end, past-end, enough}
 
 -- A STRETCH of entries: its threads are known, and each entry takes at least one byte

@@ -1,2 +1,5 @@
 -- What the check compares. The definitions that it meets are in `journal`.
 pub mod Kinds
+pub mod Reader
+pub mod Pieces
+pub mod StepCheck

@@ -11,7 +11,7 @@ ghost use Rattle.model.specs.Refusals.{refusal, first-refusal, tree-refusal, ru
 ghost use Rattle.refusals.specs.Lowest.{Lowest};
 ghost use Rattle.model.specs.Laws.{Typed};
 ghost use Rattle.refusals.specs.Arrays.{lent-state};
-ghost use Rattle.steps.specs.Running.{codes-front};
+ghost use Rattle.lock.specs.Steps.Running.{codes-front};
 ghost use Rattle.journal_call.specs.Kinds.{other-kind, All-same-kinds};
 ghost use Rattle.journal.specs.Answers.{replied, journal-answer};
 use journal::JournalReply;
@@ -105,7 +105,7 @@ fn run_piece(
     let mut entries = [0u64; 64];
     let mut tenures = [0u64; 64];
     let mut longest = [0u64; 64];
-    steps::run::run_lent(
+    lock::steps::run::run_lent(
         tree,
         tails,
         nexts,
@@ -142,7 +142,7 @@ pub(crate) fn check_entries(
     requires { ⌜ length (now codes) ≡ 1024 ⌝ }
     ensures { λ r. ⌜ r ≡ journal-answer tree (now (journal .entry)) ⌝ }
 {
-    let fresh = steps::fresh_state(0);
+    let fresh = lock::steps::fresh_state(0);
     let mut tails = fresh.tails;
     let mut nexts = fresh.nexts;
     let mut statuses = fresh.statuses;
@@ -155,7 +155,7 @@ pub(crate) fn check_entries(
     let mut position: usize = 0;
     let mut before: u16 = 0;
     loop {
-        let piece = journal_pieces::read_piece(
+        let piece = crate::pieces::read_piece(
             journal,
             position,
             before,
@@ -182,7 +182,7 @@ pub(crate) fn check_entries(
         );
         let same = first_other_kind(kinds, codes, count);
         if same < count {
-            let place = journal_reader::position_after(journal, position, before, same);
+            let place = crate::reader::position_after(journal, position, before, same);
             return answer_at(26, place);
         }
         if piece.number != 0 {

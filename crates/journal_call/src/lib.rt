@@ -1,4 +1,8 @@
 // The check of a journal, document 02, (xiv): the tree's tests, and room for the pieces that are read and stepped.
+pub mod pieces;
+pub mod reader;
+pub mod step_check;
+
 ghost use mathlib.Core.Path.{_≡_};
 ghost use Rattle.journal.specs.Answers.{journal-answer};
 

@@ -10,8 +10,8 @@ use Rattle.model.specs.Steps.{Step}
 use Rattle.model.specs.Counters.{lock-state}
 use Rattle.model.specs.Answers.{first-kind, first-domain}
 use Rattle.refusals.specs.Arrays.{lent-state}
-use Rattle.run_refusals.specs.Counts.{counters-in}
-use Rattle.members.specs.Standing.{row-domain}
+use Rattle.refusals.specs.OfRuns.Counts.{counters-in}
+use Rattle.rows.specs.Common.Standing.{row-domain}
 use Rattle.lock.specs.declared.lent.Told.{Told}
 use Rattle.lock.specs.declared.lent.Ran.{Ran}
 

@@ -1,2 +1,3 @@
 -- What a step and a run on lent arrays tell.
 pub mod Lent
+pub mod Steps

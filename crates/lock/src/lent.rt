@@ -8,10 +8,10 @@ ghost use Rattle.model.specs.Runs.{steps};
 ghost use Rattle.model.specs.Answers.{run-answer, trace-answer};
 ghost use Rattle.refusals.specs.Arrays.{lent-state};
 ghost use Rattle.lock.specs.Lent.{lent-lock, told-by, run-told};
+use crate::steps::limits;
+use crate::steps::run;
 use model::Counts;
 use model::TreeWords;
-use steps::limits;
-use steps::run;
 
 // The kind of a step and the domain that it was at.
 struct Told {

@@ -1,8 +1,10 @@
 // The three calls on a lock, by value: each answers as the model says, for every input.
+pub mod steps;
+
 ghost use mathlib.Core.Path.{_≡_};
 ghost use Rattle.model.specs.Counters.{fresh-counters};
 ghost use Rattle.model.specs.Answers.{fresh-answer, step-answer, run-answer, trace-answer};
-ghost use Rattle.steps.specs.Running.{first-number};
+ghost use Rattle.lock.specs.Steps.Running.{first-number};
 
 mod lent;
 
@@ -54,7 +56,7 @@ pub fn fresh_lock(tree: TreeWords, start: u16) -> FreshReply
         tree.threads,
     );
     let first = first_of(r.number, tree.ticket_root, start);
-    let words = steps::fresh_state(first);
+    let words = crate::steps::fresh_state(first);
     let counters = fresh_counters();
     let state = LockState { words, counters };
     FreshReply {

@@ -4,3 +4,6 @@ pub mod Answers
 pub mod Format
 pub mod ReadingLaws
 pub mod Cases
+pub mod PrintedListing
+pub mod FileAnswers
+pub mod FileWriter

@@ -1,5 +1,8 @@
 // The lock file: its reader.
 mod answering;
+pub mod file_answers;
+pub mod file_writer;
+pub mod printed_listing;
 mod reading;
 
 ghost use mathlib.Core.Path.{_≡_};

@@ -1,4 +1,8 @@
 // The refusals of trees and of schedules, numbers 4 to 9, 16 and 11 to 13, each test over everything before the next.
+pub mod of_runs;
+pub mod paths;
+pub mod state_check;
+
 ghost use mathlib.Core.Path.{_≡_};
 ghost use mathlib.Core.List.{[]};
 ghost use Prim.Native.Nat.{_<_, _≤_};

@@ -4,7 +4,7 @@ use Prim.Native.Nat.{_≤_, _-_}
 use native.Mathlib.Omega.{arith}
 use Rattle.model.specs.Trees.{tree-of}
 use Rattle.model.specs.Refusals.{tree-refusal}
-use Rattle.starvation_freedom.specs.Bounds.{levels}
+use Rattle.bounds.specs.StarvationFreedom.Bounds.{levels}
 use Rattle.bounds_call.specs.Arrays.{Rounds-above}
 use Rattle.bounds_call.specs.Waits.{Counted, Others}
 use Rattle.model.proofs.Trees.Reading.{few-domains}

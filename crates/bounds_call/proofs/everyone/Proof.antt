@@ -6,7 +6,7 @@ use borrow.Author.Needs.{needs}
 use Rattle.model.specs.Scans.{largest-below}
 use Rattle.model.specs.Trees.{tree-of}
 use Rattle.model.specs.Refusals.{tree-refusal}
-use Rattle.starvation_freedom.specs.Bounds.{levels, acquire-bound, release-bound}
+use Rattle.bounds.specs.StarvationFreedom.Bounds.{levels, acquire-bound, release-bound}
 use Rattle.bounds.specs.Answers.{capped}
 use Rattle.bounds_call.specs.Arrays.{Rounds-above}
 use Rattle.bounds_call.specs.Waits.{Counted, Others}

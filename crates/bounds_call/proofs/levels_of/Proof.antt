@@ -6,7 +6,7 @@ use borrow.Author.Needs.{needs}
 use Rattle.model.specs.Scans.{largest-below}
 use Rattle.model.specs.Trees.{tree-of, level}
 use Rattle.model.specs.Refusals.{tree-refusal}
-use Rattle.starvation_freedom.specs.Bounds.{levels}
+use Rattle.bounds.specs.StarvationFreedom.Bounds.{levels}
 use Rattle.bounds_call.proofs.Filling.{largest-next, largest-all}
 use Rattle.model.proofs.Trees.Reading.{few-domains}
 use Rattle.bounds_call.proofs.levels_of.Statement.{statement}

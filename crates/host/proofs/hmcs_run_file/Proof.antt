@@ -1,7 +1,7 @@
 -- `host::hmcs_run_file` meets its contract: what the file call ensures, read off field by field. Assumes nothing.
 use mathlib.Core.Path.{ap}
 use borrow.Author.Needs.{needs}
-use Rattle.file_answers.specs.declared.FileReply.{FileReply}
+use Rattle.lock_file.specs.declared.file_answers.FileReply.{FileReply}
 use Rattle.host.proofs.hmcs_run_file.Statement.{statement}
 use Rattle.host.proofs.hmcs_run_file.Tie as tie
 

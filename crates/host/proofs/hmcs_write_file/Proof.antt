@@ -1,7 +1,7 @@
 -- `host::hmcs_write_file` meets its contract: what the writer ensures, read off field by field. Assumes nothing.
 use mathlib.Core.Path.{ap}
 use borrow.Author.Needs.{needs}
-use Rattle.file_writer.specs.declared.WriteReply.{WriteReply}
+use Rattle.lock_file.specs.declared.file_writer.WriteReply.{WriteReply}
 use Rattle.host.proofs.hmcs_write_file.Statement.{statement}
 use Rattle.host.proofs.hmcs_write_file.Tie as tie
 

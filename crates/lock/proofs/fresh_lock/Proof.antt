@@ -3,7 +3,7 @@ use mathlib.Core.Path.{_∙_}
 use native.Mathlib.Omega.{arith}
 use Rattle.model.specs.Answers.{fresh-answer}
 use Rattle.refusals.proofs.Reading.{refusal-words-same}
-use Rattle.steps.proofs.Starting.{fresh-is}
+use Rattle.lock.proofs.steps.Starting.{fresh-is}
 use borrow.Author.Needs.{needs}
 use Rattle.lock.proofs.fresh_lock.Statement.{statement}
 use Rattle.lock.proofs.fresh_lock.Tie as tie

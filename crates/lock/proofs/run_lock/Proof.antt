@@ -1,5 +1,5 @@
 -- `lock::run_lock` meets its contract: the run on the state's arrays, which fit what its type fixes. Assumes nothing.
-use Rattle.steps.proofs.Typing.{typed}
+use Rattle.lock.proofs.steps.Typing.{typed}
 use Rattle.lock.specs.Lent.{run-told}
 use borrow.Author.Needs.{needs}
 use Rattle.lock.proofs.run_lock.Statement.{statement}

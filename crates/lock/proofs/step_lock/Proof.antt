@@ -1,7 +1,7 @@
 -- `lock::step_lock` meets its contract: the run of one entry on the state's arrays, which fit what its type fixes. Assumes nothing.
 use mathlib.Core.Path.{refl}
-use Rattle.steps.proofs.Answering.{step-told}
-use Rattle.steps.proofs.Typing.{typed}
+use Rattle.lock.proofs.steps.Answering.{step-told}
+use Rattle.lock.proofs.steps.Typing.{typed}
 use Rattle.lock.specs.Lent.{run-told}
 use borrow.Author.Needs.{needs}
 use Rattle.lock.proofs.step_lock.Statement.{statement}

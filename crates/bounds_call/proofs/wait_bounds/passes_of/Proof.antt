@@ -5,7 +5,7 @@ use Prim.Native.Nat.{_≤_}
 use lib.ListN.{length, length-set}
 use Rattle.model.specs.Trees.{tree-of}
 use Rattle.model.specs.Refusals.{tree-refusal}
-use Rattle.longest_wait.specs.Bounds.{effective}
+use Rattle.bounds.specs.LongestWait.Bounds.{effective}
 use Rattle.model.proofs.Trees.Accepted.{accepted}
 use Rattle.model.proofs.Trees.Reading.{few-domains}
 use Rattle.bounds_call.specs.Waits.{Counted}

@@ -4,7 +4,7 @@ use native.Mathlib.Omega.{arith}
 use Prim.Native.Nat.{_≤_, _-_}
 use Rattle.model.specs.Trees.{tree-of}
 use Rattle.model.specs.Refusals.{tree-refusal}
-use Rattle.longest_wait.specs.Bounds.{effective, passes}
+use Rattle.bounds.specs.LongestWait.Bounds.{effective, passes}
 use Rattle.bounds_call.specs.Arrays.{Allowed}
 use Rattle.bounds_call.proofs.WaitWords.{passes-word}
 use Rattle.bounds_call.proofs.WaitSums.{Summed, summed-none, summed-next, Before-so-far, before-none, before-next, before-all}

@@ -4,7 +4,7 @@ use native.Mathlib.Omega.{arith}
 use Prim.Native.Nat.{_≤_}
 use Rattle.model.specs.Trees.{tree-of}
 use Rattle.model.specs.Refusals.{tree-refusal}
-use Rattle.longest_wait.specs.Bounds.{effective}
+use Rattle.bounds.specs.LongestWait.Bounds.{effective}
 use Rattle.bounds_call.specs.Arrays.{Allowed}
 use Rattle.bounds_call.specs.Waits.{Before}
 use Rattle.bounds_call.proofs.WaitWords.{passes-word}

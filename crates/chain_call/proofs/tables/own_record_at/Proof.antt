@@ -6,7 +6,7 @@ use Rattle.model.specs.Trees.{tree-of, child, own-record}
 use Rattle.model.proofs.Trees.Reading.{few-threads, few-domains, home-read}
 use Rattle.refusals.specs.Arrays.{parents-in}
 use Rattle.refusals.proofs.Meeting.{child-same}
-use Rattle.run_refusals.proofs.Passing.{shape-of}
+use Rattle.refusals.proofs.of_runs.Passing.{shape-of}
 use Rattle.chain_call.proofs.Walking.{at-home, at-real}
 use Rattle.chain_call.proofs.tables.own_record_at.Statement.{statement}
 use Rattle.chain_call.proofs.tables.own_record_at.Tie as tie

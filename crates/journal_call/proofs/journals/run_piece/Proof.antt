@@ -8,7 +8,7 @@ use Rattle.model.specs.Runs.{steps, run}
 use Rattle.model.specs.Counters.{lock-state, fresh-counters}
 use Rattle.model.specs.Refusals.{first-refusal, run-tests-before-19}
 use Rattle.refusals.specs.Arrays.{lent-state}
-use Rattle.steps.specs.Running.{codes-front}
+use Rattle.lock.specs.Steps.Running.{codes-front}
 use borrow.Author.Needs.{needs}
 use Rattle.journal_call.proofs.journals.run_piece.Statement.{statement}
 use Rattle.journal_call.proofs.journals.run_piece.Tie as tie

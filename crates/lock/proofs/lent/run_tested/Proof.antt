@@ -1,6 +1,6 @@
 -- `lock::lent::run_tested` meets its contract: refused, or run. Assumes nothing.
 use mathlib.Core.Path.{refl, ap}
-use Rattle.steps.proofs.Answering.{run-refuses, run-passes, early-passes, first-small, kinds-few, run-answered, told-first}
+use Rattle.lock.proofs.steps.Answering.{run-refuses, run-passes, early-passes, first-small, kinds-few, run-answered, told-first}
 use Rattle.model.specs.Refusals.{refusal}
 use Rattle.lock.proofs.Telling.{refused-told, accepted-told}
 use borrow.Author.Needs.{needs}

@@ -1,0 +1,351 @@
+-- Where a chain ends: at the thread that enters, it has gone through all who stand before in the queue, each linked to the one before it, and on from the one who acts for the first. Assumes nothing.
+use mathlib.Core.Path.{_≡_, refl, sym, ap, _∙_}
+use mathlib.Core.Bool.{Bool, true, false, false≢true}
+use mathlib.Core.List.{List, [], _∷_, _++_, append-assoc, head-eq-of-cons-eq}
+use mathlib.Core.Logic.{_≢_, _⊎_, inl, inr}
+use Prim.Native.Nat.{ℕ, suc, _+_, _≤_, _<_}
+use native.Mathlib.Omega.{arith}
+use lib.Dec.{eqb}
+use lib.ListN.{length}
+use borrow.Author.Tests.{eqb-true}
+use Rattle.model.specs.declared.Place.{Place}
+use Rattle.model.specs.declared.Place.the-variants.{Idle, Prep, Swap, Link, Wait, Inside, Check, Help, Cas, Linger, Grant, Draw, Watch, Raise, Invalid}
+use Rattle.model.specs.declared.State.{State as WordState}
+use Rattle.model.specs.Trees.{Tree, is-ticket, own-record}
+use Rattle.model.specs.States.{next, status, place, Has-room}
+use Rattle.model.specs.Steps.{is-entry, Row-result, step}
+use Rattle.model.specs.Acts.{acts}
+use Rattle.model.specs.Laws.{Sixteen-bit}
+use Rattle.model.proofs.Tests.{and-both}
+use Rattle.model.proofs.Branches.{Branch, idle-draws, idle-prepares, prepares, swap-root, swap-inner, swap-behind, link-writes, wait-root-locked, wait-root-granted, wait-ungranted, wait-acquires, wait-passed, wait-crossed, inside-leaves, check-passes, check-releases, help-alone, help-linked, cas-last, cas-not-last, linger-alone, linger-linked, grant-writes, draw-shown, draw-unshown, watch-shown, watch-unshown, raise-counts, invalid-stays, branch}
+use Rattle.model.proofs.Laws.Kinds.{may-stay}
+use Rattle.model.proofs.Lists.{less-or, first, rest, first-rest, is-same, count, count-append, count-cons}
+use Rattle.model.proofs.Places.{place-stored}
+use Rattle.model.proofs.Trees.Index.{ancestor, height, record-at}
+use Rattle.model.proofs.Trees.Accepted.{Accepted}
+use Rattle.model.proofs.Trees.Tickets.{ticket-yes}
+use Rattle.model.proofs.Trees.Paths.{ancestor-root}
+use Rattle.model.proofs.Trees.Records.{own-record-at}
+use Rattle.claims.proofs.Queues.Moves.{Stage, out, climb, queued, ready, inside, holding, releasing, low, State}
+use Rattle.claims.proofs.Queues.Moves as moves
+use Rattle.claims.proofs.Queues.Invariant.{Inv}
+use Rattle.claims.proofs.Words.Links.{after, after-here, after-past}
+use Rattle.chain.specs.Chain.{stays, acts-ahead, links, acts-holding, ticket-before, looked-to, chain}
+use Rattle.chain.specs.Laws.{Chain-on, ends, goes-on, Chain-law}
+use Rattle.chain.proofs.Chains.{looks-small, chain-law}
+use Rattle.chain.proofs.Stays.{stays-at, moves-on}
+use Rattle.chain.proofs.Reached.Actors.{Waits, waits, lingers, watches, stay-waits, acting-there, stands-before}
+use Rattle.chain.proofs.Reached.Ahead.{link-place, Looked, looked-one, looks-one, watch-before}
+use Rattle.bounds.proofs.starvation_freedom.Situations as situations
+use Rattle.bounds.proofs.starvation_freedom.Situations.{Situation, queues, next-words, next-change}
+use Rattle.bounds.proofs.starvation_freedom.Says.{Says, says, stands, woken, granted}
+use Rattle.bounds.proofs.starvation_freedom.Queues.{tag}
+use Rattle.bounds.specs.LongestWait.InLine.{ends-at}
+use Rattle.bounds.proofs.longest_wait.Linked.{All-linked, linked-join}
+use Rattle.bounds.proofs.longest_wait.Stages.{Leads, same, is-handed, is-granted, steps-on}
+use Rattle.bounds.proofs.longest_wait.Over.{letting-go-tag}
+
+-- LISTS
+pub ends-last : (x i : ℕ) (front : List ℕ) → ends-at x (front ++ (i ∷ [])) ≡ eqb i x
+unfolding ends-at
+ends-last x i [] = refl
+ends-last x i (a ∷ []) = refl
+ends-last x i (a ∷ b ∷ bs) = ends-last x i (b ∷ bs)
+
+-- who stands after a number that is once in a list
+after-split : (xs ys : List ℕ) (p : ℕ) → count p xs ≡ 0 → after (xs ++ (p ∷ ys)) p ≡ first ys
+after-split [] ys p h = after-here p p ys refl
+after-split (x ∷ xs) ys p h =
+    let n : p ≢ x = λ e. omega (arith, count-cons p x xs, is-same p x e) in
+    after-past p x (xs ++ (p ∷ ys)) n ∙ after-split xs ys p (omega (arith, count-cons p x xs))
+
+-- ENTRIES arrive Inside, from one of these places
+unfoldable may-enter : Place → Bool
+may-enter Idle = true
+may-enter (Prep l) = false
+may-enter (Swap l) = true
+may-enter (Link l p) = false
+may-enter (Wait l) = true
+may-enter Inside = false
+may-enter (Check l) = false
+may-enter (Help l) = false
+may-enter (Cas l) = false
+may-enter (Linger l) = false
+may-enter (Grant l r w) = false
+may-enter Draw = true
+may-enter Watch = true
+may-enter Raise = false
+may-enter Invalid = false
+
+entry-branch : (t : Tree) (s : WordState) (x : ℕ) → Has-room (s .places) x → {p : Place} {y : Row-result} → Branch t x s p y → is-entry (y .kind) ≡ true → (place (y .state) x ≡ Inside) × (may-enter p ≡ true)
+unfolding is-entry may-enter
+entry-branch t s x room (idle-draws z (draw-shown e)) f = (place-stored x Inside s room, refl)
+entry-branch t s x room (idle-draws z (draw-unshown e)) f = absurd (false≢true f)
+entry-branch t s x room (idle-prepares z (prepares l v at)) f = absurd (false≢true f)
+entry-branch t s x room (prepares l v at) f = absurd (false≢true f)
+entry-branch t s x room (swap-root l z e) f = (place-stored x Inside s room, refl)
+entry-branch t s x room (swap-inner l z e) f = absurd (false≢true f)
+entry-branch t s x room (swap-behind l e) f = absurd (false≢true f)
+entry-branch t s x room (link-writes l p) f = absurd (false≢true f)
+entry-branch t s x room (wait-root-locked l z e) f = absurd (false≢true f)
+entry-branch t s x room (wait-root-granted l z e) f = (place-stored x Inside s room, refl)
+entry-branch t s x room (wait-ungranted l z e) f = absurd (false≢true f)
+entry-branch t s x room (wait-acquires l z e) f = absurd (false≢true f)
+entry-branch t s x room (wait-passed l z e w v) f = (place-stored x Inside s room, refl)
+entry-branch t s x room (wait-crossed l z e w v) f = (place-stored x Inside s room, refl)
+entry-branch t s x room inside-leaves f = absurd (false≢true f)
+entry-branch t s x room (check-passes l e w) f = absurd (false≢true f)
+entry-branch t s x room (check-releases l e) f = absurd (false≢true f)
+entry-branch t s x room (help-alone l e) f = absurd (false≢true f)
+entry-branch t s x room (help-linked l v e at) f = absurd (false≢true f)
+entry-branch t s x room (cas-last l e) f = absurd (false≢true f)
+entry-branch t s x room (cas-not-last l e) f = absurd (false≢true f)
+entry-branch t s x room (linger-alone l e) f = absurd (false≢true f)
+entry-branch t s x room (linger-linked l v e at) f = absurd (false≢true f)
+entry-branch t s x room (grant-writes l p w) f = absurd (false≢true f)
+entry-branch t s x room (draw-shown e) f = (place-stored x Inside s room, refl)
+entry-branch t s x room (draw-unshown e) f = absurd (false≢true f)
+entry-branch t s x room (watch-shown e) f = (place-stored x Inside s room, refl)
+entry-branch t s x room (watch-unshown e) f = absurd (false≢true f)
+entry-branch t s x room raise-counts f = absurd (false≢true f)
+entry-branch t s x room invalid-stays f = absurd (false≢true f)
+
+-- a thread that stands does not get Inside by one step
+not-from-queued : (j : ℕ) (y : Stage) → y ≡ inside → Leads (queued j) y → ⊥
+unfolding tag
+not-from-queued j y e same = let o = ap tag e in omega arith
+not-from-queued j y e (is-handed _) = let o = ap tag e in omega arith
+not-from-queued j y e (is-granted _) = let o = ap tag e in omega arith
+
+module _ (t : Tree) (valid : Accepted t) (bits : Sixteen-bit t) (c : Situation t) where
+  abbrev s : WordState
+  s = c .words
+
+  abbrev g : State
+  g = queues c
+
+  abbrev inv : Inv t g
+  inv = c .queued .represents .invariant
+
+  -- the step of a thread is an entry
+  abbrev pub Enters : (thread : ℕ) → Type 0
+  Enters x = is-entry (step t x s .kind) ≡ true
+
+  pub entry-inside : (x : ℕ) (h : x < t .threads) → Enters x → queues (situations.next t valid bits c x h) .stage x ≡ inside
+  unfolding step Says
+  entry-inside x h e =
+      let room : Has-room (s .places) x = (c .queued .room .places-room, omega (arith, valid .few-threads)) in
+      let p : place (situations.next t valid bits c x h .words) x ≡ Inside = ap (λ u. place u x) (next-words t valid bits c x h) ∙ entry-branch t s x room (branch t x s (place s x)) e .0 in
+      says t valid (situations.next t valid bits c x h) x h Inside p
+
+  enter-pending : (x : ℕ) → x < t .threads → (p : Place) → place s x ≡ p → may-enter p ≡ true → moves.pending (g .stage x) ≡ 1
+  unfolding may-enter Says moves.pending
+  enter-pending x h Idle z m = ap moves.pending (says t valid c x h Idle z)
+  enter-pending x h (Swap l) z m = ap moves.pending (says t valid c x h (Swap l) z .2)
+  enter-pending x h (Wait l) z m =
+      elim (says t valid c x h (Wait l) z .2) [
+        | stands u v ↦ ap moves.pending u
+        | woken q u v ↦ ap moves.pending u
+        | granted u v n ↦ ap moves.pending u
+      ]
+  enter-pending x h Draw z m = ap moves.pending (says t valid c x h Draw z .0)
+  enter-pending x h Watch z m = elim (says t valid c x h Watch z .0) [ inl u ↦ ap moves.pending u | inr u ↦ ap moves.pending u ]
+  enter-pending x h (Prep l) z m = absurd (false≢true m)
+  enter-pending x h (Link l p) z m = absurd (false≢true m)
+  enter-pending x h Inside z m = absurd (false≢true m)
+  enter-pending x h (Check l) z m = absurd (false≢true m)
+  enter-pending x h (Help l) z m = absurd (false≢true m)
+  enter-pending x h (Cas l) z m = absurd (false≢true m)
+  enter-pending x h (Linger l) z m = absurd (false≢true m)
+  enter-pending x h (Grant l r w) z m = absurd (false≢true m)
+  enter-pending x h Raise z m = absurd (false≢true m)
+  enter-pending x h Invalid z m = absurd (false≢true m)
+
+  -- its entry is still to come
+  pub enters-pending : (x : ℕ) → x < t .threads → Enters x → moves.pending (g .stage x) ≡ 1
+  unfolding step
+  enters-pending x h e =
+      let room : Has-room (s .places) x = (c .queued .room .places-room, omega (arith, valid .few-threads)) in
+      by (place s x) refl (entry-branch t s x room (branch t x s (place s x)) e .1)
+    where
+      by : (p : Place) → place s x ≡ p → may-enter p ≡ true → moves.pending (g .stage x) ≡ 1
+      by p z m = enter-pending x h p z m
+
+  queued-enters : (x k : ℕ) → x < t .threads → g .stage x ≡ queued k → Enters x → ⊥
+  unfolding tag
+  queued-enters x k h e f =
+      let l = steps-on t (next-change t valid bits c x h) x (λ z. let o = ap tag (sym z ∙ e) in omega arith) in
+      not-from-queued k _ (entry-inside x h f) (rw e at l)
+
+  -- THE END OF A CHAIN
+  pub data Ends : (from end : ℕ) → Type 0 where
+    here : (i : ℕ) → stays t s i ≡ false → Ends i i
+    onward : (i j e : ℕ) → stays t s i ≡ true → Looked t valid bits s (c .queued) i j → Ends j e → Ends i e
+
+  chain-on-ends : (x : ℕ) {so-far all : List ℕ} {i : ℕ} → Chain-on t s so-far i all → i < t .threads → (front : List ℕ) → so-far ≡ front ++ (i ∷ []) → ends-at x all ≡ true → Ends i x
+  chain-on-ends x (ends so-far i still) h front e f =
+      let z : i ≡ x = eqb-true i x (sym (ends-last x i front) ∙ ap (ends-at x) (sym e) ∙ f) in
+      rw (← z) (here i still)
+  chain-on-ends x (goes-on so-far i j all still look o more) h front e f =
+      let l = looked-one t valid bits s (c .queued) i h still in
+      let same-one : l .0 ≡ j = head-eq-of-cons-eq (sym (looks-one t valid bits s (c .queued) i h (l .0) still (l .1)) ∙ look) in
+      let looked : Looked t valid bits s (c .queued) i j = rw same-one at (l .1) in
+      onward i j x still looked (chain-on-ends x more (looks-small t s i j look) so-far refl f)
+
+  pub chain-ends : (i x : ℕ) → i < t .threads → ends-at x (chain t s i) ≡ true → Ends i x
+  unfolding Chain-law ends-at
+  chain-ends i x h e =
+      chain-on-ends x (chain-law t s i h .found (λ z. let y : ends-at x [] ≡ true = rw z at e in false≢true y)) h [] refl e
+
+  -- a stay is of one who stands, or of one who lingers
+  stay-stage : (i : ℕ) → i < t .threads → stays t s i ≡ true → ((k : ℕ) × (g .stage i ≡ queued k)) ⊎ ((l : ℕ) × (place s i ≡ Linger l) × (5 ≤ tag (g .stage i)))
+  unfolding Says
+  stay-stage i h still = by (place s i) refl (stay-waits t valid bits s (c .queued) i h still)
+    where
+      by : (p : Place) → place s i ≡ p → Waits t valid bits s (c .queued) i p → ((k : ℕ) × (g .stage i ≡ queued k)) ⊎ ((l : ℕ) × (place s i ≡ Linger l) × (5 ≤ tag (g .stage i)))
+      by _ e (waits k p l y nt f n v) = inl (k, y)
+      by _ e (lingers k l b n z) =
+          let y = says t valid c i h (Linger (ancestor t i k)) e in
+          inr (ancestor t i k, e, rw (y .2) (letting-go-tag (height t i) (y .0)))
+      by _ e (watches y r) = inl (height t i, y)
+
+  -- a thread in Link moves, and does not enter
+  link-ends : (j l r x : ℕ) → j < t .threads → place s j ≡ Link l r → Enters x → Ends j x → ⊥
+  unfolding Says may-stay
+  link-ends j l r x h e f (here _ still) = let y = says t valid c j h (Link l r) e in queued-enters j (y .0) h (y .2) f
+  link-ends j l r x h e f (onward _ k _ still look more) = false≢true (sym (stays-at t s j (Link l r) e ∙ moves-on t s j (Link l r) refl) ∙ still)
+
+  -- the chain of a thread that does not stand ends at it, where its end enters
+  pub own-end : (b x : ℕ) → b < t .threads → Enters x → tag (g .stage b) ≢ 2 → Ends b x → x ≡ b
+  unfolding tag looked-to
+  own-end b x h f n (here _ still) = refl
+  own-end b x h f n (onward _ j _ still look more) =
+      elim (stay-stage b h still) [
+        | inl (k, e) ↦ absurd (n (ap tag e))
+        | inr (l, e, o) ↦ (
+            let looked : links (place s j) (own-record t b l) ≡ true = rw e at (look .looked) in
+            let y = link-place (place s j) (own-record t b l) looked in
+            absurd (link-ends j (y .0) (own-record t b l) x (look .real) (y .1) f more))
+      ]
+
+  -- WHO STANDS BEFORE a thread that stands at index j: thread b at its index k acts for the first, r, and xs are between; all are linked
+  pub record Line (i j r b k : ℕ) (xs : List ℕ) : Type 0 where
+    pub stage : g .stage i ≡ queued j
+    pub later : List ℕ
+    pub shape : g .queue (ancestor t i j) ≡ r ∷ (xs ++ (record-at t i j ∷ later))
+    pub linked : is-ticket t (ancestor t i j) ≡ false → All-linked s (r ∷ xs)
+    pub first-there : k < low (height t b) (g .stage b)
+    pub there : ancestor t b k ≡ ancestor t i j
+    pub mine : record-at t b k ≡ r
+
+  -- with the end of the chain
+  pub record Line-ends (i j x : ℕ) : Type 0 where
+    pub head : ℕ
+    pub thread : ℕ
+    pub index : ℕ
+    pub between : List ℕ
+    pub line : Line i j head thread index between
+    pub real : thread < t .threads
+    pub end : Ends thread x
+
+  -- whoever acts at an index from where it is not first stands there
+  standing : (h k : ℕ) (x : Stage) → low h x ≤ k → k < moves.acts h x → x ≡ queued k
+  unfolding low moves.acts
+  standing h k out a b = absurd (omega arith)
+  standing h k (climb j) a b = absurd (omega arith)
+  standing h k (queued j) a b = ap queued (omega arith)
+  standing h k ready a b = absurd (omega arith)
+  standing h k inside a b = absurd (omega arith)
+  standing h k holding a b = absurd (omega arith)
+  standing h k (releasing j) a b = absurd (omega arith)
+
+  -- after the one who acts for the record just before
+  line-after :
+      (i j a l p x : ℕ) → g .stage i ≡ queued j → a < t .threads → l < moves.acts (height t a) (g .stage a) → ancestor t a l ≡ ancestor t i j → record-at t a l ≡ p →
+      after (g .queue (ancestor t i j)) p ≡ suc (record-at t i j) → (is-ticket t (ancestor t i j) ≡ false → next s p ≢ 0) → Ends a x → (g .stage a ≡ queued l → Line-ends a l x) →
+      Line-ends i j x
+  unfolding All-linked
+  line-after i j a l p x e ha acting there mine follows named end rec =
+      let d = ancestor t i j in
+      less-or l (low (height t a) (g .stage a)) _
+      (λ h.
+      let head : first (g .queue d) ≡ suc p = rw (there, mine) at (inv .threads a .heads l h) in
+      let q = first-rest p (g .queue d) head in
+      let second : first (rest (g .queue d)) ≡ suc (record-at t i j) = sym (ap (λ u. after u p) q ∙ after-here p p (rest (g .queue d)) refl) ∙ follows in
+      record {
+        head = p;
+        thread = a;
+        index = l;
+        between = [];
+        line = record {
+          stage = e;
+          later = rest (rest (g .queue d));
+          shape = q ∙ ap (λ u. p ∷ u) (first-rest (record-at t i j) (rest (g .queue d)) second);
+          linked = λ nt. (named nt, tt);
+          first-there = h;
+          there = there;
+          mine = mine;
+        };
+        real = ha;
+        end = end;
+      })
+      (λ h.
+      let y = rec (standing (height t a) l (g .stage a) h acting) in
+      let L = y .line in
+      let r = y .head in
+      let xs = y .between in
+      let shape : g .queue d ≡ r ∷ (xs ++ (p ∷ L .later)) = rw (there, mine) at (L .shape) in
+      let once : count p (g .queue d) ≤ 1 = inv .once d p in
+      let counted : count p (g .queue d) ≡ count p (r ∷ xs) + count p (p ∷ L .later) = ap (count p) shape ∙ count-append p (r ∷ xs) (p ∷ L .later) in
+      let none-before : count p (r ∷ xs) ≡ 0 = omega (arith, count-cons p p (L .later), is-same p p refl) in
+      let second : first (L .later) ≡ suc (record-at t i j) = sym (ap (λ u. after u p) shape ∙ after-split (r ∷ xs) (L .later) p none-before) ∙ follows in
+      let z = first-rest (record-at t i j) (L .later) second in
+      record {
+        head = r;
+        thread = y .thread;
+        index = y .index;
+        between = xs ++ (p ∷ []);
+        line = record {
+          stage = e;
+          later = rest (L .later);
+          shape = shape ∙ ap (λ u. r ∷ u) (ap (λ u. xs ++ (p ∷ u)) z ∙ sym (append-assoc xs (p ∷ []) (record-at t i j ∷ rest (L .later))));
+          linked = λ nt. linked-join s (r ∷ xs) (p ∷ []) (L .linked (rw there nt)) (named nt, tt);
+          first-there = L .first-there;
+          there = L .there ∙ there;
+          mine = L .mine;
+        };
+        real = y .real;
+        end = y .end;
+      })
+
+  stage-index : (j k : ℕ) → queued j ≡ queued k → j ≡ k
+  unfolding low
+  stage-index j k e = let o = ap (low 0) e in omega arith
+
+  pub line-ends : (i j x : ℕ) → i < t .threads → Enters x → g .stage i ≡ queued j → Ends i x → Line-ends i j x
+  unfolding looked-to acts-ahead acts-holding Says tag
+  line-ends i j x h f e (here _ still) = absurd (queued-enters i j h e f)
+  line-ends i j x h f e (onward _ a _ still look more) =
+      by (λ l y. line-ends a l x (look .real) f y more) (place s i) (look .looked) refl (stay-waits t valid bits s (c .queued) i h still)
+    where
+      by : ((l : ℕ) → g .stage a ≡ queued l → Line-ends a l x) → (p : Place) → looked-to t s i p a ≡ true → place s i ≡ p → Waits t valid bits s (c .queued) i p → Line-ends i j x
+      by rec _ looked y (waits k p l q nt u n v) =
+          let d = ancestor t i k in
+          let same-index = stage-index j k (sym e ∙ q) in
+          let both = and-both (acts t s a d) (eqb (next s (own-record t a d)) (own-record t i d + 1)) looked in
+          let own = own-record-at t valid i h k l in
+          let named : next s (own-record t a d) ≡ suc (record-at t i k) = eqb-true _ _ (both .1) ∙ (let z : own-record t i d + 1 ≡ suc (record-at t i k) = omega arith in z) in
+          let before = stands-before t valid bits s (c .queued) d (record-at t i k) a nt (look .real) (both .0) named in
+          let w = acting-there t valid bits s (c .queued) d a (look .real) (both .0) in
+          let all = line-after i k a (w .index) (own-record t a d) x q (look .real) (w .within) (w .there) (w .mine) before (λ _ z. omega arith) more (λ z. rec (w .index) z) in
+          rw (← same-index) at all
+      by rec _ looked y (lingers k l b n z) = absurd (let w = says t valid c i h (Linger (ancestor t i k)) y in let o = ap tag (sym e ∙ w .2) in omega (arith, letting-go-tag (height t i) (w .0)))
+      by rec _ looked y (watches q root) =
+          let k = height t i in
+          let same-index = stage-index j k (sym e ∙ q) in
+          let top = ancestor-root t valid i h in
+          let both = and-both (acts t s a 0) (eqb (status s (own-record t a 0)) (ticket-before (status s (own-record t i 0)))) looked in
+          let before = watch-before t valid bits s (c .queued) i h q root a (look .real) (both .0) (eqb-true _ _ (both .1)) in
+          let w = acting-there t valid bits s (c .queued) 0 a (look .real) (both .0) in
+          let all = line-after i k a (w .index) (own-record t a 0) x q (look .real) (w .within) (w .there ∙ sym top) (w .mine) (rw top before) (λ nt. absurd (false≢true (sym nt ∙ ticket-yes t (ancestor t i k) root top))) more (λ z. rec (w .index) z) in
+          rw (← same-index) at all

@@ -1,0 +1,35 @@
+-- `put_number` meets its contract: to put the numeral and then the byte behind it is to put both as one list. Assumes nothing.
+use mathlib.Core.List.{[], _∷_}
+use mathlib.Core.Path.{sym}
+use native.Mathlib.Omega.{arith}
+use borrow.Author.Needs.{needs}
+use Rattle.lock_file.specs.PrintedListing.Listing.{numeral, number-then}
+use Rattle.model.proofs.Storing.{sets-append}
+use Rattle.lock_file.proofs.printed_listing.Numerals.{length-number}
+use Rattle.file_calls.proofs.printing.put_number.Statement.{statement}
+use Rattle.file_calls.proofs.printing.put_number.Tie as tie
+
+put-numeral-requires : tie.Need-put-numeral-requires
+put-numeral-requires c κs = let a = c .before .before .args in omega (arith, length-number (a .value) (a .behind))
+
+slice-write-output : tie.Need-slice-write-output
+slice-write-output c = let a = c .before .before .before .before .before .args in omega (arith, length-number (a .value) (a .behind))
+
+add-result : tie.Need-add-result
+add-result c = let a = c .before .before .before .before .before .args in search (needs, length-number (a .value) (a .behind))
+
+same-length : tie.Need-same-length
+same-length c = search needs
+
+returns : tie.Need-returns
+unfolding number-then
+returns c =
+    let a = c .before .before .before .before .before .args in
+    let n = c .before .before .put-numeral .ensures in (
+      omega (arith, length-number (a .value) (a .behind)),
+      rw (n .1, n .0) (sym (sets-append (a .output .now) (a .at) (numeral (a .value)) (a .behind ∷ []))),
+    )
+
+pub put-number-spec : {M : Type 1} → statement M
+put-number-spec =
+    tie.close (tie.spec put-numeral-requires slice-write-output add-result same-length returns)

@@ -1,0 +1,87 @@
+-- `put_trace` meets its contract: what is left to write gives what the whole gives. Assumes nothing.
+use mathlib.Core.Path.{ap, _≡_, refl, sym, _∙_}
+use Prim.Native.Nat.{_+_, _*_, _-_, _≤_}
+use native.Mathlib.Omega.{arith}
+use lib.ListN.{length, drop}
+use lib.Seq.{sets}
+use borrow.Author.Needs.{needs}
+use Rattle.lock_file.specs.PrintedListing.Listing.{numeral, trace-lines}
+use Rattle.file_calls.proofs.printing.Writing.{trace-written}
+use Rattle.lock_file.proofs.printed_listing.Numerals.{length-number, length-word, trace-length-next, trace-lines-over}
+use Rattle.file_calls.proofs.printing.put_trace.Statement.{statement}
+use Rattle.file_calls.proofs.printing.put_trace.Tie as tie
+
+abbrev Inv-loop : tie.InvT-loop
+Inv-loop output₀ start trace at₀ k₀ output at k =
+    (k ≤ length trace) × (length output ≡ length output₀)
+    × (at + length (trace-lines (drop k trace)) ≡ start + length (trace-lines trace))
+    × (sets output at (trace-lines (drop k trace)) ≡ sets output₀ start (trace-lines trace)) × (at ≤ start + 11 * k)
+
+abbrev μ-loop : tie.MeasureT-loop
+μ-loop output₀ start trace at₀ k₀ output at k = length trace - k
+
+loop-holds : tie.Need-loop-holds Inv-loop μ-loop
+loop-holds c = (search needs, refl, refl, refl, omega arith)
+
+mul-word-number : tie.Need-mul-word-number Inv-loop μ-loop
+mul-word-number c = search needs
+
+shared-slice-read-word-number : tie.Need-shared-slice-read-word-number Inv-loop μ-loop
+shared-slice-read-word-number c = search needs
+
+word-number-requires : tie.Need-word-number-requires Inv-loop μ-loop
+word-number-requires c κs = search needs
+
+put-number-requires : tie.Need-put-number-requires Inv-loop μ-loop
+put-number-requires c κs =
+    let h = c .before .before .before .before .loop in
+    let element = c .before .word-number in
+    let next = trace-length-next (c .before .before .before .before .before .before .before .args .trace .now) (h .k) (c .before .before .before .loop-test .taken) in
+    omega (arith, length-number (element .result) 10, ap (λ v. length (numeral v)) (element .ensures))
+
+add-k : tie.Need-add-k Inv-loop μ-loop
+add-k c = search needs
+
+loop-less : tie.Need-loop-less Inv-loop μ-loop
+loop-less c = omega arith
+
+loop-again : tie.Need-loop-again Inv-loop μ-loop
+loop-again c =
+    let h = c .before .before .before .before .before .before .before .loop in
+    let a = c .before .before .before .before .before .before .before .before .before .before .args in
+    let element = c .before .before .before .before .word-number in
+    let n = c .before .before .put-number in
+    let t = c .before .before .before .before .before .before .loop-test .taken in
+    let next = trace-length-next (a .trace .now) (h .k) t in (
+      search needs,
+      n .kept .0 ∙ h .inv .1,
+      omega (arith, n .ensures .0, length-number (element .result) 10, ap (λ v. length (numeral v)) (element .ensures)),
+      rw (n .ensures .1, n .ensures .0, element .ensures) (sym (trace-written (h .output) (h .at) (a .trace .now) (h .k) t) ∙ h .inv .3),
+      omega (arith, n .ensures .0, length-number (element .result) 10, length-word (element .result) (omega arith)),
+    )
+
+same-length : tie.Need-same-length Inv-loop μ-loop
+same-length c = c .before .loop .inv .1
+
+returns : tie.Need-returns Inv-loop μ-loop
+returns c =
+    let h = c .before .loop in
+    let over = trace-lines-over (c .before .before .before .before .args .trace .now) (h .k) (c .loop-test .left) in
+    (omega (arith, ap length over), (omega arith, rw over at (h .inv .3)))
+
+pub put-trace-spec : {M : Type 1} → statement M
+put-trace-spec =
+    tie.close
+    (tie.spec
+    Inv-loop
+    μ-loop
+    loop-holds
+    mul-word-number
+    shared-slice-read-word-number
+    word-number-requires
+    put-number-requires
+    add-k
+    loop-less
+    loop-again
+    same-length
+    returns)

@@ -1,0 +1,43 @@
+-- `journal_pieces::alike::all_are` meets its contract: two words are one, so their bytes are. Assumes nothing.
+use mathlib.Core.Path.{_≡_}
+use Prim.Native.Nat.{_+_, _*_}
+use native.Mathlib.Omega.{arith}
+use borrow.Author.Tests.{eqb-true}
+use borrow.Author.Needs.{needs}
+use Rattle.journal_call.proofs.pieces.alike.all_are.Statement.{statement}
+use Rattle.journal_call.proofs.pieces.alike.all_are.Tie as tie
+
+mul-word : tie.Need-mul-word
+mul-word c = search needs
+
+add-word : tie.Need-add-word
+add-word c = search needs
+
+mul-word-2 : tie.Need-mul-word-2
+mul-word-2 c = search needs
+
+add-word-2 : tie.Need-add-word-2
+add-word-2 c = search needs
+
+mul-word-3 : tie.Need-mul-word-3
+mul-word-3 c = search needs
+
+add-word-3 : tie.Need-add-word-3
+add-word-3 c = search needs
+
+mul-result : tie.Need-mul-result
+mul-result c = search needs
+
+returns : tie.Need-returns
+returns c = λ z.
+    let a = c .args in
+    let e = eqb-true (a .a + 256 * a .b + 65536 * a .c + 16777216 * a .d) (16843009 * a .bits) z in
+    let fourth : a .d ≡ a .bits = omega (arith, e) in
+    let third : a .c ≡ a .bits = omega (arith, e, fourth) in
+    let second : a .b ≡ a .bits = omega (arith, e, fourth, third) in
+    (omega (arith, e, fourth, third, second), second, third, fourth)
+
+pub all-are-spec : {M : Type 1} → statement M
+all-are-spec =
+    tie.close
+    (tie.spec mul-word add-word mul-word-2 add-word-2 mul-word-3 add-word-3 mul-result returns)

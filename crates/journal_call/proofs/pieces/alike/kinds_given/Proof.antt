@@ -1,0 +1,55 @@
+-- `journal_pieces::alike::kinds_given` meets its contract: it goes on only behind the bit map that gives a kind alone. Assumes nothing.
+use mathlib.Core.Path.{_≡_}
+use mathlib.Core.Bool.{false≢true}
+use mathlib.Core.List.{List}
+use Prim.Native.Nat.{ℕ, _+_, _*_, _-_, _≤_, _<_}
+use native.Mathlib.Omega.{arith}
+use native.Mathlib.Decide.{ℕ-discrete}
+use lib.ListN.{getD}
+use Rattle.journal_call.specs.Pieces.Pieces.{Kinds-given}
+use borrow.Author.Needs.{needs}
+use Rattle.journal_call.proofs.pieces.alike.kinds_given.Statement.{statement}
+use Rattle.journal_call.proofs.pieces.alike.kinds_given.Tie as tie
+
+one-more : (bs : List ℕ) (p n : ℕ) → Kinds-given n bs p → getD bs (p + 2 * n) 0 ≡ 2 → Kinds-given (n + 1) bs p
+one-more bs p n g e k l =
+    elim (ℕ-discrete k n) [
+      | yes q ↦ rw q e
+      | no q ↦ g k (omega arith)
+    ]
+
+abbrev Inv-loop : tie.InvT-loop
+Inv-loop journal position k₀ k = (k ≤ 16) × Kinds-given k journal position
+
+abbrev μ-loop : tie.MeasureT-loop
+μ-loop journal position k₀ k = 16 - k
+
+loop-holds : tie.Need-loop-holds Inv-loop μ-loop
+loop-holds c = (omega arith, λ k l. absurd (omega arith))
+
+mul-if1 : tie.Need-mul-if1 Inv-loop μ-loop
+mul-if1 c = omega arith
+
+add-if1 : tie.Need-add-if1 Inv-loop μ-loop
+add-if1 c = search needs
+
+shared-slice-read-if1 : tie.Need-shared-slice-read-if1 Inv-loop μ-loop
+shared-slice-read-if1 c = search needs
+
+returns : tie.Need-returns Inv-loop μ-loop
+returns c = λ z. absurd (false≢true z)
+
+add-k : tie.Need-add-k Inv-loop μ-loop
+add-k c = omega arith
+
+loop-less : tie.Need-loop-less Inv-loop μ-loop
+loop-less c = omega arith
+
+loop-again : tie.Need-loop-again Inv-loop μ-loop
+loop-again c = (omega arith, one-more (c .before .before .before .before .args .journal .now) (c .before .before .before .before .args .position) _ (c .before .before .before .loop .inv .1) (c .if1 .left))
+
+returns-2 : tie.Need-returns-2 Inv-loop μ-loop
+returns-2 c = λ z k l. c .before .loop .inv .1 k (omega arith)
+
+pub kinds-given-spec : {M : Type 1} → statement M
+kinds-given-spec = tie.close (tie.spec Inv-loop μ-loop loop-holds mul-if1 add-if1 shared-slice-read-if1 returns add-k loop-less loop-again returns-2)

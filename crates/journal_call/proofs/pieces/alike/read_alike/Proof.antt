@@ -1,0 +1,34 @@
+-- `journal_pieces::alike::read_alike` meets its contract: sixteen entries, or what four are read as. Assumes nothing.
+use native.Mathlib.Omega.{arith}
+use Rattle.journal_call.proofs.reader.Stretching.{again}
+use borrow.Author.Needs.{needs}
+use Rattle.journal_call.proofs.pieces.alike.read_alike.Statement.{statement}
+use Rattle.journal_call.proofs.pieces.alike.read_alike.Tie as tie
+
+read-many-requires : tie.Need-read-many-requires
+read-many-requires c κs = search needs
+
+same-length : tie.Need-same-length
+same-length c = search needs
+
+same-length-2 : tie.Need-same-length-2
+same-length-2 c = search needs
+
+returns : tie.Need-returns
+returns c = search needs
+
+read-four-requires : tie.Need-read-four-requires
+read-four-requires c κs = search needs
+
+same-length-3 : tie.Need-same-length-3
+same-length-3 c = search needs
+
+same-length-4 : tie.Need-same-length-4
+same-length-4 c = search needs
+
+returns-2 : tie.Need-returns-2
+returns-2 c =
+    again _ _ _ _ _ _ _ _ _ _ _ _ (c .before .before .before .before .before .before .before .before .before .before .before .before .before .read-many .ensures) (omega (arith, c .before .before .before .before .before .before .before .if1 .left)) _ _ _ _ _ (c .before .before .before .before .read-four .ensures)
+
+pub read-alike-spec : {M : Type 1} → statement M
+read-alike-spec = tie.close (tie.spec read-many-requires same-length same-length-2 returns read-four-requires same-length-3 same-length-4 returns-2)

@@ -1,0 +1,71 @@
+-- `journal_pieces::alike::read_four` meets its contract: four entries of one kind or the other, or none. Assumes nothing.
+use native.Mathlib.Omega.{arith}
+use Rattle.journal_call.proofs.reader.Stretching.{nothing, again}
+use borrow.Author.Needs.{needs}
+use Rattle.journal_call.proofs.pieces.alike.read_four.Statement.{statement}
+use Rattle.journal_call.proofs.pieces.alike.read_four.Tie as tie
+
+stopped-requires : tie.Need-stopped-requires
+stopped-requires c κs = search needs
+
+returns : tie.Need-returns
+returns c =
+    let begin = c .before .before .before .before .before in
+    rw (c .stopped .ensures) (nothing _ _ _ _ _ _ _ (begin .pre .0) (begin .pre .1))
+
+fits-requires : tie.Need-fits-requires
+fits-requires c κs = search needs
+
+read-same-requires : tie.Need-read-same-requires
+read-same-requires c κs = (c .before .before .before .fits2 .ensures (c .before .before .if2 .taken), omega (arith, c .before .before .before .before .if1 .left))
+
+same-length : tie.Need-same-length
+same-length c = search needs
+
+same-length-2 : tie.Need-same-length-2
+same-length-2 c = search needs
+
+returns-2 : tie.Need-returns-2
+returns-2 c = search needs
+
+read-others-requires : tie.Need-read-others-requires
+read-others-requires c κs =
+    let fits = c .before .before .before .before .before .before .before .before .before .before .before .before .fits2 .ensures (c .before .before .before .before .before .before .before .before .before .before .before .if2 .taken) in
+    let kept = c .before .before .before .before .before .before .before .before .read-same .kept in
+    record { bytes-left = fits .bytes-left; threads-left = omega (arith, fits .threads-left, kept .1 .1 .1 .1 .0); kinds-left = omega (arith, fits .kinds-left, kept .1 .1 .1 .1 .1 .0) }
+
+same-length-3 : tie.Need-same-length-3
+same-length-3 c = search needs
+
+same-length-4 : tie.Need-same-length-4
+same-length-4 c = search needs
+
+returns-3 : tie.Need-returns-3
+returns-3 c =
+    again _ _ _ _ _ _ _ _ _ _ _ _ (c .before .before .before .before .before .before .before .before .before .before .before .before .before .read-same .ensures) (omega (arith, c .before .before .before .before .before .before .before .if3 .left)) _ _ _ _ _ (c .before .before .before .before .read-others .ensures)
+
+stopped-requires-2 : tie.Need-stopped-requires-2
+stopped-requires-2 c κs = search needs
+
+returns-4 : tie.Need-returns-4
+returns-4 c =
+    let begin = c .before .before .before .before .before .before .before in
+    rw (c .stopped2 .ensures) (nothing _ _ _ _ _ _ _ (begin .pre .0) (begin .pre .1))
+
+pub read-four-spec : {M : Type 1} → statement M
+read-four-spec =
+    tie.close
+    (tie.spec
+    stopped-requires
+    returns
+    fits-requires
+    read-same-requires
+    same-length
+    same-length-2
+    returns-2
+    read-others-requires
+    same-length-3
+    same-length-4
+    returns-3
+    stopped-requires-2
+    returns-4)

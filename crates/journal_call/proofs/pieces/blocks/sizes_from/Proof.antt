@@ -1,0 +1,48 @@
+-- `journal_pieces::blocks::sizes_from` meets its contract: the sizes of the bytes passed are in the table. Assumes nothing.
+use mathlib.Core.Path.{_≡_, refl}
+use Prim.Native.Nat.{_-_, _≤_}
+use native.Mathlib.Omega.{arith}
+use Rattle.journal_call.specs.Pieces.Pieces.{Sizes-from}
+use Rattle.journal_call.proofs.pieces.Sizes.{no-size, one-size}
+use borrow.Author.Needs.{needs}
+use Rattle.journal_call.proofs.pieces.blocks.sizes_from.Statement.{statement}
+use Rattle.journal_call.proofs.pieces.blocks.sizes_from.Tie as tie
+
+abbrev Inv-loop : tie.InvT-loop
+Inv-loop journal position sizes₀ k₀ sizes k = (k ≤ 128) × Sizes-from journal position k sizes
+
+abbrev μ-loop : tie.MeasureT-loop
+μ-loop journal position sizes₀ k₀ sizes k = 128 - k
+
+loop-holds : tie.Need-loop-holds Inv-loop μ-loop
+loop-holds c = (omega arith, no-size _ _ _ refl)
+
+add-size-by : tie.Need-add-size-by Inv-loop μ-loop
+add-size-by c = search needs
+
+shared-slice-read-size-by : tie.Need-shared-slice-read-size-by Inv-loop μ-loop
+shared-slice-read-size-by c = search needs
+
+size-by-requires : tie.Need-size-by-requires Inv-loop μ-loop
+size-by-requires c κs = search needs
+
+array-write-sizes : tie.Need-array-write-sizes Inv-loop μ-loop
+array-write-sizes c = search needs
+
+add-k : tie.Need-add-k Inv-loop μ-loop
+add-k c = omega arith
+
+loop-less : tie.Need-loop-less Inv-loop μ-loop
+loop-less c = omega arith
+
+loop-again : tie.Need-loop-again Inv-loop μ-loop
+loop-again c = (omega arith, one-size _ _ _ _ _ (c .before .before .before .loop .inv .1) (omega arith) (c .size-by .ensures))
+
+returns : tie.Need-returns Inv-loop μ-loop
+returns c =
+    let l = c .before .loop in
+    let done : l .k ≡ 128 = omega (arith, l .inv .0, c .loop-test .left) in
+    rw done at (l .inv .1)
+
+pub sizes-from-spec : {M : Type 1} → statement M
+sizes-from-spec = tie.close (tie.spec Inv-loop μ-loop loop-holds add-size-by shared-slice-read-size-by size-by-requires array-write-sizes add-k loop-less loop-again returns)

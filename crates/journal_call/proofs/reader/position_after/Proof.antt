@@ -1,0 +1,77 @@
+-- `journal_reader::position_after` meets its contract: the position behind the entries that are left is the same in every turn. Assumes nothing.
+use mathlib.Core.Path.{_≡_, sym, ap, _∙_}
+use Prim.Native.Nat.{suc, _+_, _-_, _≤_}
+use native.Mathlib.Omega.{arith}
+use borrow.Author.Needs.{needs}
+use Rattle.journal_call.specs.Reader.Stretches.{position-after}
+use Rattle.journal_call.proofs.reader.Stretching.{position-next, position-broken, position-end, position-none}
+use Rattle.journal_call.proofs.reader.position_after.Statement.{statement}
+use Rattle.journal_call.proofs.reader.position_after.Tie as tie
+
+abbrev Inv-loop : tie.InvT-loop
+Inv-loop journal position before count at₀ last₀ k₀ at last k = (k ≤ count) × (position-after (count - k) journal at last ≡ position-after count journal position before)
+
+abbrev μ-loop : tie.MeasureT-loop
+μ-loop journal position before count at₀ last₀ k₀ at last k = count - k
+
+loop-holds : tie.Need-loop-holds Inv-loop μ-loop
+loop-holds c = (omega arith, ap (λ n. position-after n (c .before .args .journal .now) (c .before .args .position) (c .before .args .before)) (omega arith))
+
+entry-at-requires : tie.Need-entry-at-requires Inv-loop μ-loop
+entry-at-requires c κs = search needs
+
+enum-known-e : tie.Need-enum-known-e Inv-loop μ-loop
+enum-known-e c = search needs
+
+add-k : tie.Need-add-k Inv-loop μ-loop
+add-k c = omega arith
+
+loop-less : tie.Need-loop-less Inv-loop μ-loop
+loop-less c = omega arith
+
+loop-again : tie.Need-loop-again Inv-loop μ-loop
+loop-again c =
+    let l = c .before .before .before .before .before in
+    let bs = l .before .before .args .journal .now in
+    let left : l .before .before .args .count - l .loop .k ≡ suc (l .before .before .args .count - (l .loop .k + 1)) = omega arith in
+    let e = sym (c .before .before .before .entry-at .ensures) ∙ c .before .e .given .1 in
+    (omega arith, sym (position-next _ bs (l .loop .at) (l .loop .last) _ _ _ e) ∙ sym (ap (λ n. position-after n bs (l .loop .at) (l .loop .last)) left) ∙ l .loop .inv .1)
+
+enum-told : tie.Need-enum-told Inv-loop μ-loop
+enum-told c = search needs
+
+returns : tie.Need-returns Inv-loop μ-loop
+returns c =
+    let l = c .before .before .before .before in
+    sym (position-broken _ (l .before .before .args .journal .now) (l .loop .at) (l .loop .last) (sym (c .before .before .entry-at .ensures) ∙ c .enum-told .given .1)) ∙ l .loop .inv .1
+
+enum-told-2 : tie.Need-enum-told-2 Inv-loop μ-loop
+enum-told-2 c = search needs
+
+returns-2 : tie.Need-returns-2 Inv-loop μ-loop
+returns-2 c =
+    let l = c .before .before .before .before in
+    sym (position-end _ (l .before .before .args .journal .now) (l .loop .at) (l .loop .last) (sym (c .before .before .entry-at .ensures) ∙ c .enum-told2 .given .1)) ∙ l .loop .inv .1
+
+returns-3 : tie.Need-returns-3 Inv-loop μ-loop
+returns-3 c =
+    let l = c .before in
+    sym (position-none (l .before .before .args .count - l .loop .k) (l .before .before .args .journal .now) (l .loop .at) (l .loop .last) (omega arith)) ∙ l .loop .inv .1
+
+pub position-after-spec : {M : Type 1} → statement M
+position-after-spec =
+    tie.close
+    (tie.spec
+    Inv-loop
+    μ-loop
+    loop-holds
+    entry-at-requires
+    enum-known-e
+    add-k
+    loop-less
+    loop-again
+    enum-told
+    returns
+    enum-told-2
+    returns-2
+    returns-3)

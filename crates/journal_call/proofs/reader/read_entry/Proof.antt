@@ -1,0 +1,177 @@
+-- `journal_reader::read_entry` meets its contract: each return by the tests that led there, a whole entry by `whole-entry` at its bit map. Assumes nothing.
+use Prim.Native.Nat.{ℕ, _+_, _≤_}
+use mathlib.Core.Path.{_≡_, sym, ap, _∙_}
+use native.Mathlib.Omega.{arith}
+use borrow.Author.Tests.{le-ltb, lt-ltb}
+use lib.Dec.{lit≤}
+use lib.ListN.{getD}
+use Rattle.journal.specs.declared.Entry.the-variants.{Named}
+use Rattle.journal.specs.Reading.{entry-size}
+use Rattle.journal.proofs.Facts.{whole-entry}
+use borrow.Author.Needs.{needs}
+use Rattle.journal_call.proofs.reader.read_entry.Statement.{statement}
+use Rattle.journal_call.proofs.reader.read_entry.Tie as tie
+
+three : (m : ℕ) → m ≤ 3 → (m ≡ 0 → ⊥) → (m ≡ 1 → ⊥) → (m ≡ 2 → ⊥) → m ≡ 3
+three m h a b c = omega (arith, a, b, c)
+
+returns : tie.Need-returns
+returns c = rw (le-ltb _ _ (c .if1 .taken))
+
+shared-slice-read-bits : tie.Need-shared-slice-read-bits
+shared-slice-read-bits c = search needs
+
+returns-2 : tie.Need-returns-2
+returns-2 c = rw (lt-ltb _ _ (c .before .before .if1 .left), lt-ltb _ _ (c .if2 .taken))
+
+sub-if3 : tie.Need-sub-if3
+sub-if3 c = search needs
+
+byte-index-requires : tie.Need-byte-index-requires
+byte-index-requires c κs = search needs
+
+whole-entry-requires : tie.Need-whole-entry-requires
+whole-entry-requires c κs =
+    let bits = c .before .before .if2 .left in
+    (omega (arith, bits, c .byte-index .ensures .0), omega (arith, c .before .if3 .taken, c .before .before .before .before .if1 .left))
+
+returns-3 : tie.Need-returns-3
+returns-3 c =
+    let a = c .before .before .before .before .before .before .before .args in
+    let few : c .before .byte-index .result ≤ 3 = omega (arith, c .before .before .before .if2 .left, c .before .byte-index .ensures .0) in
+    c .whole-entry .ensures ∙ sym (whole-entry (a .journal .now) (a .position) (a .before) (c .before .byte-index .result) (c .before .before .before .before .before .if1 .left) (sym (c .before .byte-index .ensures .0)) few (omega (arith, few, c .before .before .if3 .taken)))
+
+sub-if4 : tie.Need-sub-if4
+sub-if4 c = search needs
+
+size-of-requires : tie.Need-size-of-requires
+size-of-requires c κs = search needs
+
+returns-4 : tie.Need-returns-4
+returns-4 c = rw (lt-ltb _ _ (c .before .before .before .before .before .if1 .left), le-ltb _ _ (c .before .before .before .if2 .left), ← c .before .size-of .ensures, lt-ltb _ _ (c .if4 .taken))
+
+add-t13 : tie.Need-add-t13
+add-t13 c = search needs
+
+add-two-bytes : tie.Need-add-two-bytes
+add-two-bytes c = search needs
+
+shared-slice-read-two-bytes : tie.Need-shared-slice-read-two-bytes
+shared-slice-read-two-bytes c = search needs
+
+add-two-bytes-2 : tie.Need-add-two-bytes-2
+add-two-bytes-2 c = search needs
+
+shared-slice-read-two-bytes-2 : tie.Need-shared-slice-read-two-bytes-2
+shared-slice-read-two-bytes-2 c = omega (arith, c .before .before .before .before .size-of .ensures ∙ ap entry-size (c .before .before .match .keys2), c .before .before .before .if4 .left)
+
+two-bytes-requires : tie.Need-two-bytes-requires
+two-bytes-requires c κs = search needs
+
+add-t21 : tie.Need-add-t21
+add-t21 c = search needs
+
+add-t22 : tie.Need-add-t22
+add-t22 c = search needs
+
+shared-slice-read-t24 : tie.Need-shared-slice-read-t24
+shared-slice-read-t24 c = search needs
+
+add-t25 : tie.Need-add-t25
+add-t25 c = search needs
+
+add-two-bytes-3 : tie.Need-add-two-bytes-3
+add-two-bytes-3 c = search needs
+
+shared-slice-read-two-bytes-3 : tie.Need-shared-slice-read-two-bytes-3
+shared-slice-read-two-bytes-3 c = search needs
+
+add-two-bytes-4 : tie.Need-add-two-bytes-4
+add-two-bytes-4 c = search needs
+
+shared-slice-read-two-bytes-4 : tie.Need-shared-slice-read-two-bytes-4
+shared-slice-read-two-bytes-4 c = search needs
+
+two-bytes-requires-2 : tie.Need-two-bytes-requires-2
+two-bytes-requires-2 c κs = search needs
+
+add-t33 : tie.Need-add-t33
+add-t33 c = search needs
+
+shared-slice-read-t35 : tie.Need-shared-slice-read-t35
+shared-slice-read-t35 c =
+    let a = c .before .before .before .before .before .before .before .before .before .before .before .before .args in
+    let m = c .before .before .before .before .match in
+    let bits = three (getD (a .journal .now) (a .position) 0) (c .before .before .before .before .before .before .before .before .if2 .left) (m .rest .0 .0 .1) (m .rest .0 .1) (m .rest .1) in
+    let size = c .before .before .before .before .before .before .size-of .ensures ∙ ap entry-size bits in
+    omega (arith, size, c .before .before .before .before .before .if4 .left)
+
+add-t36 : tie.Need-add-t36
+add-t36 c = search needs
+
+returns-5 : tie.Need-returns-5
+returns-5 c =
+    let a = c .before .before .before .before .before .before .before .before .args in
+    let size = c .before .before .size-of .ensures ∙ ap entry-size (c .match .keys1) in
+    sym (whole-entry (a .journal .now) (a .position) (a .before) 0 (c .before .before .before .before .before .before .if1 .left) (c .match .keys1) (lit≤ tt) (omega (arith, size, c .before .if4 .left)))
+
+returns-6 : tie.Need-returns-6
+returns-6 c =
+    let a = c .before .before .before .before .before .before .before .before .before .before .before .args in
+    let bits = c .before .before .before .match .keys2 in
+    let size = c .before .before .before .before .before .size-of .ensures ∙ ap entry-size bits in
+    ap (λ (w : ℕ). Named w 0 (a .position + 3)) (c .two-bytes .ensures)
+    ∙ sym (whole-entry (a .journal .now) (a .position) (a .before) 1 (c .before .before .before .before .before .before .before .before .before .if1 .left) bits (lit≤ tt) (omega (arith, size, c .before .before .before .before .if4 .left)))
+
+returns-7 : tie.Need-returns-7
+returns-7 c =
+    let a = c .before .before .before .before .before .before .before .before .before .args in
+    let bits = c .before .match .keys3 in
+    let size = c .before .before .before .size-of .ensures ∙ ap entry-size bits in
+    sym (whole-entry (a .journal .now) (a .position) (a .before) 2 (c .before .before .before .before .before .before .before .if1 .left) bits (lit≤ tt) (omega (arith, size, c .before .before .if4 .left)))
+
+returns-8 : tie.Need-returns-8
+returns-8 c =
+    let a = c .before .before .before .before .before .before .before .before .before .before .before .before .args in
+    let m = c .before .before .before .before .match in
+    let bits = three (getD (a .journal .now) (a .position) 0) (c .before .before .before .before .before .before .before .before .if2 .left) (m .rest .0 .0 .1) (m .rest .0 .1) (m .rest .1) in
+    let size = c .before .before .before .before .before .before .size-of .ensures ∙ ap entry-size bits in
+    ap (λ (w : ℕ). Named w (getD (a .journal .now) (a .position + 3) 0) (a .position + 4)) (c .before .two-bytes2 .ensures)
+    ∙ sym (whole-entry (a .journal .now) (a .position) (a .before) 3 (c .before .before .before .before .before .before .before .before .before .before .if1 .left) bits (lit≤ tt) (omega (arith, size, c .before .before .before .before .before .if4 .left)))
+
+pub read-entry-spec : {M : Type 1} → statement M
+read-entry-spec =
+    tie.close
+    (tie.spec
+    returns
+    shared-slice-read-bits
+    returns-2
+    sub-if3
+    byte-index-requires
+    whole-entry-requires
+    returns-3
+    sub-if4
+    size-of-requires
+    returns-4
+    add-t13
+    add-two-bytes
+    shared-slice-read-two-bytes
+    add-two-bytes-2
+    shared-slice-read-two-bytes-2
+    two-bytes-requires
+    add-t21
+    add-t22
+    shared-slice-read-t24
+    add-t25
+    add-two-bytes-3
+    shared-slice-read-two-bytes-3
+    add-two-bytes-4
+    shared-slice-read-two-bytes-4
+    two-bytes-requires-2
+    add-t33
+    shared-slice-read-t35
+    add-t36
+    returns-5
+    returns-6
+    returns-7
+    returns-8)

@@ -1,0 +1,147 @@
+-- `journal_reader::read_some` meets its contract: entries are read one behind another. Assumes nothing.
+use mathlib.Core.Path.{sym, _∙_}
+use Prim.Native.Nat.{_-_, _≤_}
+use native.Mathlib.Omega.{arith}
+use Rattle.journal_call.specs.Reader.Stretches.{Read-on}
+use Rattle.journal_call.proofs.reader.Stretching.{nothing, one, more, threads-long, kinds-long, ended, broken, unknown, reached}
+use borrow.Author.Needs.{needs}
+use Rattle.journal_call.proofs.reader.read_some.Statement.{statement}
+use Rattle.journal_call.proofs.reader.read_some.Tie as tie
+
+abbrev Inv-loop : tie.InvT-loop
+Inv-loop journal position before known threads₀ kinds₀ from end count₀ at₀ last₀ threads kinds count at last =
+    (count ≤ end) × Read-on known journal position before threads₀ kinds₀ from threads kinds count at last
+
+abbrev μ-loop : tie.MeasureT-loop
+μ-loop journal position before known threads₀ kinds₀ from end count₀ at₀ last₀ threads kinds count at last = end - count
+
+loop-holds : tie.Need-loop-holds Inv-loop μ-loop
+loop-holds c = (omega (arith, c .before .before .before .pre .0), nothing _ _ _ _ _ _ _ (omega (arith, c .before .before .before .pre)) (omega (arith, c .before .before .before .pre)))
+
+entry-at-requires : tie.Need-entry-at-requires Inv-loop μ-loop
+entry-at-requires c κs = search needs
+
+enum-known-e : tie.Need-enum-known-e Inv-loop μ-loop
+enum-known-e c = search needs
+
+cast-if1 : tie.Need-cast-if1 Inv-loop μ-loop
+cast-if1 c = search needs
+
+stopped-requires : tie.Need-stopped-requires Inv-loop μ-loop
+stopped-requires c κs = search needs
+
+same-length : tie.Need-same-length Inv-loop μ-loop
+same-length c = threads-long _ _ _ _ _ _ _ _ _ _ _ _ (c .before .before .before .before .before .before .before .loop .inv .1)
+
+same-length-2 : tie.Need-same-length-2 Inv-loop μ-loop
+same-length-2 c = kinds-long _ _ _ _ _ _ _ _ _ _ _ _ (c .before .before .before .before .before .before .before .loop .inv .1)
+
+returns : tie.Need-returns Inv-loop μ-loop
+returns c = rw (c .stopped .ensures) (c .before .before .before .before .before .before .before .loop .inv .1, unknown _ _ _ _ _ _ _ _ _ (sym (c .before .before .before .before .before .entry-at .ensures) ∙ c .before .before .before .e .given .1) (c .before .if1 .taken))
+
+mul-threads : tie.Need-mul-threads Inv-loop μ-loop
+mul-threads c = omega arith
+
+slice-write-threads : tie.Need-slice-write-threads Inv-loop μ-loop
+slice-write-threads c =
+    let l = c .before .before .before .before .before .before in
+    omega (arith, c .before .before .before .before .before .loop-test .taken, threads-long _ _ _ _ _ _ _ _ _ _ _ _ (l .loop .inv .1), c .before .before .before .before .before .before .before .before .before .before .pre)
+
+slice-write-kinds : tie.Need-slice-write-kinds Inv-loop μ-loop
+slice-write-kinds c =
+    let l = c .before .before .before .before .before .before in
+    omega (arith, c .before .before .before .before .before .loop-test .taken, kinds-long _ _ _ _ _ _ _ _ _ _ _ _ (l .loop .inv .1), c .before .before .before .before .before .before .before .before .before .before .pre)
+
+add-count : tie.Need-add-count Inv-loop μ-loop
+add-count c = omega arith
+
+loop-less : tie.Need-loop-less Inv-loop μ-loop
+loop-less c = omega (arith, c .before .before .before .before .before .loop-test .taken)
+
+loop-again : tie.Need-loop-again Inv-loop μ-loop
+loop-again c =
+    let l = c .before .before .before .before .before .before in
+    let begin = c .before .before .before .before .before .before .before .before .before .before in
+    let long-threads = threads-long _ _ _ _ _ _ _ _ _ _ _ _ (l .loop .inv .1) in
+    let long-kinds = kinds-long _ _ _ _ _ _ _ _ _ _ _ _ (l .loop .inv .1) in (
+      omega (arith, c .before .before .before .before .before .loop-test .taken),
+      more _ _ _ _ _ _ _ _ _ _ _ _ (l .loop .inv .1) _ _ _ _ _
+          (one _ _ _ _ _ _ _ _ _ _ (omega (arith, c .before .before .before .before .before .loop-test .taken, long-threads, begin .pre)) (omega (arith, c .before .before .before .before .before .loop-test .taken, long-kinds, begin .pre)) (sym (c .before .before .before .before .entry-at .ensures) ∙ c .before .before .e .given .1) (c .if1 .left)),
+    )
+
+enum-told : tie.Need-enum-told Inv-loop μ-loop
+enum-told c = search needs
+
+stopped-requires-2 : tie.Need-stopped-requires-2 Inv-loop μ-loop
+stopped-requires-2 c κs = search needs
+
+same-length-3 : tie.Need-same-length-3 Inv-loop μ-loop
+same-length-3 c = threads-long _ _ _ _ _ _ _ _ _ _ _ _ (c .before .before .before .before .before .loop .inv .1)
+
+same-length-4 : tie.Need-same-length-4 Inv-loop μ-loop
+same-length-4 c = kinds-long _ _ _ _ _ _ _ _ _ _ _ _ (c .before .before .before .before .before .loop .inv .1)
+
+returns-2 : tie.Need-returns-2 Inv-loop μ-loop
+returns-2 c = rw (c .stopped2 .ensures) (c .before .before .before .before .before .loop .inv .1, broken _ _ _ _ _ _ (sym (c .before .before .before .entry-at .ensures) ∙ c .before .enum-told .given .1))
+
+enum-told-2 : tie.Need-enum-told-2 Inv-loop μ-loop
+enum-told-2 c = search needs
+
+stopped-requires-3 : tie.Need-stopped-requires-3 Inv-loop μ-loop
+stopped-requires-3 c κs = search needs
+
+same-length-5 : tie.Need-same-length-5 Inv-loop μ-loop
+same-length-5 c = threads-long _ _ _ _ _ _ _ _ _ _ _ _ (c .before .before .before .before .before .loop .inv .1)
+
+same-length-6 : tie.Need-same-length-6 Inv-loop μ-loop
+same-length-6 c = kinds-long _ _ _ _ _ _ _ _ _ _ _ _ (c .before .before .before .before .before .loop .inv .1)
+
+returns-3 : tie.Need-returns-3 Inv-loop μ-loop
+returns-3 c = rw (c .stopped3 .ensures) (c .before .before .before .before .before .loop .inv .1, ended _ _ _ _ _ _ (sym (c .before .before .before .entry-at .ensures) ∙ c .before .enum-told2 .given .1))
+
+stopped-requires-4 : tie.Need-stopped-requires-4 Inv-loop μ-loop
+stopped-requires-4 c κs = search needs
+
+same-length-7 : tie.Need-same-length-7 Inv-loop μ-loop
+same-length-7 c = threads-long _ _ _ _ _ _ _ _ _ _ _ _ (c .before .before .loop .inv .1)
+
+same-length-8 : tie.Need-same-length-8 Inv-loop μ-loop
+same-length-8 c = kinds-long _ _ _ _ _ _ _ _ _ _ _ _ (c .before .before .loop .inv .1)
+
+returns-4 : tie.Need-returns-4 Inv-loop μ-loop
+returns-4 c = rw (c .stopped4 .ensures) (c .before .before .loop .inv .1, reached _ _ _ _ _ _ (c .before .loop-test .left))
+
+pub read-some-spec : {M : Type 1} → statement M
+read-some-spec =
+    tie.close
+    (tie.spec
+    Inv-loop
+    μ-loop
+    loop-holds
+    entry-at-requires
+    enum-known-e
+    cast-if1
+    stopped-requires
+    same-length
+    same-length-2
+    returns
+    mul-threads
+    slice-write-threads
+    slice-write-kinds
+    add-count
+    loop-less
+    loop-again
+    enum-told
+    stopped-requires-2
+    same-length-3
+    same-length-4
+    returns-2
+    enum-told-2
+    stopped-requires-3
+    same-length-5
+    same-length-6
+    returns-3
+    stopped-requires-4
+    same-length-7
+    same-length-8
+    returns-4)

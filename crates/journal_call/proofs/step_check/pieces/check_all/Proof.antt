@@ -1,0 +1,219 @@
+-- `step_check_call::pieces::check_all` meets its contract: piece after piece, up to the first that has a wrong step, or the last. Assumes nothing.
+use mathlib.Core.Path.{_≡_, refl, sym, ap, _∙_}
+use Prim.Native.Nat.{_+_, _-_, _≤_}
+use native.Mathlib.Omega.{arith}
+use lib.ListN.{length}
+use borrow.Author.Needs.{needs}
+use Rattle.model.specs.Trees.{tree-of}
+use Rattle.journal_call.specs.StepCheck.Stretches.{lent-lock}
+use Rattle.journal_call.proofs.step_check.Wholes.{So-far, none-yet, piece-fits, stops, goes-on, ends, steps-few}
+use Rattle.journal_call.proofs.step_check.pieces.check_all.Statement.{statement}
+use Rattle.journal_call.proofs.step_check.pieces.check_all.Tie as tie
+
+abbrev Inv-loop : tie.InvT-loop
+Inv-loop tree tails₀ nexts₀ statuses₀ rows₀ places₀ peers₀ words₀ ticket₀ granted₀ entries₀ tenures₀ longest₀ threads kinds domains trace₀ codes₀ at₀ tails nexts statuses rows places peers words ticket granted entries tenures longest trace codes at =
+    (length trace ≡ 1024) × ((length codes ≡ 1024) × So-far (tree-of tree) (lent-lock tails₀ nexts₀ statuses₀ rows₀ places₀ peers₀ words₀ ticket₀ granted₀ entries₀ tenures₀ longest₀) threads kinds domains (lent-lock tails nexts statuses rows places peers words ticket granted entries tenures longest) at)
+
+abbrev μ-loop : tie.MeasureT-loop
+μ-loop tree tails₀ nexts₀ statuses₀ rows₀ places₀ peers₀ words₀ ticket₀ granted₀ entries₀ tenures₀ longest₀ threads kinds domains trace₀ codes₀ at₀ tails nexts statuses rows places peers words ticket granted entries tenures longest trace codes at =
+    length threads - at
+
+loop-holds : tie.Need-loop-holds Inv-loop μ-loop
+loop-holds c =
+    let f = c .before .before .before .before .before in
+    (f .pre .1 .1 .1 .0, (f .pre .1 .1 .1 .1, none-yet _ _ (f .args .threads .now) (f .args .kinds .now) (f .args .domains .now) (f .pre .1 .0) (f .pre .1 .1 .0) (f .pre .0)))
+
+sub-loop : tie.Need-sub-loop Inv-loop μ-loop
+sub-loop c = omega arith
+
+add-end : tie.Need-add-end Inv-loop μ-loop
+add-end c = omega arith
+
+mul-check-piece : tie.Need-mul-check-piece Inv-loop μ-loop
+mul-check-piece c = let f = c .before .before .before .before .before .before .before .before .before .before .before .before .before .before .before .before .before .before .before in omega (arith, c .before .before .before .before .before .before .before .before .before .before .before .before .before .loop .inv .1 .1 .within, f .pre .1 .0, f .pre .1 .1 .0, f .good .1 .1 .1 .1 .1 .1 .1 .1 .1 .1 .1 .1 .1 .0)
+
+sub-check-piece : tie.Need-sub-check-piece Inv-loop μ-loop
+sub-check-piece c = omega arith
+
+part-check-piece-start : tie.Need-part-check-piece-start Inv-loop μ-loop
+part-check-piece-start c = omega arith
+
+part-check-piece-end : tie.Need-part-check-piece-end Inv-loop μ-loop
+part-check-piece-end c = omega arith
+
+mul-check-piece-2 : tie.Need-mul-check-piece-2 Inv-loop μ-loop
+mul-check-piece-2 c = let f = c .before .before .before .before .before .before .before .before .before .before .before .before .before .before .before .before .before .before .before .before in omega (arith, c .before .before .before .before .before .before .before .before .before .before .before .before .before .before .loop .inv .1 .1 .within, f .pre .1 .0, f .pre .1 .1 .0, f .good .1 .1 .1 .1 .1 .1 .1 .1 .1 .1 .1 .1 .1 .0)
+
+sub-check-piece-2 : tie.Need-sub-check-piece-2 Inv-loop μ-loop
+sub-check-piece-2 c = omega arith
+
+part-check-piece-start-2 : tie.Need-part-check-piece-start-2 Inv-loop μ-loop
+part-check-piece-start-2 c = omega arith
+
+part-check-piece-end-2 : tie.Need-part-check-piece-end-2 Inv-loop μ-loop
+part-check-piece-end-2 c = omega arith
+
+mul-check-piece-3 : tie.Need-mul-check-piece-3 Inv-loop μ-loop
+mul-check-piece-3 c = let f = c .before .before .before .before .before .before .before .before .before .before .before .before .before .before .before .before .before .before .before .before .before in omega (arith, c .before .before .before .before .before .before .before .before .before .before .before .before .before .before .before .loop .inv .1 .1 .within, f .pre .1 .0, f .pre .1 .1 .0, f .good .1 .1 .1 .1 .1 .1 .1 .1 .1 .1 .1 .1 .1 .0)
+
+sub-check-piece-3 : tie.Need-sub-check-piece-3 Inv-loop μ-loop
+sub-check-piece-3 c = omega arith
+
+part-check-piece-start-3 : tie.Need-part-check-piece-start-3 Inv-loop μ-loop
+part-check-piece-start-3 c = omega arith
+
+part-check-piece-end-3 : tie.Need-part-check-piece-end-3 Inv-loop μ-loop
+part-check-piece-end-3 c = omega arith
+
+check-piece-requires : tie.Need-check-piece-requires Inv-loop μ-loop
+check-piece-requires c κs =
+    let f = c .before .before .before .before .before .before .before .before .before .before .before .before .before .before .before .before .before .before .before .before .before .before .before .before in
+    let l = c .before .before .before .before .before .before .before .before .before .before .before .before .before .before .before .before .before .before .loop in
+    let g = l .inv .1 .1 in
+    (g .ready, piece-fits _ _ (f .args .threads .now) (f .args .kinds .now) (f .args .domains .now) (f .pre .1 .0) (f .pre .1 .1 .0) _ (l .at) (l .at + 1024) g (omega arith) (omega (arith, g .within, c .before .before .before .before .before .before .before .before .before .before .before .before .before .before .before .before .before .loop-test .taken)) _ _ (omega arith) (l .inv .0) (l .inv .1 .0))
+
+add-t56 : tie.Need-add-t56 Inv-loop μ-loop
+add-t56 c =
+    let f = c .before .before .before .before .before .before .before .before .before .before .before .before .before .before .before .before .before .before .before .before .before .before .before .before .before .before .before .before .before .before .before .before in
+    let l = c .before .before .before .before .before .before .before .before .before .before .before .before .before .before .before .before .before .before .before .before .before .before .before .before .before .before .loop in
+    let g = l .inv .1 .1 in
+    omega (arith, steps-few _ _ (f .args .threads .now) (f .args .kinds .now) (f .args .domains .now) (f .pre .1 .0) (f .pre .1 .1 .0) _ (l .at) (l .at + 1024) g (omega arith) (omega (arith, g .within, c .before .before .before .before .before .before .before .before .before .before .before .before .before .before .before .before .before .before .before .before .before .before .before .before .before .loop-test .taken)) _ (ap (λ v. v .steps) (c .before .before .before .before .before .before .before .check-piece .ensures .0)), f .good .1 .1 .1 .1 .1 .1 .1 .1 .1 .1 .1 .1 .1 .0)
+
+same-length : tie.Need-same-length Inv-loop μ-loop
+same-length c = c .before .before .before .before .before .before .before .check-piece .ensures .1 .1 .0 ∙ c .before .before .before .before .before .before .before .before .before .before .before .before .before .before .before .before .before .before .before .before .before .before .before .before .before .before .loop .inv .0 ∙ sym (c .before .before .before .before .before .before .before .before .before .before .before .before .before .before .before .before .before .before .before .before .before .before .before .before .before .before .before .before .before .before .before .before .pre .1 .1 .1 .0)
+
+same-length-2 : tie.Need-same-length-2 Inv-loop μ-loop
+same-length-2 c = c .before .before .before .before .before .before .before .check-piece .ensures .1 .1 .1 ∙ c .before .before .before .before .before .before .before .before .before .before .before .before .before .before .before .before .before .before .before .before .before .before .before .before .before .before .loop .inv .1 .0 ∙ sym (c .before .before .before .before .before .before .before .before .before .before .before .before .before .before .before .before .before .before .before .before .before .before .before .before .before .before .before .before .before .before .before .before .pre .1 .1 .1 .1)
+
+returns : tie.Need-returns Inv-loop μ-loop
+returns c =
+    let f = c .before .before .before .before .before .before .before .before .before .before .before .before .before .before .before .before .before .before .before .before .before .before .before .before .before .before .before .before .before .before .before .before in
+    let l = c .before .before .before .before .before .before .before .before .before .before .before .before .before .before .before .before .before .before .before .before .before .before .before .before .before .before .loop in
+    let g = l .inv .1 .1 in
+    let e = c .before .before .before .before .before .before .before .check-piece .ensures in
+    let n = c .before .if1 .taken in
+    let answer = stops _ _ (f .args .threads .now) (f .args .kinds .now) (f .args .domains .now) (f .pre .1 .0) (f .pre .1 .1 .0) _ (l .at) (l .at + 1024) g (omega arith) (omega (arith, g .within, c .before .before .before .before .before .before .before .before .before .before .before .before .before .before .before .before .before .before .before .before .before .before .before .before .before .loop-test .taken)) (λ z. n (ap (λ v. v .number) (e .0) ∙ z)) in
+    (rw (e .0) (answer .0), e .1 .0 ∙ answer .1)
+
+loop-less : tie.Need-loop-less Inv-loop μ-loop
+loop-less c = omega arith
+
+loop-again : tie.Need-loop-again Inv-loop μ-loop
+loop-again c =
+    let f = c .before .before .before .before .before .before .before .before .before .before .before .before .before .before .before .before .before .before .before .before .before .before .before .before .before .before .before .before .before .before .before in
+    let l = c .before .before .before .before .before .before .before .before .before .before .before .before .before .before .before .before .before .before .before .before .before .before .before .before .before .loop in
+    let g = l .inv .1 .1 in
+    let e = c .before .before .before .before .before .before .check-piece .ensures in
+    (e .1 .1 .0 ∙ l .inv .0, (e .1 .1 .1 ∙ l .inv .1 .0, goes-on _ _ (f .args .threads .now) (f .args .kinds .now) (f .args .domains .now) (f .pre .1 .0) (f .pre .1 .1 .0) _ (l .at) (l .at + 1024) g (omega arith) (omega (arith, g .within, c .before .before .before .before .before .before .before .before .before .before .before .before .before .before .before .before .before .before .before .before .before .before .before .before .loop-test .taken)) (sym (ap (λ v. v .number) (e .0)) ∙ c .if1 .left) _ (e .1 .0)))
+
+mul-check-piece-4 : tie.Need-mul-check-piece-4 Inv-loop μ-loop
+mul-check-piece-4 c = let f = c .before .before .before .before .before .before .before .before .before .before .before .before .before .before .before .before .before .before .before in omega (arith, c .before .before .before .before .before .before .before .before .before .before .before .before .before .loop .inv .1 .1 .within, f .pre .1 .0, f .pre .1 .1 .0, f .good .1 .1 .1 .1 .1 .1 .1 .1 .1 .1 .1 .1 .1 .0)
+
+sub-check-piece-4 : tie.Need-sub-check-piece-4 Inv-loop μ-loop
+sub-check-piece-4 c = omega arith
+
+part-check-piece-start-4 : tie.Need-part-check-piece-start-4 Inv-loop μ-loop
+part-check-piece-start-4 c = omega arith
+
+part-check-piece-end-4 : tie.Need-part-check-piece-end-4 Inv-loop μ-loop
+part-check-piece-end-4 c = omega arith
+
+mul-check-piece-5 : tie.Need-mul-check-piece-5 Inv-loop μ-loop
+mul-check-piece-5 c = let f = c .before .before .before .before .before .before .before .before .before .before .before .before .before .before .before .before .before .before .before .before in omega (arith, c .before .before .before .before .before .before .before .before .before .before .before .before .before .before .loop .inv .1 .1 .within, f .pre .1 .0, f .pre .1 .1 .0, f .good .1 .1 .1 .1 .1 .1 .1 .1 .1 .1 .1 .1 .1 .0)
+
+sub-check-piece-5 : tie.Need-sub-check-piece-5 Inv-loop μ-loop
+sub-check-piece-5 c = omega arith
+
+part-check-piece-start-5 : tie.Need-part-check-piece-start-5 Inv-loop μ-loop
+part-check-piece-start-5 c = omega arith
+
+part-check-piece-end-5 : tie.Need-part-check-piece-end-5 Inv-loop μ-loop
+part-check-piece-end-5 c = omega arith
+
+mul-check-piece-6 : tie.Need-mul-check-piece-6 Inv-loop μ-loop
+mul-check-piece-6 c = let f = c .before .before .before .before .before .before .before .before .before .before .before .before .before .before .before .before .before .before .before .before .before in omega (arith, c .before .before .before .before .before .before .before .before .before .before .before .before .before .before .before .loop .inv .1 .1 .within, f .pre .1 .0, f .pre .1 .1 .0, f .good .1 .1 .1 .1 .1 .1 .1 .1 .1 .1 .1 .1 .1 .0)
+
+sub-check-piece-6 : tie.Need-sub-check-piece-6 Inv-loop μ-loop
+sub-check-piece-6 c = omega arith
+
+part-check-piece-start-6 : tie.Need-part-check-piece-start-6 Inv-loop μ-loop
+part-check-piece-start-6 c = omega arith
+
+part-check-piece-end-6 : tie.Need-part-check-piece-end-6 Inv-loop μ-loop
+part-check-piece-end-6 c = omega arith
+
+check-piece-requires-2 : tie.Need-check-piece-requires-2 Inv-loop μ-loop
+check-piece-requires-2 c κs =
+    let f = c .before .before .before .before .before .before .before .before .before .before .before .before .before .before .before .before .before .before .before .before .before .before .before .before in
+    let l = c .before .before .before .before .before .before .before .before .before .before .before .before .before .before .before .before .before .before .loop in
+    let g = l .inv .1 .1 in
+    let n = length (f .args .threads .now) in
+    (g .ready, piece-fits _ _ (f .args .threads .now) (f .args .kinds .now) (f .args .domains .now) (f .pre .1 .0) (f .pre .1 .1 .0) _ (l .at) n g (g .within) (omega arith) _ _ (omega (arith, c .before .before .before .before .before .before .before .before .before .before .before .before .before .before .before .before .before .loop-test .left)) (l .inv .0) (l .inv .1 .0))
+
+add-t69 : tie.Need-add-t69 Inv-loop μ-loop
+add-t69 c =
+    let f = c .before .before .before .before .before .before .before .before .before .before .before .before .before .before .before .before .before .before .before .before .before .before .before .before .before .before .before .before .before .before in
+    let l = c .before .before .before .before .before .before .before .before .before .before .before .before .before .before .before .before .before .before .before .before .before .before .before .before .loop in
+    let g = l .inv .1 .1 in
+    omega (arith, steps-few _ _ (f .args .threads .now) (f .args .kinds .now) (f .args .domains .now) (f .pre .1 .0) (f .pre .1 .1 .0) _ (l .at) (length (f .args .threads .now)) g (g .within) (omega arith) _ (ap (λ v. v .steps) (c .before .before .before .before .before .«check-piece2» .ensures .0)), f .good .1 .1 .1 .1 .1 .1 .1 .1 .1 .1 .1 .1 .1 .0)
+
+same-length-3 : tie.Need-same-length-3 Inv-loop μ-loop
+same-length-3 c = c .before .before .before .before .before .«check-piece2» .ensures .1 .1 .0 ∙ c .before .before .before .before .before .before .before .before .before .before .before .before .before .before .before .before .before .before .before .before .before .before .before .before .loop .inv .0 ∙ sym (c .before .before .before .before .before .before .before .before .before .before .before .before .before .before .before .before .before .before .before .before .before .before .before .before .before .before .before .before .before .before .pre .1 .1 .1 .0)
+
+same-length-4 : tie.Need-same-length-4 Inv-loop μ-loop
+same-length-4 c = c .before .before .before .before .before .«check-piece2» .ensures .1 .1 .1 ∙ c .before .before .before .before .before .before .before .before .before .before .before .before .before .before .before .before .before .before .before .before .before .before .before .before .loop .inv .1 .0 ∙ sym (c .before .before .before .before .before .before .before .before .before .before .before .before .before .before .before .before .before .before .before .before .before .before .before .before .before .before .before .before .before .before .pre .1 .1 .1 .1)
+
+returns-2 : tie.Need-returns-2 Inv-loop μ-loop
+returns-2 c =
+    let f = c .before .before .before .before .before .before .before .before .before .before .before .before .before .before .before .before .before .before .before .before .before .before .before .before .before .before .before .before .before .before in
+    let l = c .before .before .before .before .before .before .before .before .before .before .before .before .before .before .before .before .before .before .before .before .before .before .before .before .loop in
+    let g = l .inv .1 .1 in
+    let e = c .before .before .before .before .before .«check-piece2» .ensures in
+    let answer = ends _ _ (f .args .threads .now) (f .args .kinds .now) (f .args .domains .now) (f .pre .1 .0) (f .pre .1 .1 .0) _ (l .at) (length (f .args .threads .now)) g (g .within) (omega arith) refl in
+    (rw (e .0) (answer .0), e .1 .0 ∙ answer .1)
+
+pub check-all-spec : {M : Type 1} → statement M
+check-all-spec =
+    tie.close
+    (tie.spec
+    Inv-loop
+    μ-loop
+    loop-holds
+    sub-loop
+    add-end
+    mul-check-piece
+    sub-check-piece
+    part-check-piece-start
+    part-check-piece-end
+    mul-check-piece-2
+    sub-check-piece-2
+    part-check-piece-start-2
+    part-check-piece-end-2
+    mul-check-piece-3
+    sub-check-piece-3
+    part-check-piece-start-3
+    part-check-piece-end-3
+    check-piece-requires
+    add-t56
+    same-length
+    same-length-2
+    returns
+    loop-less
+    loop-again
+    mul-check-piece-4
+    sub-check-piece-4
+    part-check-piece-start-4
+    part-check-piece-end-4
+    mul-check-piece-5
+    sub-check-piece-5
+    part-check-piece-start-5
+    part-check-piece-end-5
+    mul-check-piece-6
+    sub-check-piece-6
+    part-check-piece-start-6
+    part-check-piece-end-6
+    check-piece-requires-2
+    add-t69
+    same-length-3
+    same-length-4
+    returns-2)

@@ -1,0 +1,171 @@
+-- `step_check_call::pieces::check_piece` meets its contract: what can be stepped is stepped and compared; where one step is wrong, those before it are taken again. Assumes nothing.
+use mathlib.Core.Path.{_≡_, sym, ap, _∙_}
+use native.Mathlib.Omega.{arith}
+use lib.ListN.{length}
+use Rattle.lock.proofs.steps.Telling.{told-front-length}
+use Rattle.journal_call.proofs.step_check.Piecing.{tests, comparable, piece-passes, piece-stops}
+use borrow.Author.Needs.{needs}
+use Rattle.journal_call.proofs.step_check.pieces.check_piece.Statement.{statement}
+use Rattle.journal_call.proofs.step_check.pieces.check_piece.Tie as tie
+
+-- the start, the stretch that can be stepped, and where it was stepped and compared
+abbrev first : tie.After-stretch-of → tie.Start
+first stretch = stretch .before .before .before .before .before .before .before .before .before .before .before .before .before .before .before .before .before .before
+
+abbrev stretch : tie.After-run-part → tie.After-stretch-of
+stretch ran = ran .before .before .before .before .before .before .before .before .before .before .before .before .before .before .before .before .before .before .before .before .before .before .before .before .before
+
+abbrev ran : tie.After-first-difference → tie.After-run-part
+ran compared = compared .before .before .before .before .before .before .before .before
+
+stretch-of-requires : tie.Need-stretch-of-requires
+stretch-of-requires c κs = search needs
+
+run-part-requires : tie.Need-run-part-requires
+run-part-requires c κs =
+    let st = c .before .before .before .before .before .before .before .before .before .before .before .before .before .before .before .before .before .before .before .before .before .before .before .before in
+    let f = first st in
+    let a = f .args in
+    let g = f .pre .0 in
+    let q = f .pre .1 in
+    let S = st .stretch-of .ensures in
+    (S .within, (g .typed, tests _ _ _ (a .kinds .now) (a .domains .now) g _ S (st .stretch-of .result .steps) _ (omega arith) (omega (arith, S .within, q .few)) (omega (arith, S .within, q .few, q .trace-room))))
+
+first-difference-requires : tie.Need-first-difference-requires
+first-difference-requires c κs =
+    let r = c .before .before .before .before .before .before .before in
+    let st = stretch r in
+    let f = first st in
+    let a = f .args in
+    let g = f .pre .0 in
+    let q = f .pre .1 in
+    let S = st .stretch-of .ensures in
+    comparable _ _ _ (a .kinds .now) (a .domains .now) g _ S (q .kinds-long) (q .domains-long) _ _ (q .codes-room) (q .few) (r .run-part .ensures .1 .0)
+
+same-length : tie.Need-same-length
+same-length c = search needs
+
+same-length-2 : tie.Need-same-length-2
+same-length-2 c = search needs
+
+returns : tie.Need-returns
+returns c =
+    let d = c .before in
+    let r = ran d in
+    let st = stretch r in
+    let f = first st in
+    let a = f .args in
+    let g = f .pre .0 in
+    let q = f .pre .1 in
+    let S = st .stretch-of .ensures in
+    let answer = piece-passes _ _ _ (a .kinds .now) (a .domains .now) g _ S (q .kinds-long) (q .domains-long) _ _ (q .codes-room) (q .few) (r .run-part .ensures .1 .0) _ (d .first-difference .ensures) (c .if1 .taken) in
+    (answer .0, (r .run-part .ensures .0 ∙ answer .1, (r .run-part .ensures .1 .1, ap length (r .run-part .ensures .1 .0) ∙ told-front-length _ _)))
+
+mul-number-of : tie.Need-mul-number-of
+mul-number-of c =
+    let d = c .before in
+    let r = ran d in
+    let st = stretch r in
+    let f = first st in
+    let a = f .args in
+    let g = f .pre .0 in
+    let q = f .pre .1 in
+    let S = st .stretch-of .ensures in
+    omega (arith, d .first-difference .ensures .within, S .within, q .few)
+
+shared-slice-read-number-of : tie.Need-shared-slice-read-number-of
+shared-slice-read-number-of c =
+    let d = c .before .before in
+    let r = ran d in
+    let st = stretch r in
+    let f = first st in
+    let a = f .args in
+    let g = f .pre .0 in
+    let q = f .pre .1 in
+    let S = st .stretch-of .ensures in
+    omega (arith, c .before .if1 .left, d .first-difference .ensures .within, S .within, q .kinds-long)
+
+mul-number-of-2 : tie.Need-mul-number-of-2
+mul-number-of-2 c =
+    let d = c .before .before in
+    let r = ran d in
+    let st = stretch r in
+    let f = first st in
+    let a = f .args in
+    let g = f .pre .0 in
+    let q = f .pre .1 in
+    let S = st .stretch-of .ensures in
+    omega (arith, d .first-difference .ensures .within, S .within, q .few)
+
+slice-read-number-of : tie.Need-slice-read-number-of
+slice-read-number-of c =
+    let d = c .before .before .before in
+    let r = ran d in
+    let st = stretch r in
+    let f = first st in
+    let a = f .args in
+    let g = f .pre .0 in
+    let q = f .pre .1 in
+    let S = st .stretch-of .ensures in
+    omega (arith, c .before .before .if1 .left, d .first-difference .ensures .within, comparable _ _ _ (a .kinds .now) (a .domains .now) g _ S (q .kinds-long) (q .domains-long) _ _ (q .codes-room) (q .few) (r .run-part .ensures .1 .0) .codes-long)
+
+number-of-requires : tie.Need-number-of-requires
+number-of-requires c κs = search needs
+
+run-part-requires-2 : tie.Need-run-part-requires-2
+run-part-requires-2 c κs =
+    let d = c .before .before .before .before .before .before .before .before .before .before .before .before .before .before .before .before .before .before in
+    let r = ran d in
+    let st = stretch r in
+    let f = first st in
+    let a = f .args in
+    let g = f .pre .0 in
+    let q = f .pre .1 in
+    let S = st .stretch-of .ensures in
+    let h = c .before .before .before .before .before .before .before .before .before .before .before .before .before .before .before .before .before .if1 .left in
+    let m = d .first-difference .result in
+    (omega (arith, h, S .within), (g .typed, tests _ _ _ (a .kinds .now) (a .domains .now) g _ S m _ (omega (arith, h)) (omega (arith, h, S .within, q .few)) (omega (arith, h, S .within, q .few, q .trace-room, r .run-part .ensures .1 .1))))
+
+same-length-3 : tie.Need-same-length-3
+same-length-3 c =
+    let r = c .before .before .before .before .before .before .before .before .before .before .before .before .before .before .before .before .before .before .before .before .before .before .before .before .before .before .before .before .before .before .before .run-part .ensures in
+    c .before .before .before .before .«run-part2» .ensures .1 .1 ∙ r .1 .1
+
+same-length-4 : tie.Need-same-length-4
+same-length-4 c =
+    let r = c .before .before .before .before .before .before .before .before .before .before .before .before .before .before .before .before .before .before .before .before .before .before .before .before .before .before .before .before .before .before .before .run-part .ensures in
+    ap length (c .before .before .before .before .«run-part2» .ensures .1 .0) ∙ told-front-length _ _ ∙ ap length (r .1 .0) ∙ told-front-length _ _
+
+returns-2 : tie.Need-returns-2
+returns-2 c =
+    let d = c .before .before .before .before .before .before .before .before .before .before .before .before .before .before .before .before .before .before .before .before .before .before .before in
+    let r = ran d in
+    let st = stretch r in
+    let f = first st in
+    let a = f .args in
+    let g = f .pre .0 in
+    let q = f .pre .1 in
+    let S = st .stretch-of .ensures in
+    let answer = piece-stops _ _ _ (a .kinds .now) (a .domains .now) g _ S (q .kinds-long) (q .domains-long) _ _ (q .codes-room) (q .few) (r .run-part .ensures .1 .0) _ (d .first-difference .ensures) (c .before .before .before .before .before .before .before .before .before .before .before .before .before .before .before .before .before .before .before .before .before .before .if1 .left) _ (c .before .before .before .before .before .before .before .before .before .before .before .before .before .before .before .before .before .before .before .number-of .ensures) in
+    let again = c .before .before .before .before .«run-part2» .ensures in
+    (answer .0, (again .0 ∙ answer .1, (again .1 .1 ∙ r .run-part .ensures .1 .1, ap length (again .1 .0) ∙ told-front-length _ _ ∙ ap length (r .run-part .ensures .1 .0) ∙ told-front-length _ _)))
+
+pub check-piece-spec : {M : Type 1} → statement M
+check-piece-spec =
+    tie.close
+    (tie.spec
+    stretch-of-requires
+    run-part-requires
+    first-difference-requires
+    same-length
+    same-length-2
+    returns
+    mul-number-of
+    shared-slice-read-number-of
+    mul-number-of-2
+    slice-read-number-of
+    number-of-requires
+    run-part-requires-2
+    same-length-3
+    same-length-4
+    returns-2)

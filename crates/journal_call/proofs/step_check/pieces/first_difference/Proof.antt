@@ -1,0 +1,117 @@
+-- `step_check_call::pieces::first_difference` meets its contract: all named steps passed have the kinds and domains that were told. Assumes nothing.
+use mathlib.Core.Path.{_≡_}
+use mathlib.Core.Bool.{false}
+use Prim.Native.Nat.{ℕ, _≤_, _<_, _-_}
+use native.Mathlib.Omega.{arith}
+use borrow.Author.Tests.{eq-eqb, ne-eqb}
+use Rattle.refusals.proofs.Scanning.{one-more}
+use Rattle.journal_call.specs.StepCheck.Stretches.{differs}
+use Rattle.journal_call.proofs.step_check.Comparing.{kind-differs, domain-differs, both-same}
+use borrow.Author.Needs.{needs}
+use Rattle.journal_call.proofs.step_check.pieces.first_difference.Statement.{statement}
+use Rattle.journal_call.proofs.step_check.pieces.first_difference.Tie as tie
+
+abbrev Inv-loop : tie.InvT-loop
+Inv-loop homes threads kinds domains codes count k₀ k = (k ≤ count) × ((j : ℕ) → j < k → differs homes threads kinds domains codes j ≡ false)
+
+abbrev μ-loop : tie.MeasureT-loop
+μ-loop homes threads kinds domains codes count k₀ k = count - k
+
+loop-holds : tie.Need-loop-holds Inv-loop μ-loop
+loop-holds c = (omega arith, λ j l. absurd (omega arith))
+
+mul-code : tie.Need-mul-code Inv-loop μ-loop
+mul-code c = omega (arith, c .before .before .before .before .before .before .pre .codes-long)
+
+shared-slice-read-code : tie.Need-shared-slice-read-code Inv-loop μ-loop
+shared-slice-read-code c = omega (arith, c .before .before .before .before .before .before .before .pre .codes-long)
+
+mul-if1 : tie.Need-mul-if1 Inv-loop μ-loop
+mul-if1 c = omega arith
+
+shared-slice-read-if1 : tie.Need-shared-slice-read-if1 Inv-loop μ-loop
+shared-slice-read-if1 c = omega (arith, c .before .before .before .before .before .before .before .before .pre .kinds-long)
+
+returns : tie.Need-returns Inv-loop μ-loop
+returns c =
+    let a = c .before .before .before .before .before .before .before .before .before .args in
+    let k = c .before .before .before .before .loop .k in
+    record { within = omega arith; passed = c .before .before .before .before .loop .inv .1; fails = λ _. kind-differs (a .homes .now) (a .threads .now) (a .kinds .now) (a .domains .now) (a .codes .now) k (c .if1 .taken) }
+
+mul-word-index : tie.Need-mul-word-index Inv-loop μ-loop
+mul-word-index c = omega arith
+
+shared-slice-read-word-index : tie.Need-shared-slice-read-word-index Inv-loop μ-loop
+shared-slice-read-word-index c = omega (arith, c .before .before .before .before .before .before .before .before .before .before .pre .threads-long)
+
+word-index-requires : tie.Need-word-index-requires Inv-loop μ-loop
+word-index-requires c κs = search needs
+
+element-copy-out-home : tie.Need-element-copy-out-home Inv-loop μ-loop
+element-copy-out-home c = rw (c .word-index .ensures) (c .before .before .before .before .before .before .before .before .before .before .before .pre .small (c .before .before .before .before .before .before .loop .k) (omega arith))
+
+mul-word-number : tie.Need-mul-word-number Inv-loop μ-loop
+mul-word-number c = omega arith
+
+shared-slice-read-word-number : tie.Need-shared-slice-read-word-number Inv-loop μ-loop
+shared-slice-read-word-number c = omega (arith, c .before .before .before .before .before .before .before .before .before .before .before .before .before .pre .domains-long)
+
+word-number-requires : tie.Need-word-number-requires Inv-loop μ-loop
+word-number-requires c κs = search needs
+
+domain-of-code-requires : tie.Need-domain-of-code-requires Inv-loop μ-loop
+domain-of-code-requires c κs = search needs
+
+returns-2 : tie.Need-returns-2 Inv-loop μ-loop
+returns-2 c =
+    let a = c .before .before .before .before .before .before .before .before .before .before .before .before .before .before .before .before .args in
+    let k = c .before .before .before .before .before .before .before .before .before .before .before .loop .k in
+    record {
+      within = omega arith;
+      passed = c .before .before .before .before .before .before .before .before .before .before .before .loop .inv .1;
+      fails = λ _. domain-differs (a .homes .now) (a .threads .now) (a .kinds .now) (a .domains .now) (a .codes .now) k (c .before .before .before .before .before .before .before .if1 .left) _ _ _ (c .before .before .before .before .before .word-index .ensures) (c .before .before .word-number .ensures) (c .before .domain-of-code .ensures) (c .if2 .taken);
+    }
+
+add-k : tie.Need-add-k Inv-loop μ-loop
+add-k c = omega arith
+
+loop-less : tie.Need-loop-less Inv-loop μ-loop
+loop-less c = omega arith
+
+loop-again : tie.Need-loop-again Inv-loop μ-loop
+loop-again c =
+    let a = c .before .before .before .before .before .before .before .before .before .before .before .before .before .before .before .before .args in
+    let k = c .before .before .before .before .before .before .before .before .before .before .before .loop .k in (
+      omega arith,
+      one-more _ false _ (c .before .before .before .before .before .before .before .before .before .before .before .loop .inv .1)
+          (both-same (a .homes .now) (a .threads .now) (a .kinds .now) (a .domains .now) (a .codes .now) k (c .before .before .before .before .before .before .before .if1 .left) _ _ _ (c .before .before .before .before .before .word-index .ensures) (c .before .before .word-number .ensures) (c .before .domain-of-code .ensures) (c .if2 .left)),
+    )
+
+returns-3 : tie.Need-returns-3 Inv-loop μ-loop
+returns-3 c = record { within = omega arith; passed = c .before .loop .inv .1; fails = λ h. absurd (omega arith) }
+
+pub first-difference-spec : {M : Type 1} → statement M
+first-difference-spec =
+    tie.close
+    (tie.spec
+    Inv-loop
+    μ-loop
+    loop-holds
+    mul-code
+    shared-slice-read-code
+    mul-if1
+    shared-slice-read-if1
+    returns
+    mul-word-index
+    shared-slice-read-word-index
+    word-index-requires
+    element-copy-out-home
+    mul-word-number
+    shared-slice-read-word-number
+    word-number-requires
+    domain-of-code-requires
+    returns-2
+    add-k
+    loop-less
+    loop-again
+    returns-3)

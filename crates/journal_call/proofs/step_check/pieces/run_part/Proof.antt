@@ -1,0 +1,61 @@
+-- `step_check_call::pieces::run_part` meets its contract: the threads are the first of those lent. Assumes nothing.
+use mathlib.Core.Path.{_≡_, ap, _∙_}
+use Prim.Native.Nat.{_-_}
+use native.Mathlib.Omega.{arith}
+use lib.ListN.{length, take}
+use Rattle.model.specs.Trees.{tree-of}
+use Rattle.model.specs.Runs.{steps, state-after, run-of, run}
+use Rattle.model.specs.Counters.{lock-after, counters-after}
+use Rattle.model.specs.Refusals.{first-refusal, run-tests-before-19}
+use Rattle.lock.specs.Steps.Running.{codes-front}
+use Rattle.journal_call.specs.StepCheck.Stretches.{lent-lock}
+use borrow.Author.Needs.{needs}
+use Rattle.journal_call.proofs.step_check.pieces.run_part.Statement.{statement}
+use Rattle.journal_call.proofs.step_check.pieces.run_part.Tie as tie
+
+sub-run-lent : tie.Need-sub-run-lent
+sub-run-lent c = search needs
+
+part-run-lent-start : tie.Need-part-run-lent-start
+part-run-lent-start c = search needs
+
+part-run-lent-end : tie.Need-part-run-lent-end
+part-run-lent-end c = search needs
+
+run-lent-requires : tie.Need-run-lent-requires
+run-lent-requires c κs =
+    let begin = c .before .before .before .before .before .before .before .before .before .before .before .before .before .before .before .before .before .before .before in
+    let a = begin .args in
+    let s = lent-lock (a .tails .now) (a .nexts .now) (a .statuses .now) (a .rows .now) (a .places .now) (a .peers .now) (a .words .now) (a .ticket .now) (a .granted .now) (a .entries .now) (a .tenures .now) (a .longest .now) in
+    let whole : a .count - 0 ≡ a .count = omega arith in
+    (begin .pre .1 .0, ap (λ n. first-refusal (run-tests-before-19 (tree-of (a .tree)) s (take n (a .threads .now)) (length (a .trace .now))) .number) whole ∙ begin .pre .1 .1)
+
+same-length : tie.Need-same-length
+same-length c = search needs
+
+same-length-2 : tie.Need-same-length-2
+same-length-2 c = search needs
+
+returns : tie.Need-returns
+unfolding lock-after run run-of
+returns c =
+    let ran = c .before .before .before .before .run-lent .ensures in
+    let a = c .before .before .before .before .before .before .before .before .before .before .before .before .before .before .before .before .before .before .before .before .before .before .before .before .args in
+    let s = lent-lock (a .tails .now) (a .nexts .now) (a .statuses .now) (a .rows .now) (a .places .now) (a .peers .now) (a .words .now) (a .ticket .now) (a .granted .now) (a .entries .now) (a .tenures .now) (a .longest .now) in
+    let whole : a .count - 0 ≡ a .count = omega arith in
+    let t = tree-of (a .tree) in (
+      rw (ran .0, ran .1 .1 .1 .1) (ap (λ n. lock-after t s (steps t (take n (a .threads .now)) (s .words))) whole),
+      (ran .1 .1 .1 .0 ∙ ap (λ n. codes-front (a .codes .now) (steps t (take n (a .threads .now)) (s .words))) whole, search needs),
+    )
+
+pub run-part-spec : {M : Type 1} → statement M
+run-part-spec =
+    tie.close
+    (tie.spec
+    sub-run-lent
+    part-run-lent-start
+    part-run-lent-end
+    run-lent-requires
+    same-length
+    same-length-2
+    returns)

@@ -1,0 +1,238 @@
+-- `steps::run::run_lent` takes the steps of a schedule: the entries done so far have given the state, the trace, how many steps are of each kind and the counters of the domains. Assumes nothing.
+use mathlib.Core.Path.{_≡_, refl, sym, ap, _∙_}
+use Prim.Native.Nat.{_+_, _-_, _≤_}
+use native.Mathlib.Omega.{arith}
+use lib.ListN.{length, getD}
+use Rattle.model.specs.Trees.{tree-of}
+use Rattle.model.specs.States.{wrap}
+use Rattle.model.proofs.Laws.Calls.{early-facts}
+use Rattle.model.proofs.Trees.Accepted.{sixteen-bit}
+use Rattle.refusals.specs.OfRuns.Counts.{counters-in}
+use Rattle.refusals.proofs.of_runs.Passing.{shape-of}
+use Rattle.refusals.specs.Arrays.{places-in, lent-state}
+use Rattle.lock.specs.Steps.Counting.{Marked}
+use Rattle.rows.specs.Common.Counting.{Clear}
+use Rattle.lock.proofs.steps.SoFar.{So-far, start, kind-room, now-placed, turn, state-ends, trace-ends, kinds-end, thread-at}
+use Rattle.lock.proofs.steps.Telling.{Coded, codes-start, codes-turn, codes-end}
+use Rattle.lock.proofs.steps.Tallying.{Tallied, tallied-start, tallied-turn, tallied-ends}
+use Rattle.lock.proofs.steps.Turns.{thread-small, ready}
+use Rattle.rows.proofs.common.Shown.{clear-none}
+use Rattle.lock.proofs.steps.StepCounts.{step-counted}
+use Rattle.lock.proofs.steps.Looking.{entries-room, tenures-room, home-small, marked-start, marked-next, marks-cleared, shown-for, looked-real, home-is, raise-marked}
+use borrow.Author.Needs.{needs}
+use Rattle.lock.proofs.steps.run.run_lent.Statement.{statement}
+use Rattle.lock.proofs.steps.run.run_lent.Tie as tie
+
+abbrev Inv-loop2 : tie.InvT-loop2
+Inv-loop2 tails nexts statuses rows domains peers words ticket granted schedule trace kinds codes entries tenures longest tree drawn raised tally shown₀ entered k position i at before row domain looked j₀ shown j = (j ≤ looked) × Marked (tree .domains) (tree .parents) (tree .homes) statuses (places-in rows domains peers words) (wrap (raised + 1)) j shown
+
+abbrev μ-loop2 : tie.MeasureT-loop2
+μ-loop2 tails nexts statuses rows domains peers words ticket granted schedule trace kinds codes entries tenures longest tree drawn raised tally shown₀ entered k position i at before row domain looked j₀ shown j = looked - j
+
+abbrev Inv-loop : tie.InvT-loop
+Inv-loop tails₀ nexts₀ statuses₀ rows₀ domains₀ peers₀ words₀ ticket granted schedule trace₀ kinds codes₀ entries₀ tenures₀ longest₀ tree drawn₀ raised₀ tally₀ shown₀ entered₀ k₀ tails nexts statuses rows domains peers words trace codes entries tenures longest drawn raised tally shown entered k =
+    So-far (tree-of tree) schedule trace₀ (lent-state tails₀ nexts₀ statuses₀ rows₀ domains₀ peers₀ words₀ drawn₀ raised₀) trace (lent-state tails nexts statuses rows domains peers words drawn raised) tally entered k
+    × Coded (tree-of tree) schedule (lent-state tails₀ nexts₀ statuses₀ rows₀ domains₀ peers₀ words₀ drawn₀ raised₀) codes₀ codes k
+    × Tallied (tree-of tree) schedule (lent-state tails₀ nexts₀ statuses₀ rows₀ domains₀ peers₀ words₀ drawn₀ raised₀) (counters-in entries₀ tenures₀ longest₀) (counters-in entries tenures longest) k
+    × Clear shown
+
+abbrev μ-loop : tie.MeasureT-loop
+μ-loop tails₀ nexts₀ statuses₀ rows₀ domains₀ peers₀ words₀ ticket granted schedule trace₀ kinds codes₀ entries₀ tenures₀ longest₀ tree drawn₀ raised₀ tally₀ shown₀ entered₀ k₀ tails nexts statuses rows domains peers words trace codes entries tenures longest drawn raised tally shown entered k = length schedule - k
+
+loop-holds : tie.Need-loop-holds Inv-loop2 μ-loop2 Inv-loop μ-loop
+loop-holds c = (start _ _ _ _ (record { typed = c .before .before .before .before .before .pre .0; form = (early-facts _ _ _ _ (c .before .before .before .before .before .pre .1)) .form }), codes-start _ _ _ _, tallied-start _ _ _ _, clear-none)
+
+cast-loop : tie.Need-cast-loop Inv-loop2 μ-loop2 Inv-loop μ-loop
+cast-loop c = omega arith
+
+cast-position : tie.Need-cast-position Inv-loop2 μ-loop2 Inv-loop μ-loop
+cast-position c = omega arith
+
+mul-i : tie.Need-mul-i Inv-loop2 μ-loop2 Inv-loop μ-loop
+mul-i c = omega arith
+
+shared-slice-read-i : tie.Need-shared-slice-read-i Inv-loop2 μ-loop2 Inv-loop μ-loop
+shared-slice-read-i c = omega arith
+
+cast-at : tie.Need-cast-at Inv-loop2 μ-loop2 Inv-loop μ-loop
+cast-at c = omega (arith, thread-small _ _ _ _ _ (early-facts _ _ _ _ (c .before .before .before .before .before .before .before .before .pre .1)) (c .before .loop-test .taken))
+
+place-at-requires : tie.Need-place-at-requires Inv-loop2 μ-loop2 Inv-loop μ-loop
+place-at-requires c κs = omega (arith, thread-small _ _ _ _ _ (early-facts _ _ _ _ (c .before .before .before .before .before .before .before .before .before .before .before .before .pre .1)) (c .before .before .before .before .before .loop-test .taken))
+
+looked-at-requires : tie.Need-looked-at-requires Inv-loop2 μ-loop2 Inv-loop μ-loop
+looked-at-requires c κs = shape-of (c .before .before .before .before .before .before .before .before .before .before .before .before .before .before .args .t1) ((early-facts _ _ _ _ (c .before .before .before .before .before .before .before .before .before .before .before .before .before .before .pre .1)) .tree) .few-domains
+
+loop2-holds : tie.Need-loop2-holds Inv-loop2 μ-loop2 Inv-loop μ-loop
+loop2-holds c = (search needs, marked-start _ ((early-facts _ _ _ _ (c .before .before .before .before .before .before .before .before .before .before .before .before .before .before .before .pre .1)) .tree) _ _ _ _ (c .before .before .before .before .before .before .before .before .before .loop .inv .3))
+
+cast-other : tie.Need-cast-other Inv-loop2 μ-loop2 Inv-loop μ-loop
+cast-other c =
+    let looked = c .before .before in
+    let first = c .before .before .before .before .before .before .before .before .before .before .before .before .before .before .before .before .before in
+    let r = early-facts _ _ _ _ (first .pre .1) in
+    omega (arith, looked-real (looked .looked-at .ensures) (c .«loop2-test» .taken), shape-of (first .args .t1) (r .tree) .few-threads)
+
+place-at-requires-2 : tie.Need-place-at-requires-2 Inv-loop2 μ-loop2 Inv-loop μ-loop
+place-at-requires-2 c κs =
+    let looked = c .before .before .before .before .before .before in
+    let first = c .before .before .before .before .before .before .before .before .before .before .before .before .before .before .before .before .before .before .before .before .before in
+    let r = early-facts _ _ _ _ (first .pre .1) in
+    omega (arith, looked-real (looked .looked-at .ensures) (c .before .before .before .before .«loop2-test» .taken), shape-of (first .args .t1) (r .tree) .few-threads)
+
+element-copy-out-its-home : tie.Need-element-copy-out-its-home Inv-loop2 μ-loop2 Inv-loop μ-loop
+element-copy-out-its-home c =
+    let looked = c .before .before .before .before .before .before .before in
+    let first = c .before .before .before .before .before .before .before .before .before .before .before .before .before .before .before .before .before .before .before .before .before .before in
+    let r = early-facts _ _ _ _ (first .pre .1) in
+    omega (arith, looked-real (looked .looked-at .ensures) (c .before .before .before .before .before .«loop2-test» .taken), shape-of (first .args .t1) (r .tree) .few-threads)
+
+mark-shown-requires : tie.Need-mark-shown-requires Inv-loop2 μ-loop2 Inv-loop μ-loop
+mark-shown-requires c κs =
+    let test = c .before .before .before .before .before .before .before .before .before .before in
+    let looked = c .before .before .before .before .before .before .before .before .before .before .before .before in
+    let first = c .before .before .before .before .before .before .before .before .before .before .before .before .before .before .before .before .before .before .before .before .before .before .before .before .before .before .before in
+    let w = first .args .t1 in
+    let r = early-facts _ _ _ _ (first .pre .1) in
+    let k = shape-of w (r .tree) in
+    (k .few-domains, (k .low, home-small w (r .tree) (test .before .loop2 .j) (looked-real (looked .looked-at .ensures) (test .«loop2-test» .taken))))
+
+add-j : tie.Need-add-j Inv-loop2 μ-loop2 Inv-loop μ-loop
+add-j c =
+    let looked = c .before .before .before .before .before .before .before .before .before .before .before .before .before in
+    let first = c .before .before .before .before .before .before .before .before .before .before .before .before .before .before .before .before .before .before .before .before .before .before .before .before .before .before .before .before in
+    let r = early-facts _ _ _ _ (first .pre .1) in
+    omega (arith, looked-real (looked .looked-at .ensures) (c .before .before .before .before .before .before .before .before .before .before .before .«loop2-test» .taken), shape-of (first .args .t1) (r .tree) .few-threads)
+
+loop2-less : tie.Need-loop2-less Inv-loop2 μ-loop2 Inv-loop μ-loop
+loop2-less c = omega arith
+
+loop2-again : tie.Need-loop2-again Inv-loop2 μ-loop2 Inv-loop μ-loop
+loop2-again c =
+    let test = c .before .before .before .before .before .before .before .before .before .before .before in
+    let looked = c .before .before .before .before .before .before .before .before .before .before .before .before .before in
+    let first = c .before .before .before .before .before .before .before .before .before .before .before .before .before .before .before .before .before .before .before .before .before .before .before .before .before .before .before .before in
+    let r = early-facts _ _ _ _ (first .pre .1) in
+    let real = looked-real (looked .looked-at .ensures) (test .«loop2-test» .taken) in
+    (omega arith, marked-next (first .args .t1) (r .tree) _ _ _ _ _ _ real (test .before .loop2 .inv .1) (rw (c .before .before .before .before .before .before .place-at2 .ensures) at (c .mark-shown .ensures)))
+
+take-requires : tie.Need-take-requires Inv-loop2 μ-loop2 Inv-loop μ-loop
+unfolding tree-of
+take-requires c κs =
+    let l = c .before .before .before .before .before .before .before .before .before .before .before .before .before .before .before .before .before .before .before .before .before .before .before .before .loop in
+    let test = c .before .before .before .before .before .before .before .before .before .before .before .before .before .before .before .before .before .before .before .before .before .before .before .loop-test .taken in
+    let stands = c .before .before .before .before .before .before .before .before .before .before .before .before .before .before .before .before .before .place-at .ensures in
+    let look = c .before .before .before .before .before .before .before .before .before .before .before .before .before .before .before .looked-at .ensures in
+    let marks = c .before .before .before .before .before .before .before .before .before .before .before .before .before .before .loop2 .inv in
+    let done = c .before .before .before .before .before .before .before .before .before .before .before .before .before .«loop2-test» .left in
+    let first = c .before .before .before .before .before .before .before .before .before .before .before .before .before .before .before .before .before .before .before .before .before .before .before .before .before .before .before .before .before .before in
+    let w = first .args .t1 in
+    let r = early-facts _ _ _ _ (first .pre .1) in
+    let n = lent-state (l .tails) (l .nexts) (l .statuses) (l .rows) (l .domains) (l .peers) (l .words) (l .drawn) (l .raised) in
+    let entered = entries-room _ (sixteen-bit w) _ _ _ r _ _ (l .inv .0 .within) (l .inv .2) in
+    let held = tenures-room _ (sixteen-bit w) _ _ _ r _ _ (l .inv .0 .within) (l .inv .2) in
+    (rw stands (ready _ _ n _ _ _ r (l .inv .0 .formed) test), ((entered, held), shown-for w (r .tree) _ _ _ _ _ _ _ look (marks .0) done (marks .1)))
+
+count-in-requires : tie.Need-count-in-requires Inv-loop2 μ-loop2 Inv-loop μ-loop
+count-in-requires c κs =
+    let test = c .before .before .before .before .before .before .before .before .before .before .before .before .before .before .before .before .before .before .before .before .before .before .before .before .before .before in
+    let l = test .before .loop in
+    let r = early-facts _ _ _ _ (c .before .before .before .before .before .before .before .before .before .before .before .before .before .before .before .before .before .before .before .before .before .before .before .before .before .before .before .before .before .before .before .before .before .pre .1) in
+    let n = lent-state (l .tails) (l .nexts) (l .statuses) (l .rows) (l .domains) (l .peers) (l .words) (l .drawn) (l .raised) in
+    let does = rw (c .before .before .before .before .before .before .before .before .before .before .before .before .before .before .before .before .before .before .before .before .place-at .ensures) at (c .before .before .take .ensures .0 .does (n .places) (sym (c .before .before .before .before .before .before .before .before .before .before .before .before .before .before .before .before .before .before .before .before .place-at .ensures))) in
+    kind-room _ _ _ _ _ n _ _ _ _ _ (l .inv .0) does (test .loop-test .taken) (r .short)
+
+put-place-requires : tie.Need-put-place-requires Inv-loop2 μ-loop2 Inv-loop μ-loop
+put-place-requires c κs = omega (arith, thread-small _ _ _ _ _ (early-facts _ _ _ _ (c .before .before .before .before .before .before .before .before .before .before .before .before .before .before .before .before .before .before .before .before .before .before .before .before .before .before .before .before .before .before .before .before .before .before .before .before .before .before .pre .1)) (c .before .before .before .before .before .before .before .before .before .before .before .before .before .before .before .before .before .before .before .before .before .before .before .before .before .before .before .before .before .before .before .loop-test .taken))
+
+trace-at-requires : tie.Need-trace-at-requires Inv-loop2 μ-loop2 Inv-loop μ-loop
+trace-at-requires c κs =
+    let test = c .before .before .before .before .before .before .before .before .before .before .before .before .before .before .before .before .before .before .before .before .before .before .before .before .before .before .before .before .before .before .before .before .before in
+    let g = test .before .loop .inv .0 in
+    let r = early-facts _ _ _ _ (c .before .before .before .before .before .before .before .before .before .before .before .before .before .before .before .before .before .before .before .before .before .before .before .before .before .before .before .before .before .before .before .before .before .before .before .before .before .before .before .before .pre .1) in
+    let more = test .loop-test .taken in
+    (omega (arith, more, g .entries-fit, g .long, r .fits), omega (arith, more, g .entries-fit, r .short))
+
+put-code-requires : tie.Need-put-code-requires Inv-loop2 μ-loop2 Inv-loop μ-loop
+put-code-requires c κs = search needs
+
+add-k : tie.Need-add-k Inv-loop2 μ-loop2 Inv-loop μ-loop
+add-k c = omega (arith, c .before .before .before .before .before .before .before .before .before .before .before .before .before .before .before .before .before .before .before .before .before .before .before .before .before .before .before .before .before .before .before .before .before .before .before .before .before .before .before .before .loop-test .taken, (early-facts _ _ _ _ (c .before .before .before .before .before .before .before .before .before .before .before .before .before .before .before .before .before .before .before .before .before .before .before .before .before .before .before .before .before .before .before .before .before .before .before .before .before .before .before .before .before .before .before .before .before .before .before .pre .1)) .short)
+
+loop-less : tie.Need-loop-less Inv-loop2 μ-loop2 Inv-loop μ-loop
+loop-less c = omega (arith, c .before .before .before .before .before .before .before .before .before .before .before .before .before .before .before .before .before .before .before .before .before .before .before .before .before .before .before .before .before .before .before .before .before .before .before .before .before .before .before .before .loop-test .taken)
+
+loop-again : tie.Need-loop-again Inv-loop2 μ-loop2 Inv-loop μ-loop
+unfolding tree-of
+loop-again c =
+    let l = c .before .before .before .before .before .before .before .before .before .before .before .before .before .before .before .before .before .before .before .before .before .before .before .before .before .before .before .before .before .before .before .before .before .before .before .before .before .before .before .before .before .loop in
+    let test = c .before .before .before .before .before .before .before .before .before .before .before .before .before .before .before .before .before .before .before .before .before .before .before .before .before .before .before .before .before .before .before .before .before .before .before .before .before .before .before .before .loop-test .taken in
+    let stands = c .before .before .before .before .before .before .before .before .before .before .before .before .before .before .before .before .before .before .before .before .before .before .before .before .before .before .before .before .before .before .before .before .before .before .place-at .ensures in
+    let look = rw stands at (c .before .before .before .before .before .before .before .before .before .before .before .before .before .before .before .before .before .before .before .before .before .before .before .before .before .before .before .before .before .before .before .before .looked-at .ensures) in
+    let marks = c .before .before .before .before .before .before .before .before .before .before .before .before .before .before .before .before .before .before .before .before .before .before .before .before .before .before .before .before .before .before .before .loop2 .inv in
+    let done = c .before .before .before .before .before .before .before .before .before .before .before .before .before .before .before .before .before .before .before .before .before .before .before .before .before .before .before .before .before .before .«loop2-test» .left in
+    let took = c .before .before .before .before .before .before .before .before .before .before .before .before .before .before .before .before .take in
+    let tallied = c .before .before .before .before .before .before .before .before .before .before .before .before .before .count-in .ensures in
+    let stored = c .before .before .before .before .before .before .before .before .put-place .ensures in
+    let traced = c .before .before .before .before .before .before .trace-at .ensures in
+    let codes = rw stands at (c .before .before .put-code .ensures) in
+    let first = c .before .before .before .before .before .before .before .before .before .before .before .before .before .before .before .before .before .before .before .before .before .before .before .before .before .before .before .before .before .before .before .before .before .before .before .before .before .before .before .before .before .before .before .before .before .before .before in
+    let w = first .args .t1 in
+    let r = early-facts _ _ _ _ (first .pre .1) in
+    let n = lent-state (l .tails) (l .nexts) (l .statuses) (l .rows) (l .domains) (l .peers) (l .words) (l .drawn) (l .raised) in
+    let m = took .result in
+    let does = rw stands at (took .ensures .0 .does (n .places) (sym stands)) in
+    let th = thread-at _ _ (r .threads) _ test in
+    let so-far = l .inv .0 in
+    let placed = stored ∙ now-placed _ _ n _ m _ (r .tree) (r .threads) test (so-far .formed) does refl in
+    let counts = step-counted w (r .tree) _ th n (so-far .formed) m _ refl does _ (home-is w (r .tree) _ th) _ _ _ _ _ (rw stands at (took .ensures .1 .1 .0)) _ _ (took .ensures .1 .0) (λ z. raise-marked w (r .tree) _ th n (so-far .formed) _ _ _ look (marks .0) done z (marks .1)) in
+    (rw tallied (turn _ _ _ _ _ n _ _ _ m _ _ _ _ (r .tree) (sixteen-bit w) (r .threads) (r .fits) test so-far does (rw placed) (traced .0) (traced .1)), codes-turn _ _ _ _ _ n _ m _ _ (r .threads) test (so-far .formed) (so-far .state-is) does (l .inv .1) codes, tallied-turn _ _ _ _ _ _ n _ test (so-far .state-is) (l .inv .2) counts, marks-cleared w (r .tree) _ _ _ _ _ _ _ _ look (marks .0) (marks .1) (rw stands at (took .ensures .1 .1 .1)))
+
+same-length : tie.Need-same-length Inv-loop2 μ-loop2 Inv-loop μ-loop
+same-length c = c .before .loop .inv .0 .long
+
+same-length-2 : tie.Need-same-length-2 Inv-loop2 μ-loop2 Inv-loop μ-loop
+same-length-2 c = c .before .loop .inv .1 .codes-room
+
+returns : tie.Need-returns Inv-loop2 μ-loop2 Inv-loop μ-loop
+returns c =
+    let l = c .before .loop in
+    let g = l .inv .0 in
+    let e = c .loop-test .left in
+    (state-ends _ _ _ _ _ _ _ _ _ g e, (trace-ends _ _ _ _ _ _ _ _ _ g e, (kinds-end _ _ _ _ _ _ _ _ _ g e, (codes-end _ _ _ _ _ _ (l .inv .1) e, tallied-ends _ _ _ _ _ _ (l .inv .2) e))))
+
+pub run-lent-spec : {M : Type 1} → statement M
+run-lent-spec =
+    tie.close
+    (tie.spec
+    Inv-loop2
+    μ-loop2
+    Inv-loop
+    μ-loop
+    loop-holds
+    cast-loop
+    cast-position
+    mul-i
+    shared-slice-read-i
+    cast-at
+    place-at-requires
+    looked-at-requires
+    loop2-holds
+    cast-other
+    place-at-requires-2
+    element-copy-out-its-home
+    mark-shown-requires
+    add-j
+    loop2-less
+    loop2-again
+    take-requires
+    count-in-requires
+    put-place-requires
+    trace-at-requires
+    put-code-requires
+    add-k
+    loop-less
+    loop-again
+    same-length
+    same-length-2
+    returns)

@@ -1,0 +1,42 @@
+-- The cases of the file call hold, by computation of what `Computing` shows to be the same. Assumes nothing.
+use mathlib.Core.Path.{_≡_, refl}
+use mathlib.Core.Bool.{true}
+use Rattle.model.specs.Scans.{all, any-below, filter-below}
+use Rattle.model.specs.Trees.{read-word, tree-of, is-ticket, is-child, is-leaf, depth-from, depth, level, meets, on-path, child-from, child, own-record, is-record, is-member, under}
+use Rattle.model.specs.Places.{place-of, is-idle, is-watch}
+use Rattle.model.specs.States.{fresh-words, numbers-at, store-numbers}
+use Rattle.model.specs.Steps.{is-kind, is-entry, prep-row, swap-row, link-row, wait-row, leave-row, check-row, help-row, cas-row, linger-row, grant-row, draw-row, watch-row, is-watched, shown-members, raise-row, row, step}
+use Rattle.model.specs.Runs.{steps, state-after, how-many, entering, counts-of, run-of, run}
+use Rattle.model.specs.Refusals.{refusal, accepted, lowest-bad, first-refusal, bad-domains, bad-threads, bad-parent, too-deep, no-threshold, bad-home, empty-domain, tree-tests, bad-length, bad-entry, bad-room}
+use Rattle.model.specs.Answers.{run-reply}
+use Rattle.model.specs.Cases.{same-numbers}
+use Rattle.lock_file.specs.Reading.{reached-refusal, field-end, entry-end, domain-size, domain-end, parent-at, threshold-at, stored, domains-from, domains-read, thread-end, home-at, threads-from, threads-behind, threads-read, thread-count, schedule-start, tree-read, entries-from, entries-at, reading-of, file-read}
+use Rattle.lock_file.specs.PrintedListing.Listing.{digits, numeral, number-then, trace-lines, spaced, first-line, listing}
+use Rattle.lock_file.specs.FileAnswers.FileAnswers.{listing-outcome, run-outcome, file-trace, file-outcome, outcome-reply, outcome-output, file-answer, output-answer}
+use Rattle.lock_file.specs.FileAnswers.Cases.{cases}
+use Rattle.lock_file.specs.FileAnswers.FileLaws.{met-numbers}
+use Rattle.lock_file.specs.FileAnswers.Witnesses.{met-files, Numbers-met}
+use Rattle.lock_file.proofs.file_answers.Computing.{quick-refusal, quick-run, quick-reading, same-reading}
+
+pub cases-hold : all cases ≡ true
+unfolding same-numbers any-below filter-below read-word tree-of is-ticket is-child is-leaf depth-from depth level meets on-path child-from child own-record
+    is-record is-member under place-of is-watch is-idle numbers-at store-numbers fresh-words is-kind is-entry prep-row swap-row link-row wait-row leave-row check-row help-row
+    cas-row linger-row grant-row draw-row watch-row is-watched shown-members raise-row row step steps state-after how-many entering counts-of run-of run
+    refusal accepted lowest-bad first-refusal bad-domains bad-threads bad-parent too-deep no-threshold bad-home empty-domain tree-tests bad-length
+    bad-entry bad-room run-reply reached-refusal field-end entry-end domain-size domain-end parent-at threshold-at stored domains-from domains-read
+    thread-end home-at threads-from threads-behind threads-read thread-count schedule-start tree-read entries-from entries-at reading-of file-read digits
+    numeral number-then trace-lines spaced first-line listing listing-outcome run-outcome file-trace quick-refusal quick-run quick-reading file-outcome
+    outcome-reply outcome-output file-answer output-answer cases
+cases-hold = rw same-reading refl
+
+-- each number is met by its file
+pub numbers-met : Numbers-met
+unfolding same-numbers any-below filter-below read-word tree-of is-ticket is-child is-leaf depth-from depth level meets on-path child-from child own-record
+    is-record is-member under place-of is-watch is-idle numbers-at store-numbers fresh-words is-kind is-entry prep-row swap-row link-row wait-row leave-row check-row help-row
+    cas-row linger-row grant-row draw-row watch-row is-watched shown-members raise-row row step steps state-after how-many entering counts-of run-of run
+    refusal accepted lowest-bad first-refusal bad-domains bad-threads bad-parent too-deep no-threshold bad-home empty-domain tree-tests bad-length
+    bad-entry bad-room run-reply reached-refusal field-end entry-end domain-size domain-end parent-at threshold-at stored domains-from domains-read
+    thread-end home-at threads-from threads-behind threads-read thread-count schedule-start tree-read entries-from entries-at reading-of file-read digits
+    numeral number-then trace-lines spaced first-line listing listing-outcome run-outcome file-trace quick-refusal quick-run quick-reading file-outcome
+    outcome-reply outcome-output file-answer output-answer Numbers-met met-files met-numbers
+numbers-met = rw same-reading refl

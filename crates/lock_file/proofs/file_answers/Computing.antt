@@ -1,0 +1,88 @@
+-- COMPUTED CASES, QUICKLY: the file call runs from a fresh lock, which passes 10, and 19 too with a schedule as short as a file's. So a case is computed without them. Assumes nothing.
+use mathlib.Core.Path.{_≡_, refl, ap, _∙_, fun-ext}
+use mathlib.Core.Bool.{Bool, true, false, cond}
+use mathlib.Core.List.{List, [], _∷_, _++_}
+use Prim.Native.Nat.{ℕ, _≤_, _<_}
+use native.Mathlib.Omega.{arith}
+use lib.Dec.{ltb}
+use lib.ListN.{length, replicate}
+use borrow.Author.Tests.{ltb-false}
+use Rattle.model.specs.declared.TreeWords.{TreeWords}
+use Rattle.model.specs.declared.RunReply.{RunReply}
+use Rattle.model.specs.Trees.{Tree, tree-of}
+use Rattle.model.specs.States.{fresh-words}
+use Rattle.model.specs.Counters.{fresh-lock}
+use Rattle.model.specs.CounterLaws.{Room-law}
+use Rattle.model.specs.Runs.{run}
+use Rattle.model.specs.Refusals.{Refusal, Test, test, lowest-bad, first-refusal, bad-state, bad-counter, tree-tests, schedule-tests, room-tests, run-tests-before-19, run-tests, run-refusal}
+use Rattle.model.specs.Answers.{counters-behind, run-reply, run-answer}
+use Rattle.model.specs.Laws.{Sixteen-bit}
+use Rattle.model.proofs.Refusing.{test-skipped}
+use Rattle.model.proofs.Trees.Accepted.{sixteen-bit}
+use Rattle.model.proofs.Laws.Counters.{fresh-good, fresh-room, room-law}
+use Rattle.model.proofs.Laws.Form.{fresh-well-formed}
+use Rattle.lock_file.specs.Reading.{Reading, refused, described}
+use Rattle.lock_file.specs.FileAnswers.FileAnswers.{Outcome, refused-by, run-outcome, file-run, file-trace, reading-outcome}
+
+-- a test that passes changes no answer: one that others follow
+passes-between :
+    (xs : List Test) (y : Test) (zs : List Test) → ((p : ℕ) → p < y .places → y .bad p ≡ false) →
+    first-refusal (xs ++ (y ∷ zs)) ≡ first-refusal (xs ++ zs)
+unfolding first-refusal
+passes-between [] y zs h = test-skipped y zs h
+passes-between (x ∷ xs) y zs h = ap (lowest-bad (x .number) (x .bad) (x .places) 0) (passes-between xs y zs h)
+
+-- and the last
+passes-last : (xs : List Test) (y : Test) → ((p : ℕ) → p < y .places → y .bad p ≡ false) → first-refusal (xs ++ (y ∷ [])) ≡ first-refusal xs
+unfolding first-refusal
+passes-last [] y h = test-skipped y [] h
+passes-last (x ∷ xs) y h = ap (lowest-bad (x .number) (x .bad) (x .places) 0) (passes-last xs y h)
+
+-- the room of a trace buffer of the schedule's length
+abbrev pub own-room : (schedule : List ℕ) → ℕ
+own-room is = length (replicate {A = ℕ} (length is) 0)
+
+-- what refuses a run on a lock of its own, by the other tests
+unfoldable pub quick-refusal : Tree → (schedule : List ℕ) → Refusal
+quick-refusal t is = first-refusal (tree-tests t ++ (schedule-tests t is ++ room-tests is (own-room is)))
+
+same-refusal : (t : Tree) → Sixteen-bit t → (is : List ℕ) → length is ≤ 65536 → run-refusal t fresh-lock is (own-room is) ≡ quick-refusal t is
+unfolding run-refusal run-tests quick-refusal bad-state Room-law
+same-refusal t bits is short =
+    passes-last (run-tests-before-19 t fresh-lock is (own-room is)) (test 19 (length is) (bad-counter t fresh-lock is))
+    (room-law t bits fresh-lock is (fresh-room (length is) (omega arith)))
+    ∙ passes-between (tree-tests t) (test 10 1 (bad-state t fresh-lock)) (schedule-tests t is ++ room-tests is (own-room is)) (λ p l. rw (fresh-well-formed t, fresh-good t))
+
+-- the file call's run so; a longer schedule, which no file has, as it stands
+unfoldable pub quick-run : TreeWords → (schedule : List ℕ) → RunReply
+quick-run w is =
+    let short = run-reply (quick-refusal (tree-of w) is) fresh-lock (run (tree-of w) is fresh-words) (counters-behind (tree-of w) is fresh-lock) in
+    cond (ltb 65536 (length is)) (file-run w is) short
+
+short-run :
+    (w : TreeWords) (is : List ℕ) → length is ≤ 65536 →
+    file-run w is ≡ run-reply (quick-refusal (tree-of w) is) fresh-lock (run (tree-of w) is fresh-words) (counters-behind (tree-of w) is fresh-lock)
+unfolding file-run run-answer
+short-run w is h = rw (same-refusal (tree-of w) (sixteen-bit w) is h)
+
+same-run : (w : TreeWords) (is : List ℕ) → file-run w is ≡ quick-run w is
+unfolding quick-run
+same-run w is = by (ltb 65536 (length is)) refl
+  where
+    by : (b : Bool) → ltb 65536 (length is) ≡ b → file-run w is ≡ quick-run w is
+    by true e = rw e
+    by false e = rw e (short-run w is (ltb-false 65536 (length is) e))
+
+-- what reading comes to, by such a run
+unfoldable pub quick-reading : Reading → (room : ℕ) → Outcome
+quick-reading (refused r) room = refused-by r
+quick-reading (described w is) room = run-outcome (quick-run w is) (file-trace w is) room
+
+same-for : (x : Reading) (room : ℕ) → reading-outcome x room ≡ quick-reading x room
+unfolding reading-outcome quick-reading
+same-for (refused r) room = refl
+same-for (described w is) room = ap (λ r. run-outcome r (file-trace w is) room) (same-run w is)
+
+-- of everything that may be read at once, so that a list of cases is rewritten as a whole
+pub same-reading : reading-outcome ≡ quick-reading
+same-reading = fun-ext (λ x. fun-ext (λ room. same-for x room))

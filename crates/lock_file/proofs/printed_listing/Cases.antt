@@ -1,0 +1,11 @@
+-- The cases hold, by computation. Assumes nothing.
+use mathlib.Core.Path.{_≡_, refl}
+use mathlib.Core.Bool.{true}
+use Rattle.model.specs.Scans.{all}
+use Rattle.model.specs.Cases.{same-numbers}
+use Rattle.lock_file.specs.PrintedListing.Listing.{digits, numeral, number-then, trace-lines, spaced, first-line, listing, refusal-line, printed}
+use Rattle.lock_file.specs.PrintedListing.Cases.{cases}
+
+pub cases-hold : all cases ≡ true
+unfolding same-numbers digits numeral number-then trace-lines spaced first-line listing refusal-line printed cases
+cases-hold = refl

@@ -1,0 +1,29 @@
+-- Document 02, (v): what the call answers, and the buffer after it, for every input. Assumes nothing: these are definitions.
+use mathlib.Core.Bool.{cond}
+use mathlib.Core.List.{List, _++_}
+use Prim.Native.Nat.{ℕ}
+use lib.Dec.{eqb}
+use lib.ListN.{length, drop}
+use Rattle.model.specs.declared.TreeWords.{TreeWords}
+use Rattle.model.specs.Trees.{Tree, tree-of}
+use Rattle.model.specs.Refusals.{Refusal}
+use Rattle.lock_file.specs.declared.file_writer.WriteReply.{WriteReply}
+use Rattle.lock_file.specs.FileWriter.Writing.{written-file}
+use Rattle.lock_file.specs.FileWriter.Refusals.{write-refusal}
+
+-- number, place and the file's length; refused, the length is 0
+unfoldable pub write-reply : Refusal → (file-length : ℕ) → WriteReply
+write-reply r n = record { number = r .number; place = r .place; length = cond (eqb (r .number) 0) n 0 }
+
+abbrev pub answered-length : Tree → (schedule : List ℕ) → ℕ
+answered-length t is = length (written-file t is)
+
+-- the buffer by the call's refusal: the file at its front and nothing behind it; refused, as it came
+unfoldable pub file-buffer : Refusal → (buffer file : List ℕ) → List ℕ
+file-buffer r b bs = cond (eqb (r .number) 0) (bs ++ drop (length bs) b) b
+
+unfoldable pub write-answer : TreeWords → (schedule buffer : List ℕ) → WriteReply
+write-answer w is b = write-reply (write-refusal (tree-of w) is (length b)) (answered-length (tree-of w) is)
+
+unfoldable pub file-buffer-answer : TreeWords → (schedule buffer : List ℕ) → List ℕ
+file-buffer-answer w is b = file-buffer (write-refusal (tree-of w) is (length b)) b (written-file (tree-of w) is)

@@ -1,0 +1,111 @@
+-- Cases of writing the lock file, in one list: the printed example byte by byte, each default at its edge, both kinds of root, words that are not read, refusals in their order, buffers. Assumes nothing: these are definitions.
+use mathlib.Core.Path.{_≡_}
+use mathlib.Core.Bool.{Bool, true, _&&_}
+use mathlib.Core.List.{List, [], _∷_, _++_}
+use Prim.Native.Nat.{ℕ, _+_, _*_, _≤_, _<_}
+use lib.Dec.{eqb}
+use lib.ListN.{length, replicate}
+use Rattle.model.specs.declared.TreeWords.{TreeWords}
+use Rattle.model.specs.Trees.{tree-of}
+use Rattle.model.specs.Refusals.{refusal, accepted}
+use Rattle.model.specs.Cases.{tree, at-ticket-root, two-homes, first-entries, root-alone, two-in-root, same-numbers}
+use Rattle.lock_file.specs.Cases.{example}
+use Rattle.lock_file.specs.FileWriter.Writing.{written-file}
+use Rattle.lock_file.specs.FileWriter.Refusals.{write-refusal}
+use Rattle.lock_file.specs.FileWriter.Answers.{write-answer, file-buffer-answer}
+
+-- a call; number, place and length that it is to answer, and the buffer after it
+pub record Case : Type 0 where
+  pub words : TreeWords
+  pub schedule : List ℕ
+  pub buffer : List ℕ
+  pub number : ℕ
+  pub place : ℕ
+  pub long : ℕ
+  pub after : List ℕ
+
+-- accepted, with this file at the front of a buffer of sevens, and so many bytes behind it
+unfoldable pub writes : TreeWords → (schedule file : List ℕ) → (behind : ℕ) → Case
+writes w is bs n =
+    record {
+      words = w;
+      schedule = is;
+      buffer = replicate (length bs) 7 ++ replicate n 7;
+      number = 0;
+      place = 0;
+      long = length bs;
+      after = bs ++ replicate n 7;
+    }
+
+-- refused: length 0, the buffer as it came
+unfoldable pub refuses : (number place : ℕ) → TreeWords → (schedule : List ℕ) → (room : ℕ) → Case
+refuses n p w is room =
+    record { words = w; schedule = is; buffer = replicate room 7; number = n; place = p; long = 0; after = replicate room 7 }
+
+-- leaves 2 and 5 below the root, 3 and 4 below domain 1; thresholds about the default, and one whose low byte is the default's
+unfoldable pub edges : TreeWords
+edges = tree 6 4 (0 ∷ 0 ∷ 0 ∷ 1 ∷ 1 ∷ 0 ∷ []) (0 ∷ 15 ∷ 16 ∷ 16 ∷ 17 ∷ 272 ∷ []) (2 ∷ 3 ∷ 4 ∷ 5 ∷ [])
+
+-- the printed example's tree with other words in the root's place and in unused room, and a number that names the kind of root
+unfoldable pub unread : (root : ℕ) → TreeWords
+unread k =
+    record {
+      domains = 3;
+      threads = 3;
+      parents = 9 ∷ 0 ∷ 0 ∷ 5 ∷ replicate 60 0;
+      thresholds = 9 ∷ 2 ∷ 16 ∷ 5 ∷ replicate 60 0;
+      homes = 1 ∷ 1 ∷ 2 ∷ 5 ∷ replicate 252 0;
+      «ticket_root» = k;
+    }
+
+-- the second leaf has no thread
+unfoldable pub empty-leaf : TreeWords
+empty-leaf = tree 3 1 (0 ∷ 0 ∷ 0 ∷ []) (0 ∷ 2 ∷ 16 ∷ []) (1 ∷ [])
+
+unfoldable pub cases : List Case
+cases =
+    -- the printed example, byte by byte; with two bytes behind it, and one byte too few
+    writes two-homes (first-entries ++ (2 ∷ [])) (example 2) 0
+    ∷ writes two-homes (first-entries ++ (2 ∷ [])) (example 2) 2
+    ∷ refuses 17 0 two-homes (first-entries ++ (2 ∷ [])) 55
+    -- one domain and one thread, without a schedule; the home 0 of the first thread is a default
+    ∷ writes root-alone [] (1 ∷ 1 ∷ 0 ∷ 0 ∷ []) 0
+    ∷ refuses 17 0 root-alone [] 3
+    -- parents 0 and 1, thresholds 15, 16, 17 and 272, whose low byte is 16; homes other than those before
+    ∷ writes edges [] (6 ∷ 2 ∷ 15 ∷ 0 ∷ 0 ∷ 1 ∷ 1 ∷ 3 ∷ 1 ∷ 17 ∷ 0 ∷ 2 ∷ 16 ∷ 1 ∷ 4 ∷ 0 ∷ 1 ∷ 2 ∷ 1 ∷ 3 ∷ 1 ∷ 4 ∷ 1 ∷ 5 ∷ []) 0
+    -- homes of the thread before: 1 1 2 2 1
+    ∷ writes (tree 3 5 (0 ∷ 0 ∷ 0 ∷ []) (0 ∷ 16 ∷ 16 ∷ []) (1 ∷ 1 ∷ 2 ∷ 2 ∷ 1 ∷ [])) (4 ∷ []) (3 ∷ 0 ∷ 0 ∷ 5 ∷ 0 ∷ 1 ∷ 1 ∷ 0 ∷ 1 ∷ 2 ∷ 0 ∷ 1 ∷ 1 ∷ 4 ∷ 0 ∷ []) 0
+    -- 128 more for a ticket root, whatever number names it
+    ∷ writes (at-ticket-root two-in-root) (1 ∷ 0 ∷ []) (129 ∷ 2 ∷ 0 ∷ 0 ∷ 0 ∷ 1 ∷ 0 ∷ 0 ∷ 0 ∷ []) 0
+    ∷ writes (unread 0) [] (3 ∷ 2 ∷ 2 ∷ 0 ∷ 0 ∷ 3 ∷ 0 ∷ 1 ∷ 1 ∷ 0 ∷ 1 ∷ 2 ∷ []) 0
+    ∷ writes (unread 4294967295) [] (131 ∷ 2 ∷ 2 ∷ 0 ∷ 0 ∷ 3 ∷ 0 ∷ 1 ∷ 1 ∷ 0 ∷ 1 ∷ 2 ∷ []) 0
+    -- 256 threads: T in two bytes
+    ∷ writes (tree 1 256 [] [] []) (255 ∷ []) ((1 ∷ 0 ∷ 1 ∷ []) ++ (replicate 256 0 ++ (255 ∷ 0 ∷ []))) 0
+    -- an entry that is no thread before 17; the tree before both
+    ∷ refuses 12 1 root-alone (0 ∷ 1 ∷ []) 3
+    ∷ refuses 16 2 empty-leaf (9 ∷ []) 0
+    ∷ refuses 4 0 (tree 0 1 [] [] []) [] 9
+    ∷ refuses 5 0 (tree 1 0 [] [] []) [] 0 ∷ []
+
+unfoldable pub holds : Case → Bool
+holds c =
+    let r = write-answer (c .words) (c .schedule) (c .buffer) in
+    (eqb (r .number) (c .number) && (eqb (r .place) (c .place) && eqb (r .length) (c .long)))
+    && same-numbers (file-buffer-answer (c .words) (c .schedule) (c .buffer)) (c .after)
+
+unfoldable pub all-hold : List Case → Bool
+all-hold [] = true
+all-hold (c ∷ cs) = holds c && all-hold cs
+
+-- THE LONGEST FILE. One domain and one thread that steps n times make 4 bytes and two for each entry: 32,766 entries make 65,536 bytes exactly; one entry more is refused by 1, whatever the room
+abbrev pub steps-of-one : (n : ℕ) → List ℕ
+steps-of-one n = replicate n 0
+
+pub record One-thread (n room : ℕ) : Type 0 where
+  pub long : length (written-file (tree-of root-alone) (steps-of-one n)) ≡ 4 + 2 * n
+  pub written : n ≤ 32766 → 4 + 2 * n ≤ room → write-refusal (tree-of root-alone) (steps-of-one n) room ≡ accepted
+  pub no-room : n ≤ 32766 → room < 4 + 2 * n → write-refusal (tree-of root-alone) (steps-of-one n) room ≡ refusal 17 0
+  pub too-long : 32766 < n → write-refusal (tree-of root-alone) (steps-of-one n) room ≡ refusal 1 0
+
+unfoldable pub Longest-law : Type 0
+Longest-law = (n room : ℕ) → n ≤ 65536 → One-thread n room

@@ -1,0 +1,65 @@
+-- `run_refusals::owners::owners_of` meets its contract: the parents of the domains passed are in the table. Assumes nothing.
+use Prim.Native.Nat.{_≤_, _<_, _-_}
+use native.Mathlib.Omega.{arith}
+use Rattle.refusals.proofs.of_runs.Owning.{Domain-owners, domains-first, domains-next, domains-all}
+use borrow.Author.Needs.{needs}
+use Rattle.refusals.proofs.of_runs.owners.owners_of.Statement.{statement}
+use Rattle.refusals.proofs.of_runs.owners.owners_of.Tie as tie
+
+abbrev Inv-loop : tie.InvT-loop
+Inv-loop owners₀ parents homes domains threads d₀ owners d = (0 < d) × (d ≤ domains) × ((few : threads ≤ 256) → Domain-owners threads parents homes few d owners)
+
+abbrev μ-loop : tie.MeasureT-loop
+μ-loop owners₀ parents homes domains threads d₀ owners d = domains - d
+
+thread-owners-requires : tie.Need-thread-owners-requires Inv-loop μ-loop
+thread-owners-requires c κs = search needs
+
+loop-holds : tie.Need-loop-holds Inv-loop μ-loop
+loop-holds c = (search needs, search needs, λ few. domains-first _ _ _ few _ (c .thread-owners .ensures))
+
+cast-at : tie.Need-cast-at Inv-loop μ-loop
+cast-at c = omega arith
+
+element-copy-out-p : tie.Need-element-copy-out-p Inv-loop μ-loop
+element-copy-out-p c = omega arith
+
+add-r : tie.Need-add-r Inv-loop μ-loop
+add-r c = omega arith
+
+element-write-owners : tie.Need-element-write-owners Inv-loop μ-loop
+element-write-owners c = omega arith
+
+add-d : tie.Need-add-d Inv-loop μ-loop
+add-d c = omega arith
+
+loop-less : tie.Need-loop-less Inv-loop μ-loop
+loop-less c = omega arith
+
+loop-again : tie.Need-loop-again Inv-loop μ-loop
+loop-again c =
+    let l = c .before .before .loop in
+    (omega arith, omega arith, λ few. domains-next _ _ _ few _ _ (l .inv .0) (omega arith) (l .inv .2 few))
+
+returns : tie.Need-returns Inv-loop μ-loop
+returns c =
+    let l = c .before .loop in
+    let few = c .before .before .before .before .pre .2 in
+    domains-all _ _ _ few _ _ _ (omega arith) (l .inv .2 few)
+
+pub owners-of-spec : {M : Type 1} → statement M
+owners-of-spec =
+    tie.close
+    (tie.spec
+    Inv-loop
+    μ-loop
+    thread-owners-requires
+    loop-holds
+    cast-at
+    element-copy-out-p
+    add-r
+    element-write-owners
+    add-d
+    loop-less
+    loop-again
+    returns)

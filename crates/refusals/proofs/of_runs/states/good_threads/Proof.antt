@@ -1,0 +1,91 @@
+-- `run_refusals::states::good_threads` meets its contract: all threads passed have good records and places. Assumes nothing.
+use mathlib.Core.Path.{_≡_, sym}
+use mathlib.Core.Bool.{true, false}
+use Prim.Native.Nat.{ℕ, _≤_, _<_, _-_}
+use native.Mathlib.Omega.{arith}
+use lib.ListN.{getD}
+use borrow.Author.Tests.{not-true, not-false}
+use Rattle.model.specs.States.{numbers-at}
+use Rattle.model.proofs.Tests.{all-true}
+use Rattle.refusals.specs.Arrays.{parents-in, places-in}
+use Rattle.refusals.specs.OfRuns.Tables.{used-in}
+use Rattle.refusals.proofs.Scanning.{one-more, all-fails, by-answer}
+use borrow.Author.Needs.{needs}
+use Rattle.refusals.proofs.of_runs.states.good_threads.Statement.{statement}
+use Rattle.refusals.proofs.of_runs.states.good_threads.Tie as tie
+
+abbrev Inv-loop : tie.InvT-loop
+Inv-loop parents owners count threads ticket-root nexts statuses rows domains peers words row i₀ i =
+    (i ≤ threads) × (threads ≤ 256)
+    × ((j : ℕ) → j < i → used-in ticket-root (parents-in count parents) owners statuses j (numbers-at (places-in rows domains peers words) j) (getD nexts j 0) ≡ true)
+
+abbrev μ-loop : tie.MeasureT-loop
+μ-loop parents owners count threads ticket-root nexts statuses rows domains peers words row i₀ i = threads - i
+
+resting-row-of-requires : tie.Need-resting-row-of-requires Inv-loop μ-loop
+resting-row-of-requires c κs = search needs
+
+loop-holds : tie.Need-loop-holds Inv-loop μ-loop
+loop-holds c = (search needs, search needs, λ j l. absurd (omega arith))
+
+cast-loop : tie.Need-cast-loop Inv-loop μ-loop
+cast-loop c = omega arith
+
+cast-at : tie.Need-cast-at Inv-loop μ-loop
+cast-at c = omega arith
+
+place-at-requires : tie.Need-place-at-requires Inv-loop μ-loop
+place-at-requires c κs = search needs
+
+mul-next : tie.Need-mul-next Inv-loop μ-loop
+mul-next c = omega arith
+
+element-copy-out-next : tie.Need-element-copy-out-next Inv-loop μ-loop
+element-copy-out-next c = omega arith
+
+good-thread-at-requires : tie.Need-good-thread-at-requires Inv-loop μ-loop
+good-thread-at-requires c κs =
+    let l = c .before .before .before in
+    let s = l .before .before in
+    let i = l .loop .i in
+    let h = c .before .before .loop-test .taken in
+    ((s .pre .0 .0, omega (arith, s .pre .0 .1)), (s .pre .1 .0, (s .pre .1 .1 .home i h, rw (l .before .resting-row-of .ensures) (s .pre .1 .1 .rest i h))))
+
+returns : tie.Need-returns Inv-loop μ-loop
+returns c =
+    let q = c .before .before .before in
+    sym (all-fails _ _ _ (q .before .loop-test .taken) (rw (← q .place-at .ensures) (by-answer _ false (c .before .good-thread-at .ensures) (not-true _ (c .if1 .taken)))))
+
+add-i : tie.Need-add-i Inv-loop μ-loop
+add-i c = omega arith
+
+loop-less : tie.Need-loop-less Inv-loop μ-loop
+loop-less c = omega arith
+
+loop-again : tie.Need-loop-again Inv-loop μ-loop
+loop-again c =
+    let q = c .before .before .before in
+    (omega arith, search needs, one-more _ true _ (q .before .before .loop .inv .2) (rw (← q .place-at .ensures) (by-answer _ true (c .before .good-thread-at .ensures) (not-false _ (c .if1 .left)))))
+
+returns-2 : tie.Need-returns-2 Inv-loop μ-loop
+returns-2 c = sym (all-true _ _ (λ j h. c .before .loop .inv .2 j (omega arith)))
+
+pub good-threads-spec : {M : Type 1} → statement M
+good-threads-spec =
+    tie.close
+    (tie.spec
+    Inv-loop
+    μ-loop
+    resting-row-of-requires
+    loop-holds
+    cast-loop
+    cast-at
+    place-at-requires
+    mul-next
+    element-copy-out-next
+    good-thread-at-requires
+    returns
+    add-i
+    loop-less
+    loop-again
+    returns-2)

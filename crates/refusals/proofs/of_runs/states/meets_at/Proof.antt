@@ -1,0 +1,63 @@
+-- `run_refusals::states::meets_at` meets its contract: the fuel left and the domain reached give the same answer as the whole way. Assumes nothing.
+use mathlib.Core.Path.{_≡_, refl, sym, _∙_}
+use Prim.Native.Nat.{_≤_, _<_}
+use native.Mathlib.Omega.{arith}
+use Rattle.model.specs.Trees.{meets}
+use Rattle.refusals.specs.Arrays.{parents-in}
+use Rattle.refusals.proofs.Meeting.{meets-here, meets-root, meets-up, meets-end}
+use borrow.Author.Needs.{needs}
+use Rattle.refusals.proofs.of_runs.states.meets_at.Statement.{statement}
+use Rattle.refusals.proofs.of_runs.states.meets_at.Tie as tie
+
+abbrev Inv-loop : tie.InvT-loop
+Inv-loop parents domains from d c₀ left₀ c left = (left ≤ 6) × (c < domains) × (meets left (parents-in domains parents) c d ≡ meets 6 (parents-in domains parents) from d)
+
+abbrev μ-loop : tie.MeasureT-loop
+μ-loop parents domains from d c₀ left₀ c left = left
+
+loop-holds : tie.Need-loop-holds Inv-loop μ-loop
+loop-holds c = (search needs, search needs, refl)
+
+returns : tie.Need-returns Inv-loop μ-loop
+returns c = sym (meets-here _ _ _ _ (c .if1 .taken)) ∙ c .before .before .loop .inv .2
+
+returns-2 : tie.Need-returns-2 Inv-loop μ-loop
+returns-2 c = sym (meets-root _ _ _ _ (c .before .if1 .left) (c .if2 .taken)) ∙ c .before .before .before .loop .inv .2
+
+cast-at : tie.Need-cast-at Inv-loop μ-loop
+cast-at c = omega arith
+
+element-copy-out-c : tie.Need-element-copy-out-c Inv-loop μ-loop
+element-copy-out-c c = omega arith
+
+sub-left : tie.Need-sub-left Inv-loop μ-loop
+sub-left c = omega arith
+
+loop-less : tie.Need-loop-less Inv-loop μ-loop
+loop-less c = omega arith
+
+loop-again : tie.Need-loop-again Inv-loop μ-loop
+loop-again c =
+    let l = c .before .before .before .before .loop in
+    let s = c .before .before .before .before .before in
+    let low = s .pre .1 .0 .lower (l .c) (omega arith) (l .inv .1) in
+    (omega arith, omega arith, sym (meets-up _ _ _ _ _ (c .before .before .before .loop-test .taken) (c .before .before .if1 .left) (c .before .if2 .left) (l .inv .1)) ∙ l .inv .2)
+
+returns-3 : tie.Need-returns-3 Inv-loop μ-loop
+returns-3 c = sym (meets-end _ _ _ _ (c .loop-test .left)) ∙ c .before .loop .inv .2
+
+pub meets-at-spec : {M : Type 1} → statement M
+meets-at-spec =
+    tie.close
+    (tie.spec
+    Inv-loop
+    μ-loop
+    loop-holds
+    returns
+    returns-2
+    cast-at
+    element-copy-out-c
+    sub-left
+    loop-less
+    loop-again
+    returns-3)

@@ -1,0 +1,123 @@
+// The refusals of a run: those of its tree, 10 of its state, and those of its schedule, each test over everything before the next.
+ghost use mathlib.Core.Path.{_≡_};
+ghost use Rattle.model.specs.Trees.{tree-of};
+ghost use Rattle.model.specs.Counters.{lock-state};
+ghost use Rattle.model.specs.WellFormed.{well-formed};
+ghost use Rattle.model.specs.Refusals.{first-refusal, tree-refusal, run-tests-before-19};
+ghost use Rattle.refusals.specs.Arrays.{refusal-words, lent-state};
+ghost use Rattle.refusals.specs.OfRuns.Counts.{counters-in};
+
+mod counters;
+mod owners;
+pub mod places;
+mod shapes;
+mod states;
+mod unused;
+
+use crate::Refusal;
+use model::TreeWords;
+
+// Whether a state is well formed: the root's words, the room that the tree lacks, its domains, its threads.
+fn is_well_formed<'s>(
+    tree: TreeWords,
+    tails: &'s [u16; 64],
+    nexts: &'s [u16; 320],
+    statuses: &'s [u64; 320],
+    rows: &'s [u8; 256],
+    domains: &'s [u8; 256],
+    peers: &'s [u16; 256],
+    words: &'s [u64; 256],
+    ticket: u16,
+    grant: u16,
+) -> bool
+    requires { ⌜ tree-refusal (tree-of tree) .number ≡ 0 ⌝ }
+    ensures { λ r. ⌜ r ≡ well-formed (tree-of tree) (lent-state (now (tails .entry)) (now (nexts .entry)) (now (statuses .entry)) (now (rows .entry)) (now (domains .entry)) (now (peers .entry)) (now (words .entry)) ticket grant) ⌝ }
+{
+    let count = tree.domains;
+    let threads = tree.threads;
+    let ticket_root = tree.ticket_root;
+    if !states::good_root_at(ticket_root, tails[0], ticket, grant) {
+        return false;
+    }
+    let mut table = [0u8; 320];
+    owners::owners_of(&mut table, &tree.parents, &tree.homes, count, threads);
+    if !unused::is_clear(
+        threads,
+        count,
+        tails,
+        nexts,
+        statuses,
+        rows,
+        domains,
+        peers,
+        words,
+    ) {
+        return false;
+    }
+    if !states::good_domains(&table, count, tails, nexts) {
+        return false;
+    }
+    states::good_threads(
+        &tree.parents,
+        &table,
+        count,
+        threads,
+        ticket_root,
+        nexts,
+        statuses,
+        rows,
+        domains,
+        peers,
+        words,
+    )
+}
+
+// A run meets 4 to 9, 16 and 10 to 13; whoever takes its steps tests 19. A step is a run of one entry, with room for one. The arrays of the state are lent.
+pub fn lent_refusal_of<'s, 'c>(
+    tree: TreeWords,
+    tails: &'s [u16; 64],
+    nexts: &'s [u16; 320],
+    statuses: &'s [u64; 320],
+    rows: &'s [u8; 256],
+    domains: &'s [u8; 256],
+    peers: &'s [u16; 256],
+    words: &'s [u64; 256],
+    ticket: u16,
+    grant: u16,
+    entries: &'c [u64; 64],
+    tenures: &'c [u64; 64],
+    longest: &'c [u64; 64],
+    schedule: &[u16],
+    room: usize,
+) -> Refusal
+    ensures { λ r. ⌜ r ≡ refusal-words (first-refusal (run-tests-before-19 (tree-of tree) (lock-state (lent-state (now (tails .entry)) (now (nexts .entry)) (now (statuses .entry)) (now (rows .entry)) (now (domains .entry)) (now (peers .entry)) (now (words .entry)) ticket grant) (counters-in (now (entries .entry)) (now (tenures .entry)) (now (longest .entry)))) (now (schedule .entry)) room)) ⌝ }
+{
+    let r = crate::tree_refusal_of(
+        &tree.parents,
+        &tree.thresholds,
+        &tree.homes,
+        tree.domains,
+        tree.threads,
+    );
+    if r.number != 0 {
+        return r;
+    }
+    if !counters::good_counts(&tree.thresholds, tree.domains, entries, tenures, longest) {
+        return crate::refusal_at(10, 0);
+    }
+    if !is_well_formed(
+        tree,
+        tails,
+        nexts,
+        statuses,
+        rows,
+        domains,
+        peers,
+        words,
+        ticket,
+        grant,
+    ) {
+        return crate::refusal_at(10, 0);
+    }
+    crate::schedule_refusal_of(tree.threads, schedule, room)
+}

@@ -1,0 +1,63 @@
+-- `members::counting::count_entry` counts level by level up to the root. Assumes nothing.
+use native.Mathlib.Omega.{arith}
+use Rattle.rows.proofs.common.Counts.{Climbs, climbs-start, climbs-on, climbs-end}
+use borrow.Author.Needs.{needs}
+use Rattle.rows.proofs.common.counting.count_entry.Statement.{statement}
+use Rattle.rows.proofs.common.counting.count_entry.Tie as tie
+
+abbrev Inv-loop : tie.InvT-loop
+Inv-loop parents domains home entries₀ c₀ entries c = Climbs domains parents home entries₀ c entries
+
+abbrev μ-loop : tie.MeasureT-loop
+μ-loop parents domains home entries₀ c₀ entries c = c
+
+loop-holds : tie.Need-loop-holds Inv-loop μ-loop
+loop-holds c = climbs-start _ _ _ _ (c .pre .1 .1 .0)
+
+cast-at : tie.Need-cast-at Inv-loop μ-loop
+cast-at c = omega arith
+
+mul-entries : tie.Need-mul-entries Inv-loop μ-loop
+mul-entries c = omega arith
+
+element-copy-out-entries : tie.Need-element-copy-out-entries Inv-loop μ-loop
+element-copy-out-entries c = let l = c .before .loop in omega (arith, l .inv .real, c .before .before .pre .0)
+
+add-entries : tie.Need-add-entries Inv-loop μ-loop
+add-entries c = let l = c .before .before .loop in omega (arith, l .inv .above (l .c) (omega arith), c .before .before .before .pre .1 .1 .1 .room (l .c) (omega (arith, l .inv .real, c .before .before .before .pre .0)))
+
+mul-entries-2 : tie.Need-mul-entries-2 Inv-loop μ-loop
+mul-entries-2 c = omega arith
+
+element-write-entries : tie.Need-element-write-entries Inv-loop μ-loop
+element-write-entries c = let l = c .before .before .loop in omega (arith, l .inv .real, c .before .before .before .pre .0)
+
+element-copy-out-c : tie.Need-element-copy-out-c Inv-loop μ-loop
+element-copy-out-c c = let l = c .before .before .loop in omega (arith, l .inv .real, c .before .before .before .pre .0)
+
+loop-less : tie.Need-loop-less Inv-loop μ-loop
+loop-less c = let l = c .before .before .before .loop in omega (arith, c .before .before .before .before .pre .1 .0 .lower (l .c) (omega (arith, c .before .before .loop-test .taken)) (l .inv .real))
+
+loop-again : tie.Need-loop-again Inv-loop μ-loop
+loop-again c = climbs-on _ _ _ _ _ _ (c .before .before .before .before .pre .1 .0) (c .before .before .loop-test .taken) (c .before .before .before .loop .inv)
+
+returns : tie.Need-returns Inv-loop μ-loop
+returns c = climbs-end _ _ _ _ _ _ (c .loop-test .left) (c .before .loop .inv)
+
+pub count-entry-spec : {M : Type 1} → statement M
+count-entry-spec =
+    tie.close
+    (tie.spec
+    Inv-loop
+    μ-loop
+    loop-holds
+    cast-at
+    mul-entries
+    element-copy-out-entries
+    add-entries
+    mul-entries-2
+    element-write-entries
+    element-copy-out-c
+    loop-less
+    loop-again
+    returns)

@@ -1,0 +1,16 @@
+-- `members::places::release_place_at` meets its contract: Check below the root; at it the kind of root decides, Help or Raise. Assumes nothing.
+use borrow.Author.Tests.{eq-eqb, ne-eqb}
+use Rattle.rows.proofs.common.places.release_place_at.Statement.{statement}
+use Rattle.rows.proofs.common.places.release_place_at.Tie as tie
+
+returns : tie.Need-returns
+returns c = rw (ne-eqb _ _ (c .if1 .taken))
+
+returns-2 : tie.Need-returns-2
+returns-2 c = rw (eq-eqb _ _ (c .before .if1 .left), eq-eqb _ _ (c .if2 .taken))
+
+returns-3 : tie.Need-returns-3
+returns-3 c = rw (eq-eqb _ _ (c .before .if1 .left), ne-eqb _ _ (c .if2 .left))
+
+pub release-place-at-spec : {M : Type 1} → statement M
+release-place-at-spec = tie.close (tie.spec returns returns-2 returns-3)

@@ -1,0 +1,189 @@
+-- `members::places::words_at` meets its contract, place by place. Assumes nothing.
+use borrow.Author.Needs.{needs}
+use Rattle.rows.proofs.common.places.words_at.Statement.{statement}
+use Rattle.rows.proofs.common.places.words_at.Tie as tie
+
+enum-told : tie.Need-enum-told
+enum-told c = search needs
+
+words-from-requires : tie.Need-words-from-requires
+words-from-requires c κs = search needs
+
+enum-known-place : tie.Need-enum-known-place
+enum-known-place c = search needs
+
+words-from-requires-2 : tie.Need-words-from-requires-2
+words-from-requires-2 c κs = search needs
+
+enum-known-place-2 : tie.Need-enum-known-place-2
+enum-known-place-2 c = search needs
+
+words-from-requires-3 : tie.Need-words-from-requires-3
+words-from-requires-3 c κs = search needs
+
+enum-known-place-3 : tie.Need-enum-known-place-3
+enum-known-place-3 c = search needs
+
+words-from-requires-4 : tie.Need-words-from-requires-4
+words-from-requires-4 c κs = search needs
+
+enum-known-place-4 : tie.Need-enum-known-place-4
+enum-known-place-4 c = search needs
+
+words-from-requires-5 : tie.Need-words-from-requires-5
+words-from-requires-5 c κs = search needs
+
+enum-told-2 : tie.Need-enum-told-2
+enum-told-2 c = search needs
+
+words-from-requires-6 : tie.Need-words-from-requires-6
+words-from-requires-6 c κs = search needs
+
+enum-known-place-5 : tie.Need-enum-known-place-5
+enum-known-place-5 c = search needs
+
+words-from-requires-7 : tie.Need-words-from-requires-7
+words-from-requires-7 c κs = search needs
+
+enum-known-place-6 : tie.Need-enum-known-place-6
+enum-known-place-6 c = search needs
+
+words-from-requires-8 : tie.Need-words-from-requires-8
+words-from-requires-8 c κs = search needs
+
+enum-known-place-7 : tie.Need-enum-known-place-7
+enum-known-place-7 c = search needs
+
+words-from-requires-9 : tie.Need-words-from-requires-9
+words-from-requires-9 c κs = search needs
+
+enum-known-place-8 : tie.Need-enum-known-place-8
+enum-known-place-8 c = search needs
+
+words-from-requires-10 : tie.Need-words-from-requires-10
+words-from-requires-10 c κs = search needs
+
+enum-known-place-9 : tie.Need-enum-known-place-9
+enum-known-place-9 c = search needs
+
+words-from-requires-11 : tie.Need-words-from-requires-11
+words-from-requires-11 c κs = search needs
+
+enum-told-3 : tie.Need-enum-told-3
+enum-told-3 c = search needs
+
+words-from-requires-12 : tie.Need-words-from-requires-12
+words-from-requires-12 c κs = search needs
+
+enum-told-4 : tie.Need-enum-told-4
+enum-told-4 c = search needs
+
+words-from-requires-13 : tie.Need-words-from-requires-13
+words-from-requires-13 c κs = search needs
+
+enum-told-5 : tie.Need-enum-told-5
+enum-told-5 c = search needs
+
+words-from-requires-14 : tie.Need-words-from-requires-14
+words-from-requires-14 c κs = search needs
+
+enum-told-6 : tie.Need-enum-told-6
+enum-told-6 c = search needs
+
+words-from-requires-15 : tie.Need-words-from-requires-15
+words-from-requires-15 c κs = search needs
+
+returns : tie.Need-returns
+returns c = rw (c .words-from .ensures, c .before .enum-told .given .1)
+
+returns-2 : tie.Need-returns-2
+returns-2 c = rw (c .words-from2 .ensures, c .before .before .place .given .1)
+
+returns-3 : tie.Need-returns-3
+returns-3 c = rw (c .words-from3 .ensures, c .before .before .place2 .given .1)
+
+returns-4 : tie.Need-returns-4
+returns-4 c = rw (c .words-from4 .ensures, c .before .before .place3 .given .1)
+
+returns-5 : tie.Need-returns-5
+returns-5 c = rw (c .words-from5 .ensures, c .before .before .place4 .given .1)
+
+returns-6 : tie.Need-returns-6
+returns-6 c = rw (c .words-from6 .ensures, c .before .enum-told2 .given .1)
+
+returns-7 : tie.Need-returns-7
+returns-7 c = rw (c .words-from7 .ensures, c .before .before .place5 .given .1)
+
+returns-8 : tie.Need-returns-8
+returns-8 c = rw (c .words-from8 .ensures, c .before .before .place6 .given .1)
+
+returns-9 : tie.Need-returns-9
+returns-9 c = rw (c .words-from9 .ensures, c .before .before .place7 .given .1)
+
+returns-10 : tie.Need-returns-10
+returns-10 c = rw (c .words-from10 .ensures, c .before .before .place8 .given .1)
+
+returns-11 : tie.Need-returns-11
+returns-11 c = rw (c .words-from11 .ensures, c .before .before .place9 .given .1)
+
+returns-12 : tie.Need-returns-12
+returns-12 c = rw (c .words-from12 .ensures, c .before .enum-told3 .given .1)
+
+returns-13 : tie.Need-returns-13
+returns-13 c = rw (c .words-from13 .ensures, c .before .enum-told4 .given .1)
+
+returns-14 : tie.Need-returns-14
+returns-14 c = rw (c .words-from14 .ensures, c .before .enum-told5 .given .1)
+
+returns-15 : tie.Need-returns-15
+returns-15 c = rw (c .words-from15 .ensures, c .before .enum-told6 .given .1)
+
+pub words-at-spec : {M : Type 1} → statement M
+words-at-spec =
+    tie.close
+    (tie.spec
+    enum-told
+    words-from-requires
+    enum-known-place
+    words-from-requires-2
+    enum-known-place-2
+    words-from-requires-3
+    enum-known-place-3
+    words-from-requires-4
+    enum-known-place-4
+    words-from-requires-5
+    enum-told-2
+    words-from-requires-6
+    enum-known-place-5
+    words-from-requires-7
+    enum-known-place-6
+    words-from-requires-8
+    enum-known-place-7
+    words-from-requires-9
+    enum-known-place-8
+    words-from-requires-10
+    enum-known-place-9
+    words-from-requires-11
+    enum-told-3
+    words-from-requires-12
+    enum-told-4
+    words-from-requires-13
+    enum-told-5
+    words-from-requires-14
+    enum-told-6
+    words-from-requires-15
+    returns
+    returns-2
+    returns-3
+    returns-4
+    returns-5
+    returns-6
+    returns-7
+    returns-8
+    returns-9
+    returns-10
+    returns-11
+    returns-12
+    returns-13
+    returns-14
+    returns-15)

@@ -1,0 +1,4 @@
+pub mod Common
+pub mod Acquire
+pub mod Release
+pub mod Step

@@ -1,0 +1,109 @@
+-- `schedules::many::run_rows` meets its contract: the rows stored so far, and those still ahead. Assumes nothing.
+use mathlib.Core.Path.{_≡_, refl, sym, ap, _∙_}
+use Prim.Native.Nat.{_+_, _-_, _≤_}
+use native.Mathlib.Omega.{arith}
+use lib.ListN.{length, take, drop, getD}
+use Rattle.runs_call.proofs.many_schedules.Storing.{So-far, start, next-fits, turn, ends}
+use borrow.Author.Needs.{needs}
+use Rattle.runs_call.proofs.many_schedules.many.run_rows.Statement.{statement}
+use Rattle.runs_call.proofs.many_schedules.many.run_rows.Tie as tie
+
+abbrev Inv-loop : tie.InvT-loop
+Inv-loop tree lengths entries trace₀ rows₀ k₀ from₀ at₀ trace rows k from at = So-far tree lengths entries rows₀ rows k from at × (length trace ≡ length trace₀)
+
+abbrev μ-loop : tie.MeasureT-loop
+μ-loop tree lengths entries trace₀ rows₀ k₀ from₀ at₀ trace rows k from at = length lengths - k
+
+loop-holds : tie.Need-loop-holds Inv-loop μ-loop
+loop-holds c = (start _ _ _ _ (c .before .before .before .before .pre .1 .0), refl)
+
+mul-number-index : tie.Need-mul-number-index Inv-loop μ-loop
+mul-number-index c = omega arith
+
+shared-slice-read-number-index : tie.Need-shared-slice-read-number-index Inv-loop μ-loop
+shared-slice-read-number-index c = omega arith
+
+number-index-requires : tie.Need-number-index-requires Inv-loop μ-loop
+number-index-requires c κs = search needs
+
+add-end : tie.Need-add-end Inv-loop μ-loop
+add-end c = omega (arith, c .before .before .before .loop .inv .0 .ahead, next-fits _ _ _ _ _ _ _ _ (c .before .before .before .loop .inv .0) (omega arith))
+
+mul-run-row : tie.Need-mul-run-row Inv-loop μ-loop
+mul-run-row c = omega arith
+
+sub-run-row : tie.Need-sub-run-row Inv-loop μ-loop
+sub-run-row c = search needs
+
+part-run-row-start : tie.Need-part-run-row-start Inv-loop μ-loop
+part-run-row-start c = search needs
+
+part-run-row-end : tie.Need-part-run-row-end Inv-loop μ-loop
+part-run-row-end c = let h = next-fits _ _ _ _ _ _ _ _ (c .before .before .before .loop .inv .0) (omega arith) in search needs
+
+run-row-requires : tie.Need-run-row-requires Inv-loop μ-loop
+run-row-requires c κs =
+    let l = c .before .before .before .before .before .before in
+    let begin = l .before .before .before .before .before in (
+      begin .pre .0,
+      (
+        omega (arith, l .loop .inv .1, begin .pre .1),
+        omega (arith, l .loop .inv .0 .row-place, l .loop .inv .0 .long, c .before .before .before .before .before .loop-test .taken, begin .pre .1),
+      ),
+    )
+
+add-at : tie.Need-add-at Inv-loop μ-loop
+add-at c =
+    let l = c .before .before .before .before .before .before .before .before .before .before .before in
+    omega (arith, l .loop .inv .0 .row-place, c .before .before .before .before .before .before .before .before .before .before .loop-test .taken, l .before .before .before .before .before .pre .1)
+
+add-k : tie.Need-add-k Inv-loop μ-loop
+add-k c = omega arith
+
+loop-less : tie.Need-loop-less Inv-loop μ-loop
+loop-less c = omega arith
+
+loop-again : tie.Need-loop-again Inv-loop μ-loop
+loop-again c =
+    let ran = c .before .before .before .before in
+    let read = ran .before .before .before .before in
+    let l = read .before .before .before in
+    let begin = l .before .before .before .before .before in
+    let n : read .number-index .result ≡ getD (begin .args .lengths .now) (l .loop .k) 0 = read .number-index .ensures in
+    let part : l .loop .from + read .number-index .result - l .loop .from ≡ getD (begin .args .lengths .now) (l .loop .k) 0 = omega arith in (
+      rw n (turn _ _ _ _ _ _ _ _ (l .loop .inv .0) (read .before .before .loop-test .taken) _ _ (ap (λ m. take m (drop (l .loop .from) (begin .args .entries .now))) part) (ran .run-row .ensures)),
+      ran .run-row .kept .1 .1 .0 ∙ l .loop .inv .1,
+    )
+
+same-length : tie.Need-same-length Inv-loop μ-loop
+same-length c = c .before .loop .inv .1
+
+same-length-2 : tie.Need-same-length-2 Inv-loop μ-loop
+same-length-2 c = c .before .loop .inv .0 .long
+
+returns : tie.Need-returns Inv-loop μ-loop
+returns c = ends _ _ _ _ _ _ _ _ (c .before .loop .inv .0) (omega arith)
+
+pub run-rows-spec : {M : Type 1} → statement M
+run-rows-spec =
+    tie.close
+    (tie.spec
+    Inv-loop
+    μ-loop
+    loop-holds
+    mul-number-index
+    shared-slice-read-number-index
+    number-index-requires
+    add-end
+    mul-run-row
+    sub-run-row
+    part-run-row-start
+    part-run-row-end
+    run-row-requires
+    add-at
+    add-k
+    loop-less
+    loop-again
+    same-length
+    same-length-2
+    returns)

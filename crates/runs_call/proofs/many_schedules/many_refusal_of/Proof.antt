@@ -1,0 +1,44 @@
+-- `schedules::many_refusal_of` meets its contract: the tree's tests, then the two of its own. Assumes nothing.
+use mathlib.Core.Path.{_≡_, sym, _∙_}
+use mathlib.Core.Bool.{true, false}
+use native.Mathlib.Omega.{arith}
+use Rattle.model.specs.Refusals.{refusal, accepted}
+use Rattle.refusals.proofs.Reading.{refusal-words-same}
+use Rattle.refusals.proofs.Scanning.{by-answer}
+use Rattle.runs_call.proofs.many_schedules.Answering.{tree-answered, total-answered, room-answered, acceptance-answered}
+use borrow.Author.Tests.{not-true, not-false}
+use borrow.Author.Needs.{needs}
+use Rattle.runs_call.proofs.many_schedules.many_refusal_of.Statement.{statement}
+use Rattle.runs_call.proofs.many_schedules.many_refusal_of.Tie as tie
+
+tree-refusal-of-requires : tie.Need-tree-refusal-of-requires
+tree-refusal-of-requires c κs = search needs
+
+returns : tie.Need-returns
+returns c = tree-answered _ _ _ _ _ (c .before .before .tree-refusal-of .ensures ∙ refusal-words-same _) (c .if1 .taken)
+
+adds-up-requires : tie.Need-adds-up-requires
+adds-up-requires c κs = search needs
+
+returns-2 : tie.Need-returns-2
+unfolding refusal
+returns-2 c =
+    let tree = c .before .before in
+    total-answered _ _ _ _ _ (tree .before .before .tree-refusal-of .ensures ∙ refusal-words-same _) (tree .if1 .left) (sym (by-answer _ false (c .before .adds-up .ensures) (not-true _ (c .if2 .taken))))
+
+returns-3 : tie.Need-returns-3
+unfolding refusal
+returns-3 c =
+    let tree = c .before .before .before in
+    room-answered _ _ _ _ _ (tree .before .before .tree-refusal-of .ensures ∙ refusal-words-same _) (tree .if1 .left) (sym (by-answer _ true (c .before .before .adds-up .ensures) (not-false _ (c .before .if2 .left)))) (c .if3 .taken)
+
+returns-4 : tie.Need-returns-4
+unfolding refusal accepted
+returns-4 c =
+    let tree = c .before .before .before in
+    acceptance-answered _ _ _ _ _ (tree .before .before .tree-refusal-of .ensures ∙ refusal-words-same _) (tree .if1 .left) (sym (by-answer _ true (c .before .before .adds-up .ensures) (not-false _ (c .before .if2 .left)))) (c .if3 .left)
+
+pub many-refusal-of-spec : {M : Type 1} → statement M
+many-refusal-of-spec =
+    tie.close
+    (tie.spec tree-refusal-of-requires returns adds-up-requires returns-2 returns-3 returns-4)

@@ -1,0 +1,108 @@
+-- `kinds_call::telling::run_told` meets its contract: refused, or run, and what was told of each step as two numbers. Assumes nothing.
+use mathlib.Core.Path.{refl, ap}
+use native.Mathlib.Omega.{arith}
+use Rattle.lock.proofs.steps.Answering.{early-passes, kinds-few}
+use Rattle.model.specs.Refusals.{refusal}
+use Rattle.runs_call.specs.WithKinds.Spreading.{told-beside}
+use Rattle.runs_call.proofs.with_kinds.Answering.{told-refuses, as-run, short, codes-fit, threads-fit, rows-told, told-answered}
+use borrow.Author.Needs.{needs}
+use Rattle.runs_call.proofs.with_kinds.telling.run_told.Statement.{statement}
+use Rattle.runs_call.proofs.with_kinds.telling.run_told.Tie as tie
+
+-- the call's start, what was told of the refusal, where it is accepted, and where its steps are taken
+abbrev first : tie.After-refusal-of → tie.Start
+first asked = asked .before .before .before .before .before .before .before .before .before .before .before .before .before .before .before .before
+
+abbrev asked : tie.Else1 → tie.After-refusal-of
+asked passed = passed .before .before
+
+abbrev passed : tie.After-run-lent → tie.Else1
+passed ran = ran .before .before .before .before .before .before .before .before .before .before .before .before .before .before .before .before
+
+abbrev ran : tie.After-spread → tie.After-run-lent
+ran spread = spread .before .before .before .before .before .before .before .before
+
+refusal-of-requires : tie.Need-refusal-of-requires
+refusal-of-requires c κs = search needs
+
+counts-of-requires : tie.Need-counts-of-requires
+counts-of-requires c κs = search needs
+
+returns : tie.Need-returns
+unfolding refusal
+returns c =
+    let answer = told-refuses _ _ _ _ _ _ (c .before .before .before .before .refusal-of .ensures) (c .before .before .if1 .taken) _ refl in
+    (rw (c .counts-of .ensures) (ap told-beside (answer .0)), (ap (λ r. r .state) (answer .0), answer .1))
+
+run-lent-requires : tie.Need-run-lent-requires
+run-lent-requires c κs =
+    let p = c .before .before .before .before .before .before .before .before .before .before .before .before .before .before .before in
+    let q = asked p in
+    let a = first q .args in
+    (first q .pre, early-passes _ _ (a .schedule .now) (a .trace .now) _ (as-run _ _ _ (a .trace .now) (a .rows .now) _ (q .refusal-of .ensures) (p .if1 .left)) (p .if1 .left))
+
+spread-requires : tie.Need-spread-requires
+spread-requires c κs =
+    let r = c .before .before .before .before .before .before .before in
+    let p = passed r in
+    let q = asked p in
+    let a = first q .args in (
+      codes-fit _ _ (a .schedule .now) (a .trace .now) (a .rows .now) _ (q .refusal-of .ensures) (p .if1 .left) _ (r .run-lent .ensures .1 .1 .1 .0),
+      threads-fit _ _ (a .schedule .now) (a .trace .now) (a .rows .now) _ (q .refusal-of .ensures) (p .if1 .left),
+    )
+
+counts-of-requires-2 : tie.Need-counts-of-requires-2
+counts-of-requires-2 c κs =
+    let r = ran (c .before .before .before) in
+    let p = passed r in
+    let q = asked p in
+    let a = first q .args in
+    kinds-few _ _ (a .schedule .now) (a .trace .now) _ (as-run _ _ _ (a .trace .now) (a .rows .now) _ (q .refusal-of .ensures) (p .if1 .left)) (p .if1 .left) _ (r .run-lent .ensures .1 .1 .0)
+
+index-number-requires : tie.Need-index-number-requires
+index-number-requires c κs =
+    let p = passed (ran (c .before .before .before .before)) in
+    let q = asked p in
+    let a = first q .args in
+    omega (arith, short _ _ (a .schedule .now) (a .trace .now) (a .rows .now) _ (q .refusal-of .ensures) (p .if1 .left))
+
+same-length : tie.Need-same-length
+same-length c = search needs
+
+same-length-2 : tie.Need-same-length-2
+same-length-2 c = search needs
+
+returns-2 : tie.Need-returns-2
+returns-2 c =
+    let put = c .before .before .before .before .before in
+    let r = ran put in
+    let p = passed r in
+    let q = asked p in
+    let told = q .refusal-of .ensures in
+    let a = first q .args in
+    let e = r .run-lent .ensures in
+    let answer = told-answered _ _ (a .schedule .now) (a .trace .now) (a .rows .now) _ told (p .if1 .left) _ _ _ _ _ _ (e .0) (e .1 .0) (e .1 .1 .0) (c .before .«counts-of2» .ensures) (e .1 .1 .1 .1) (c .index-number .ensures) in (
+      ap told-beside (answer .0),
+      (
+        ap (λ r. r .state) (answer .0),
+        (
+          answer .1,
+          rows-told _ _ (a .schedule .now) (a .trace .now) (a .rows .now) _ told (p .if1 .left) (first q .pre) _ _ (e .1 .1 .1 .0) (put .spread .ensures),
+        ),
+      ),
+    )
+
+pub run-told-spec : {M : Type 1} → statement M
+run-told-spec =
+    tie.close
+    (tie.spec
+    refusal-of-requires
+    counts-of-requires
+    returns
+    run-lent-requires
+    spread-requires
+    counts-of-requires-2
+    index-number-requires
+    same-length
+    same-length-2
+    returns-2)

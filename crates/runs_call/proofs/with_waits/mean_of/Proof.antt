@@ -1,0 +1,28 @@
+-- `waits::mean_of` meets its contract: without attempts 0 over 0; with them the greatest common divisor is not 0, and both are divided by it. Assumes nothing.
+use native.Mathlib.Omega.{arith}
+use borrow.Author.Needs.{needs}
+use borrow.Author.Tests.{eq-eqb, ne-eqb}
+use Rattle.waits.specs.Rows.{mean}
+use Rattle.waits.proofs.Divisors.{positive}
+use Rattle.runs_call.proofs.with_waits.mean_of.Statement.{statement}
+use Rattle.runs_call.proofs.with_waits.mean_of.Tie as tie
+
+returns : tie.Need-returns
+unfolding mean
+returns c = rw (eq-eqb _ 0 (c .if1 .taken))
+
+greatest-divisor-requires : tie.Need-greatest-divisor-requires
+greatest-divisor-requires c κs = search needs
+
+div-t5 : tie.Need-div-t5
+div-t5 c = omega (arith, c .greatest-divisor .ensures, positive (c .before .before .args .total) (c .before .before .args .attempts) (c .before .if1 .left))
+
+div-t6 : tie.Need-div-t6
+div-t6 c = omega (arith, c .greatest-divisor .ensures, positive (c .before .before .args .total) (c .before .before .args .attempts) (c .before .if1 .left))
+
+returns-2 : tie.Need-returns-2
+unfolding mean
+returns-2 c = rw (c .greatest-divisor .ensures, ne-eqb _ 0 (c .before .if1 .left))
+
+pub mean-of-spec : {M : Type 1} → statement M
+mean-of-spec = tie.close (tie.spec returns greatest-divisor-requires div-t5 div-t6 returns-2)

@@ -1,0 +1,27 @@
+-- `waits::waiting::begins_at` meets its contract: where the home is a ticket root, Idle or Draw, else Swap at the home, each by its own test. Assumes nothing.
+use borrow.Author.Tests.{eq-eqb, ne-eqb}
+use Rattle.runs_call.specs.WithWaits.Tallies.{begins-number}
+use borrow.Author.Needs.{needs}
+use Rattle.runs_call.proofs.with_waits.waiting.begins_at.Statement.{statement}
+use Rattle.runs_call.proofs.with_waits.waiting.begins_at.Tie as tie
+
+returns : tie.Need-returns
+unfolding begins-number
+returns c = rw (c .before .if1 .taken, eq-eqb _ 0 (c .if2 .taken))
+
+returns-2 : tie.Need-returns-2
+unfolding begins-number
+returns-2 c = rw (c .before .if1 .taken, ne-eqb _ 0 (c .if2 .left))
+
+mul-result : tie.Need-mul-result
+mul-result c = search needs
+
+add-result : tie.Need-add-result
+add-result c = search needs
+
+returns-3 : tie.Need-returns-3
+unfolding begins-number
+returns-3 c = rw (c .if1 .left)
+
+pub begins-at-spec : {M : Type 1} → statement M
+begins-at-spec = tie.close (tie.spec returns returns-2 mul-result add-result returns-3)

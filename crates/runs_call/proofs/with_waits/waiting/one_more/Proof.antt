@@ -1,0 +1,18 @@
+-- `waits::waiting::one_more` meets its contract: 1 or 0 more by its test, and one more fits. Assumes nothing.
+use mathlib.Core.Path.{sym}
+use native.Mathlib.Nat.{add-zero}
+use borrow.Author.Needs.{needs}
+use Rattle.runs_call.proofs.with_waits.waiting.one_more.Statement.{statement}
+use Rattle.runs_call.proofs.with_waits.waiting.one_more.Tie as tie
+
+add-result : tie.Need-add-result
+add-result c = search needs
+
+returns : tie.Need-returns
+returns c = rw (c .if1 .taken)
+
+returns-2 : tie.Need-returns-2
+returns-2 c = rw (c .if1 .left) (sym (add-zero _))
+
+pub one-more-spec : {M : Type 1} → statement M
+one-more-spec = tie.close (tie.spec add-result returns returns-2)

@@ -1,0 +1,3 @@
+pub mod ManySchedules
+pub mod WithWaits
+pub mod WithKinds

@@ -1,0 +1,6 @@
+-- What a run with waits tells beside its state. Assumes nothing: this is a definition.
+use Rattle.waits.specs.declared.WaitsReply.{WaitsReply}
+use Rattle.runs_call.specs.declared.with_waits.tested.Waited.{Waited}
+
+abbrev pub waits-told : WaitsReply → Waited
+waits-told r = record { number = r .number; place = r .place; counts = r .counts; rows = r .rows }
