@@ -71,13 +71,16 @@ bool tells(const hmcs::Tree &tree, std::uint64_t rounds, std::uint64_t turns) {
     return told.accepted() && told.rounds == rounds && told.turns == turns;
 }
 
-// Two threads in the root, of either kind, the example, thresholds of one member, and two levels; numbers beyond 64 bits, the turns alone first; and a refusal.
+// Two threads in the root, of either kind, the example, thresholds of one member, two levels, and three threads in three tenures, in two and in one; numbers beyond 64 bits, the turns alone first; and a refusal.
 void rounds() {
     CHECK(tells(root_alone(hmcs::RootKind::queue, 2), 19, 38));
     CHECK(tells(root_alone(hmcs::RootKind::ticket, 2), 19, 38));
-    CHECK(tells(example_tree(), 57, 171));
+    CHECK(tells(example_tree(), 44, 132));
     CHECK(tells(hmcs::read_tree("(16(#1) 16(#1))").tree, 29, 58));
-    CHECK(tells(hmcs::read_tree("(5(3(#1) 2(#1)))").tree, 47, 94));
+    CHECK(tells(hmcs::read_tree("(5(3(#1) 2(#1)))").tree, 44, 88));
+    CHECK(tells(hmcs::read_tree("(1(#3))").tree, 55, 165));
+    CHECK(tells(hmcs::read_tree("(2(#3))").tree, 42, 126));
+    CHECK(tells(hmcs::read_tree("(3(#3))").tree, 38, 114));
     CHECK(tells(hmcs::read_tree("(65535(65535(65535(65535(65535(#1))))) 1(#1))").tree, 69, 138));
     CHECK(tells(hmcs::read_tree("(65535(65535(65535(8192(#2) 1(#1)) 1(#1)) 1(#1)) 1(#1))").tree, 16140162203956224025u, UINT64_MAX));
     CHECK(tells(hmcs::read_tree("(65535(65535(65535(65535(65535(#2) 1(#1)) 1(#1)) 1(#1)) 1(#1)) 1(#1))").tree, UINT64_MAX, UINT64_MAX));

@@ -1,12 +1,7 @@
 -- The proofs.
 pub mod Arithmetic
 pub mod Waits
-pub mod Heads
-pub mod Stages
-pub mod Over
-pub mod Linked
 pub mod Ends
-pub mod Lines
 pub mod Owes
 pub mod Falls
 pub mod Steps

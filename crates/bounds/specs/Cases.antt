@@ -65,10 +65,10 @@ unfoldable pub rounds-cases : List Bool
 rounds-cases =
     -- two threads in the root
     tells 0 0 19 38 (tree 1 2 [] [] (0 ∷ 0 ∷ []))
-    ∷ tells 0 0 57 171 example
-    ∷ tells 0 0 47 94 two-levels
-    ∷ tells 0 0 73 292 two-pairs
-    ∷ tells 0 0 85 340 not-divided
+    ∷ tells 0 0 44 132 example
+    ∷ tells 0 0 44 88 two-levels
+    ∷ tells 0 0 52 208 two-pairs
+    ∷ tells 0 0 62 248 not-divided
     -- a thread without others
     ∷ tells 0 0 55 55 deep
     ∷ tells 0 0 18446744073709551615 18446744073709551615 deep-with-leaves

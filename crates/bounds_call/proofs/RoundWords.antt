@@ -1,12 +1,12 @@
 -- The words of the call of rounds: levels, the rounds above each domain by its parent's, and those of each thread. Assumes nothing.
 use mathlib.Core.Path.{_≡_, refl, sym, ap, _∙_}
-use mathlib.Core.Bool.{true}
+use mathlib.Core.Bool.{true, cond}
 use mathlib.Core.List.{List}
 use mathlib.Core.Logic.{_≢_}
-use Prim.Native.Nat.{ℕ, suc, _+_, _*_, _-_, _≤_, _<_}
+use Prim.Native.Nat.{ℕ, _+_, _*_, _-_, _/_, _≤_, _<_}
 use native.Mathlib.Omega.{arith}
-use lib.Dec.{eqb}
-use lib.ListN.{getD, length, set, length-set}
+use lib.Dec.{ltb}
+use lib.ListN.{getD, set, length-set}
 use lib.Seq.{getD-set-same, getD-set-other}
 use borrow.Author.Tests.{eq-eqb, ne-eqb}
 use Rattle.model.specs.declared.TreeWords.{TreeWords}
@@ -17,21 +17,26 @@ use Rattle.model.proofs.Lists.{same-or}
 use Rattle.model.proofs.Trees.Accepted.{Accepted, accepted}
 use Rattle.model.proofs.Trees.Paths.{depth-child, depth-zero}
 use Rattle.model.proofs.Trees.Reading.{home-read, parent-read, few-domains, few-threads}
-use Rattle.bounds.specs.StarvationFreedom.Bounds.{members, others-passes, levels, entry-rounds, others-rounds, acquire-rounds, acquire-bound, release-bound, everyone-bound}
+use Rattle.refusals.proofs.Reading.{threshold-in}
+use Rattle.bounds.specs.StarvationFreedom.Bounds.{members, others-passes, effective-threshold, levels, entry-rounds, tenure-length, tenures-for, link-rounds, standing-rounds, acquire-rounds, acquire-bound, release-bound, everyone-bound}
+use Rattle.bounds.proofs.starvation_freedom.Quotients.{length-some}
 use Rattle.bounds.proofs.starvation_freedom.Bounds.{above-rounds, acquire-at}
 use Rattle.bounds.specs.Answers.{capped}
 use Rattle.bounds_call.specs.Arrays.{rounds-above, Acquires, Rounds-above}
 use Rattle.bounds_call.specs.Waits.{Counted, Others}
 use Rattle.bounds_call.proofs.Filling.{capped-small, capped-largest}
 use Rattle.bounds_call.proofs.Capped.{capped-sum, capped-left, capped-front, capped-right}
-use Rattle.bounds_call.proofs.WaitWords.{parent-small, child-member, thread-member}
+use Rattle.bounds_call.proofs.WaitWords.{parent-small, count-few, child-member, thread-member}
 
 pub above-all : (t : Tree) (n m : ℕ) (ws : List ℕ) → n ≡ m → Rounds-above t n ws → Rounds-above t m ws
 above-all t n m ws e so-far = rw (← e) so-far
 
 -- by the definition
-acquire-defined : (t : Tree) → Accepted t → (d m : ℕ) → d < t .domains → acquire-rounds t d m ≡ 3 + ((members t d - 1) * (rounds-above t d + 5 * level t d) + (2 + levels t) * others-passes t d m) + rounds-above t d
-unfolding rounds-above above-rounds others-rounds entry-rounds
+acquire-defined :
+    (t : Tree) → Accepted t → (d m : ℕ) → d < t .domains →
+    acquire-rounds t d m
+    ≡ 3 + (link-rounds t d + tenures-for t d (members t d) * rounds-above t d + tenures-for t d (members t d - 1) * (5 * level t d) + (2 + levels t) * others-passes t d m)
+unfolding rounds-above above-rounds standing-rounds entry-rounds
 acquire-defined t valid d m s = acquire-at t valid d m s
 
 -- LEVELS
@@ -65,33 +70,52 @@ module _ (w : TreeWords) (ok : tree-refusal (tree-of w) .number ≡ 0) where
   pub level-done : (d n x : ℕ) → x ≡ 0 → n + depth t x ≡ level t d → n ≡ level t d
   level-done d n x z e = let top = depth-zero t valid x z in omega arith
 
+  -- THE LENGTH of a domain's tenures
+  pub length-root : (d : ℕ) → d < w .domains → d ≡ 0 → (1 ≡ tenure-length t d) × (0 < 1)
+  unfolding tenure-length
+  length-root d s z = (rw (eq-eqb d 0 z) refl, omega arith)
+
+  pub length-inner :
+      (d n h r : ℕ) (counts : List ℕ) → Counted t counts → d ≢ 0 → d < w .domains → h ≡ getD (w .thresholds) d 0 → n ≡ getD counts d 0 →
+      (r ≡ cond (ltb 1 n) h 1) × (h < 65536) → (r ≡ tenure-length t d) × (0 < r)
+  unfolding tenure-length effective-threshold tree-of
+  length-inner d n h r counts counted z s e f g =
+      let few = few-domains w ok in
+      let threshold = threshold-in (w .domains) (w .threads) (w .parents) (w .thresholds) (w .homes) d (omega arith) s (rw e at (g .1)) in
+      let is : r ≡ tenure-length t d = g .0 ∙ rw (ne-eqb d 0 z, e, ← threshold, f, counted .counted d (omega arith)) refl in
+      let some = length-some t valid d s in
+      (is, omega arith)
+
+  pub counts-few : (d n : ℕ) (counts : List ℕ) → Counted t counts → d < w .domains → n ≡ getD counts d 0 - 1 → n ≤ 320
+  unfolding tree-of
+  counts-few d n counts counted s e = let few = few-domains w ok in let x = count-few w ok d (getD counts d 0) counts (omega arith) counted refl in omega arith
+
   -- THE ROUNDS of a member: the steps of the code, each number cut
   pub acquire-word :
-      (d deepest above passes others here held tenures entries before waited r : ℕ) (counts : List ℕ) → Counted t counts → d < w .domains →
-      deepest ≡ levels t → others ≡ getD counts d 0 - 1 → here ≡ level t d → held ≡ capped (above + 5 * here) → tenures ≡ capped (others * held) →
-      entries ≡ capped ((2 + deepest) * passes) → before ≡ capped (tenures + entries) → waited ≡ capped (3 + before) → r ≡ capped (waited + above) → Acquires t d above passes r
-  unfolding tree-of
-  acquire-word d deepest above passes others here held tenures entries before waited r counts counted s deep rest here-is e₁ e₂ e₃ e₄ e₅ e₆ =
+      (d deepest above passes here len n all o others link product acquired back released entries standing r : ℕ) (counts : List ℕ) → Counted t counts → d < w .domains →
+      deepest ≡ levels t → here ≡ level t d → len ≡ tenure-length t d → n ≡ getD counts d 0 → all ≡ (n + len - 1) / len → o ≡ getD counts d 0 - 1 → others ≡ (o + len - 1) / len → link ≡ cond (ltb 1 len) 1 0 →
+      product ≡ capped (all * above) → acquired ≡ capped (link + product) → back ≡ capped (others * (5 * here)) → released ≡ capped (acquired + back) →
+      entries ≡ capped ((2 + deepest) * passes) → standing ≡ capped (released + entries) → r ≡ capped (3 + standing) → Acquires t d above passes r
+  unfolding tree-of tenures-for link-rounds
+  acquire-word d deepest above passes here len n all o others link product acquired back released entries standing r counts counted s deep here-is len-is n-is all-is o-is others-is link-is e₁ e₂ e₃ e₄ e₅ e₆ e₇ =
       record { acquires = λ m up under. whole m up under }
     where
       few : d < 64
       few = let x = few-domains w ok in omega arith
 
       steps :
-          (l a k o h : ℕ) →
-          capped (capped (3 + capped (capped (k * capped (capped a + 5 * h)) + capped ((2 + l) * capped o))) + capped a) ≡ capped (3 + (k * (a + 5 * h) + (2 + l) * o) + a)
-      steps l a k o h =
+          (i n a k h l o : ℕ) →
+          capped (3 + capped (capped (capped (i + capped (n * capped a)) + capped (k * h)) + capped (l * capped o))) ≡ capped (3 + (i + n * a + k * h + l * o))
+      steps i n a k h l o =
           rw
-          (capped-right (2 + l) o, capped-left a (5 * h), capped-right k (a + 5 * h), capped-sum (k * (a + 5 * h)) ((2 + l) * o), capped-front 3 (k * (a + 5 * h) + (2 + l) * o), capped-sum (3 + (k * (a + 5 * h) + (2 + l) * o)) a)
+          (capped-right l o, capped-right n a, capped-front i (n * a), capped-sum (i + n * a) (k * h), capped-sum (i + n * a + k * h) (l * o), capped-front 3 (i + n * a + k * h + l * o))
           refl
-
-      defined : (m : ℕ) → 3 + ((members t d - 1) * (rounds-above t d + 5 * level t d) + (2 + levels t) * others-passes t d m) + rounds-above t d ≡ acquire-rounds t d m
-      defined m = sym (acquire-defined t valid d m s)
 
       whole : (m : ℕ) → above ≡ capped (rounds-above t d) → passes ≡ capped (others-passes t d m) → r ≡ capped (acquire-rounds t d m)
       whole m up under =
-          rw (e₆, e₅, e₄, e₃, e₂, e₁, deep, rest, counted .counted d few, here-is, up, under)
-          (steps (levels t) (rounds-above t d) (members t d - 1) (others-passes t d m) (level t d) ∙ ap capped (defined m))
+          rw (e₇, e₆, e₅, e₄, e₃, e₂, e₁, deep, all-is, others-is, link-is, n-is, o-is, len-is, counted .counted d few, here-is, up, under)
+          (steps (link-rounds t d) (tenures-for t d (members t d)) (rounds-above t d) (tenures-for t d (members t d - 1)) (5 * level t d) (2 + levels t) (others-passes t d m)
+          ∙ ap capped (sym (acquire-defined t valid d m s)))
 
   -- THE ROUNDS ABOVE a domain
   pub above-root : (d : ℕ) → d ≡ 0 → 1 ≡ capped (rounds-above t d)

@@ -1,11 +1,13 @@
 // The allowances of a tree's domains, and the rounds in which every thread enters.
 ghost use mathlib.Core.Path.{_≡_};
+ghost use mathlib.Core.Bool.{cond};
 ghost use Prim.Native.Nat.{_+_, _-_, _*_, _<_, _≤_};
+ghost use lib.Dec.{ltb};
 ghost use lib.ListN.{getD};
 ghost use Rattle.model.specs.Trees.{tree-of, level};
 ghost use Rattle.model.specs.Refusals.{tree-refusal};
 ghost use Rattle.refusals.specs.Arrays.{refusal-words};
-ghost use Rattle.bounds.specs.StarvationFreedom.Bounds.{levels, acquire-bound, release-bound, everyone-bound};
+ghost use Rattle.bounds.specs.StarvationFreedom.Bounds.{levels, tenure-length, acquire-bound, release-bound, everyone-bound};
 ghost use Rattle.bounds.specs.Answers.{capped, allowances-answer, allowances-left, rounds-answer};
 ghost use Rattle.bounds_call.specs.Arrays.{rounds-above, Acquires, Rounds-above};
 ghost use Rattle.bounds_call.specs.Waits.{Counted, Others};
@@ -118,6 +120,39 @@ fn others_of(counts: &[u64; 64], d: u32) -> u64
     n - 1
 }
 
+// How many members of a domain have the lock one after the other before the domains above are released.
+fn tenure_length(tree: TreeWords, counts: &[u64; 64], d: u32) -> u16
+    requires { ⌜ tree-refusal (tree-of tree) .number ≡ 0 ⌝ }
+    requires { ⌜ d < tree .domains ⌝ }
+    requires { ⌜ Counted (tree-of tree) (now counts) ⌝ }
+    ensures { λ r. ⌜ (r ≡ tenure-length (tree-of tree) d) × (0 < r) ⌝ }
+{
+    if d == 0 {
+        return 1;
+    }
+    let at = d as usize;
+    wait_bounds::effective_of(tree.thresholds[at], counts[at])
+}
+
+// The round for the links, where the lock is passed on.
+fn link_round(length: u16) -> u64
+    ensures { λ r. ⌜ r ≡ cond (ltb 1 length) 1 0 ⌝ }
+{
+    if 1 < length {
+        return 1;
+    }
+    0
+}
+
+// The members of a domain.
+fn members_of(counts: &[u64; 64], d: u32) -> u64
+    requires { ⌜ d < 64 ⌝ }
+    ensures { λ r. ⌜ r ≡ getD (now (counts .entry)) d 0 ⌝ }
+{
+    let at = d as usize;
+    counts[at]
+}
+
 // The rounds of a member from its domain on to Inside, by those above the domain and the passes of its other members.
 fn acquire_of(
     tree: TreeWords,
@@ -133,14 +168,14 @@ fn acquire_of(
     requires { ⌜ Counted (tree-of tree) (now counts) ⌝ }
     ensures { λ r. ⌜ Acquires (tree-of tree) d above passes r ⌝ }
 {
-    let others = others_of(counts, d);
     let level = level_of(tree, d);
-    let held = capped_sum(above, 5 * level);
-    let tenures = capped_product(others, held);
-    let entries = capped_product(2 + deepest, passes);
-    let before = capped_sum(tenures, entries);
-    let waited = capped_sum(3, before);
-    capped_sum(waited, above)
+    let length = tenure_length(tree, counts, d);
+    let all = wait_bounds::tenures_of(members_of(counts, d), length);
+    let others = wait_bounds::tenures_of(others_of(counts, d), length);
+    let acquired = capped_sum(link_round(length), capped_product(all, above));
+    let released = capped_sum(acquired, capped_product(others, 5 * level));
+    let standing = capped_sum(released, capped_product(2 + deepest, passes));
+    capped_sum(3, standing)
 }
 
 // The rounds above a domain: at the root the one that enters, and elsewhere those of its own record in its parent.

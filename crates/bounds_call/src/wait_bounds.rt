@@ -75,7 +75,7 @@ pub(crate) fn count_members(tree: TreeWords) -> [u64; 64]
 }
 
 // A threshold as far as it has an effect.
-fn effective_of(threshold: u16, members: u64) -> u16
+pub(crate) fn effective_of(threshold: u16, members: u64) -> u16
     ensures { λ r. ⌜ (r ≡ cond (ltb 1 members) threshold 1) × (threshold < 65536) ⌝ }
 {
     if 1 < members {
@@ -157,8 +157,8 @@ pub(crate) fn sums_of_others<'a>(
     others
 }
 
-// How many tenures of a domain are enough for all its members.
-fn tenures_of(members: u64, threshold: u16) -> u64
+// How many tenures of a domain so many of its members take.
+pub(crate) fn tenures_of(members: u64, threshold: u16) -> u64
     requires { ⌜ members ≤ 320 ⌝ }
     requires { ⌜ 0 < threshold ⌝ }
     ensures { λ r. ⌜ (r ≡ (members + threshold - 1) / threshold) × (threshold < 65536) ⌝ }

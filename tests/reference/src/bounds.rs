@@ -51,13 +51,27 @@ fn members(tree: &Tree, domain: usize) -> Vec<usize> {
     (0..tree.threads).filter(|&thread| tree.home(thread) == domain).chain(children).collect()
 }
 
-/// The rounds of a member from its domain on to the entry: three to come there, a tenure of each other member, and those for the domains above, which at the root is one. In a tenure a member acquires the domains above, makes its entries, each of two rounds and one more for each level of the tree, and releases the domains down to this one in five rounds each.
+/// How many members of a domain may have the lock one after the other while the domains above are kept: at the root, and where there is nobody to pass to, one.
+fn tenure_length(tree: &Tree, domain: usize, members: usize) -> u128 {
+    if domain == ROOT || members < 2 {
+        1
+    } else {
+        tree.thresholds[domain] as u128
+    }
+}
+
+/// The rounds of a member from its domain on to the entry: three to come there; where the lock is passed on, one in which those before it link; the domains above acquired once for each tenure that the members need, which at the root takes one round, and released once for each that the others need, in five rounds for each level; and for every entry of the others two rounds and one more for each level of the tree.
 fn acquire(tree: &Tree, domain: usize, member: usize) -> u128 {
     let above = if domain == ROOT { 1 } else { acquire(tree, tree.parent(domain), domain_record(domain)) };
     let levels = (0..tree.domains).map(|domain| level(tree, domain)).max().unwrap_or(0);
-    let tenure = |other| (2 + levels).saturating_mul(passes(tree, other)).saturating_add(above).saturating_add(5 * level(tree, domain));
-    let others = members(tree, domain).into_iter().filter(|&other| other != member);
-    others.fold(3 + above, |sum, other| sum.saturating_add(tenure(other)))
+    let all = members(tree, domain);
+    let length = tenure_length(tree, domain, all.len());
+    let tenures = |count: usize| (count as u128).div_ceil(length);
+    let entries = all.iter().filter(|&&other| other != member).fold(0u128, |sum, &other| sum.saturating_add(passes(tree, other)));
+    let links = if length > 1 { 1 } else { 0 };
+    (3 + links + tenures(all.len() - 1) * 5 * level(tree, domain))
+        .saturating_add(tenures(all.len()).saturating_mul(above))
+        .saturating_add((2 + levels).saturating_mul(entries))
 }
 
 /// A thread enters within the rounds of an acquisition and those of the release before it, six for each level; by round robin a round is one turn of each thread.

@@ -1,17 +1,16 @@
 -- Where a chain ends: at the thread that enters, it has gone through all who stand before in the queue, each linked to the one before it, and on from the one who acts for the first. Assumes nothing.
 use mathlib.Core.Path.{_≡_, refl, sym, ap, _∙_}
 use mathlib.Core.Bool.{Bool, true, false, false≢true}
-use mathlib.Core.List.{List, [], _∷_, _++_, append-assoc, head-eq-of-cons-eq}
+use mathlib.Core.List.{List, [], _∷_, _++_, head-eq-of-cons-eq}
 use mathlib.Core.Logic.{_≢_, _⊎_, inl, inr}
 use Prim.Native.Nat.{ℕ, suc, _+_, _≤_, _<_}
 use native.Mathlib.Omega.{arith}
 use lib.Dec.{eqb}
-use lib.ListN.{length}
 use borrow.Author.Tests.{eqb-true}
 use Rattle.model.specs.declared.Place.{Place}
 use Rattle.model.specs.declared.Place.the-variants.{Idle, Prep, Swap, Link, Wait, Inside, Check, Help, Cas, Linger, Grant, Draw, Watch, Raise, Invalid}
 use Rattle.model.specs.declared.State.{State as WordState}
-use Rattle.model.specs.Trees.{Tree, is-ticket, own-record}
+use Rattle.model.specs.Trees.{Tree, own-record}
 use Rattle.model.specs.States.{next, status, place, Has-room}
 use Rattle.model.specs.Steps.{is-entry, Row-result, step}
 use Rattle.model.specs.Acts.{acts}
@@ -19,17 +18,16 @@ use Rattle.model.specs.Laws.{Sixteen-bit}
 use Rattle.model.proofs.Tests.{and-both}
 use Rattle.model.proofs.Branches.{Branch, idle-draws, idle-prepares, prepares, swap-root, swap-inner, swap-behind, link-writes, wait-root-locked, wait-root-granted, wait-ungranted, wait-acquires, wait-passed, wait-crossed, inside-leaves, check-passes, check-releases, help-alone, help-linked, cas-last, cas-not-last, linger-alone, linger-linked, grant-writes, draw-shown, draw-unshown, watch-shown, watch-unshown, raise-counts, invalid-stays, branch}
 use Rattle.model.proofs.Laws.Kinds.{may-stay}
-use Rattle.model.proofs.Lists.{less-or, first, rest, first-rest, is-same, count, count-append, count-cons}
+use Rattle.model.proofs.Lists.{first}
 use Rattle.model.proofs.Places.{place-stored}
 use Rattle.model.proofs.Trees.Index.{ancestor, height, record-at}
 use Rattle.model.proofs.Trees.Accepted.{Accepted}
 use Rattle.model.proofs.Trees.Tickets.{ticket-yes}
 use Rattle.model.proofs.Trees.Paths.{ancestor-root}
 use Rattle.model.proofs.Trees.Records.{own-record-at}
-use Rattle.claims.proofs.Queues.Moves.{Stage, out, climb, queued, ready, inside, holding, releasing, low, State}
+use Rattle.claims.proofs.Queues.Moves.{Stage, queued, inside, low, State}
 use Rattle.claims.proofs.Queues.Moves as moves
 use Rattle.claims.proofs.Queues.Invariant.{Inv}
-use Rattle.claims.proofs.Words.Links.{after, after-here, after-past}
 use Rattle.chain.specs.Chain.{stays, acts-ahead, links, acts-holding, ticket-before, looked-to, chain}
 use Rattle.chain.specs.Laws.{Chain-on, ends, goes-on, Chain-law}
 use Rattle.chain.proofs.Chains.{looks-small, chain-law}
@@ -41,9 +39,9 @@ use Rattle.bounds.proofs.starvation_freedom.Situations.{Situation, queu
 use Rattle.bounds.proofs.starvation_freedom.Says.{Says, says, stands, woken, granted}
 use Rattle.bounds.proofs.starvation_freedom.Queues.{tag}
 use Rattle.bounds.specs.LongestWait.InLine.{ends-at}
-use Rattle.bounds.proofs.longest_wait.Linked.{All-linked, linked-join}
-use Rattle.bounds.proofs.longest_wait.Stages.{Leads, same, is-handed, is-granted, steps-on}
-use Rattle.bounds.proofs.longest_wait.Over.{letting-go-tag}
+use Rattle.bounds.proofs.starvation_freedom.Line.{Lined, line-after}
+use Rattle.bounds.proofs.starvation_freedom.Stages.{Leads, same, is-handed, is-granted, steps-on}
+use Rattle.bounds.proofs.starvation_freedom.Over.{letting-go-tag}
 
 -- LISTS
 pub ends-last : (x i : ℕ) (front : List ℕ) → ends-at x (front ++ (i ∷ [])) ≡ eqb i x
@@ -51,13 +49,6 @@ unfolding ends-at
 ends-last x i [] = refl
 ends-last x i (a ∷ []) = refl
 ends-last x i (a ∷ b ∷ bs) = ends-last x i (b ∷ bs)
-
--- who stands after a number that is once in a list
-after-split : (xs ys : List ℕ) (p : ℕ) → count p xs ≡ 0 → after (xs ++ (p ∷ ys)) p ≡ first ys
-after-split [] ys p h = after-here p p ys refl
-after-split (x ∷ xs) ys p h =
-    let n : p ≢ x = λ e. omega (arith, count-cons p x xs, is-same p x e) in
-    after-past p x (xs ++ (p ∷ ys)) n ∙ after-split xs ys p (omega (arith, count-cons p x xs))
 
 -- ENTRIES arrive Inside, from one of these places
 unfoldable may-enter : Place → Bool
@@ -228,95 +219,9 @@ module _ (t : Tree) (valid : Accepted t) (bits : Sixteen-bit t) (c : Situation t
             absurd (link-ends j (y .0) (own-record t b l) x (look .real) (y .1) f more))
       ]
 
-  -- WHO STANDS BEFORE a thread that stands at index j: thread b at its index k acts for the first, r, and xs are between; all are linked
-  pub record Line (i j r b k : ℕ) (xs : List ℕ) : Type 0 where
-    pub stage : g .stage i ≡ queued j
-    pub later : List ℕ
-    pub shape : g .queue (ancestor t i j) ≡ r ∷ (xs ++ (record-at t i j ∷ later))
-    pub linked : is-ticket t (ancestor t i j) ≡ false → All-linked s (r ∷ xs)
-    pub first-there : k < low (height t b) (g .stage b)
-    pub there : ancestor t b k ≡ ancestor t i j
-    pub mine : record-at t b k ≡ r
-
-  -- with the end of the chain
-  pub record Line-ends (i j x : ℕ) : Type 0 where
-    pub head : ℕ
-    pub thread : ℕ
-    pub index : ℕ
-    pub between : List ℕ
-    pub line : Line i j head thread index between
-    pub real : thread < t .threads
-    pub end : Ends thread x
-
-  -- whoever acts at an index from where it is not first stands there
-  standing : (h k : ℕ) (x : Stage) → low h x ≤ k → k < moves.acts h x → x ≡ queued k
-  unfolding low moves.acts
-  standing h k out a b = absurd (omega arith)
-  standing h k (climb j) a b = absurd (omega arith)
-  standing h k (queued j) a b = ap queued (omega arith)
-  standing h k ready a b = absurd (omega arith)
-  standing h k inside a b = absurd (omega arith)
-  standing h k holding a b = absurd (omega arith)
-  standing h k (releasing j) a b = absurd (omega arith)
-
-  -- after the one who acts for the record just before
-  line-after :
-      (i j a l p x : ℕ) → g .stage i ≡ queued j → a < t .threads → l < moves.acts (height t a) (g .stage a) → ancestor t a l ≡ ancestor t i j → record-at t a l ≡ p →
-      after (g .queue (ancestor t i j)) p ≡ suc (record-at t i j) → (is-ticket t (ancestor t i j) ≡ false → next s p ≢ 0) → Ends a x → (g .stage a ≡ queued l → Line-ends a l x) →
-      Line-ends i j x
-  unfolding All-linked
-  line-after i j a l p x e ha acting there mine follows named end rec =
-      let d = ancestor t i j in
-      less-or l (low (height t a) (g .stage a)) _
-      (λ h.
-      let head : first (g .queue d) ≡ suc p = rw (there, mine) at (inv .threads a .heads l h) in
-      let q = first-rest p (g .queue d) head in
-      let second : first (rest (g .queue d)) ≡ suc (record-at t i j) = sym (ap (λ u. after u p) q ∙ after-here p p (rest (g .queue d)) refl) ∙ follows in
-      record {
-        head = p;
-        thread = a;
-        index = l;
-        between = [];
-        line = record {
-          stage = e;
-          later = rest (rest (g .queue d));
-          shape = q ∙ ap (λ u. p ∷ u) (first-rest (record-at t i j) (rest (g .queue d)) second);
-          linked = λ nt. (named nt, tt);
-          first-there = h;
-          there = there;
-          mine = mine;
-        };
-        real = ha;
-        end = end;
-      })
-      (λ h.
-      let y = rec (standing (height t a) l (g .stage a) h acting) in
-      let L = y .line in
-      let r = y .head in
-      let xs = y .between in
-      let shape : g .queue d ≡ r ∷ (xs ++ (p ∷ L .later)) = rw (there, mine) at (L .shape) in
-      let once : count p (g .queue d) ≤ 1 = inv .once d p in
-      let counted : count p (g .queue d) ≡ count p (r ∷ xs) + count p (p ∷ L .later) = ap (count p) shape ∙ count-append p (r ∷ xs) (p ∷ L .later) in
-      let none-before : count p (r ∷ xs) ≡ 0 = omega (arith, count-cons p p (L .later), is-same p p refl) in
-      let second : first (L .later) ≡ suc (record-at t i j) = sym (ap (λ u. after u p) shape ∙ after-split (r ∷ xs) (L .later) p none-before) ∙ follows in
-      let z = first-rest (record-at t i j) (L .later) second in
-      record {
-        head = r;
-        thread = y .thread;
-        index = y .index;
-        between = xs ++ (p ∷ []);
-        line = record {
-          stage = e;
-          later = rest (L .later);
-          shape = shape ∙ ap (λ u. r ∷ u) (ap (λ u. xs ++ (p ∷ u)) z ∙ sym (append-assoc xs (p ∷ []) (record-at t i j ∷ rest (L .later))));
-          linked = λ nt. linked-join s (r ∷ xs) (p ∷ []) (L .linked (rw there nt)) (named nt, tt);
-          first-there = L .first-there;
-          there = L .there ∙ there;
-          mine = L .mine;
-        };
-        real = y .real;
-        end = y .end;
-      })
+  -- who stands before, with the end of the chain
+  abbrev pub Line-ends : (i j x : ℕ) → Type 0
+  Line-ends i j x = Lined t valid bits c (λ a. Ends a x) i j
 
   stage-index : (j k : ℕ) → queued j ≡ queued k → j ≡ k
   unfolding low
@@ -337,7 +242,7 @@ module _ (t : Tree) (valid : Accepted t) (bits : Sixteen-bit t) (c : Situation t
           let named : next s (own-record t a d) ≡ suc (record-at t i k) = eqb-true _ _ (both .1) ∙ (let z : own-record t i d + 1 ≡ suc (record-at t i k) = omega arith in z) in
           let before = stands-before t valid bits s (c .queued) d (record-at t i k) a nt (look .real) (both .0) named in
           let w = acting-there t valid bits s (c .queued) d a (look .real) (both .0) in
-          let all = line-after i k a (w .index) (own-record t a d) x q (look .real) (w .within) (w .there) (w .mine) before (λ _ z. omega arith) more (λ z. rec (w .index) z) in
+          let all = line-after t valid bits c (λ e. Ends e x) i k a (w .index) (own-record t a d) q (look .real) (w .within) (w .there) (w .mine) before (λ _ z. omega arith) more (λ z. rec (w .index) z) in
           rw (← same-index) at all
       by rec _ looked y (lingers k l b n z) = absurd (let w = says t valid c i h (Linger (ancestor t i k)) y in let o = ap tag (sym e ∙ w .2) in omega (arith, letting-go-tag (height t i) (w .0)))
       by rec _ looked y (watches q root) =
@@ -347,5 +252,5 @@ module _ (t : Tree) (valid : Accepted t) (bits : Sixteen-bit t) (c : Situation t
           let both = and-both (acts t s a 0) (eqb (status s (own-record t a 0)) (ticket-before (status s (own-record t i 0)))) looked in
           let before = watch-before t valid bits s (c .queued) i h q root a (look .real) (both .0) (eqb-true _ _ (both .1)) in
           let w = acting-there t valid bits s (c .queued) 0 a (look .real) (both .0) in
-          let all = line-after i k a (w .index) (own-record t a 0) x q (look .real) (w .within) (w .there ∙ sym top) (w .mine) (rw top before) (λ nt. absurd (false≢true (sym nt ∙ ticket-yes t (ancestor t i k) root top))) more (λ z. rec (w .index) z) in
+          let all = line-after t valid bits c (λ e. Ends e x) i k a (w .index) (own-record t a 0) q (look .real) (w .within) (w .there ∙ sym top) (w .mine) (rw top before) (λ nt. absurd (false≢true (sym nt ∙ ticket-yes t (ancestor t i k) root top))) more (λ z. rec (w .index) z) in
           rw (← same-index) at all

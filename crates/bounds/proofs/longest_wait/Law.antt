@@ -27,24 +27,22 @@ use Rattle.model.proofs.Trees.Accepted.{Accepted, accepted}
 use Rattle.model.proofs.Trees.Tickets.{ticket-facts}
 use Rattle.model.proofs.Trees.Paths.{ancestor-home, ancestor-zero, ancestor-injective}
 use Rattle.model.proofs.Trees.Records.{record-own}
-use Rattle.claims.proofs.Queues.Moves.{climb, queued, inside, State, Event, Run, done, silent, more}
-use Rattle.claims.proofs.Queues.Invariant.{Inv, inv-empty}
-use Rattle.claims.proofs.Queues.Paths.{laws}
-use Rattle.claims.proofs.Queues.Keeps.{keeps}
+use Rattle.claims.proofs.Queues.Moves.{climb, queued, inside}
+use Rattle.claims.proofs.Queues.Invariant.{inv-empty}
 use Rattle.claims.proofs.Claims.Reached.{from-fresh}
 use Rattle.chain.specs.Chain.{chain}
 use Rattle.waits.specs.Attempts.{swaps-at, draws, begins-from, begins as begins-attempt}
 use Rattle.bounds.proofs.starvation_freedom.Situations as situations
-use Rattle.bounds.proofs.starvation_freedom.Situations.{Situation, queues, next-words, place-other, moved}
+use Rattle.bounds.proofs.starvation_freedom.Situations.{Situation, queues, next-words, place-other}
 use Rattle.bounds.proofs.starvation_freedom.Queues.{tag}
 use Rattle.bounds.proofs.starvation_freedom.Says.{Says, says, stands, woken, granted, pass, release}
 use Rattle.bounds.proofs.starvation_freedom.Turns.{From-idle, to-swap, drawn-inside, drawn-watch, idle-turn}
 use Rattle.bounds.specs.LongestWait.Bounds.{effective, wait-bound}
 use Rattle.bounds.specs.LongestWait.InLine.{ends-at, others-entry, in-line, bypass, prompt, late-entry, count-steps}
 use Rattle.bounds.specs.LongestWait.Laws.{Bounded-wait, Wait-bound-law}
-use Rattle.bounds.proofs.longest_wait.Stages.{Ones, ones-empty, ones-step}
-use Rattle.bounds.proofs.starvation_freedom.Effective.{effective-keeps}
-use Rattle.bounds.proofs.longest_wait.Over.{letting-go-tag}
+use Rattle.bounds.proofs.starvation_freedom.Law.{counts-run}
+use Rattle.bounds.proofs.starvation_freedom.Stages.{ones-empty}
+use Rattle.bounds.proofs.starvation_freedom.Over.{letting-go-tag}
 use Rattle.bounds.proofs.longest_wait.Ends.{chain-ends}
 use Rattle.bounds.proofs.longest_wait.Owes as owes
 use Rattle.bounds.proofs.longest_wait.Owes.{Sound, sound-next, W, Owes}
@@ -74,19 +72,13 @@ module _ (t : Tree) (ok : tree-refusal t .number ≡ 0) (bits : Sixteen-bit t) w
   abbrev go : Along → (a : ℕ) → a < t .threads → Along
   go s a h = record { now = situations.next t valid bits (s .now) a h; sound = sound-next t valid bits (s .now) a h (s .sound) }
 
-  -- along a run of the queues
-  sound-run : {st st′ : State} {es : List Event} → Run t st es st′ → Inv t st → Inv (effective t) st → Ones t st → Inv (effective t) st′ × Ones t st′
-  sound-run done inv w o = (w, o)
-  sound-run (silent {st = st} m r) inv w o = sound-run r (keeps t (laws t valid) st inv m) (effective-keeps t valid inv (moved m) w) (ones-step t valid inv (moved m) o)
-  sound-run (more {st = st} m r) inv w o = sound-run r (keeps t (laws t valid) st inv m) (effective-keeps t valid inv (moved m) w) (ones-step t valid inv (moved m) o)
-
   begin : (start : ℕ) → Along
   unfolding steps state-after All-threads
   begin start =
       let l = from-fresh t valid bits start [] tt in
-      let s = sound-run (l .follows) (inv-empty t) (inv-empty (effective t)) (ones-empty t) in
+      let s = counts-run t valid bits (l .follows) (inv-empty t) (inv-empty (effective t)) (ones-empty t) in
       record {
-        now = record { words = fresh-state t start; queued = l .there; effectively = s .0 };
+        now = record { words = fresh-state t start; queued = l .there; effectively = s .0; ones = s .1 };
         sound = record { within = s .0; ones = s .1 };
       }
 

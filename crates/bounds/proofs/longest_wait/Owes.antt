@@ -1,12 +1,11 @@
 -- How many entries a thread may still see in line: so many at most, by the members before it in its queue, by whoever is first there, and by what that one in turn may still see. Assumes nothing.
 use mathlib.Core.Path.{_≡_, refl, ap, _∙_}
 use mathlib.Core.List.{List, _∷_}
-use mathlib.Core.Logic.{_≢_, inl, inr}
+use mathlib.Core.Logic.{inl, inr}
 use Prim.Native.Nat.{ℕ, _+_, _*_, _/_, _≤_, _<_}
 use native.Mathlib.Omega.{arith}
 use lib.ListN.{length}
 use Rattle.model.specs.Trees.{Tree}
-use Rattle.model.specs.States.{place}
 use Rattle.model.specs.Laws.{Sixteen-bit}
 use Rattle.model.proofs.Lists.{same-or}
 use Rattle.model.proofs.Trees.Index.{ancestor, height, record-at}
@@ -18,14 +17,14 @@ use Rattle.bounds.proofs.starvation_freedom.Situations as situations
 use Rattle.bounds.proofs.starvation_freedom.Situations.{Situation, queues, next-change}
 use Rattle.bounds.proofs.starvation_freedom.Queues.{tag}
 use Rattle.bounds.specs.LongestWait.Bounds.{effective, passes, others-passes, tenures-for-all, member-wait}
-use Rattle.bounds.proofs.longest_wait.Arithmetic.{one-tenure}
+use Rattle.bounds.proofs.starvation_freedom.Arithmetic.{one-tenure}
 use Rattle.bounds.proofs.starvation_freedom.Weights.{weight}
 use Rattle.bounds.proofs.starvation_freedom.Effective.{effective-keeps, left-there, left-within}
 use Rattle.bounds.proofs.longest_wait.Waits.{above-wait, above-root, wait-at, tenures-enough, above-enough}
-use Rattle.bounds.proofs.longest_wait.Stages.{Ones, ones-step, on-way}
-use Rattle.bounds.proofs.longest_wait.Over.{Over}
-use Rattle.bounds.proofs.longest_wait.Ends.{Line}
-use Rattle.bounds.proofs.longest_wait.Lines.{low-real, stands-real, climbs-real, weight-before, short-before}
+use Rattle.bounds.proofs.starvation_freedom.Stages.{Ones, ones-step, on-way}
+use Rattle.bounds.proofs.starvation_freedom.Line.{Line}
+use Rattle.bounds.proofs.starvation_freedom.Held.{Held}
+use Rattle.bounds.proofs.starvation_freedom.Lines.{low-real, stands-real, climbs-real, weight-before, short-before}
 
 module _ (t : Tree) (valid : Accepted t) (bits : Sixteen-bit t) where
   -- what holds along a run besides: counts within the effective thresholds, and 1 on the way up
@@ -54,13 +53,6 @@ module _ (t : Tree) (valid : Accepted t) (bits : Sixteen-bit t) where
     abbrev pub rest-there : (b k : ℕ) → ℕ
     rest-there b k = left-there t valid g b k
 
-    -- the first has the lock: its count is at most v, and v is the threshold once its Check is over
-    pub record Held (i j r b k v : ℕ) (xs : List ℕ) : Type 0 where
-      pub line : Line t valid bits c i j r b k xs
-      pub has-lock : 3 ≤ tag (g .stage b)
-      pub count : g .tally r ≤ v
-      pub at-threshold : ancestor t i j ≢ 0 → Over (ancestor t i j) (place (c .words) b) → t .threshold (ancestor t i j) ≤ v
-
     abbrev pub held-left : (i j b k v : ℕ) (xs : List ℕ) → ℕ
     held-left i j b k v xs = weight (passes t) xs + rest-there b k + tenures-left (ancestor t i j) v (length xs)
 
@@ -68,7 +60,7 @@ module _ (t : Tree) (valid : Accepted t) (bits : Sixteen-bit t) where
       free : (i n : ℕ) → g .stage i ≡ ready → Owes i n
       climbs : (i j n : ℕ) → g .stage i ≡ climb j → W i j ≤ n → Owes i n
       stands : (i j n : ℕ) → g .stage i ≡ queued j → W i j ≤ n → Owes i n
-      held : (i j r b k v n : ℕ) (xs : List ℕ) → Held i j r b k v xs → held-left i j b k v xs ≤ n → Owes i n
+      held : (i j r b k v n : ℕ) (xs : List ℕ) → Held t valid bits c i j r b k v xs → held-left i j b k v xs ≤ n → Owes i n
       waits : (i j r b k u n : ℕ) (xs : List ℕ) → Line t valid bits c i j r b k xs → tag (g .stage b) ≤ 2 → Owes b u → held-left i j b k 1 xs + u ≤ n → Owes i n
 
     module _ (sound : Sound c) (i j r b k : ℕ) (xs : List ℕ) (L : Line t valid bits c i j r b k xs) where
@@ -94,7 +86,7 @@ module _ (t : Tree) (valid : Accepted t) (bits : Sixteen-bit t) where
       wait-there = let real = stands-real t valid bits c i j (L .stage) in wait-at t valid d (record-at t i j) (ancestor-real t valid i (real .0) j)
 
       -- THE FIRST HAS THE LOCK: so much at most
-      pub held-enough : 3 ≤ tag (g .stage b) → (v : ℕ) × Held i j r b k v xs × (held-left i j b k v xs ≤ W i j)
+      pub held-enough : 3 ≤ tag (g .stage b) → (v : ℕ) × Held t valid bits c i j r b k v xs × (held-left i j b k v xs ≤ W i j)
       held-enough lock =
           let real = stands-real t valid bits c i j (L .stage) in
           same-or d 0 _
@@ -102,7 +94,7 @@ module _ (t : Tree) (valid : Accepted t) (bits : Sixteen-bit t) where
           let none : above-wait t d ≡ 0 = above-root t d z in
           let v = g .tally r in (
             v,
-            record { line = L; has-lock = lock; count = omega arith; at-threshold = λ n. absurd (n z) },
+            record { line = L; has-lock = lock; count-within = omega arith; at-threshold = λ n. absurd (n z) },
             (let y : tenures-left d v (length xs) ≡ 0 = rw none (omega arith) in omega (arith, before-enough, wait-there)),
           ))
           (λ z.
@@ -112,7 +104,7 @@ module _ (t : Tree) (valid : Accepted t) (bits : Sixteen-bit t) where
           let y : tenures-left d v (length xs) ≡ above-wait t d + (length xs / t .threshold d) * above-wait t d =
           ap (λ m. m * above-wait t d) (one-tenure (t .threshold d) (length xs) some) ∙ omega arith in (
             v,
-            record { line = L; has-lock = lock; count = counts; at-threshold = λ n o. omega arith },
+            record { line = L; has-lock = lock; count-within = counts; at-threshold = λ n o. omega arith },
             omega (arith, before-enough, wait-there, tenures-enough t valid d (length xs) (omega arith) (ancestor-real t valid i (real .0) j) (omega (arith, short-before t valid bits c i j r b k xs L))),
           ))
 

@@ -19,12 +19,14 @@ use Rattle.bounds.proofs.starvation_freedom.Situations.{Situation, queu
 use Rattle.bounds.proofs.starvation_freedom.Queues.{tag}
 use Rattle.bounds.proofs.starvation_freedom.Left.{hits, entry-hits}
 use Rattle.bounds.proofs.longest_wait.Waits.{wait-less}
-use Rattle.bounds.proofs.longest_wait.Stages.{steps-on, from-queued, from-climb, from-ready, way-lasts, way-pending, inside-stage}
-use Rattle.bounds.proofs.longest_wait.Over.{not-over}
-use Rattle.bounds.proofs.longest_wait.Ends.{Line, Enters, entry-inside, Ends, own-end, Line-ends, line-ends}
-use Rattle.bounds.proofs.longest_wait.Lines.{low-real, stands-real, climbs-real}
-use Rattle.bounds.proofs.longest_wait.Owes.{Sound, W, Held, held-left, Owes, free, climbs, stands, held, waits, held-enough, waits-enough}
-use Rattle.bounds.proofs.longest_wait.Falls.{Owed, same-tally, itself-kept, rest-less, held-falls, held-enters}
+use Rattle.bounds.proofs.starvation_freedom.Stages.{steps-on, from-queued, from-climb, from-ready, way-lasts, way-pending, inside-stage}
+use Rattle.bounds.proofs.starvation_freedom.Over.{not-over}
+use Rattle.bounds.proofs.longest_wait.Ends.{Enters, entry-inside, Ends, own-end, Line-ends, line-ends}
+use Rattle.bounds.proofs.starvation_freedom.Line.{Line}
+use Rattle.bounds.proofs.starvation_freedom.Held.{Held, same-tally}
+use Rattle.bounds.proofs.starvation_freedom.Lines.{low-real, stands-real, climbs-real}
+use Rattle.bounds.proofs.longest_wait.Owes.{Sound, W, held-left, Owes, free, climbs, stands, held, waits, held-enough, waits-enough}
+use Rattle.bounds.proofs.longest_wait.Falls.{Owed, itself-kept, rest-less, held-falls, held-enters}
 
 module _ (t : Tree) (valid : Accepted t) (bits : Sixteen-bit t) (c : Situation t) (sound : Sound t valid bits c) (x : ℕ) (hx : x < t .threads) where
   tree-laws : Laws t
@@ -85,7 +87,7 @@ module _ (t : Tree) (valid : Accepted t) (bits : Sixteen-bit t) (c : Situation t
     on = way-lasts (height t b) k (real .1) (steps-on t ch b (λ z. let p = L .first-there in let q : low (height t b) (g .stage b) ≡ 0 = rw z refl in omega arith)) way (L .first-there)
 
     count : g′ .tally r ≡ 1
-    count = same-tally t valid bits c sound x hx i j r b k xs L (on .0) ∙ rw (L .mine) at (sound .ones b k way (L .first-there))
+    count = same-tally t valid bits c x hx i j r b k xs L (on .0) ∙ rw (L .mine) at (sound .ones b k way (L .first-there))
 
     -- it has the lock now
     now-held : 3 ≤ tag (g′ .stage b) → held-left t valid bits c′ i j b k 1 xs + f ≤ n → Owed t valid bits c′ i n f
@@ -93,7 +95,7 @@ module _ (t : Tree) (valid : Accepted t) (bits : Sixteen-bit t) (c : Situation t
         let H′ : Held t valid bits c′ i j r b k 1 xs = record {
           line = itself-kept t valid bits c sound x hx i j r b k xs L (on .0);
           has-lock = lock;
-          count = omega (arith, count);
+          count-within = omega (arith, count);
           at-threshold = λ q o. absurd (not-over t valid bits b (real .0) c′ (ancestor t i j) (place (c′ .words) b) refl (on .1) o);
         } in
         record { left = held-left t valid bits c′ i j b k 1 xs; owes = held i j r b k 1 (held-left t valid bits c′ i j b k 1 xs) xs H′ (omega arith); less = l }

@@ -1,31 +1,20 @@
 -- W along a path: of a member it is that of the others, and for each tenure that of the domain above. Assumes nothing.
 use mathlib.Core.Path.{_≡_, refl, ap}
-use mathlib.Core.Bool.{Bool, true, cond}
-use mathlib.Core.List.{[], _∷_}
+use mathlib.Core.Bool.{cond}
 use Prim.Native.Nat.{ℕ, zero, suc, _+_, _*_, _-_, _/_, _≤_, _<_}
 use native.Mathlib.Omega.{arith}
 use lib.Dec.{eqb}
-use lib.ListN.{length, length-append}
 use borrow.Author.Tests.{eq-eqb, ne-eqb}
-use Rattle.model.specs.Scans.{filter-below}
-use Rattle.model.specs.Trees.{Tree, is-member, level}
+use Rattle.model.specs.Trees.{Tree, level}
 use Rattle.model.proofs.Lists.{same-or}
 use Rattle.model.proofs.Trees.Index.{ancestor, height, record-at}
 use Rattle.model.proofs.Trees.Accepted.{Accepted}
 use Rattle.model.proofs.Trees.Paths.{depth-child, ancestor-real, ancestor-inner, ancestor-parent-of}
-use Rattle.model.proofs.Trees.Records.{record-suc, record-small, member-at}
+use Rattle.model.proofs.Trees.Records.{record-suc, member-at}
 use Rattle.bounds.specs.LongestWait.Bounds.{others-passes, tenures-for-all, wait-from, member-wait}
 use Rattle.bounds.specs.StarvationFreedom.Bounds.{members}
+use Rattle.bounds.proofs.starvation_freedom.Positions.{some-member}
 use Rattle.bounds.proofs.longest_wait.Arithmetic.{rounded-up}
-
-filter-some : (n : ℕ) (f : ℕ → Bool) (r : ℕ) → r < n → f r ≡ true → 1 ≤ length (filter-below n f)
-unfolding filter-below
-filter-some zero f r h e = absurd (omega arith)
-filter-some (suc n) f r h e =
-    let l = length-append (filter-below n f) (cond (f n) (n ∷ []) []) in
-    same-or r n _
-    (λ z. let y : f n ≡ true = rw z at e in let one : length (cond (f n) (n ∷ []) []) ≡ 1 = rw y refl in omega arith)
-    (λ z. let x = filter-some n f r (omega arith) e in omega arith)
 
 -- W of a domain's own record in its parent; none at the root
 unfoldable pub above-wait : Tree → (domain : ℕ) → ℕ
@@ -56,8 +45,7 @@ module _ (t : Tree) (valid : Accepted t) where
 
     -- a domain of the path has members
     pub some-members : (k : ℕ) → k ≤ height t a → 1 ≤ members t (ancestor t a k)
-    unfolding members
-    some-members k l = filter-some 320 (is-member t (ancestor t a k)) (record-at t a k) (record-small t valid a ha k l) (member-at t valid a ha k l)
+    some-members k l = some-member t valid (ancestor t a k) (record-at t a k) (member-at t valid a ha k l)
 
     -- no more is left above than there
     pub above-less : (k : ℕ) → k < height t a → above-wait t (ancestor t a k) ≤ member-wait t (ancestor t a k) (record-at t a k)

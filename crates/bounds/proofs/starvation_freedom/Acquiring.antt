@@ -1,9 +1,11 @@
 -- From Idle to Inside, from the root down: how long a thread stands behind others, and so how long an acquisition takes. Assumes nothing.
 use mathlib.Core.Path.{_≡_, refl, ap, _∙_}
 use mathlib.Core.Bool.{true, false≢true}
+use mathlib.Core.List.{List, _∷_}
 use mathlib.Core.Logic.{_≢_, _⊎_, inl, inr}
-use Prim.Native.Nat.{ℕ, zero, suc, _+_, _*_, _-_, _≤_, _<_}
+use Prim.Native.Nat.{ℕ, zero, suc, _+_, _*_, _-_, _/_, _≤_, _<_}
 use native.Mathlib.Omega.{arith}
+use lib.ListN.{length}
 use Rattle.model.specs.declared.Place.{Place}
 use Rattle.model.specs.declared.Place.the-variants.{Idle, Prep, Swap, Link, Wait, Inside, Check, Help, Cas, Linger, Grant, Draw, Watch, Raise, Invalid}
 use Rattle.model.specs.Trees.{Tree, level}
@@ -13,25 +15,35 @@ use Rattle.model.proofs.Lists.{less-or, first, rest, count, count-rest}
 use Rattle.model.proofs.Trees.Index.{ancestor, height, record-at}
 use Rattle.model.proofs.Trees.Accepted.{Accepted}
 use Rattle.model.proofs.Trees.Paths.{ancestor-real, ancestor-home}
+use Rattle.model.proofs.Trees.Records.{member-at}
 use Rattle.claims.proofs.Queues.Paths.{Laws, laws}
 use Rattle.claims.proofs.Queues.Meeting.{same-height}
 use Rattle.claims.proofs.Queues.Moves.{queued, ready, low, acts}
 use Rattle.chain.proofs.Reached.Orders.{position}
-use Rattle.bounds.specs.StarvationFreedom.Bounds.{members, passes, others-passes, entry-rounds, others-rounds, acquire-rounds, acquire-bound}
+use Rattle.bounds.specs.StarvationFreedom.Bounds.{members, passes, others-passes, entry-rounds, tenure-length, tenures-for, link-rounds, standing-rounds, acquire-rounds, acquire-bound}
 use Rattle.bounds.specs.StarvationFreedom.Laws.{is-acquiring}
 use Rattle.bounds.proofs.starvation_freedom.Situations.{Situation, queues, next, next-change}
 use Rattle.bounds.proofs.starvation_freedom.Within.{Within, then, longer, at-once, one-round, meanwhile}
 use Rattle.bounds.proofs.starvation_freedom.Turns.{Acquires, by-prep, by-draw, From-swap, entered, alone, behind, From-idle, to-swap, drawn-inside, drawn-watch, prep-turn, draw-turn, swap-turn, idle-turn}
 use Rattle.bounds.proofs.starvation_freedom.Says.{Says, says}
 use Rattle.bounds.proofs.starvation_freedom.Releasing.{place-round}
-use Rattle.bounds.proofs.starvation_freedom.Queues.{holder, queue-change}
+use Rattle.bounds.proofs.starvation_freedom.Queues.{tag, holder, queue-change}
 use Rattle.bounds.proofs.starvation_freedom.Ready.{ready-enters, ready-lasts}
-use Rattle.bounds.proofs.starvation_freedom.Tenures.{Actor}
-use Rattle.bounds.proofs.starvation_freedom.Positions.{queue-short, position-within, behind-first}
+use Rattle.bounds.proofs.starvation_freedom.Tenures.{Actor, until-ended}
+use Rattle.bounds.proofs.starvation_freedom.Positions.{queue-short, some-member, position-within, behind-first}
+use Rattle.bounds.proofs.starvation_freedom.Quotients as quotients
+use Rattle.bounds.proofs.starvation_freedom.Quotients.{length-of, tenures-singly, a-link, tenures-enough, tenures-over, standing-enough, standing-above}
+use Rattle.bounds.proofs.starvation_freedom.Line.{Line, Lined}
+use Rattle.bounds.proofs.starvation_freedom.Lines.{low-real, weight-before, short-before}
+use Rattle.bounds.proofs.starvation_freedom.Weights.{weight}
+use Rattle.bounds.proofs.starvation_freedom.Arithmetic.{one-tenure}
+use Rattle.bounds.proofs.starvation_freedom.Held.{Held}
+use Rattle.bounds.proofs.starvation_freedom.Linking.{Linked-up, all-up, has-lock, has-domain, has-entered, link-round}
+use Rattle.bounds.proofs.starvation_freedom.Served.{held-served, climb-served}
 use Rattle.bounds.proofs.starvation_freedom.Ahead.{ahead, ahead-first, nearer, ahead-others}
 use Rattle.bounds.proofs.starvation_freedom.Bounds.{mul-add, above-rounds, first-rounds, acquire-at, above-some, fewer, above-next}
 use Rattle.bounds.proofs.starvation_freedom.Waiting.{Woken, woken-round, Stood, stands-on, is-ready, is-woken, is-inside, waits, links, watches, stands-step}
-use Rattle.bounds.proofs.starvation_freedom.First.{Enters, Climbing, prepares, swaps, stands, goes-on, Acquired, first-leaves}
+use Rattle.bounds.proofs.starvation_freedom.First.{Enters, Climbing, prepares, swaps, stands, goes-on, Acquired, climbs, held-leaves, first-leaves}
 
 module _ (t : Tree) (valid : Accepted t) (bits : Sixteen-bit t) where
   tree-laws : Laws t
@@ -115,7 +127,7 @@ module _ (t : Tree) (valid : Accepted t) (bits : Sixteen-bit t) where
           let o = holder t tree-laws (queues c) inv d r (b .1) in
           let A : Actor t valid bits d r (o .thread) (o .index) = record { real = o .real; within = o .within; there = o .there; mine = o .mine } in
           let tall = same-height t tree-laws (o .thread) (o .index) a m (o .real) ha (o .within) (omega arith) (o .there) in
-          let leaves = first-leaves t valid bits f nearer-root d r (o .thread) (o .index) A (omega arith) c (o .first-at) in
+          let leaves = first-leaves t valid bits d r (o .thread) (o .index) A f nearer-root (omega arith) c (o .first-at) in
           let whole : passes t r + w′ ≡ w = omega arith in
           let z : first-rounds t d r + before-rounds n w′ ≡ before-rounds (suc n) w = tenure-and-rest r n w′ ∙ ap (before-rounds (suc n)) whole in
           rw (← z) (then t valid bits (first-rounds t d r) (before-rounds n w′)
@@ -143,29 +155,140 @@ module _ (t : Tree) (valid : Accepted t) (bits : Sixteen-bit t) where
       freed-inside c (by-domain y) = next-inside c (y .below) (goes-on m refl y)
       freed-inside c (by-entry y) = at-once t valid bits (above-rounds t d) y
 
-      -- the rounds behind Swap
+      -- the rounds after Swap
       abbrev rest-rounds : ℕ
-      rest-rounds = others-rounds t d mine (above-rounds t d) + above-rounds t d
+      rest-rounds = standing-rounds t d mine (above-rounds t d)
 
-      stands-inside : (c : Situation t) → queues c .stage a ≡ queued m → Within t valid bits rest-rounds (Enters t valid bits a) c
-      unfolding others-rounds
-      stands-inside c e =
+      in-tree : d < t .domains
+      in-tree = ancestor-real t valid a ha m
+
+      some : 1 ≤ members t d
+      some = some-member t valid d mine (member-at t valid a ha m (omega arith))
+
+      above-there : above-rounds t d ≤ rest-rounds
+      above-there = standing-above t valid d in-tree mine (above-rounds t d) some
+
+      -- where nothing is passed on, each member before it acquires the domains above
+      singly-inside : tenure-length t d ≡ 1 → (c : Situation t) → queues c .stage a ≡ queued m → Within t valid bits rest-rounds (Enters t valid bits a) c
+      unfolding standing-rounds
+      singly-inside z c e =
           let inv = c .queued .represents .invariant in
           let s = standing c e in
           let p = position-within mine (queues c .queue d) (omega (arith, count-rest mine (queues c .queue d))) in
-          then t valid bits (others-rounds t d mine (above-rounds t d)) (above-rounds t d)
-          (stands-rounds (members t d - 1) (others-passes t d mine) c e (omega (arith, queue-short t valid (queues c) inv d)) (ahead-others t valid (queues c) inv d mine)) freed-inside
+          let w = others-passes t d mine in
+          let n = members t d - 1 in
+          let acquired = tenures-singly t valid d in-tree z (members t d) in
+          let released = tenures-singly t valid d in-tree z (members t d - 1) in
+          let least = standing-enough t valid d in-tree mine (above-rounds t d) (members t d) n w (omega arith) (omega arith) (omega arith) in
+          let same = one-more n (members t d) (above-rounds t d) (5 * level t d) (omega (arith, some)) in
+          longer t valid bits (before-rounds n w + above-rounds t d) rest-rounds (omega arith)
+          (then t valid bits (before-rounds n w) (above-rounds t d)
+          (stands-rounds n w c e (omega (arith, queue-short t valid (queues c) inv d)) (ahead-others t valid (queues c) inv d mine)) freed-inside)
+        where
+          one-more : (n k a l : ℕ) → k ≡ suc n → k * a + n * l ≡ n * (a + l) + a
+          one-more n k a l e = rw e (omega arith)
+
+      -- else everybody before it links in one round, and then the lock is passed on
+      module _ (long : 1 < tenure-length t d) (inner : 0 < d) (threshold-is : tenure-length t d ≡ t .threshold d) where
+        one-link-more : link-rounds t d ≡ 1
+        one-link-more = a-link t valid d in-tree long
+
+        above-less : above-rounds t d ≤ rest-rounds - 1
+        above-less =
+            let one = tenures-enough t valid d in-tree 0 (members t d) some in
+            let x = standing-enough t valid d in-tree mine (above-rounds t d) 1 0 0 (omega arith) (omega arith) (omega arith) in
+            omega (arith, one-link-more)
+
+        abbrev thr : ℕ
+        thr = t .threshold d
+
+        -- so many acquisitions and releases
+        fits : (p q w : ℕ) → p ≤ tenures-for t d (members t d) → q ≤ tenures-for t d (members t d - 1) → w ≤ others-passes t d mine →
+            p * above-rounds t d + q * (5 * level t d) + entry-rounds t * w ≤ rest-rounds - 1
+        fits p q w x y z = let u = standing-enough t valid d in-tree mine (above-rounds t d) p q w x y z in omega (arith, one-link-more)
+
+        module _ (c : Situation t) (l : Lined t valid bits c (λ _. Unit {0}) a m) where
+          abbrev r : ℕ
+          r = l .head
+
+          abbrev xs : List ℕ
+          xs = l .between
+
+          L : Line t valid bits c a m (l .head) (l .thread) (l .index) (l .between)
+          L = l .line
+
+          A : Actor t valid bits d (l .head) (l .thread) (l .index)
+          A = record { real = l .real; within = low-real t valid bits c (l .thread) (l .index) (L .first-there) .1; there = L .there; mine = L .mine }
+
+          few : weight (passes t) (r ∷ xs) ≤ others-passes t d mine
+          few = weight-before t valid bits c a m r (l .thread) (l .index) xs L
+
+          short : 2 + length xs ≤ members t d
+          short = short-before t valid bits c a m r (l .thread) (l .index) xs L
+
+          -- the first is on its way up
+          climb-lined : tag (queues c .stage (l .thread)) ≤ 2 → Within t valid bits (rest-rounds - 1) (Enters t valid bits a) c
+          climb-lined w =
+              let q = (1 + length xs) / thr in
+              let more : suc q ≤ tenures-for t d (members t d) = rw threshold-is at (tenures-enough t valid d in-tree (1 + length xs) (members t d) (omega (arith, short))) in
+              let less : q ≤ tenures-for t d (members t d - 1) = rw threshold-is at (tenures-over t valid d in-tree (1 + length xs) (members t d - 1) (omega (arith, short))) in
+              let enough = fits (suc q) q (weight (passes t) (r ∷ xs)) more less few in
+              let split = mul-add q (5 * level t d) (above-rounds t d) in
+              longer t valid bits (above-rounds t d + (entry-rounds t * weight (passes t) (r ∷ xs) + q * (5 * level t d + above-rounds t d))) (rest-rounds - 1) (omega arith)
+              (climb-served t valid bits a m inner ha (omega arith) f nearer-root far xs c r (l .thread) (l .index) (l .real) A L w (climbs t valid bits d r (l .thread) (l .index) A c (L .first-there) w))
+
+          -- it has the lock
+          held-lined : 3 ≤ tag (queues c .stage (l .thread)) → Within t valid bits (rest-rounds - 1) (Enters t valid bits a) c
+          unfolding until-ended weight
+          held-lined w =
+              let inv = c .queued .represents .invariant in
+              let q = length xs / thr in
+              let u = ((thr + length xs) / thr) * (5 * level t d + above-rounds t d) in
+              let e = entry-rounds t * passes t r + 0 in
+              let count-there : queues c .tally r ≤ thr = inv .counts d r (λ z. omega arith) (rw (L .there, L .mine) at (inv .threads (l .thread) .heads (l .index) (L .first-there))) .1 in
+              let H : Held t valid bits c a m r (l .thread) (l .index) thr xs = record { line = L; has-lock = w; count-within = count-there; at-threshold = λ n o. omega arith } in
+              let one : (thr + length xs) / thr ≡ suc q = one-tenure thr (length xs) (omega arith) in
+              let whole : u ≡ suc q * (5 * level t d + above-rounds t d) = ap (λ n. n * (5 * level t d + above-rounds t d)) one in
+              let more : suc q ≤ tenures-for t d (members t d) = rw threshold-is at (tenures-enough t valid d in-tree (length xs) (members t d) (omega (arith, short))) in
+              let less : suc q ≤ tenures-for t d (members t d - 1) = rw threshold-is at (tenures-enough t valid d in-tree (length xs) (members t d - 1) (omega (arith, short))) in
+              let enough = fits (suc q) (suc q) (weight (passes t) (r ∷ xs)) more less few in
+              let split = mul-add (suc q) (5 * level t d) (above-rounds t d) in
+              let apart = mul-add (entry-rounds t) (passes t r) (weight (passes t) xs) in
+              longer t valid bits (e + (entry-rounds t * weight (passes t) xs + u)) (rest-rounds - 1) (omega arith)
+              (held-served t valid bits a m inner ha (omega arith) f nearer-root far xs c r (l .thread) (l .index) thr e u H
+              (held-leaves t valid bits d r (l .thread) (l .index) A (until-ended t valid bits d r) c (L .first-there) w) (omega (arith, some-above)) (omega arith))
+
+          lined-inside : Within t valid bits (rest-rounds - 1) (Enters t valid bits a) c
+          lined-inside = less-or (tag (queues c .stage (l .thread))) 3 _ (λ w. climb-lined (omega arith)) (λ w. held-lined (omega arith))
+
+        linked-inside : (c : Situation t) → Linked-up t valid bits a m ha (omega arith) inner c → Within t valid bits (rest-rounds - 1) (Enters t valid bits a) c
+        linked-inside c (all-up l) = lined-inside c l
+        linked-inside c (has-lock y) = longer t valid bits (above-rounds t d) (rest-rounds - 1) above-less (freed-inside c (by-lock y))
+        linked-inside c (has-domain y) = longer t valid bits (above-rounds t d) (rest-rounds - 1) above-less (freed-inside c (by-domain y))
+        linked-inside c (has-entered y) = at-once t valid bits (rest-rounds - 1) y
+
+        longer-inside : (c : Situation t) → queues c .stage a ≡ queued m → Within t valid bits rest-rounds (Enters t valid bits a) c
+        longer-inside c e =
+            longer t valid bits (1 + (rest-rounds - 1)) rest-rounds (omega (arith, above-there, some-above))
+            (then t valid bits 1 (rest-rounds - 1) (link-round t valid bits a m ha (omega arith) inner c e) linked-inside)
+
+      stands-inside : (c : Situation t) → queues c .stage a ≡ queued m → Within t valid bits rest-rounds (Enters t valid bits a) c
+      stands-inside c e =
+          elim (length-of t valid d in-tree) [
+            | quotients.singly z ↦ singly-inside z c e
+            | quotients.longer l p k z ↦ longer-inside l p z c e
+          ]
 
       stood-inside : (c : Situation t) → Stood t valid bits a ha m c → Within t valid bits rest-rounds (Enters t valid bits a) c
       stood-inside c (stands-on e) = stands-inside c e
-      stood-inside c (is-ready e) = longer t valid bits (above-rounds t d) rest-rounds (omega arith) (freed-inside c (by-lock e))
-      stood-inside c (is-woken w) = longer t valid bits (above-rounds t d) rest-rounds (omega arith) (freed-inside c (by-domain w))
+      stood-inside c (is-ready e) = longer t valid bits (above-rounds t d) rest-rounds above-there (freed-inside c (by-lock e))
+      stood-inside c (is-woken w) = longer t valid bits (above-rounds t d) rest-rounds above-there (freed-inside c (by-domain w))
       stood-inside c (is-inside e) = at-once t valid bits rest-rounds e
 
       -- SWAP, PREP AND DRAW
       swapped-inside : (c : Situation t) → From-swap t a m (place (c .words) a) → Within t valid bits rest-rounds (Enters t valid bits a) c
       swapped-inside c (entered e) = at-once t valid bits rest-rounds e
-      swapped-inside c (alone b x) = longer t valid bits (above-rounds t d) rest-rounds (omega arith) (next-inside c b (prepares x))
+      swapped-inside c (alone b x) = longer t valid bits (above-rounds t d) rest-rounds above-there (next-inside c b (prepares x))
       swapped-inside c (behind q e) = stood-inside c (links t valid bits a ha m (omega arith) c q e)
 
       pub swap-inside : (c : Situation t) → place (c .words) a ≡ Swap d → Within t valid bits (1 + rest-rounds) (Enters t valid bits a) c

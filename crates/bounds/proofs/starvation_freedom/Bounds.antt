@@ -11,7 +11,10 @@ use Rattle.model.proofs.Lists.{same-or}
 use Rattle.model.proofs.Trees.Index.{ancestor, height, record-at}
 use Rattle.model.proofs.Trees.Accepted.{Accepted}
 use Rattle.model.proofs.Trees.Paths.{depth-child, ancestor-real, ancestor-inner, ancestor-parent-of}
-use Rattle.bounds.specs.StarvationFreedom.Bounds.{passes, levels, entry-rounds, others-rounds, acquire-from, acquire-rounds}
+use Rattle.model.proofs.Trees.Records.{member-at}
+use Rattle.bounds.specs.StarvationFreedom.Bounds.{passes, levels, entry-rounds, standing-rounds, acquire-from, acquire-rounds}
+use Rattle.bounds.proofs.starvation_freedom.Positions.{some-member}
+use Rattle.bounds.proofs.starvation_freedom.Quotients.{standing-above}
 
 -- the rounds from having a domain on to Inside
 unfoldable pub above-rounds : Tree → (domain : ℕ) → ℕ
@@ -29,13 +32,16 @@ one-less k (suc n) h = let z : suc n - 1 ≡ n = omega arith in rw z (omega arit
 pub mul-add : (k n m : ℕ) → k * (n + m) ≡ k * n + k * m
 mul-add k n m = omega arith
 
+pub mul-one : (k n : ℕ) → 1 ≤ k → 1 ≤ n → 1 ≤ k * n
+mul-one k n h l = let x = one-less k n l in omega arith
+
 module _ (t : Tree) (valid : Accepted t) where
-  pub acquire-at : (d m : ℕ) → d < t .domains → acquire-rounds t d m ≡ 3 + others-rounds t d m (above-rounds t d) + above-rounds t d
+  pub acquire-at : (d m : ℕ) → d < t .domains → acquire-rounds t d m ≡ 3 + standing-rounds t d m (above-rounds t d)
   unfolding acquire-rounds acquire-from above-rounds level
   acquire-at d m h =
       same-or d 0 _
       (λ z. rw (eq-eqb d 0 z) refl)
-      (λ z. rw (ne-eqb d 0 z) (ap (λ n. 3 + others-rounds t d m (acquire-from n t (t .parent d) (256 + d)) + acquire-from n t (t .parent d) (256 + d)) (depth-child t valid d (omega arith) h)))
+      (λ z. rw (ne-eqb d 0 z) (ap (λ n. 3 + standing-rounds t d m (acquire-from n t (t .parent d) (256 + d))) (depth-child t valid d (omega arith) h)))
 
   pub above-some : (d : ℕ) → d < t .domains → 1 ≤ above-rounds t d
   unfolding above-rounds
@@ -66,6 +72,8 @@ module _ (t : Tree) (valid : Accepted t) where
         let rec = fewer n (suc k) (omega arith) in
         let z : suc k + n ≡ k + suc n = omega arith in
         let rec′ : from (k + suc n) ≤ from (suc k) = rw z at rec in
+        let some = some-member t valid (ancestor t a k) (record-at t a k) (member-at t valid a ha k (omega arith)) in
+        let enough = standing-above t valid (ancestor t a k) (ancestor-real t valid a ha k) (record-at t a k) (above-rounds t (ancestor t a k)) some in
         omega (arith, acquire-at (ancestor t a k) (record-at t a k) (ancestor-real t valid a ha k), above-next k (omega arith))
 
     -- so those above a domain are enough for every domain above it

@@ -18,21 +18,21 @@ use Rattle.model.specs.Laws.{All-threads, Run-law, then-run}
 use Rattle.model.proofs.Tests.{and-both, all-each}
 use Rattle.model.proofs.Laws.Runs.{run-law}
 use Rattle.model.proofs.Counted.{occurrences-join}
-use Rattle.bounds.specs.StarvationFreedom.Bounds.{sum-below, members, effective-threshold, effective, passes, others-passes, levels, entry-rounds, others-rounds, acquire-from, acquire-rounds, acquire-bound, release-bound, everyone-bound, largest-allowance, allowance-from, allowance-acquire-bound, allowance-everyone-bound}
+use Rattle.bounds.specs.StarvationFreedom.Bounds.{sum-below, members, effective-threshold, effective, passes, others-passes, levels, entry-rounds, tenure-length, tenures-for, link-rounds, standing-rounds, acquire-from, acquire-rounds, acquire-bound, release-bound, everyone-bound, largest-allowance, allowance-from, allowance-acquire-bound, allowance-everyone-bound}
 use Rattle.bounds.specs.StarvationFreedom.Laws.{none, one-more}
-use Rattle.bounds.specs.StarvationFreedom.Cases.{bound-holds, all-bounds, one-leaf, two-lone, bound-cases, all-threads, are-rounds, joined, Decides-rounds, round-holds, all-rounds, round-cases, stalled-tree, until-stalled, without-releaser, times, Starves-without-rounds, Cases-hold}
+use Rattle.bounds.specs.StarvationFreedom.Cases.{bound-holds, all-bounds, one-leaf, two-lone, leaf-of-three, two-below-one, bound-cases, all-threads, are-rounds, joined, Decides-rounds, round-holds, all-rounds, round-cases, stalled-tree, until-stalled, without-releaser, times, Starves-without-rounds, Cases-hold}
 use Rattle.bounds.proofs.starvation_freedom.SameState.{state-same}
 
 bounds-hold : all-bounds bound-cases ≡ true
-unfolding any-below largest-below filter-below read-word tree-of is-child is-leaf depth-from depth level is-member domain-allowance allowance padded tree at-ticket-root two-homes two-in-root effective-threshold effective passes sum-below others-passes members levels entry-rounds others-rounds acquire-from acquire-rounds acquire-bound release-bound bound-holds all-bounds one-leaf two-lone bound-cases
+unfolding any-below largest-below filter-below read-word tree-of is-child is-leaf depth-from depth level is-member domain-allowance allowance padded tree at-ticket-root two-homes two-in-root effective-threshold effective passes sum-below others-passes members levels entry-rounds tenure-length tenures-for link-rounds standing-rounds acquire-from acquire-rounds acquire-bound release-bound bound-holds all-bounds one-leaf two-lone leaf-of-three two-below-one bound-cases
 bounds-hold = refl
 
-everyone-holds : everyone-bound (tree-of two-homes) ≡ 57
-unfolding any-below largest-below filter-below read-word tree-of is-child is-leaf depth-from depth level is-member domain-allowance allowance padded tree two-homes effective-threshold effective passes sum-below others-passes members levels entry-rounds others-rounds acquire-from acquire-rounds acquire-bound release-bound everyone-bound
+everyone-holds : everyone-bound (tree-of two-homes) ≡ 44
+unfolding any-below largest-below filter-below read-word tree-of is-child is-leaf depth-from depth level is-member domain-allowance allowance padded tree two-homes effective-threshold effective passes sum-below others-passes members levels entry-rounds tenure-length tenures-for link-rounds standing-rounds acquire-from acquire-rounds acquire-bound release-bound everyone-bound
 everyone-holds = refl
 
 lone-holds : everyone-bound (tree-of two-lone) ≡ 29
-unfolding any-below largest-below filter-below read-word tree-of is-child is-leaf depth-from depth level is-member domain-allowance allowance padded tree two-lone effective-threshold effective passes sum-below others-passes members levels entry-rounds others-rounds acquire-from acquire-rounds acquire-bound release-bound everyone-bound
+unfolding any-below largest-below filter-below read-word tree-of is-child is-leaf depth-from depth level is-member domain-allowance allowance padded tree two-lone effective-threshold effective passes sum-below others-passes members levels entry-rounds tenure-length tenures-for link-rounds standing-rounds acquire-from acquire-rounds acquire-bound release-bound everyone-bound
 lone-holds = refl
 
 lone-allowance-holds : allowance-everyone-bound (tree-of two-lone) ≡ 89

@@ -8,6 +8,7 @@ use Rattle.model.specs.declared.Place.the-variants.{Idle, Prep, Swap, Link, Wai
 use Rattle.model.specs.Trees.{Tree}
 use Rattle.model.specs.States.{place}
 use Rattle.model.specs.Laws.{Sixteen-bit}
+use Rattle.model.proofs.Lists.{less-or}
 use Rattle.model.proofs.Trees.Index.{ancestor, height, record-at}
 use Rattle.model.proofs.Trees.Accepted.{Accepted}
 use Rattle.claims.proofs.Queues.Paths.{Laws, laws}
@@ -21,8 +22,10 @@ use Rattle.bounds.proofs.starvation_freedom.Turns.{Acquires, by-prep, b
 use Rattle.bounds.proofs.starvation_freedom.Says.{Says, says, Waiting, Granting, pass, release}
 use Rattle.bounds.proofs.starvation_freedom.Says as words
 use Rattle.bounds.proofs.starvation_freedom.Releasing.{Lets-go, helps, tries, lingers, grants, raises}
+use Rattle.bounds.proofs.starvation_freedom.Queues.{tag}
+use Rattle.bounds.proofs.starvation_freedom.Over.{letting-go-tag}
 use Rattle.bounds.proofs.starvation_freedom.Effective.{left-within, left-less-inside, left-less-holding}
-use Rattle.bounds.proofs.starvation_freedom.Tenures.{Gone, Actor, Left, out-rounds, tenure-rest, lets-gone, pass-gone, releases-gone, inside-gone, ready-gone}
+use Rattle.bounds.proofs.starvation_freedom.Tenures.{Gone, Actor, Left, Aim, until-gone, tenure-rest, pass-gone, releases-gone, inside-gone, ready-gone}
 use Rattle.bounds.proofs.starvation_freedom.Bounds.{one-less, checks-few, above-rounds, first-rounds, above-enough}
 use Rattle.bounds.proofs.starvation_freedom.Waiting.{Woken}
 
@@ -45,44 +48,103 @@ module _ (t : Tree) (valid : Accepted t) (bits : Sixteen-bit t) where
   Acquired f =
       (a m : ℕ) (ha : a < t .threads) → m + f ≡ height t a → (c : Situation t) → Climbing a m ha c → Within t valid bits (acquire-rounds t (ancestor t a m) (record-at t a m)) (Enters a) c
 
-  module _ (f : ℕ) (nearer-root : (g : ℕ) → g < f → Acquired g) where
-    -- THE FIRST of a domain leaves its queue
-    module _ (d r a j : ℕ) (A : Actor t valid bits d r a j) (far : j + f ≡ height t a) where
-      abbrev ha : a < t .threads
-      ha = A .real
+  -- THE FIRST of a domain, whatever its tenure comes to
+  module _ (d r a j : ℕ) (A : Actor t valid bits d r a j) where
+    abbrev ha : a < t .threads
+    ha = A .real
 
-      abbrev most : ℕ
-      most = passes t r
+    abbrev most : ℕ
+    most = passes t r
 
-      -- the rounds of a tenure whose lock is held
-      abbrev held-rounds : ℕ
-      held-rounds = tenure-rest t valid bits d most
+    -- the rounds for one entry
+    abbrev one : ℕ
+    one = entry-rounds t
 
-      -- the rounds for one entry, and those where one entry less is left
-      abbrev one : ℕ
-      one = entry-rounds t
+    member-most : passes t (record-at t a j) ≤ most
+    member-most = let z = ap (passes t) (A .mine) in omega arith
 
-      abbrev less-rounds : ℕ
-      less-rounds = tenure-rest t valid bits d (most - 1)
+    abbrev pub First-at : Situation t → Type 0
+    First-at c = j < low (height t a) (queues c .stage a)
 
-      first-is : first-rounds t d r ≡ above-rounds t d + held-rounds
-      unfolding first-rounds
-      first-is = omega arith
+    -- where its stage is known, the index is below what the stage says
+    first-by : (c : Situation t) (x : Stage) → First-at c → queues c .stage a ≡ x → j < low (height t a) x
+    first-by c x b e = rw e at b
 
-      member-most : passes t (record-at t a j) ≤ most
-      member-most = let z = ap (passes t) (A .mine) in omega arith
+    letting-by : (c : Situation t) (k : ℕ) → First-at c → queues c .stage a ≡ letting-go (height t a) k → j ≤ k
+    letting-by c k b e = let y = first-by c (letting-go (height t a) k) b e in omega (arith, letting-go-low (height t a) k)
 
-      -- from here on without the rounds above
-      held : {c : Situation t} → Within t valid bits held-rounds (Gone t valid bits d r) c → Within t valid bits (first-rounds t d r) (Gone t valid bits d r) c
-      held w = longer t valid bits held-rounds (first-rounds t d r) (let z = first-is in omega arith) w
+    -- ON ITS WAY UP: it acquires a domain nearer to the root
+    pub record Climbs (c : Situation t) : Type 0 where
+      pub index : ℕ
+      pub above : j < index
+      pub within : index ≤ height t a
+      pub climbing : Climbing a index ha c
 
-      inside-leaves : (c : Situation t) → Enters a c → Within t valid bits held-rounds (Gone t valid bits d r) c
+    wait-climbs : (c : Situation t) (k : ℕ) → First-at c → tag (queues c .stage a) ≤ 2 → place (c .words) a ≡ Wait (ancestor t a k) → k ≤ height t a →
+        Waiting t (words-in (c .words)) (queues c) a k (queues c .stage a) → Climbs c
+    unfolding low tag
+    wait-climbs c k b w p l (words.stands y v) = record { index = k; above = first-by c (queued k) b y; within = l; climbing = stands y }
+    wait-climbs c k b w p l (words.woken u y v) =
+        record { index = suc k; above = first-by c (climb (suc k)) b y; within = u; climbing = goes-on k refl (record { below = u; there = p; stage = y }) }
+    wait-climbs c k b w p l (words.granted y v n) = absurd (let o = ap tag y in omega arith)
+
+    climbs-by : (c : Situation t) (p : Place) → place (c .words) a ≡ p → First-at c → tag (queues c .stage a) ≤ 2 → Climbs c
+    unfolding Says low tag
+    climbs-by c Idle e b w = absurd (let y = first-by c _ b (says t valid c a ha Idle e) in omega arith)
+    climbs-by c (Prep l) e b w =
+        let y = says t valid c a ha (Prep l) e in
+        record { index = y .0; above = first-by c (climb (y .0)) b (y .2); within = y .1 .1; climbing = prepares (by-prep (e ∙ ap Prep (y .1 .0))) }
+    climbs-by c (Swap l) e b w =
+        let y = says t valid c a ha (Swap l) e in
+        record { index = y .0; above = first-by c (climb (y .0)) b (y .2); within = y .1 .1; climbing = swaps (e ∙ ap Swap (y .1 .0)) }
+    climbs-by c (Link l q) e b w =
+        let y = says t valid c a ha (Link l q) e in
+        record { index = y .0; above = first-by c (queued (y .0)) b (y .2); within = y .1 .1; climbing = stands (y .2) }
+    climbs-by c (Wait l) e b w = let y = says t valid c a ha (Wait l) e in wait-climbs c (y .0) b w (e ∙ ap Wait (y .1 .0)) (y .1 .1) (y .2)
+    climbs-by c Draw e b w =
+        let y = says t valid c a ha Draw e in
+        record { index = height t a; above = first-by c (climb (height t a)) b (y .0); within = omega arith; climbing = prepares (by-draw e refl (y .1)) }
+    climbs-by c Watch e b w =
+        elim (says t valid c a ha Watch e .0) [
+          | inl x ↦ record { index = height t a; above = first-by c (queued (height t a)) b x; within = omega arith; climbing = stands x }
+          | inr x ↦ absurd (let o = ap tag x in omega arith)
+        ]
+    climbs-by c Inside e b w = absurd (let o = ap tag (says t valid c a ha Inside e) in omega arith)
+    climbs-by c (Check l) e b w = absurd (let o = ap tag (says t valid c a ha (Check l) e .3) in omega arith)
+    climbs-by c (Help l) e b w = let y = says t valid c a ha (Help l) e in absurd (let o = ap tag (y .2) in omega (arith, letting-go-tag (height t a) (y .0)))
+    climbs-by c (Cas l) e b w = let y = says t valid c a ha (Cas l) e in absurd (let o = ap tag (y .2) in omega (arith, letting-go-tag (height t a) (y .0)))
+    climbs-by c (Linger l) e b w = let y = says t valid c a ha (Linger l) e in absurd (let o = ap tag (y .2) in omega (arith, letting-go-tag (height t a) (y .0)))
+    climbs-by c (Grant l m v) e b w =
+        let y = says t valid c a ha (Grant l m v) e in
+        elim (y .2) [
+          | pass u x z ↦ absurd (let o = ap tag x in omega arith)
+          | release x z ↦ absurd (let o = ap tag x in omega (arith, letting-go-tag (height t a) (y .0)))
+        ]
+    climbs-by c Raise e b w = absurd (let o = ap tag (says t valid c a ha Raise e) in omega arith)
+    climbs-by c Invalid e b w = absurd (says t valid c a ha Invalid e)
+
+    pub climbs : (c : Situation t) → First-at c → tag (queues c .stage a) ≤ 2 → Climbs c
+    climbs c b w = climbs-by c _ refl b w
+
+    -- WITH THE LOCK
+    module _ (q : Aim t valid bits d r) where
+      abbrev pub held-rounds : ℕ
+      held-rounds = tenure-rest t valid bits d r q most
+
+      -- where one entry less is left
+      abbrev pub less-rounds : ℕ
+      less-rounds = tenure-rest t valid bits d r q (most - 1)
+
+      -- Inside, the round of its Wait is over
+      pub inside-leaves : (c : Situation t) → Enters a c → Within t valid bits (one - 1 + less-rounds) (q .met) c
       unfolding Says
       inside-leaves c e =
           let l = left-less-inside t valid (queues c) (c .effectively) a j (A .within) (says t valid c a ha Inside e) in
           let b = member-most in
-          longer t valid bits (one - 1 + less-rounds) held-rounds (let z = one-less one most (omega arith) in omega arith)
-          (inside-gone t valid bits (most - 1) (ready-gone t valid bits (most - 1)) d r a j A c e (omega arith))
+          inside-gone t valid bits d r q (most - 1) (ready-gone t valid bits d r q (most - 1)) a j A c e (omega arith)
+
+      pub inside-less : 1 ≤ most → 1 + (one - 1 + less-rounds) ≡ held-rounds
+      inside-less h = let z = one-less one most h in let few = checks-few t valid a ha in omega arith
 
       holding-left : (c : Situation t) → queues c .stage a ≡ holding → (1 ≤ most) × Left t valid bits a j (most - 1) c
       holding-left c e =
@@ -90,79 +152,91 @@ module _ (t : Tree) (valid : Accepted t) (bits : Sixteen-bit t) where
           let b = member-most in
           (omega arith, omega arith)
 
-      ready-leaves : (c : Situation t) → queues c .stage a ≡ ready → Within t valid bits held-rounds (Gone t valid bits d r) c
+      ready-leaves : (c : Situation t) → queues c .stage a ≡ ready → Within t valid bits held-rounds (q .met) c
       unfolding acts
       ready-leaves c e =
           let l = left-within t valid (queues c) (c .effectively) a j (rw e (omega (arith, A .within))) in
           let b = member-most in
-          ready-gone t valid bits most d r a j A c e (omega arith)
+          ready-gone t valid bits d r q most a j A c e (omega arith)
 
-      -- it acquires a domain nearer to the root first
-      climbing-leaves : (c : Situation t) (m : ℕ) → j < m → m ≤ height t a → Climbing a m ha c → Within t valid bits (first-rounds t d r) (Gone t valid bits d r) c
-      climbing-leaves c m b l x =
-          let above : acquire-rounds t (ancestor t a m) (record-at t a m) ≤ above-rounds t d = rw (A .there) at (above-enough t valid a ha j m b l) in
-          rw first-is (then t valid bits (above-rounds t d) held-rounds
-          (longer t valid bits (acquire-rounds t (ancestor t a m) (record-at t a m)) (above-rounds t d) above (nearer-root (height t a - m) (omega arith) a m ha (omega arith) c x)) inside-leaves)
+      letting-leaves : (c : Situation t) (k : ℕ) → k ≤ height t a → j ≤ k → Lets-go t a k (place (c .words) a) → Within t valid bits held-rounds (q .met) c
+      letting-leaves c k l b g = longer t valid bits (q .rounds) held-rounds (omega arith) (q .at-release a j A k l b g)
 
-      letting-leaves : (c : Situation t) (k : ℕ) → k ≤ height t a → j ≤ k → Lets-go t a k (place (c .words) a) → Within t valid bits (first-rounds t d r) (Gone t valid bits d r) c
-      letting-leaves c k l b g = held (longer t valid bits (out-rounds t valid bits d) held-rounds (omega arith) (lets-gone t valid bits d r a j A k l b g))
-
-      abbrev pub First-at : Situation t → Type 0
-      First-at c = j < low (height t a) (queues c .stage a)
-
-      -- where its stage is known, the index is below what the stage says
-      first-by : (c : Situation t) (x : Stage) → First-at c → queues c .stage a ≡ x → j < low (height t a) x
-      first-by c x b e = rw e at b
-
-      letting-by : (c : Situation t) (k : ℕ) → First-at c → queues c .stage a ≡ letting-go (height t a) k → j ≤ k
-      letting-by c k b e = let y = first-by c (letting-go (height t a) k) b e in omega (arith, letting-go-low (height t a) k)
-
-      wait-leaves : (c : Situation t) (k : ℕ) → First-at c → place (c .words) a ≡ Wait (ancestor t a k) → k ≤ height t a →
-          Waiting t (words-in (c .words)) (queues c) a k (queues c .stage a) → Within t valid bits (first-rounds t d r) (Gone t valid bits d r) c
-      unfolding low
-      wait-leaves c k b p l (words.stands y v) = climbing-leaves c k (first-by c (queued k) b y) l (stands y)
-      wait-leaves c k b p l (words.woken u y v) =
-          climbing-leaves c (suc k) (first-by c (climb (suc k)) b y) u (goes-on k refl (record { below = u; there = p; stage = y }))
-      wait-leaves c k b p l (words.granted y v n) = held (ready-leaves c y)
+      wait-leaves : (c : Situation t) (k : ℕ) → 3 ≤ tag (queues c .stage a) → Waiting t (words-in (c .words)) (queues c) a k (queues c .stage a) → Within t valid bits held-rounds (q .met) c
+      unfolding tag
+      wait-leaves c k w (words.stands y v) = absurd (let o = ap tag y in omega arith)
+      wait-leaves c k w (words.woken u y v) = absurd (let o = ap tag y in omega arith)
+      wait-leaves c k w (words.granted y v n) = ready-leaves c y
 
       grant-leaves : (c : Situation t) (k m v : ℕ) → First-at c → place (c .words) a ≡ Grant (ancestor t a k) m v → k ≤ height t a →
-          Granting t a k v (queues c .stage a) → Within t valid bits (first-rounds t d r) (Gone t valid bits d r) c
+          Granting t a k v (queues c .stage a) → Within t valid bits held-rounds (q .met) c
       grant-leaves c k m v b p l (release x z) = letting-leaves c k l (letting-by c k b x) (grants m (p ∙ ap (Grant (ancestor t a k) m) z))
       grant-leaves c k m v b p l (pass u x z) =
           let y = holding-left c x in
           let some = y .0 in
-          held (longer t valid bits (1 + less-rounds) held-rounds (let z = one-less one most some in let few = checks-few t valid a ha in omega arith)
-          (pass-gone t valid bits (most - 1) (ready-gone t valid bits (most - 1)) d r a j A c
-          (record { index = k; below = u; to = m; word = v; small = omega (arith, bits (ancestor t a k)); there = p }) (y .1)))
+          longer t valid bits (1 + less-rounds) held-rounds (let z = one-less one most some in let few = checks-few t valid a ha in omega arith)
+          (pass-gone t valid bits d r q (most - 1) (ready-gone t valid bits d r q (most - 1)) a j A c
+          (record { index = k; below = u; to = m; word = v; small = omega (arith, bits (ancestor t a k)); there = p }) (y .1))
 
-      leaves-by : (c : Situation t) (p : Place) → place (c .words) a ≡ p → First-at c → Within t valid bits (first-rounds t d r) (Gone t valid bits d r) c
-      unfolding Says low
-      leaves-by c Idle e b = absurd (let y = first-by c _ b (says t valid c a ha Idle e) in omega arith)
-      leaves-by c (Prep l) e b = let y = says t valid c a ha (Prep l) e in climbing-leaves c (y .0) (first-by c (climb (y .0)) b (y .2)) (y .1 .1) (prepares (by-prep (e ∙ ap Prep (y .1 .0))))
-      leaves-by c (Swap l) e b = let y = says t valid c a ha (Swap l) e in climbing-leaves c (y .0) (first-by c (climb (y .0)) b (y .2)) (y .1 .1) (swaps (e ∙ ap Swap (y .1 .0)))
-      leaves-by c (Link l q) e b = let y = says t valid c a ha (Link l q) e in climbing-leaves c (y .0) (first-by c (queued (y .0)) b (y .2)) (y .1 .1) (stands (y .2))
-      leaves-by c (Wait l) e b = let y = says t valid c a ha (Wait l) e in wait-leaves c (y .0) b (e ∙ ap Wait (y .1 .0)) (y .1 .1) (y .2)
-      leaves-by c Inside e b = held (inside-leaves c e)
-      leaves-by c (Check l) e b =
+      held-by : (c : Situation t) (p : Place) → place (c .words) a ≡ p → First-at c → 3 ≤ tag (queues c .stage a) → Within t valid bits held-rounds (q .met) c
+      unfolding Says tag
+      held-by c Idle e b w = absurd (let o = ap tag (says t valid c a ha Idle e) in omega arith)
+      held-by c (Prep l) e b w = absurd (let o = ap tag (says t valid c a ha (Prep l) e .2) in omega arith)
+      held-by c (Swap l) e b w = absurd (let o = ap tag (says t valid c a ha (Swap l) e .2) in omega arith)
+      held-by c (Link l m) e b w = absurd (let o = ap tag (says t valid c a ha (Link l m) e .2) in omega arith)
+      held-by c (Wait l) e b w = let y = says t valid c a ha (Wait l) e in wait-leaves c (y .0) w (y .2)
+      held-by c Inside e b w =
+          let l = left-less-inside t valid (queues c) (c .effectively) a j (A .within) (says t valid c a ha Inside e) in
+          let m = member-most in
+          longer t valid bits (one - 1 + less-rounds) held-rounds (let z = inside-less (omega arith) in omega arith) (inside-leaves c e)
+      held-by c (Check l) e b w =
           let y = says t valid c a ha (Check l) e in
           let z = holding-left c (y .3) in
           let some = z .0 in
-          held (longer t valid bits (one - 2 + less-rounds) held-rounds (let q = one-less one most some in omega arith)
-          (releases-gone t valid bits (most - 1) (ready-gone t valid bits (most - 1)) d r a j A c (y .0) (y .1 .1) (by-check (e ∙ ap Check (y .1 .0)) (y .2)) (z .1)))
-      leaves-by c (Help l) e b = let y = says t valid c a ha (Help l) e in letting-leaves c (y .0) (y .1 .1) (letting-by c (y .0) b (y .2)) (helps (e ∙ ap Help (y .1 .0)))
-      leaves-by c (Cas l) e b = let y = says t valid c a ha (Cas l) e in letting-leaves c (y .0) (y .1 .1) (letting-by c (y .0) b (y .2)) (tries (e ∙ ap Cas (y .1 .0)))
-      leaves-by c (Linger l) e b = let y = says t valid c a ha (Linger l) e in letting-leaves c (y .0) (y .1 .1) (letting-by c (y .0) b (y .2)) (lingers (e ∙ ap Linger (y .1 .0)))
-      leaves-by c (Grant l m v) e b = let y = says t valid c a ha (Grant l m v) e in grant-leaves c (y .0) m v b (e ∙ ap (λ x. Grant x m v) (y .1 .0)) (y .1 .1) (y .2)
-      leaves-by c Draw e b =
-          let y = says t valid c a ha Draw e in
-          climbing-leaves c (height t a) (first-by c (climb (height t a)) b (y .0)) (omega arith) (prepares (by-draw e refl (y .1)))
-      leaves-by c Watch e b =
+          longer t valid bits (one - 2 + less-rounds) held-rounds (let x = one-less one most some in omega arith)
+          (releases-gone t valid bits d r q (most - 1) (ready-gone t valid bits d r q (most - 1)) a j A c (y .0) (y .1 .1) (by-check (e ∙ ap Check (y .1 .0)) (y .2)) (z .1))
+      held-by c (Help l) e b w = let y = says t valid c a ha (Help l) e in letting-leaves c (y .0) (y .1 .1) (letting-by c (y .0) b (y .2)) (helps (e ∙ ap Help (y .1 .0)))
+      held-by c (Cas l) e b w = let y = says t valid c a ha (Cas l) e in letting-leaves c (y .0) (y .1 .1) (letting-by c (y .0) b (y .2)) (tries (e ∙ ap Cas (y .1 .0)))
+      held-by c (Linger l) e b w = let y = says t valid c a ha (Linger l) e in letting-leaves c (y .0) (y .1 .1) (letting-by c (y .0) b (y .2)) (lingers (e ∙ ap Linger (y .1 .0)))
+      held-by c (Grant l m v) e b w = let y = says t valid c a ha (Grant l m v) e in grant-leaves c (y .0) m v b (e ∙ ap (λ x. Grant x m v) (y .1 .0)) (y .1 .1) (y .2)
+      held-by c Draw e b w = absurd (let o = ap tag (says t valid c a ha Draw e .0) in omega arith)
+      held-by c Watch e b w =
           elim (says t valid c a ha Watch e .0) [
-            | inl x ↦ climbing-leaves c (height t a) (first-by c (queued (height t a)) b x) (omega arith) (stands x)
-            | inr x ↦ held (ready-leaves c x)
+            | inl x ↦ absurd (let o = ap tag x in omega arith)
+            | inr x ↦ ready-leaves c x
           ]
-      leaves-by c Raise e b = letting-leaves c (height t a) (omega arith) (A .within) (raises e refl)
-      leaves-by c Invalid e b = absurd (says t valid c a ha Invalid e)
+      held-by c Raise e b w = letting-leaves c (height t a) (omega arith) (A .within) (raises e refl)
+      held-by c Invalid e b w = absurd (says t valid c a ha Invalid e)
+
+      pub held-leaves : (c : Situation t) → First-at c → 3 ≤ tag (queues c .stage a) → Within t valid bits held-rounds (q .met) c
+      held-leaves c b w = held-by c _ refl b w
+
+    -- FROM THE ROOT DOWN
+    module _ (f : ℕ) (nearer-root : (g : ℕ) → g < f → Acquired g) (far : j + f ≡ height t a) where
+      -- it acquires a domain nearer to the root, and is Inside
+      pub climbing-inside : (c : Situation t) → Climbs c → Within t valid bits (above-rounds t d) (Enters a) c
+      climbing-inside c x =
+          let m = x .index in
+          let b = x .above in
+          let l = x .within in
+          let above : acquire-rounds t (ancestor t a m) (record-at t a m) ≤ above-rounds t d = rw (A .there) at (above-enough t valid a ha j m b l) in
+          longer t valid bits (acquire-rounds t (ancestor t a m) (record-at t a m)) (above-rounds t d) above (nearer-root (height t a - m) (omega arith) a m ha (omega arith) c (x .climbing))
+
+      -- and leaves its queue
+      abbrev gone-rounds : ℕ
+      gone-rounds = held-rounds (until-gone t valid bits d r)
+
+      first-is : first-rounds t d r ≡ above-rounds t d + gone-rounds
+      unfolding first-rounds until-gone
+      first-is = omega arith
+
+      held : {c : Situation t} → Within t valid bits gone-rounds (Gone t valid bits d r) c → Within t valid bits (first-rounds t d r) (Gone t valid bits d r) c
+      held w = longer t valid bits gone-rounds (first-rounds t d r) (let z = first-is in omega arith) w
 
       pub first-leaves : (c : Situation t) → First-at c → Within t valid bits (first-rounds t d r) (Gone t valid bits d r) c
-      first-leaves c b = leaves-by c _ refl b
+      unfolding until-gone Says tag low
+      first-leaves c b =
+          less-or (tag (queues c .stage a)) 3 _
+          (λ w. rw first-is (then t valid bits (above-rounds t d) gone-rounds (climbing-inside c (climbs c b (omega arith)))
+          (λ c′ e. held-leaves (until-gone t valid bits d r) c′ (rw (says t valid c′ a ha Inside e) (omega (arith, A .within))) (rw (says t valid c′ a ha Inside e) (omega arith)))))
+          (λ w. held (held-leaves (until-gone t valid bits d r) c b (omega arith)))

@@ -3,7 +3,7 @@ use mathlib.Core.Path.{_≡_, refl, sym, ap, _∙_, subst}
 use mathlib.Core.Bool.{Bool, true, false, cond, false≢true}
 use mathlib.Core.List.{List, [], _∷_}
 use mathlib.Core.Logic.{_≢_, _⊎_, inl, inr}
-use Prim.Native.Nat.{ℕ, zero, suc, _+_, _*_, _-_, _≤_, _<_}
+use Prim.Native.Nat.{ℕ, zero, suc, _+_, _*_, _≤_, _<_}
 use native.Mathlib.Omega.{arith}
 use lib.ListN.{length, take, drop, length-append, length-drop}
 use lib.Seq.{length-take-le, take-take, take-add, drop-drop}
@@ -33,6 +33,7 @@ use Rattle.bounds.specs.StarvationFreedom.Bounds.{effective, acquire-bou
 use Rattle.bounds.specs.StarvationFreedom.Laws.{is-acquiring, is-releasing, Rounds, none, one-more, Arrives, Bounded, Starvation-law, in-order, round-robin, Everyone-law, Windows, Bounded-in-windows, Window-law}
 use Rattle.bounds.proofs.starvation_freedom.Changes.{moved}
 use Rattle.bounds.proofs.starvation_freedom.Effective.{effective-keeps}
+use Rattle.bounds.proofs.starvation_freedom.Stages.{Ones, ones-empty, ones-step}
 use Rattle.bounds.proofs.starvation_freedom.Situations.{Situation, next, next-words, place-other}
 use Rattle.bounds.proofs.starvation_freedom.Within.{Covers, covers-less, Reaches, now, later, sequence, longer}
 use Rattle.bounds.proofs.starvation_freedom.Says.{Says, says}
@@ -260,19 +261,21 @@ module _ (t : Tree) (ok : tree-refusal t .number ≡ 0) (bits : Sixteen-bit t) (
 
 -- FROM FRESH
 module _ (t : Tree) (valid : Accepted t) (bits : Sixteen-bit t) where
-  effective-run : {st st′ : Queue-state} {es : List Event} → Run t st es st′ → Inv t st → Inv (effective t) st → Inv (effective t) st′
-  effective-run done inv w = w
-  effective-run (silent {st = st} m r) inv w = effective-run r (keeps t (laws t valid) st inv m) (effective-keeps t valid inv (moved m) w)
-  effective-run (more {st = st} m r) inv w = effective-run r (keeps t (laws t valid) st inv m) (effective-keeps t valid inv (moved m) w)
+  pub counts-run : {st st′ : Queue-state} {es : List Event} → Run t st es st′ → Inv t st → Inv (effective t) st → Ones t st → Inv (effective t) st′ × Ones t st′
+  counts-run done inv w o = (w, o)
+  counts-run (silent {st = st} m r) inv w o = counts-run r (keeps t (laws t valid) st inv m) (effective-keeps t valid inv (moved m) w) (ones-step t valid inv (moved m) o)
+  counts-run (more {st = st} m r) inv w o = counts-run r (keeps t (laws t valid) st inv m) (effective-keeps t valid inv (moved m) w) (ones-step t valid inv (moved m) o)
 
   reached : (start : ℕ) (before : List ℕ) → All-threads t before → Situation t
   unfolding run run-of
   reached start before all =
       let l = from-fresh t valid bits start before all in
+      let n = counts-run (l .follows) (inv-empty t) (inv-empty (effective t)) (ones-empty t) in
       record {
         words = run t before (fresh-state t start) .state;
         queued = l .there;
-        effectively = effective-run (l .follows) (inv-empty t) (inv-empty (effective t));
+        effectively = n .0;
+        ones = n .1;
       }
 
 pub starvation-law : Starvation-law

@@ -2,19 +2,18 @@
 use mathlib.Core.Path.{_≡_, refl, sym, ap, _∙_}
 use mathlib.Core.Bool.{Bool, true, cond}
 use mathlib.Core.List.{List, [], _∷_, _++_}
-use mathlib.Core.Logic.{_≢_, _⊎_, inl, inr}
-use Prim.Native.Nat.{ℕ, zero, suc, _+_, _-_, _≤_, _<_}
+use mathlib.Core.Logic.{_≢_}
+use Prim.Native.Nat.{ℕ, zero, suc, _+_, _≤_, _<_}
 use native.Mathlib.Omega.{arith}
 use lib.ListN.{length, length-append}
 use Rattle.model.specs.Scans.{filter-below}
 use Rattle.model.specs.Trees.{Tree, is-member}
-use Rattle.model.proofs.Lists.{same-or, less-or, first, rest, first-cons, first-snoc, rest-cons, rest-nil, is, is-same, is-other, count, count-nil, count-cons, count-rest}
+use Rattle.model.proofs.Lists.{same-or, less-or, first, rest, first-cons, rest-cons, rest-nil, is, is-same, is-other, count, count-nil, count-cons}
 use Rattle.model.proofs.Trees.Accepted.{Accepted}
 use Rattle.model.proofs.Trees.Records.{member-at, member-small}
 use Rattle.claims.proofs.Queues.Paths.{laws}
-use Rattle.claims.proofs.Queues.Moves.{State, Event}
+use Rattle.claims.proofs.Queues.Moves.{State}
 use Rattle.claims.proofs.Queues.Invariant.{Inv}
-use Rattle.claims.proofs.Queues.Order.{Change, stays, opens, grows, moves, closes}
 use Rattle.claims.proofs.Queues.Remaining.{acts-real}
 use Rattle.claims.proofs.Words.Tickets.{total, total-length}
 use Rattle.chain.proofs.Reached.Orders.{position, position-here, position-past}
@@ -40,6 +39,16 @@ queue-short t valid st inv d =
     let r = acts-real t (laws t valid) st inv (x .thread) (x .index) (x .acting) in
     rw (x .place, x .mine) at (member-at t valid (x .thread) (r .0) (x .index) (r .2)) in
     omega (arith, total-length 320 (st .queue d) (λ a h. member-small t valid d a (is-one a h)), total-passing 320 (st .queue d) (is-member t d) is-one (inv .once d))
+
+-- a domain with a member has one
+pub some-member : (t : Tree) → Accepted t → (d m : ℕ) → is-member t d m ≡ true → 1 ≤ members t d
+unfolding members
+some-member t valid d m e =
+    let one : (a : ℕ) → 1 ≤ count a (m ∷ []) → a ≡ m = λ a h. same-or a m _ (λ z. z) (λ n. absurd (omega (arith, count-cons a m [], count-nil a, is-other a m n))) in
+    let once : (a : ℕ) → count a (m ∷ []) ≤ 1 = λ a. same-or a m _ (λ z. omega (arith, count-cons a m [], count-nil a, is-same a m z)) (λ n. omega (arith, count-cons a m [], count-nil a, is-other a m n)) in
+    let is-one : (a : ℕ) → 1 ≤ count a (m ∷ []) → is-member t d a ≡ true = λ a h. rw (one a h) e in
+    let l : length (m ∷ []) ≡ 1 = refl in
+    omega (arith, total-length 320 (m ∷ []) (λ a h. member-small t valid d a (is-one a h)), total-passing 320 (m ∷ []) (is-member t d) is-one once)
 
 -- POSITIONS
 pub position-within : (m : ℕ) (q : List ℕ) → 1 ≤ count m q → position m q < length q

@@ -13,7 +13,7 @@ use Rattle.claims.proofs.Queues.Invariant.{acts-low, low-down, acts-down, Below
 use Rattle.claims.proofs.Queues.Keeps.{keeps}
 use Rattle.claims.proofs.Queues.Order.{Change, stays, opens, grows, moves, closes, change}
 use Rattle.claims.proofs.Queues.Remaining.{acts-real}
-use Rattle.bounds.proofs.starvation_freedom.Situations.{Changed, unmoved, moved, begun}
+use Rattle.bounds.proofs.starvation_freedom.Changes.{Changed, unmoved, moved, begun}
 
 -- the number of a stage, without its index
 unfoldable pub tag : Stage → ℕ

@@ -19,7 +19,7 @@ use Rattle.model.proofs.Trees.Index.{ancestor, height, record-at}
 use Rattle.model.proofs.Trees.Accepted.{Accepted}
 use Rattle.model.proofs.Trees.Records.{own-record-at, record-small}
 use Rattle.claims.proofs.Queues.Moves.{low, holding}
-use Rattle.claims.proofs.Words.Represents.{letting-go-root, letting-go-low}
+use Rattle.claims.proofs.Words.Represents.{letting-go, letting-go-root, letting-go-low}
 use Rattle.claims.proofs.Words.Releasing.{done-at}
 use Rattle.chain.specs.Chain.{stays, links, looked-to}
 use Rattle.chain.proofs.Stays.{stays-at, linger-stays}
@@ -33,7 +33,7 @@ use Rattle.bounds.proofs.starvation_freedom.Situations.{Situation, queu
 use Rattle.bounds.proofs.starvation_freedom.Within.{Within, then, longer, at-once, within-map, one-round}
 use Rattle.bounds.proofs.starvation_freedom.Turns as turns
 use Rattle.bounds.proofs.starvation_freedom.Turns.{From-help, to-cas, to-grant, passes, goes-up, Releases, by-check, by-help, by-raise}
-use Rattle.bounds.proofs.starvation_freedom.Says.{says, Says, linger-stage, help-stage, raise-stage, check-stage, pass-stage}
+use Rattle.bounds.proofs.starvation_freedom.Says.{says, Says, linger-stage, help-stage, cas-stage, release-stage, raise-stage, check-stage, pass-stage}
 
 -- the thread lets go of the domain at an index
 pub data Lets-go (t : Tree) (a k : ℕ) (p : Place) : Type 0 where
@@ -175,6 +175,27 @@ module _ (t : Tree) (valid : Accepted t) (bits : Sixteen-bit t) (a : ℕ) (ha : 
     go-round (lingers e) = longer t valid bits 3 5 (omega arith) (linger-done e)
     go-round (grants r e) = longer t valid bits 1 5 (omega arith) (grant-round r (release-word L) e)
     go-round (raises e z) = longer t valid bits 1 5 (omega arith) (place-round Raise (Done k) (λ c h y. turns.raise-turn t valid bits c a h y ∙ ap (done-at t a) (sym z)) e)
+
+  -- its own step lets go of it, or goes on
+  pub go-turn : (k : ℕ) → k ≤ height t a → (c : Situation t) (h : a < t .threads) → Lets-go t a k (place (c .words) a) →
+      Lets-go t a k (place (situations.next t valid bits c a h .words) a) ⊎ Done k (situations.next t valid bits c a h)
+  go-turn k l c h (helps e) = elim (turns.help-turn t valid bits c a h (ancestor t a k) e) [ to-cas p ↦ inl (tries p) | to-grant r p ↦ inl (grants r p) ]
+  go-turn k l c h (tries e) = elim (turns.cas-turn t valid bits c a h k l e) [ inl p ↦ inl (lingers p) | inr p ↦ inr p ]
+  go-turn k l c h (lingers e) =
+      same-or (next (c .words) (own-record t a (ancestor t a k))) 0 _
+      (λ z. inl (lingers (turns.linger-stays t valid bits c a h (ancestor t a k) e z)))
+      (λ z. let y = turns.linger-turn t valid bits c a h (ancestor t a k) e z in inl (grants (y .0) (y .1)))
+  go-turn k l c h (grants r e) = inr (turns.grant-turn t valid bits c a h k r (release-word (ancestor t a k)) l e)
+  go-turn k l c h (raises e z) = inr (turns.raise-turn t valid bits c a h e ∙ ap (done-at t a) (sym z))
+
+  -- its stage
+  pub lets-stage : (k : ℕ) → k ≤ height t a → (c : Situation t) → Lets-go t a k (place (c .words) a) → queues c .stage a ≡ letting-go (height t a) k
+  unfolding Says
+  lets-stage k l c (helps e) = help-stage t valid c a ha k l e
+  lets-stage k l c (tries e) = cas-stage t valid c a ha k l e
+  lets-stage k l c (lingers e) = linger-stage t valid c a ha k l e
+  lets-stage k l c (grants r e) = release-stage t valid c a ha k r l (λ _. omega (arith, bits (ancestor t a k))) e
+  lets-stage k l c (raises e z) = raise-stage t valid c a ha e ∙ sym (letting-go-root (height t a) k z)
 
   -- and of all from one index down to another
   go-by : (n j k : ℕ) (l : k ≤ height t a) → k ≡ n + j → {c : Situation t} → Lets-go t a k (place (c .words) a) → Within t valid bits (5 * n + 5) (Done j) c

@@ -104,6 +104,26 @@ module _ (t : Tree) (valid : Accepted t) (c : Situation t) (i : ℕ) (h : i < t 
   unfolding Says
   help-stage k l e = let y = says _ e in y .2 ∙ ap (letting-go (height t i)) (same-index k (y .0) l (y .1))
 
+  pub cas-stage : (k : ℕ) → k ≤ height t i → place (c .words) i ≡ Cas (ancestor t i k) → queues c .stage i ≡ letting-go (height t i) k
+  unfolding Says
+  cas-stage k l e = let y = says _ e in y .2 ∙ ap (letting-go (height t i)) (same-index k (y .0) l (y .1))
+
+  -- with the word of a release
+  pub release-stage : (k r : ℕ) → k ≤ height t i → (k < height t i → t .threshold (ancestor t i k) ≤ 65535) → place (c .words) i ≡ Grant (ancestor t i k) r (release-word (ancestor t i k)) →
+      queues c .stage i ≡ letting-go (height t i) k
+  unfolding Says
+  release-stage k r l small e =
+      let y = says _ e in
+      let z = same-index k (y .0) l (y .1) in
+      elim (y .2) [
+        | pass o x f ↦ absurd (
+            let b : k < height t i = rw z at o in
+            let n = ne-eqb (ancestor t i k) 0 (omega (arith, ancestor-inner t valid i h k b)) in
+            let f′ : acquire-parent ≤ t .threshold (ancestor t i k) = rw (z, n) at f in
+            omega (arith, small b))
+        | release x f ↦ x ∙ ap (letting-go (height t i)) z
+      ]
+
   pub raise-stage : place (c .words) i ≡ Raise → queues c .stage i ≡ holding
   unfolding Says
   raise-stage e = says _ e

@@ -19,7 +19,7 @@ use Rattle.model.proofs.Trees.Tickets.{ticket-facts, queue-facts}
 use Rattle.model.proofs.Trees.Paths.{ancestor-home, ancestor-zero}
 use Rattle.model.proofs.Laws.Form.{step-keeps}
 use Rattle.model.proofs.Lists.{put-same}
-use Rattle.claims.proofs.Queues.Moves.{Stage, out, climb, queued, State, Event, Move}
+use Rattle.claims.proofs.Queues.Moves.{Stage, out, climb, queued, State, Event}
 use Rattle.claims.proofs.Queues.Invariant.{Inv}
 use Rattle.claims.proofs.Words.View.{words-in, Room}
 use Rattle.claims.proofs.Words.Represents.{Fits, at-idle, at-prep, at-swap, at-link, at-wait, at-woken, at-ready, at-inside, at-check, at-pass, at-help, at-cas, at-linger, at-grant, at-draw, at-watch, at-shown, at-raise, Represents}
@@ -33,6 +33,7 @@ use Rattle.chain.proofs.Reached.Rows.{place-kept}
 use Rattle.bounds.specs.StarvationFreedom.Bounds.{effective}
 pub use Rattle.bounds.proofs.starvation_freedom.Changes.{Changed, unmoved, moved, begun}
 use Rattle.bounds.proofs.starvation_freedom.Effective.{effective-keeps}
+use Rattle.bounds.proofs.starvation_freedom.Stages.{Ones, ones-step}
 
 changed : (T : Tree) {st st′ : State} {es : List Event} {gs : List ℕ} → Moved T st es gs st′ → Changed T st st′
 changed T still = unmoved
@@ -102,6 +103,8 @@ pub record Situation (t : Tree) : Type 0 where
   pub queued : Queued t words
   -- the counts are at most the thresholds that have an effect
   pub effectively : Inv (effective t) (queued .queues)
+  -- and 1 while their thread is on its way up
+  pub ones : Ones t (queued .queues)
 
 -- the queues of a situation
 abbrev pub queues : {t : Tree} → Situation t → State
@@ -130,6 +133,7 @@ module _ (t : Tree) (valid : Accepted t) (bits : Sixteen-bit t) where
           represents = change-at c i h .represents;
         };
         effectively = effective-keeps t valid (c .queued .represents .invariant) (change-at c i h .change) (c .effectively);
+        ones = ones-step t valid (c .queued .represents .invariant) (change-at c i h .change) (c .ones);
       }
 
   pub next-words : (c : Situation t) (i : ℕ) (h : i < t .threads) → next c i h .words ≡ row t i (place (c .words) i) (c .words) .state

@@ -143,76 +143,96 @@ module _ (t : Tree) (valid : Accepted t) (bits : Sixteen-bit t) where
         inl (q′, holds-keeps n c x h (passing-holds t valid bits a ha c q) (passing-holds t valid bits a ha c′ q′) i))
         (λ c h (q, i). passes-on n c h q i) (p, l)
 
-  -- THE WHOLE TENURE, by the entries that are left: so many rounds for each, and then the release
-  abbrev pub tenure-rest : (d n : ℕ) → ℕ
-  tenure-rest d n = entry-rounds t * n + out-rounds d
+  -- WHAT A TENURE COMES TO: what holds once the record is gone, and so many rounds after its thread lets go of it or of a domain above
+  pub record Aim (d r : ℕ) : Type 1 where
+    pub rounds : ℕ
+    pub met : Situation t → Type 0
+    pub at-gone : (c : Situation t) → Gone d r c → met c
+    pub at-release : (a j : ℕ) → Actor d r a j → (k : ℕ) → k ≤ height t a → j ≤ k → {c : Situation t} → Lets-go t a k (place (c .words) a) → Within t valid bits rounds met c
 
-  abbrev Ready-gone : ℕ → Type 0
-  Ready-gone n = (d r a j : ℕ) → Actor d r a j → (c : Situation t) → queues c .stage a ≡ ready → Left a j n c → Within t valid bits (tenure-rest d n) (Gone d r) c
+  -- that it is gone
+  unfoldable pub until-gone : (d r : ℕ) → Aim d r
+  until-gone d r = record { rounds = out-rounds d; met = Gone d r; at-gone = λ c g. g; at-release = lets-gone d r }
 
-  module _ (n : ℕ) (before : Ready-gone n) (d r a j : ℕ) (A : Actor d r a j) where
-    abbrev rounds : ℕ
-    rounds = tenure-rest d n
+  -- that it is gone or the release has begun
+  pub data Ended (d r : ℕ) (c : Situation t) : Type 0 where
+    is-gone : Gone d r c → Ended d r c
+    lets-go : (a j : ℕ) → Actor d r a j → (k : ℕ) → k ≤ height t a → j ≤ k → Lets-go t a k (place (c .words) a) → Ended d r c
 
-    -- the rounds for one entry
-    abbrev one : ℕ
-    one = entry-rounds t
+  unfoldable pub until-ended : (d r : ℕ) → Aim d r
+  until-ended d r = record { rounds = 0; met = Ended d r; at-gone = λ c g. is-gone g; at-release = λ a j A k l b g. at-once t valid bits 0 (lets-go a j A k l b g) }
 
-    passed-gone : (c : Situation t) → Passed d r a j A n c → Within t valid bits rounds (Gone d r) c
-    passed-gone c (left-queue g) = at-once t valid bits rounds g
-    passed-gone c (let-go-above k l b g) = longer t valid bits (out-rounds d) rounds (omega arith) (lets-gone d r a j A k l b g)
-    passed-gone c (to-other b k B e l) = before d r b k B c e l
+  -- THE WHOLE TENURE, by the entries that are left: so many rounds for each, and then those of the aim
+  module _ (d r : ℕ) (q : Aim d r) where
+    abbrev pub tenure-rest : (n : ℕ) → ℕ
+    tenure-rest n = entry-rounds t * n + q .rounds
 
-    pub pass-gone : (c : Situation t) → Passing t valid bits a (A .real) c → Left a j n c → Within t valid bits (1 + rounds) (Gone d r) c
-    pass-gone c p l = then t valid bits 1 rounds (pass-round d r a j A n p l) passed-gone
+    abbrev Ready-gone : ℕ → Type 0
+    Ready-gone n = (a j : ℕ) → Actor d r a j → (c : Situation t) → queues c .stage a ≡ ready → Left a j n c → Within t valid bits (tenure-rest n) (q .met) c
 
-    pub releases-gone : (c : Situation t) (k : ℕ) → k ≤ height t a → Releases t a k (place (c .words) a) → Left a j n c → Within t valid bits (one - 2 + rounds) (Gone d r) c
-    releases-gone c k l g i =
-        longer t valid bits (height t a - k + (1 + rounds)) (one - 2 + rounds) (omega (arith, checks-few t valid a (A .real)))
-        (then t valid bits (height t a - k) (1 + rounds)
-        (releases-rounds t valid bits a (A .real) (Left a j n) (holds-keeps d r a j A n) k l g i)
-        (λ c′ (i′, q). elim q [
-          | inl o ↦ longer t valid bits (out-rounds d) (1 + rounds) (omega arith) (lets-gone d r a j A (height t a) (omega arith) (A .within) o)
-          | inr p ↦ pass-gone c′ p i′
-        ]))
+    module _ (n : ℕ) (before : Ready-gone n) (a j : ℕ) (A : Actor d r a j) where
+      abbrev rounds : ℕ
+      rounds = tenure-rest n
 
-    -- INSIDE
-    pub inside-gone : (c : Situation t) → place (c .words) a ≡ Inside → Left a j n c → Within t valid bits (one - 1 + rounds) (Gone d r) c
-    inside-gone c e i =
-        let z : 1 + (one - 2 + rounds) ≡ one - 1 + rounds = omega (arith, checks-few t valid a (A .real)) in
-        rw (← z) (then t valid bits 1 (one - 2 + rounds)
-        (one-round t valid bits a (A .real) (λ x. (place (x .words) a ≡ Inside) × Left a j n x) (λ x. Releases t a 0 (place (x .words) a) × Left a j n x)
-        (λ x y h m (p, l).
-        let p′ = place-other t valid bits x y h a (λ q. m (sym q)) ∙ p in
-        inl (p′, left-keeps d r a j A n x y h (inside-first d r a j A x p) (inside-first d r a j A (next t valid bits x y h) p′) l))
-        (λ x h (p, l).
-        let x′ = next t valid bits x a h in
-        let p′ = inside-turn t valid bits x a h p in
-        (p′, left-keeps d r a j A n x a h (inside-first d r a j A x p) (holding-first d r a j A x′ (releases-holds t valid bits a (A .real) x′ 0 (omega arith) p′)) l))
-        (e, i))
-        (λ x (p, l). releases-gone x 0 (omega arith) p l))
+      -- the rounds for one entry
+      abbrev one : ℕ
+      one = entry-rounds t
 
-    -- READY
-    ready-gone-next : (c : Situation t) → queues c .stage a ≡ ready → Left a j (suc n) c → Within t valid bits (tenure-rest d (suc n)) (Gone d r) c
-    unfolding pending low
-    ready-gone-next c e i =
-        let z : 1 + (one - 1 + rounds) ≡ tenure-rest d (suc n) = omega (arith, checks-few t valid a (A .real)) in
-        rw (← z) (then t valid bits 1 (one - 1 + rounds)
-        (one-round t valid bits a (A .real) (λ x. (queues x .stage a ≡ ready) × Left a j (suc n) x) (λ x. (place (x .words) a ≡ Inside) × Left a j n x)
-        (λ x y h m (p, l).
-        let p′ = ready-lasts t valid bits a (A .real) x p y h m in
-        inl (p′, left-keeps d r a j A (suc n) x y h (ready-first d r a j A x p) (ready-first d r a j A (next t valid bits x y h) p′) l))
-        (λ x h (p, l).
-        let x′ = next t valid bits x a h in
-        let p′ = ready-enters t valid bits a (A .real) x p h in
-        let ch = next-change t valid bits x a h in
-        let made = entry-hits t tree-laws a ch (ap pending p) (ap pending (inside-stage x′ a (A .real) p′)) in
-        let y = left-less t valid ch (x .queued .represents .invariant) (x .effectively) a j a j (record { before = ready-first d r a j A x p; after = inside-first d r a j A x′ p′; there = refl; mine = refl }) in
-        (p′, omega arith))
-        (e, i))
-        (λ x (p, l). inside-gone x p l))
+      passed-gone : (c : Situation t) → Passed d r a j A n c → Within t valid bits rounds (q .met) c
+      passed-gone c (left-queue g) = at-once t valid bits rounds (q .at-gone c g)
+      passed-gone c (let-go-above k l b g) = longer t valid bits (q .rounds) rounds (omega arith) (q .at-release a j A k l b g)
+      passed-gone c (to-other b k B e l) = before b k B c e l
 
-  pub ready-gone : (n : ℕ) → Ready-gone n
-  unfolding pending
-  ready-gone zero d r a j A c e i = absurd (omega (arith, left-pending-some t valid (queues c) a j, ap pending e))
-  ready-gone (suc n) d r a j A c e i = ready-gone-next n (ready-gone n) d r a j A c e i
+      pub pass-gone : (c : Situation t) → Passing t valid bits a (A .real) c → Left a j n c → Within t valid bits (1 + rounds) (q .met) c
+      pass-gone c p l = then t valid bits 1 rounds (pass-round d r a j A n p l) passed-gone
+
+      pub releases-gone : (c : Situation t) (k : ℕ) → k ≤ height t a → Releases t a k (place (c .words) a) → Left a j n c → Within t valid bits (one - 2 + rounds) (q .met) c
+      releases-gone c k l g i =
+          longer t valid bits (height t a - k + (1 + rounds)) (one - 2 + rounds) (omega (arith, checks-few t valid a (A .real)))
+          (then t valid bits (height t a - k) (1 + rounds)
+          (releases-rounds t valid bits a (A .real) (Left a j n) (holds-keeps d r a j A n) k l g i)
+          (λ c′ (i′, w). elim w [
+            | inl o ↦ longer t valid bits (q .rounds) (1 + rounds) (omega arith) (q .at-release a j A (height t a) (omega arith) (A .within) o)
+            | inr p ↦ pass-gone c′ p i′
+          ]))
+
+      -- INSIDE
+      pub inside-gone : (c : Situation t) → place (c .words) a ≡ Inside → Left a j n c → Within t valid bits (one - 1 + rounds) (q .met) c
+      inside-gone c e i =
+          let z : 1 + (one - 2 + rounds) ≡ one - 1 + rounds = omega (arith, checks-few t valid a (A .real)) in
+          rw (← z) (then t valid bits 1 (one - 2 + rounds)
+          (one-round t valid bits a (A .real) (λ x. (place (x .words) a ≡ Inside) × Left a j n x) (λ x. Releases t a 0 (place (x .words) a) × Left a j n x)
+          (λ x y h m (p, l).
+          let p′ = place-other t valid bits x y h a (λ z. m (sym z)) ∙ p in
+          inl (p′, left-keeps d r a j A n x y h (inside-first d r a j A x p) (inside-first d r a j A (next t valid bits x y h) p′) l))
+          (λ x h (p, l).
+          let x′ = next t valid bits x a h in
+          let p′ = inside-turn t valid bits x a h p in
+          (p′, left-keeps d r a j A n x a h (inside-first d r a j A x p) (holding-first d r a j A x′ (releases-holds t valid bits a (A .real) x′ 0 (omega arith) p′)) l))
+          (e, i))
+          (λ x (p, l). releases-gone x 0 (omega arith) p l))
+
+      -- READY
+      ready-gone-next : (c : Situation t) → queues c .stage a ≡ ready → Left a j (suc n) c → Within t valid bits (tenure-rest (suc n)) (q .met) c
+      unfolding pending low
+      ready-gone-next c e i =
+          let z : 1 + (one - 1 + rounds) ≡ tenure-rest (suc n) = omega (arith, checks-few t valid a (A .real)) in
+          rw (← z) (then t valid bits 1 (one - 1 + rounds)
+          (one-round t valid bits a (A .real) (λ x. (queues x .stage a ≡ ready) × Left a j (suc n) x) (λ x. (place (x .words) a ≡ Inside) × Left a j n x)
+          (λ x y h m (p, l).
+          let p′ = ready-lasts t valid bits a (A .real) x p y h m in
+          inl (p′, left-keeps d r a j A (suc n) x y h (ready-first d r a j A x p) (ready-first d r a j A (next t valid bits x y h) p′) l))
+          (λ x h (p, l).
+          let x′ = next t valid bits x a h in
+          let p′ = ready-enters t valid bits a (A .real) x p h in
+          let ch = next-change t valid bits x a h in
+          let made = entry-hits t tree-laws a ch (ap pending p) (ap pending (inside-stage x′ a (A .real) p′)) in
+          let y = left-less t valid ch (x .queued .represents .invariant) (x .effectively) a j a j (record { before = ready-first d r a j A x p; after = inside-first d r a j A x′ p′; there = refl; mine = refl }) in
+          (p′, omega arith))
+          (e, i))
+          (λ x (p, l). inside-gone x p l))
+
+    pub ready-gone : (n : ℕ) → Ready-gone n
+    unfolding pending
+    ready-gone zero a j A c e i = absurd (omega (arith, left-pending-some t valid (queues c) a j, ap pending e))
+    ready-gone (suc n) a j A c e i = ready-gone-next n (ready-gone n) a j A c e i

@@ -14,7 +14,7 @@ use Rattle.model.proofs.Counted.{occurrences-join}
 use Rattle.bounds.proofs.starvation_freedom.Situations.{Situation, next}
 
 -- OCCURRENCES
-occurrences-other : (i x : ℕ) (xs : List ℕ) → x ≢ i → occurrences i (x ∷ xs) ≡ occurrences i xs
+pub occurrences-other : (i x : ℕ) (xs : List ℕ) → x ≢ i → occurrences i (x ∷ xs) ≡ occurrences i xs
 unfolding occurrences
 occurrences-other i x xs n = let z = ne-eqb i x (λ e. n (sym e)) in rw z (omega arith)
 

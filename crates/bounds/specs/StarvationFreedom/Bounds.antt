@@ -1,6 +1,6 @@
 -- HOW MANY ROUNDS of a fair schedule an acquisition and a release take at most, as functions of the tree. Assumes nothing: these are definitions.
 use mathlib.Core.Bool.{_&&_, not, cond}
-use Prim.Native.Nat.{ℕ, zero, suc, _+_, _*_, _-_}
+use Prim.Native.Nat.{ℕ, zero, suc, _+_, _*_, _-_, _/_}
 use lib.Dec.{eqb, ltb}
 use lib.ListN.{length}
 use Rattle.model.specs.Scans.{largest-below, filter-below}
@@ -43,16 +43,27 @@ levels t = largest-below (t .domains) (level t)
 unfoldable pub entry-rounds : Tree → ℕ
 entry-rounds t = 2 + levels t
 
--- the rounds for which the members of a domain but one are first there, each once: for each member those in which it acquires the domains above, and at most five for the release of each domain from the root down to this one, which are Help, Cas, two of Linger, and Grant; and those of every entry under these members
-unfoldable pub others-rounds : Tree → (domain member above : ℕ) → ℕ
-others-rounds t d m above = (members t d - 1) * (above + 5 * level t d) + entry-rounds t * others-passes t d m
+-- how many members of a domain have the lock one after the other before the domains above are released: its threshold as far as it has an effect, and 1 at the root
+unfoldable pub tenure-length : Tree → (domain : ℕ) → ℕ
+tenure-length t d = cond (eqb d 0) 1 (effective-threshold t d)
 
--- the rounds of a member from its domain on to Inside, by levels: three for the Wait in which the domain below was granted, Prep and Swap; the tenures of all other members; and those for the domains above, where at the root there is one for the Wait or Watch that enters
+-- how many tenures so many members take: their number over that length, rounded up
+unfoldable pub tenures-for : Tree → (domain number : ℕ) → ℕ
+tenures-for t d n = (n + tenure-length t d - 1) / tenure-length t d
+
+-- the round in which everybody before a member links, so that the lock is passed on; where nothing is passed on there is none
+unfoldable pub link-rounds : Tree → (domain : ℕ) → ℕ
+link-rounds t d = cond (ltb 1 (tenure-length t d)) 1 0
+
+-- the rounds of a member from its Swap on to Inside: for each tenure of its domain that its members take, those in which the domains above are acquired; for each tenure that the others take, at most five for the release of each domain from the root down to this one, which are Help, Cas, two of Linger, and Grant; and those of every entry under the others
+unfoldable pub standing-rounds : Tree → (domain member above : ℕ) → ℕ
+standing-rounds t d m above =
+    link-rounds t d + tenures-for t d (members t d) * above + tenures-for t d (members t d - 1) * (5 * level t d) + entry-rounds t * others-passes t d m
+
+-- the rounds of a member from its domain on to Inside, by levels: three for the Wait in which the domain below was granted, Prep and Swap; and those of its standing there, where above the root there is one for the Wait or Watch that enters
 unfoldable pub acquire-from : (levels : ℕ) → Tree → (domain member : ℕ) → ℕ
 acquire-from zero t d m = 0
-acquire-from (suc k) t d m =
-    let above = cond (eqb d 0) 1 (acquire-from k t (t .parent d) (256 + d)) in
-    3 + others-rounds t d m above + above
+acquire-from (suc k) t d m = 3 + standing-rounds t d m (cond (eqb d 0) 1 (acquire-from k t (t .parent d) (256 + d)))
 
 unfoldable pub acquire-rounds : Tree → (domain member : ℕ) → ℕ
 acquire-rounds t d m = acquire-from (level t d) t d m
@@ -69,7 +80,7 @@ release-bound t i = 6 * level t (t .home i)
 unfoldable pub everyone-bound : Tree → ℕ
 everyone-bound t = largest-below (t .threads) (λ i. acquire-bound t i + release-bound t i)
 
--- BY ALLOWANCES, which count every threshold, and with the largest of them for every other member: bounds that are never smaller
+-- BY ALLOWANCES, which count every threshold, with the largest of them for every other member, and with the domains above acquired anew for each: bounds that are never smaller
 unfoldable pub largest-allowance : Tree → (domain : ℕ) → ℕ
 largest-allowance t d = largest-below 320 (λ r. cond (is-member t d r) (allowance t r) 0)
 

@@ -41,15 +41,30 @@ one-leaf = tree 2 2 (0 ∷ 0 ∷ []) (0 ∷ 1 ∷ []) (1 ∷ 1 ∷ [])
 unfoldable pub two-lone : TreeWords
 two-lone = tree 3 2 (0 ∷ 0 ∷ 0 ∷ []) (0 ∷ 16 ∷ 16 ∷ []) (1 ∷ 2 ∷ [])
 
+-- below the root one leaf of three threads, with the threshold given
+unfoldable pub leaf-of-three : (threshold : ℕ) → TreeWords
+leaf-of-three h = tree 2 3 (0 ∷ 0 ∷ []) (0 ∷ h ∷ []) (1 ∷ 1 ∷ 1 ∷ [])
+
+-- below domain 1, with the threshold given, two leaves of one thread each, beside a leaf of one thread
+unfoldable pub two-below-one : (threshold : ℕ) → TreeWords
+two-below-one h = tree 5 3 (0 ∷ 0 ∷ 0 ∷ 1 ∷ 1 ∷ []) (0 ∷ h ∷ 1 ∷ 1 ∷ 1 ∷ []) (3 ∷ 4 ∷ 2 ∷ [])
+
 unfoldable pub bound-cases : List Bound-case
 bound-cases =
     -- two threads in the root, of either kind
     bound-case two-in-root 0 13 6
     ∷ bound-case (at-ticket-root two-in-root) 1 13 6
     ∷ bound-case one-leaf 0 25 12
-    -- a leaf with two threads and threshold 2, beside one with a thread and threshold 16
-    ∷ bound-case two-homes 0 45 12
+    -- a leaf with two threads and threshold 2, beside one with a thread and threshold 16: one tenure is enough for the two
+    ∷ bound-case two-homes 0 32 12
     ∷ bound-case two-homes 2 21 12
+    -- three threads in three tenures, in two and in one
+    ∷ bound-case (leaf-of-three 1) 0 43 12
+    ∷ bound-case (leaf-of-three 2) 0 30 12
+    ∷ bound-case (leaf-of-three 3) 0 26 12
+    -- an inner domain with two leaves of one thread each: two tenures, and one
+    ∷ bound-case (two-below-one 1) 0 51 18
+    ∷ bound-case (two-below-one 2) 0 37 18
     -- two leaves of one thread each: their thresholds of 16 have no effect
     ∷ bound-case two-lone 0 17 12
     ∷ []
@@ -136,8 +151,8 @@ Starves-without-rounds =
 
 pub record Cases-hold : Type 0 where
   pub bounds : all-bounds bound-cases ≡ true
-  -- so many rounds, 171 turns, are enough for the three threads
-  pub everyone : everyone-bound (tree-of two-homes) ≡ 57
+  -- so many rounds, 132 turns, are enough for the three threads
+  pub everyone : everyone-bound (tree-of two-homes) ≡ 44
   -- and so many for the two; by allowances
   pub lone : everyone-bound (tree-of two-lone) ≡ 29
   pub lone-by-allowances : allowance-everyone-bound (tree-of two-lone) ≡ 89

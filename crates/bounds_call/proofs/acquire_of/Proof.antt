@@ -2,33 +2,72 @@
 use native.Mathlib.Omega.{arith}
 use borrow.Author.Needs.{needs}
 use Rattle.model.proofs.Trees.Reading.{few-domains}
-use Rattle.bounds_call.proofs.RoundWords.{acquire-word}
+use Rattle.bounds_call.proofs.WaitWords.{count-few}
+use Rattle.bounds_call.proofs.RoundWords.{counts-few, acquire-word}
 use Rattle.bounds_call.proofs.acquire_of.Statement.{statement}
 use Rattle.bounds_call.proofs.acquire_of.Tie as tie
 
-others-of-requires : tie.Need-others-of-requires
-others-of-requires c κs = let few = few-domains _ (c .pre .0) in omega (arith, c .pre .1 .0)
+-- the positions in the code
+abbrev sized : tie.After-members-of → tie.After-tenure-length
+sized c = c .before
+
+abbrev counted : tie.After-tenures-of2 → tie.After-members-of
+counted c = c .before .before .before
+
+abbrev acquired : tie.After-capped-sum4 → tie.After-capped-sum
+acquired c = c .before .before .before .before .before
+
+abbrev all-counted : tie.After-capped-sum → tie.After-tenures-of2
+all-counted c = c .before .before .before
 
 level-of-requires : tie.Need-level-of-requires
 level-of-requires c κs = search needs
 
-mul-capped-sum : tie.Need-mul-capped-sum
-mul-capped-sum c = search needs
+tenure-length-requires : tie.Need-tenure-length-requires
+tenure-length-requires c κs = search needs
 
-capped-sum-requires : tie.Need-capped-sum-requires
-capped-sum-requires c κs = search needs
+members-of-requires : tie.Need-members-of-requires
+members-of-requires c κs = let p = c .before .before .pre in let few = few-domains _ (p .0) in omega (arith, p .1 .0)
+
+tenures-of-requires : tie.Need-tenures-of-requires
+tenures-of-requires c κs =
+    let s = sized c in
+    let p = s .before .before .pre in
+    let few = few-domains _ (p .0) in
+    (count-few _ (p .0) _ _ _ (omega (arith, p .1 .0)) (p .1 .1 .1) (c .members-of .ensures), s .tenure-length .ensures .1)
+
+others-of-requires : tie.Need-others-of-requires
+others-of-requires c κs = let p = sized (c .before) .before .before .pre in let few = few-domains _ (p .0) in omega (arith, p .1 .0)
+
+tenures-of-requires-2 : tie.Need-tenures-of-requires-2
+tenures-of-requires-2 c κs =
+    let s = sized (c .before .before) in
+    let p = s .before .before .pre in
+    (counts-few _ (p .0) _ _ _ (p .1 .1 .1) (p .1 .0) (c .others-of .ensures), s .tenure-length .ensures .1)
+
+link-round-requires : tie.Need-link-round-requires
+link-round-requires c κs = search needs
 
 capped-product-requires : tie.Need-capped-product-requires
 capped-product-requires c κs = search needs
 
-add-capped-product : tie.Need-add-capped-product
-add-capped-product c = search needs
+capped-sum-requires : tie.Need-capped-sum-requires
+capped-sum-requires c κs = search needs
+
+mul-capped-product : tie.Need-mul-capped-product
+mul-capped-product c = search needs
 
 capped-product-requires-2 : tie.Need-capped-product-requires-2
 capped-product-requires-2 c κs = search needs
 
 capped-sum-requires-2 : tie.Need-capped-sum-requires-2
 capped-sum-requires-2 c κs = search needs
+
+add-capped-product : tie.Need-add-capped-product
+add-capped-product c = search needs
+
+capped-product-requires-3 : tie.Need-capped-product-requires-3
+capped-product-requires-3 c κs = search needs
 
 capped-sum-requires-3 : tie.Need-capped-sum-requires-3
 capped-sum-requires-3 c κs = search needs
@@ -38,35 +77,44 @@ capped-sum-requires-4 c κs = search needs
 
 returns : tie.Need-returns
 returns c =
-    let c₁ = c .before in
-    let c₂ = c₁ .before in
-    let c₃ = c₂ .before in
-    let c₄ = c₃ .before in
-    let c₅ = c₄ .before in
-    let c₆ = c₅ .before in
-    let c₇ = c₆ .before in
-    let p = c₇ .before .pre in
-    acquire-word _ (p .0) _ _ _ _ _ _ _ _ _ _ _ _ _ (p .1 .1 .1) (p .1 .0) (p .1 .1 .0 .0) (c₇ .others-of .ensures)
-    (c₆ .level-of .ensures .0)
-    (c₅ .capped-sum .ensures)
-    (c₄ .capped-product .ensures)
-    (c₃ .capped-product2 .ensures)
-    (c₂ .capped-sum2 .ensures)
-    (c₁ .capped-sum3 .ensures)
+    let a = acquired c in
+    let n = all-counted a in
+    let m = counted n in
+    let s = sized m in
+    let p = s .before .before .pre in
+    acquire-word _ (p .0) _ _ _ _ _ _ _ _ _ _ _ _ _ _ _ _ _ _ _ (p .1 .1 .1) (p .1 .0) (p .1 .1 .0 .0) (s .before .level-of .ensures .0)
+    (s .tenure-length .ensures .0)
+    (m .members-of .ensures)
+    (n .before .before .tenures-of .ensures .0)
+    (n .before .others-of .ensures)
+    (n .tenures-of2 .ensures .0)
+    (a .before .before .link-round .ensures)
+    (a .before .capped-product .ensures)
+    (a .capped-sum .ensures)
+    (c .before .before .before .before .capped-product2 .ensures)
+    (c .before .before .before .capped-sum2 .ensures)
+    (c .before .before .capped-product3 .ensures)
+    (c .before .capped-sum3 .ensures)
     (c .capped-sum4 .ensures)
 
 pub acquire-of-spec : {M : Type 1} → statement M
 acquire-of-spec =
     tie.close
     (tie.spec
-    others-of-requires
     level-of-requires
-    mul-capped-sum
-    capped-sum-requires
+    tenure-length-requires
+    members-of-requires
+    tenures-of-requires
+    others-of-requires
+    tenures-of-requires-2
+    link-round-requires
     capped-product-requires
-    add-capped-product
+    capped-sum-requires
+    mul-capped-product
     capped-product-requires-2
     capped-sum-requires-2
+    add-capped-product
+    capped-product-requires-3
     capped-sum-requires-3
     capped-sum-requires-4
     returns)

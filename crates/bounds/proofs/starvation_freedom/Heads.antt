@@ -13,7 +13,7 @@ use Rattle.claims.proofs.Queues.Moves.{Stage, out, climb, queued, ready, inside
 use Rattle.claims.proofs.Queues.Invariant.{low-acts, low-down, Thread, Inv, unique, fresh}
 use Rattle.claims.proofs.Queues.Keeps.{last-low, standing-not, keeps}
 use Rattle.claims.proofs.Queues.Remaining.{acts-real}
-use Rattle.bounds.proofs.starvation_freedom.Situations.{Changed, unmoved, moved, begun}
+use Rattle.bounds.proofs.starvation_freedom.Changes.{Changed, unmoved, moved, begun}
 use Rattle.bounds.proofs.starvation_freedom.Queues.{tag}
 use Rattle.claims.proofs.tenures.StepMoves.{started-by}
 
@@ -25,8 +25,8 @@ pub data After (T : Tree) (st st′ : State) (b k : ℕ) : Type 0 where
       st′ .tally (record-at T b k) ≡ st .tally (record-at T b k) → ((b′ ≡ b) × (k′ ≡ k)) ⊎ (st′ .stage b′ ≡ ready) → After T st st′ b k
   -- the next member has the lock
   passed :
-      (s l : ℕ) (xs : List ℕ) → st .queue (ancestor T b k) ≡ record-at T b k ∷ record-at T s l ∷ xs → st′ .queue (ancestor T b k) ≡ record-at T s l ∷ xs →
-      st .stage s ≡ queued l → ancestor T s l ≡ ancestor T b k → st′ .stage s ≡ ready → st′ .tally (record-at T s l) ≡ suc (st .tally (record-at T b k)) → After T st st′ b k
+      (s l : ℕ) (xs : List ℕ) → st .stage b ≡ holding → st .queue (ancestor T b k) ≡ record-at T b k ∷ record-at T s l ∷ xs →
+      st′ .queue (ancestor T b k) ≡ record-at T s l ∷ xs → st .stage s ≡ queued l → ancestor T s l ≡ ancestor T b k → st′ .stage s ≡ ready → st′ .tally (record-at T s l) ≡ suc (st .tally (record-at T b k)) → After T st st′ b k
   -- it has the domain, and goes on up
   released :
       (s l : ℕ) (xs : List ℕ) → st .stage b ≡ releasing k → st .queue (ancestor T b k) ≡ record-at T b k ∷ record-at T s l ∷ xs →
@@ -138,7 +138,7 @@ module _ (T : Tree) (tree-laws : Laws T) where
           (λ z. less-or k j _
           (λ y. low-there (λ q. y))
           (λ y. same-or k j _
-          (λ u. rw (z, u) (passed s l xs shape (put-same (st .queue) (ancestor T i j) (record-at T s l ∷ xs) (ancestor T i j) refl) w m (put-same (put (st .stage) i (down j)) s ready s refl) (put-same (st .tally) (record-at T s l) v (record-at T s l) refl)))
+          (λ u. rw (z, u) (passed s l xs e shape (put-same (st .queue) (ancestor T i j) (record-at T s l ∷ xs) (ancestor T i j) refl) w m (put-same (put (st .stage) i (down j)) s ready s refl) (put-same (st .tally) (record-at T s l) v (record-at T s l) refl)))
           (λ u. handed-above i j s l xs e h w m shape apart up z (k - suc j) (omega arith))))
           (λ z. low-there (λ q. absurd (z q)))
       after-move (release i j s l xs e w m shape) =
@@ -180,7 +180,7 @@ module _ (T : Tree) (tree-laws : Laws T) where
 
   begun-after : (st st′ : State) (i b k : ℕ) → st .stage i ≡ out → b ≢ i → After T (started-by st i) st′ b k → After T st st′ b k
   begun-after st st′ i b k e n (kept b′ k′ h a r y z) = kept b′ k′ h a r y z
-  begun-after st st′ i b k e n (passed s l xs q q′ w a y v) = passed s l xs q q′ (waited st i s l w) a y v
+  begun-after st st′ i b k e n (passed s l xs x q q′ w a y v) = passed s l xs (sym (put-other (st .stage) i (climb 0) b n) ∙ x) q q′ (waited st i s l w) a y v
   begun-after st st′ i b k e n (released s l xs x q q′ w a y v) = released s l xs (sym (put-other (st .stage) i (climb 0) b n) ∙ x) q q′ (waited st i s l w) a y v
   begun-after st st′ i b k e n (closed q) = closed q
 

@@ -18,16 +18,15 @@ use Rattle.claims.proofs.Queues.Moves.{climb, queued, low, acts, reach, State, 
 use Rattle.claims.proofs.Queues.Invariant.{low-acts, Thread, Inv}
 use Rattle.claims.proofs.Queues.Order.{Change, stays, opens, grows, moves, closes}
 use Rattle.claims.proofs.Queues.Remaining.{acts-real}
-use Rattle.bounds.specs.StarvationFreedom.Bounds.{members}
 use Rattle.bounds.proofs.starvation_freedom.Situations as situations
 use Rattle.bounds.proofs.starvation_freedom.Situations.{Situation, queues, next-change}
 use Rattle.bounds.proofs.starvation_freedom.Queues.{tag, queue-change}
 use Rattle.bounds.proofs.starvation_freedom.Positions.{queue-short}
-use Rattle.bounds.specs.LongestWait.Bounds.{passes, others-passes}
+use Rattle.bounds.specs.StarvationFreedom.Bounds.{members, passes, others-passes}
 use Rattle.bounds.proofs.starvation_freedom.Weights.{weight, weight-others}
-use Rattle.bounds.proofs.longest_wait.Linked.{All-linked, linked-stays}
-use Rattle.bounds.proofs.longest_wait.Stages.{steps-on, from-queued}
-use Rattle.bounds.proofs.longest_wait.Ends.{Line}
+use Rattle.bounds.proofs.starvation_freedom.Linked.{All-linked, linked-stays}
+use Rattle.bounds.proofs.starvation_freedom.Stages.{steps-on, from-queued}
+use Rattle.bounds.proofs.starvation_freedom.Line.{Line}
 
 -- one list with a member in it, through one change that keeps its first
 pub shape-kept :

@@ -1,5 +1,5 @@
 -- What one step does to the stage of a thread on its way up; and that a domain which it has acquired counts 1 until it has the lock. Assumes nothing.
-use mathlib.Core.Path.{_≡_, refl, ap, _∙_}
+use mathlib.Core.Path.{_≡_, refl, sym, ap, _∙_}
 use mathlib.Core.List.{List}
 use mathlib.Core.Logic.{_≢_, _⊎_, inl, inr}
 use Prim.Native.Nat.{ℕ, zero, suc, _≤_, _<_}
@@ -14,9 +14,9 @@ use Rattle.claims.proofs.Queues.Moves.{Stage, out, climb, queued, ready, inside
 use Rattle.claims.proofs.Queues.Invariant.{Thread, Inv}
 use Rattle.claims.proofs.Queues.Keeps.{keeps}
 use Rattle.claims.proofs.Queues.Remaining.{acts-real}
-use Rattle.bounds.proofs.starvation_freedom.Situations.{Changed, unmoved, moved, begun}
+use Rattle.bounds.proofs.starvation_freedom.Changes.{Changed, unmoved, moved, begun}
 use Rattle.bounds.proofs.starvation_freedom.Queues.{tag}
-use Rattle.bounds.proofs.longest_wait.Heads.{not-joining, not-standing}
+use Rattle.bounds.proofs.starvation_freedom.Heads.{not-joining, not-standing}
 
 -- a thread's way: where a stage leads in one move
 pub data Leads : Stage → Stage → Type 0 where
@@ -234,3 +234,37 @@ on-way h k ready a l = absurd (omega arith)
 on-way h k inside a l = absurd (omega arith)
 on-way h k holding a l = absurd (omega arith)
 on-way h k (releasing j) a l = absurd (omega arith)
+
+down-standing : (l j : ℕ) → down j ≡ queued l → ⊥
+unfolding tag down
+down-standing l zero e = let o = ap tag e in omega arith
+down-standing l (suc j) e = let o = ap tag e in omega arith
+
+begun-index : {x : Stage} {l : ℕ} → climb 0 ≡ x → (x ≡ queued l) ⊎ ((x ≡ climb l) ⊎ ((x ≡ out) × (l ≡ 0))) → l ≡ 0
+unfolding tag low
+begun-index z (inl e) = absurd (let o = ap tag (z ∙ e) in omega arith)
+begun-index z (inr (inl e)) = let o = ap (low 0) (z ∙ e) in omega arith
+begun-index z (inr (inr (e, n))) = n
+
+-- who stands stood there, or joins, maybe right after its start
+to-queued : {x y : Stage} (l : ℕ) → Leads x y → y ≡ queued l → (x ≡ queued l) ⊎ (x ≡ climb l)
+unfolding tag low
+to-queued l same e = inl e
+to-queued l (joins j) e = inr (ap climb (let o = ap (low 0) e in omega arith))
+to-queued l starts e = absurd (let o = ap tag e in omega arith)
+to-queued l (climbs j) e = absurd (let o = ap tag e in omega arith)
+to-queued l (climbs-in j) e = absurd (let o = ap tag e in omega arith)
+to-queued l enters e = absurd (let o = ap tag e in omega arith)
+to-queued l leaves e = absurd (let o = ap tag e in omega arith)
+to-queued l (lets-go j) e = absurd (down-standing l j e)
+to-queued l (goes-down j) e = absurd (down-standing l j e)
+to-queued l (is-handed j) e = absurd (let o = ap tag e in omega arith)
+to-queued l (is-granted j) e = absurd (let o = ap tag e in omega arith)
+
+pub before-queued : (T : Tree) {st st′ : State} → Changed T st st′ → (b l : ℕ) → st′ .stage b ≡ queued l → (st .stage b ≡ queued l) ⊎ ((st .stage b ≡ climb l) ⊎ ((st .stage b ≡ out) × (l ≡ 0)))
+before-queued T unmoved b l e = inl e
+before-queued T (moved mv) b l e = elim (to-queued l (leads T mv b) e) [ inl z ↦ inl z | inr z ↦ inr (inl z) ]
+before-queued T (begun {st = st} i h o c) b l e =
+    same-or b i _
+    (λ z. inr (inr (ap (st .stage) z ∙ o, begun-index (sym (put-same (st .stage) i (climb 0) b z)) (before-queued T c b l e))))
+    (λ z. rw (put-other (st .stage) i (climb 0) b z) at (before-queued T c b l e))
