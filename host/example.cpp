@@ -68,21 +68,27 @@ int main() {
     tree.add_thread(first);
     tree.add_thread(second);
     hmcs::Lock lock(tree);
-    if (!play(lock, {0, 0, 0, 0, 1, 1, 1, 1, 0, 0, 0, 1, 2, 2, 2, 2, 2, 1, 1, 1, 1, 2})) return 1;
+    if (!play(lock, {0, 0, 0, 0, 1, 1, 1, 1, 0, 0, 0, 1, 2, 2, 2, 2, 2, 1, 1, 1, 1, 2}))
+        return 1;
 
     hmcs::Tree small(hmcs::RootKind::ticket);
     small.add_thread(0);
     small.add_thread(0);
     hmcs::Lock ticket_lock(small, 65535);
-    if (!play(ticket_lock, {0, 1, 1, 0, 0, 1})) return 1;
+    if (!play(ticket_lock, {0, 1, 1, 0, 0, 1}))
+        return 1;
     std::printf("the next ticket is %u, the grant is %u\n", ticket_lock.state().ticket, ticket_lock.state().grant);
 
     hmcs::Lock busy(tree);
-    if (busy.run({0, 0, 0, 0, 1, 1, 1}).refused()) return 1;
-    if (!explain(busy, 1) || !explain(busy, 0) || !explain(busy, 2)) return 1;
+    if (busy.run({0, 0, 0, 0, 1, 1, 1}).refused())
+        return 1;
+    if (!explain(busy, 1) || !explain(busy, 0) || !explain(busy, 2))
+        return 1;
     hmcs::Lock busier(tree);
-    if (busier.run({2, 2, 2, 2, 0, 0, 0, 0, 0, 1, 1, 1}).refused()) return 1;
-    if (!explain(busier, 1)) return 1;
+    if (busier.run({2, 2, 2, 2, 0, 0, 0, 0, 0, 1, 1, 1}).refused())
+        return 1;
+    if (!explain(busier, 1))
+        return 1;
 
     counted(lock);
     return 0;

@@ -8,7 +8,7 @@
 
 // Records are numbered as threads are; 0 stands for no record, and record r is r + 1.
 template <class Trace> class MyLock {
-public:
+  public:
     explicit MyLock(std::uint32_t threads) : trace(threads), records_(threads) {}
 
     void lock(std::uint32_t me) {
@@ -71,7 +71,7 @@ public:
 
     Trace trace;
 
-private:
+  private:
     using Word = typename Trace::template Word<>;
     struct Record {
         Word status, next;

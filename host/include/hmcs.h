@@ -6,8 +6,9 @@
  *
  * Pointers are the one thing that no function can test. A buffer must be valid for its length, and may be null where the length is 0; the
  * pointers to a state, a place, a length, allowances or numbers under way must be valid, aligned and not null. No two things that the pointers of one call name may overlap. Two calls
- * may run at once unless one writes what the other reads or writes. hmcs_run_file and hmcs_run_many need 160 KB of stack, hmcs_run_waits and
- * hmcs_run_waits_on 56 KB, every other function at most 36 KB, besides its arguments and its result, which take up to 19 KB in the caller.
+ * may run at once unless one writes what the other reads or writes. hmcs_run_file and hmcs_run_many need 160 KB of stack, hmcs_check_steps
+ * 64 KB, hmcs_run_waits, hmcs_run_waits_on and hmcs_run_kinds 56 KB, every other function at most 36 KB, besides its arguments and its result, which
+ * take up to 19 KB in the caller.
  *
  * Compare two states field by field, never by memcmp: struct hmcs_state has padding, and so do struct hmcs_text_reply, struct hmcs_journal_answer,
  * struct hmcs_waits_reply, struct hmcs_kinds_reply and struct hmcs_steps_reply.
@@ -37,11 +38,11 @@ extern "C" {
 #endif
 
 enum {
-    HMCS_DOMAINS = 64,  /* room for domains; domain 0 is the root */
-    HMCS_THREADS = 256, /* room for threads */
-    HMCS_RECORDS = 320, /* a thread's record has the thread's number, domain d's is 256 + d */
+    HMCS_DOMAINS = 64,          /* room for domains; domain 0 is the root */
+    HMCS_THREADS = 256,         /* room for threads */
+    HMCS_RECORDS = 320,         /* a thread's record has the thread's number, domain d's is 256 + d */
     HMCS_SCHEDULE_ROOM = 32768, /* the most turns that a lock file's schedule can have */
-    HMCS_LISTING_ROOM = 131111 /* bytes of output in which every lock file's listing fits, so that 14 is never met: this is proved */
+    HMCS_LISTING_ROOM = 131111  /* bytes of output in which every lock file's listing fits, so that 14 is never met: this is proved */
 };
 
 /* A tree with its threads. Room that the tree does not use, and the root's parent and threshold, are not read. */
@@ -134,8 +135,8 @@ typedef struct hmcs_state {
     uint16_t nexts[HMCS_RECORDS];
     uint64_t statuses[HMCS_RECORDS];
     hmcs_places places;
-    uint16_t ticket; /* the next ticket to be drawn; the one after 65,535 is 0 */
-    uint16_t grant;  /* the ticket that may enter */
+    uint16_t ticket;                /* the next ticket to be drawn; the one after 65,535 is 0 */
+    uint16_t grant;                 /* the ticket that may enter */
     uint64_t entries[HMCS_DOMAINS]; /* of each domain but the root, the entries of the threads under it */
     uint64_t tenures[HMCS_DOMAINS]; /* how many tenures have started */
     uint64_t longest[HMCS_DOMAINS]; /* the longest of them, the running one included; at most the threshold */
@@ -151,39 +152,39 @@ typedef struct hmcs_state {
 /* What an answer's number means; 0 means accepted. An answer's place is what the sentence says it is, and otherwise 0. */
 enum hmcs_refusal {
     HMCS_ACCEPTED = 0,
-    HMCS_FILE_TOO_LONG = 1,    /* The lock file is longer than 65,536 bytes, or would be. */
-    HMCS_FILE_CUT = 2,         /* The lock file ends inside a field or where one is still due, the place being its length. */
-    HMCS_FILE_BIT = 3,         /* A bit map has a bit set that has no meaning, the place being its byte. */
-    HMCS_BAD_DOMAINS = 4,      /* There are no domains, or more than 64. */
-    HMCS_BAD_THREADS = 5,      /* There are no threads, or more than 256. */
-    HMCS_BAD_PARENT = 6,       /* A domain other than 0 has a parent not below its own number, the place being the domain. */
-    HMCS_TOO_DEEP = 7,         /* A domain lies deeper than level 6, the root being level 1, the place being the domain. */
-    HMCS_NO_THRESHOLD = 8,     /* A domain other than 0 has threshold 0, the place being the domain. For a rate: a threshold is 0, place 1 or 2. */
-    HMCS_BAD_HOME = 9,         /* A home is not a domain of the tree or has child domains, the place being the thread. */
-    HMCS_BAD_STATE = 10,       /* The state handed in is not well formed (SPECIFICATION.md); or a counter of the root or of room that the tree does
+    HMCS_FILE_TOO_LONG = 1,       /* The lock file is longer than 65,536 bytes, or would be. */
+    HMCS_FILE_CUT = 2,            /* The lock file ends inside a field or where one is still due, the place being its length. */
+    HMCS_FILE_BIT = 3,            /* A bit map has a bit set that has no meaning, the place being its byte. */
+    HMCS_BAD_DOMAINS = 4,         /* There are no domains, or more than 64. */
+    HMCS_BAD_THREADS = 5,         /* There are no threads, or more than 256. */
+    HMCS_BAD_PARENT = 6,          /* A domain other than 0 has a parent not below its own number, the place being the domain. */
+    HMCS_TOO_DEEP = 7,            /* A domain lies deeper than level 6, the root being level 1, the place being the domain. */
+    HMCS_NO_THRESHOLD = 8,        /* A domain other than 0 has threshold 0, the place being the domain. For a rate: a threshold is 0, place 1 or 2. */
+    HMCS_BAD_HOME = 9,            /* A home is not a domain of the tree or has child domains, the place being the thread. */
+    HMCS_BAD_STATE = 10,          /* The state handed in is not well formed (SPECIFICATION.md); or a counter of the root or of room that the tree does
                                 * not use is not 0, a longest tenure is above the threshold, or a counter is above HMCS_MOST_COUNTED. */
-    HMCS_SCHEDULE_LONG = 11,   /* The schedule has more than 65,536 turns. */
-    HMCS_BAD_ENTRY = 12,       /* A thread number is not below the number of threads, the place being its position in the schedule from 0. */
-    HMCS_TRACE_SHORT = 13,     /* The trace buffer has fewer elements than the schedule. */
-    HMCS_OUTPUT_SHORT = 14,    /* The output buffer is shorter than the listing. */
-    HMCS_TEXT_WRONG = 15,      /* The text leaves the grammar, the place being the first byte that no text could continue with, or the length. */
-    HMCS_EMPTY_DOMAIN = 16,    /* A domain has no thread under it, the place being the lowest such domain. Tested straight after 9. */
-    HMCS_FILE_SHORT = 17,      /* The file buffer is shorter than the lock file. */
-    HMCS_WAITS_BUFFER_SHORT = 18,     /* The row buffer of waits holds fewer rows than threads plus one. */
-    HMCS_COUNTER_FULL = 19,    /* A step would push a counter past HMCS_MOST_COUNTED, the place being its position in the schedule from 0. Tested last. */
-    HMCS_CHAIN_SHORT = 20,     /* The chain buffer has fewer elements than there are threads. */
-    HMCS_NO_CHAIN = 21,        /* A thread of the chain looks to nobody, to several, or to one that is already on it. */
-    HMCS_LENGTHS_WRONG = 22,   /* The schedules' lengths do not add up to the turns given. */
-    HMCS_ROWS_SHORT = 23,      /* The row buffer holds fewer rows than there are schedules. */
-    HMCS_BAD_TIME = 24,        /* A passing time is not a number from 1/1024 to 1,048,576, the place being 1 to 3. */
-    HMCS_JOURNAL_BROKEN = 25,  /* A journal entry is cut off or has another bit set, the place being its first byte. */
-    HMCS_OTHER_KIND = 26,      /* The kind that is named for a step is not the step's, the place being the journal entry's first byte, or its position from 0
+    HMCS_SCHEDULE_LONG = 11,      /* The schedule has more than 65,536 turns. */
+    HMCS_BAD_ENTRY = 12,          /* A thread number is not below the number of threads, the place being its position in the schedule from 0. */
+    HMCS_TRACE_SHORT = 13,        /* The trace buffer has fewer elements than the schedule. */
+    HMCS_OUTPUT_SHORT = 14,       /* The output buffer is shorter than the listing. */
+    HMCS_TEXT_WRONG = 15,         /* The text leaves the grammar, the place being the first byte that no text could continue with, or the length. */
+    HMCS_EMPTY_DOMAIN = 16,       /* A domain has no thread under it, the place being the lowest such domain. Tested straight after 9. */
+    HMCS_FILE_SHORT = 17,         /* The file buffer is shorter than the lock file. */
+    HMCS_WAITS_BUFFER_SHORT = 18, /* The row buffer of waits holds fewer rows than threads plus one. */
+    HMCS_COUNTER_FULL = 19,       /* A step would push a counter past HMCS_MOST_COUNTED, the place being its position in the schedule from 0. Tested last. */
+    HMCS_CHAIN_SHORT = 20,        /* The chain buffer has fewer elements than there are threads. */
+    HMCS_NO_CHAIN = 21,           /* A thread of the chain looks to nobody, to several, or to one that is already on it. */
+    HMCS_LENGTHS_WRONG = 22,      /* The schedules' lengths do not add up to the turns given. */
+    HMCS_ROWS_SHORT = 23,         /* The row buffer holds fewer rows than there are schedules. */
+    HMCS_BAD_TIME = 24,           /* A passing time is not a number from 1/1024 to 1,048,576, the place being 1 to 3. */
+    HMCS_JOURNAL_BROKEN = 25,     /* A journal entry is cut off or has another bit set, the place being its first byte. */
+    HMCS_OTHER_KIND = 26,         /* The kind that is named for a step is not the step's, the place being the journal entry's first byte, or its position from 0
                                 * in a list of steps. */
-    HMCS_BAD_UNDER_WAY = 27,   /* A number of an attempt under way is above HMCS_MOST_COUNTED, or is not 0 after the last thread, the place being the
+    HMCS_BAD_UNDER_WAY = 27,      /* A number of an attempt under way is above HMCS_MOST_COUNTED, or is not 0 after the last thread, the place being the
                                 * thread. Tested last before 19. */
-    HMCS_KINDS_SHORT = 28,     /* The buffer of kinds holds fewer rows than the schedule has turns. Tested last before 19. */
-    HMCS_OTHER_DOMAIN = 29,    /* The domain that is named for a step is not the step's, the place being its position from 0. */
-    HMCS_LISTS_UNEQUAL = 30    /* Lists that belong together are not of one length. */
+    HMCS_KINDS_SHORT = 28,        /* The buffer of kinds holds fewer rows than the schedule has turns. Tested last before 19. */
+    HMCS_OTHER_DOMAIN = 29,       /* The domain that is named for a step is not the step's, the place being its position from 0. */
+    HMCS_LISTS_UNEQUAL = 30       /* Lists that belong together are not of one length. */
 };
 
 /* The sentence of a refusal number, for people. */
@@ -328,7 +329,8 @@ typedef struct hmcs_kinds_reply {
 /* The steps of a schedule as hmcs_run takes them, and for each step a row of its kind and domain: what hmcs_step would tell of each, one step after
  * another. At the front of the rows stands a row for each turn, in the schedule's order; nothing after them is written. Refused as hmcs_run is, with
  * 28 between 13 and 19; then the counts are 0, and state, trace and rows are as they came. A buffer of k numbers holds k / 2 rows, rounded down. */
-hmcs_kinds_reply hmcs_run_kinds(hmcs_tree tree, hmcs_state state, const uint16_t *schedule, size_t schedule_length, uint16_t *trace, size_t trace_length, uint16_t *rows, size_t rows_length);
+hmcs_kinds_reply hmcs_run_kinds(hmcs_tree tree, hmcs_state state, const uint16_t *schedule, size_t schedule_length, uint16_t *trace, size_t trace_length,
+                                uint16_t *rows, size_t rows_length);
 
 /* How many numbers a row of waits has: attempts finished, total wait, largest wait, and the mean's numerator and denominator, in this order. */
 enum { HMCS_NUMBERS_PER_WAITS_ROW = 5 };
@@ -353,7 +355,8 @@ typedef struct hmcs_waits_reply {
  * all threads together; nothing after them is written. A mean is total over attempts in lowest terms; a row without an attempt is 0
  * throughout, and a total of 0 over some attempts has the mean 0 over 1. Refused as hmcs_run is, with 18 between 13 and 19; then the counts are
  * 0, and state, trace and rows are as they came. A buffer of k numbers holds k / 5 rows, rounded down. */
-hmcs_waits_reply hmcs_run_waits(hmcs_tree tree, hmcs_state state, const uint16_t *schedule, size_t schedule_length, uint16_t *trace, size_t trace_length, uint64_t *rows, size_t rows_length);
+hmcs_waits_reply hmcs_run_waits(hmcs_tree tree, hmcs_state state, const uint16_t *schedule, size_t schedule_length, uint16_t *trace, size_t trace_length,
+                                uint64_t *rows, size_t rows_length);
 
 /* The same from attempts that are under way, so that a history may take several calls: the next one from the state and the numbers that the one
  * before left. under_way has HMCS_THREADS elements and is read and written: under_way[i] is 0 where thread i has no attempt under way, and otherwise one
@@ -362,7 +365,8 @@ hmcs_waits_reply hmcs_run_waits(hmcs_tree tree, hmcs_state state, const uint16_t
  * turns would give: attempts and totals added, the largest of the largest waits, and the same numbers under way. In the last row UINT64_MAX also stands
  * for a larger total, and the mean is that of the number that stands there; no total is larger where the numbers handed in and the run's entries, as often as
  * there are threads, add up to at most UINT64_MAX. Refused as hmcs_run_waits is, with 27 between 18 and 19; then under_way is as it came too. */
-hmcs_waits_reply hmcs_run_waits_on(hmcs_tree tree, hmcs_state state, const uint16_t *schedule, size_t schedule_length, uint16_t *trace, size_t trace_length, uint64_t *rows, size_t rows_length, uint64_t *under_way);
+hmcs_waits_reply hmcs_run_waits_on(hmcs_tree tree, hmcs_state state, const uint16_t *schedule, size_t schedule_length, uint16_t *trace, size_t trace_length,
+                                   uint64_t *rows, size_t rows_length, uint64_t *under_way);
 
 /* A fresh lock, written where the host keeps its state, its start as above. Refused by 4 to 9 and 16; then the state is as it was. */
 hmcs_answer hmcs_fresh_in_place(hmcs_tree tree, hmcs_state *state, uint16_t start);
@@ -424,7 +428,8 @@ typedef struct hmcs_many_reply {
  * with a turn that names no thread (12, the place being its position in that schedule) has this in its row, with counts 0, and the others run
  * all the same. The whole call is refused by 4 to 9 and 16, then by 22, then by 23; then the rows are as they came. A buffer of k numbers
  * holds k / 8 rows, rounded down. No schedules and no turns are accepted too. */
-hmcs_many_reply hmcs_run_many(hmcs_tree tree, const uint32_t *lengths, size_t lengths_length, const uint16_t *entries, size_t entries_length, uint32_t *rows, size_t rows_length);
+hmcs_many_reply hmcs_run_many(hmcs_tree tree, const uint32_t *lengths, size_t lengths_length, const uint16_t *entries, size_t entries_length, uint32_t *rows,
+                              size_t rows_length);
 
 /* What the check of a journal returns: number and place. The place is a position in the journal, however long that is. */
 typedef struct hmcs_journal_answer {
@@ -459,7 +464,8 @@ typedef struct hmcs_steps_reply {
  * kind is not the step's, else by 29 where its domain is not; then reply.checked is the place too, and the state is the one before that step, so that hmcs_chain can
  * say why threads wait there. Accepted, reply.checked is the lists' length and the state the one after the last step: the next piece of a trace is
  * checked from it, and pieces answer what the whole would. */
-hmcs_steps_reply hmcs_check_steps(hmcs_tree tree, hmcs_state state, const uint16_t *threads, size_t threads_length, const uint16_t *kinds, size_t kinds_length, const uint16_t *domains, size_t domains_length);
+hmcs_steps_reply hmcs_check_steps(hmcs_tree tree, hmcs_state state, const uint16_t *threads, size_t threads_length, const uint16_t *kinds, size_t kinds_length,
+                                  const uint16_t *domains, size_t domains_length);
 
 /* The file call: reads a lock file, runs its schedule from a fresh lock (of start 0), and writes the listing at the front of the output. Returns the
  * number; *place is its place, *length the listing's length, 0 if refused. Refused by 1 to 9, 16, 12 and 14; then the output is as
@@ -484,7 +490,8 @@ hmcs_read_reply hmcs_read_file(const uint8_t *file, size_t file_length, uint16_t
  * not what its absence means, so no lock file for them is shorter, and reading it gives the same tree, threads and schedule. A buffer of
  * 65,536 bytes is always long enough. Returns the number; *place is its place, *length the file's length, 0 if refused. Refused by 4 to
  * 9, 16, 11 and 12, then by 1 where the file would be longer than 65,536 bytes, then by 17; then the buffer is as it came. */
-uint32_t hmcs_write_file(hmcs_tree tree, const uint16_t *schedule, size_t schedule_length, uint8_t *file, size_t file_length, uint32_t *place, uint32_t *length);
+uint32_t hmcs_write_file(hmcs_tree tree, const uint16_t *schedule, size_t schedule_length, uint8_t *file, size_t file_length, uint32_t *place,
+                         uint32_t *length);
 
 /* What reading a text returns: number and place, and the tree; if refused, all its words are 0. The place is a position in the text, however
  * long that is. */

@@ -100,14 +100,12 @@ inline hmcs_state from_version_2(const StateOfVersion2 &saved) noexcept {
 
 // Whether two states are the same, field by field: their padding may differ.
 inline bool same(const hmcs_state &a, const hmcs_state &b) noexcept {
-    return std::equal(std::begin(a.tails), std::end(a.tails), std::begin(b.tails)) &&
-           std::equal(std::begin(a.nexts), std::end(a.nexts), std::begin(b.nexts)) &&
+    return std::equal(std::begin(a.tails), std::end(a.tails), std::begin(b.tails)) && std::equal(std::begin(a.nexts), std::end(a.nexts), std::begin(b.nexts)) &&
            std::equal(std::begin(a.statuses), std::end(a.statuses), std::begin(b.statuses)) &&
            std::equal(std::begin(a.places.rows), std::end(a.places.rows), std::begin(b.places.rows)) &&
            std::equal(std::begin(a.places.domains), std::end(a.places.domains), std::begin(b.places.domains)) &&
            std::equal(std::begin(a.places.peers), std::end(a.places.peers), std::begin(b.places.peers)) &&
-           std::equal(std::begin(a.places.words), std::end(a.places.words), std::begin(b.places.words)) && a.ticket == b.ticket &&
-           a.grant == b.grant &&
+           std::equal(std::begin(a.places.words), std::end(a.places.words), std::begin(b.places.words)) && a.ticket == b.ticket && a.grant == b.grant &&
            std::equal(std::begin(a.entries), std::end(a.entries), std::begin(b.entries)) &&
            std::equal(std::begin(a.tenures), std::end(a.tenures), std::begin(b.tenures)) &&
            std::equal(std::begin(a.longest), std::end(a.longest), std::begin(b.longest));
@@ -144,7 +142,7 @@ enum class RootKind { queue, ticket };
 // A tree that grows domain by domain and thread by thread, with a queue at its root unless another kind is given. What does not fit is
 // counted and not stored, so that the calls refuse it.
 class Tree {
-public:
+  public:
     Tree() : Tree(RootKind::queue) {}
 
     explicit Tree(RootKind root) : words_{} {
@@ -184,7 +182,7 @@ public:
         return tree;
     }
 
-private:
+  private:
     // No domain has the number 255, so a number that does not fit is refused and not cut.
     static std::uint8_t byte_of(std::uint32_t domain) noexcept { return static_cast<std::uint8_t>(std::min<std::uint32_t>(domain, 255)); }
 
@@ -204,9 +202,9 @@ struct [[nodiscard]] RunResult : Result {
 // Waits of attempts that finished within a run. Without an attempt all five are 0.
 struct Waits {
     std::uint64_t attempts = 0;
-    std::uint64_t total = 0;       // other threads' entries, over all attempts; UINT64_MAX where it is larger
-    std::uint64_t largest = 0;     // of one attempt
-    std::uint64_t numerator = 0;   // of the mean, total over attempts in lowest terms
+    std::uint64_t total = 0;     // other threads' entries, over all attempts; UINT64_MAX where it is larger
+    std::uint64_t largest = 0;   // of one attempt
+    std::uint64_t numerator = 0; // of the mean, total over attempts in lowest terms
     std::uint64_t denominator = 0;
 };
 
@@ -237,9 +235,9 @@ struct [[nodiscard]] WaitsResult {
 
 // The waits of several runs one after another.
 struct WaitsSoFar {
-    std::vector<Waits> threads;            // one for each thread: its attempts that have finished
-    Waits all;                             // of all threads together
-    std::vector<std::uint64_t> under_way;  // one for each thread: its attempt that has not finished, as UnderWay has it
+    std::vector<Waits> threads;           // one for each thread: its attempts that have finished
+    Waits all;                            // of all threads together
+    std::vector<std::uint64_t> under_way; // one for each thread: its attempt that has not finished, as UnderWay has it
 };
 
 namespace detail {
@@ -259,7 +257,7 @@ template <typename Reply> void keep(const Reply &reply, hmcs_state &state, RunRe
 inline WaitsResult run_waits(const Tree &tree, hmcs_state &state, UnderWay &under_way, const std::uint16_t *schedule, std::size_t length) {
     WaitsResult result;
     std::vector<std::uint64_t> numbers((HMCS_THREADS + 1) * HMCS_NUMBERS_PER_WAITS_ROW);
-    result.threads.reserve(HMCS_THREADS + 1); // after the call nothing allocates, so that no result is lost
+    result.threads.reserve(HMCS_THREADS + 1);                      // after the call nothing allocates, so that no result is lost
     result.run.trace.resize(std::min<std::size_t>(length, 65536)); // a longer schedule is refused (11) before the trace is looked at
     const hmcs_waits_reply reply = hmcs_run_waits_on(tree.words(), state, schedule, length, result.run.trace.data(), result.run.trace.size(), numbers.data(),
                                                      numbers.size(), under_way.data());
@@ -333,12 +331,10 @@ struct Tenures {
 
 // A lock that the host keeps: a tree and a state, stepped in place.
 class Lock {
-public:
+  public:
     // A fresh lock, with the counters of a ticket root at the start. refusal() tells whether the tree was accepted; if refused, the state is fresh
     // as well, and every step is refused.
-    explicit Lock(const Tree &tree, std::uint16_t start = 0) : tree_(tree.words()), state_{} {
-        refusal_ = of(hmcs_fresh_in_place(tree_, &state_, start));
-    }
+    explicit Lock(const Tree &tree, std::uint16_t start = 0) : tree_(tree.words()), state_{} { refusal_ = of(hmcs_fresh_in_place(tree_, &state_, start)); }
 
     // A lock whose state was kept. It is tested: a state that is not well formed is refused by 10, and then every step is refused as well.
     static Lock saved(const Tree &tree, const hmcs_state &state) {
@@ -464,7 +460,7 @@ public:
         return std::nullopt;
     }
 
-private:
+  private:
     std::size_t threads() const noexcept { return std::min<std::size_t>(tree_.threads, HMCS_THREADS); }
 
     static Refusal of(hmcs_answer a) noexcept { return Refusal{a.number, a.place}; }
@@ -567,9 +563,7 @@ inline Refusal check_journal(const Tree &tree, const std::uint8_t *journal, std:
     return Refusal{answer.number, answer.place};
 }
 
-inline Refusal check_journal(const Tree &tree, const std::vector<std::uint8_t> &journal) {
-    return check_journal(tree, journal.data(), journal.size());
-}
+inline Refusal check_journal(const Tree &tree, const std::vector<std::uint8_t> &journal) { return check_journal(tree, journal.data(), journal.size()); }
 
 // What the check of steps found.
 struct [[nodiscard]] StepsResult : Result {
@@ -593,7 +587,7 @@ inline StepsResult check_steps(const Tree &tree, hmcs_state &state, const std::v
 // fresh lock. A writer has no lock of its own: threads add one at a time, each under the mutex under which it took its step, since entries must be in
 // the order of the steps. hmcs_trace.hpp does that, or finds the order afterwards.
 class JournalWriter {
-public:
+  public:
     // Adds a journal entry, or nothing if memory runs out. A thread above 65,535 is refused by the check as 65,535 is.
     void add(std::uint32_t thread, Kind kind) {
         const std::uint16_t number = detail::thread_of(thread);
@@ -628,7 +622,7 @@ public:
         thread_ = 0;
     }
 
-private:
+  private:
     std::vector<std::uint8_t> bytes_;
     std::uint16_t thread_ = 0; // of the journal entry before
 };
@@ -644,8 +638,7 @@ inline FileResult run_file(const std::uint8_t *file, std::size_t length) {
     result.listing.resize(HMCS_LISTING_ROOM);
     std::uint32_t place = 0;
     std::uint32_t written = 0;
-    const std::uint32_t number =
-        hmcs_run_file(file, length, reinterpret_cast<std::uint8_t *>(result.listing.data()), result.listing.size(), &place, &written);
+    const std::uint32_t number = hmcs_run_file(file, length, reinterpret_cast<std::uint8_t *>(result.listing.data()), result.listing.size(), &place, &written);
     result.refusal = Refusal{number, place};
     result.listing.resize(written);
     return result;
@@ -688,9 +681,7 @@ inline WriteResult write_file(const Tree &tree, const std::uint16_t *schedule, s
     return result;
 }
 
-inline WriteResult write_file(const Tree &tree, const std::vector<std::uint16_t> &schedule) {
-    return write_file(tree, schedule.data(), schedule.size());
-}
+inline WriteResult write_file(const Tree &tree, const std::vector<std::uint16_t> &schedule) { return write_file(tree, schedule.data(), schedule.size()); }
 
 // How long it takes to pass the lock on: p1 within a home, p2 between homes below one domain, p3 across the root; all in one unit.
 using PassingTimes = hmcs_passing_times;
@@ -737,7 +728,8 @@ inline std::string expected(std::string_view text, std::size_t place) {
     const auto level = std::count(read.begin(), read.end(), '(') - std::count(read.begin(), read.end(), ')');
     switch (read.empty() ? '\0' : read.back()) {
     case '\0': return "expected (";
-    case '(': return level == 6 ? "expected # and a thread count: level 6 may only have threads" : "expected # and a thread count, or a threshold from 1 to 65,535";
+    case '(':
+        return level == 6 ? "expected # and a thread count: level 6 may only have threads" : "expected # and a thread count, or a threshold from 1 to 65,535";
     case '#': return "expected a thread count, from 1";
     case ' ': return "expected a threshold from 1 to 65,535 after one space";
     case ')': return level == 0 ? "expected the end of the text" : "expected ), or one space and another domain";

@@ -37,7 +37,7 @@ struct NoFaults {
 
 // The lock. Each thread of the tree calls lock and unlock with its own number, one thread at a time for each number.
 template <class Trace = trace::None, class Orders = trace::SequentiallyConsistent, class Faults = NoFaults> class AtomicLock {
-public:
+  public:
     // Throws std::invalid_argument where the tree is refused.
     explicit AtomicLock(const hmcs_tree &tree) : tree_(accepted(tree)), trace_(tree.threads), words_(std::make_unique<Words>()) {}
 
@@ -51,7 +51,7 @@ public:
     Trace &trace() { return trace_; }
     Faults &faults() { return faults_; }
 
-private:
+  private:
     using Word = typename Trace::template Word<Orders>;
 
     struct alignas(64) Record {

@@ -78,10 +78,10 @@ struct SequentiallyConsistent {
 
 // A word as it is without a trace.
 template <class Orders = SequentiallyConsistent> class PlainWord {
-public:
+  public:
     explicit PlainWord(std::uint32_t value = 0) : value_(value) {}
 
-private:
+  private:
     friend struct PlainAccess;
     std::atomic<std::uint32_t> value_;
 };
@@ -101,7 +101,7 @@ struct PlainAccess {
 
 // No trace.
 class None {
-public:
+  public:
     template <class Orders = SequentiallyConsistent> using Word = PlainWord<Orders>;
 
     explicit None(std::size_t = 0) {}
@@ -111,7 +111,7 @@ public:
 
 // Each step and its entry under one mutex. A lock may also have words of its own, of any type, and leave `at` aside, if it touches them in steps alone.
 class OneByOne {
-public:
+  public:
     template <class Orders = SequentiallyConsistent> using Word = PlainWord<Orders>;
 
     explicit OneByOne(std::size_t threads) : taken_(threads) {}
@@ -130,7 +130,7 @@ public:
     // When all threads have ended.
     Written written() const { return Written{steps_, true, false}; }
 
-private:
+  private:
     std::mutex mutex_;
     Steps steps_;
     std::vector<std::size_t> taken_;
@@ -176,7 +176,7 @@ struct alignas(64) Log {
 // saw the write that its word has now, and no step that is left has seen one that it replaces. A step that can come next never has to wait for
 // another, so if there is an order, one is found.
 class Merge {
-public:
+  public:
     explicit Merge(const std::vector<Log> &logs) : logs_(logs), readers_(logs.size()), next_(logs.size(), 0) {
         for (const Log &log : logs_) {
             result_.too_long = result_.too_long || log.too_long;
@@ -206,16 +206,14 @@ public:
         return result_;
     }
 
-private:
+  private:
     struct Word {
         std::uint32_t now = 0;           // the write that it has
         std::uint32_t first_readers = 0; // accesses left that have seen its first value and wrote nothing
     };
 
     // Accesses left that have seen a write and wrote nothing.
-    std::uint32_t &readers(Word &word, std::uint32_t write) {
-        return write == 0 ? word.first_readers : readers_[write >> 24][write & most_writes];
-    }
+    std::uint32_t &readers(Word &word, std::uint32_t write) { return write == 0 ? word.first_readers : readers_[write >> 24][write & most_writes]; }
 
     void put_head(const Log &log) {
         if (next_[log.thread] < log.steps.size()) {
@@ -286,18 +284,18 @@ private:
 // A log for each thread. A word is 64 bits wide: beside its value it has the name of the write that it is from, so that each access knows which write it saw. A
 // store is an exchange, since it has to see what it replaces. An access that adds is a loop until it succeeds; only then it is logged.
 template <class Clock> class ThreadLogsBy {
-public:
+  public:
     template <class Orders = SequentiallyConsistent> class Word {
-    public:
+      public:
         explicit Word(std::uint32_t value = 0) : word_(value) {}
 
-    private:
+      private:
         friend class ThreadLogsBy;
         std::atomic<std::uint64_t> word_; // the write in the high half
     };
 
     class Access {
-    public:
+      public:
         template <class O> std::uint32_t load(const Word<O> &word) const { return saw(&word, word.word_.load(O::load), 0); }
 
         template <class O> void store(Word<O> &word, std::uint32_t value) const { exchange(word, value); }
@@ -329,7 +327,7 @@ public:
             return saw(&word, old, write);
         }
 
-    private:
+      private:
         friend class ThreadLogsBy;
         explicit Access(detail::Log *log) : log_(log) {}
 
@@ -365,7 +363,7 @@ public:
     // When all threads have ended.
     Written written() const { return detail::Merge(logs_).run(); }
 
-private:
+  private:
     std::vector<detail::Log> logs_;
 };
 

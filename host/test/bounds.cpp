@@ -96,10 +96,12 @@ void everyone_enters() {
     CHECK(lock.run({2, 2, 2, 2, 2, 0, 0, 0, 0, 1, 1, 1, 1}).accepted());
     const hmcs::RoundsResult told = hmcs::rounds(example_tree());
     std::vector<std::uint16_t> turns;
-    for (std::uint64_t turn = 0; turn < told.turns; ++turn) turns.push_back(static_cast<std::uint16_t>(turn % 3));
+    for (std::uint64_t turn = 0; turn < told.turns; ++turn)
+        turns.push_back(static_cast<std::uint16_t>(turn % 3));
     const hmcs::RunResult ran = lock.run(turns);
     CHECK(ran.accepted());
-    for (const std::uint16_t thread : {0, 1, 2}) CHECK(std::count(ran.trace.begin(), ran.trace.end(), thread) > 0);
+    for (const std::uint16_t thread : {0, 1, 2})
+        CHECK(std::count(ran.trace.begin(), ran.trace.end(), thread) > 0);
 }
 
 } // namespace

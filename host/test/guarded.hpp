@@ -13,7 +13,7 @@ namespace {
 
 // Memory with pages before and behind it that nobody may read or write.
 class Guarded {
-public:
+  public:
     // The bytes end where the guard behind begins, or begin where the guard before ends.
     Guarded(std::size_t size, bool at_end) : size_(size) {
         const std::size_t page = static_cast<std::size_t>(sysconf(_SC_PAGESIZE));
@@ -33,7 +33,7 @@ public:
     template <typename T> T *as() { return reinterpret_cast<T *>(bytes_); }
     std::size_t size() const { return size_; }
 
-private:
+  private:
     std::size_t size_;
     std::size_t whole_;
     unsigned char *base_;

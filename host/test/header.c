@@ -19,7 +19,8 @@ int main(void) {
         fprintf(stderr, "the version is %s in parts and %s as a text\n", version, HMCS_VERSION);
         return 1;
     }
-    if (read.number != HMCS_ACCEPTED || fresh.number != HMCS_ACCEPTED || step.number != HMCS_ACCEPTED || step.domain != 2 || step.state.places.rows[2] != HMCS_ROW_SWAP) {
+    if (read.number != HMCS_ACCEPTED || fresh.number != HMCS_ACCEPTED || step.number != HMCS_ACCEPTED || step.domain != 2 ||
+        step.state.places.rows[2] != HMCS_ROW_SWAP) {
         fprintf(stderr, "%s, %s\n", hmcs_refusal_text(step.number), hmcs_kind_text(step.kind));
         return 1;
     }

@@ -55,9 +55,7 @@ hmcs::Refusal expected(const hmcs::Tree &tree, const Bytes &journal) {
     return {};
 }
 
-bool same(const hmcs::Refusal &a, const hmcs::Refusal &b) {
-    return a.number == b.number && a.place == b.place;
-}
+bool same(const hmcs::Refusal &a, const hmcs::Refusal &b) { return a.number == b.number && a.place == b.place; }
 
 // 10,000 random steps are accepted; of 200, every byte with each bit changed, and every length.
 void real_steps() {

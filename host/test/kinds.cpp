@@ -83,8 +83,8 @@ void buffers() {
                 std::memcpy(schedule.as<void>(), schedule22.data(), schedule22.size() * 2);
                 std::memset(trace.as<void>(), 0x33, length * 2);
                 std::memset(rows.as<void>(), 0x33, room * 2);
-                const hmcs_kinds_reply r = hmcs_run_kinds(tree.words(), fresh, schedule.as<std::uint16_t>(), schedule22.size(), trace.as<std::uint16_t>(), length,
-                                                          rows.as<std::uint16_t>(), room);
+                const hmcs_kinds_reply r = hmcs_run_kinds(tree.words(), fresh, schedule.as<std::uint16_t>(), schedule22.size(), trace.as<std::uint16_t>(),
+                                                          length, rows.as<std::uint16_t>(), room);
                 const std::uint32_t number = length < schedule22.size() ? HMCS_TRACE_SHORT : room < 44 ? HMCS_KINDS_SHORT : HMCS_ACCEPTED;
                 CHECK(r.number == number && r.place == 0 && r.entries == (number == 0 ? 3U : 0U) && r.rows == (number == 0 ? 22U : 0U));
                 CHECK(number == 0 ? same(r.state, stepped.state()) : same(r.state, fresh));

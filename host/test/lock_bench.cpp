@@ -9,7 +9,7 @@ namespace {
 
 // The root's queue alone, as AtomicLock has it, without a tree, a trace or faults.
 class ByHand {
-public:
+  public:
     void lock(std::uint32_t me) {
         records_[me].status.store(1);
         records_[me].next.store(0);
@@ -34,7 +34,7 @@ public:
         records_[next - 1].status.store(0);
     }
 
-private:
+  private:
     template <class Stays> static void spin(Stays stays) {
         for (std::uint32_t k = 1; stays(); ++k) {
             if (k % 64 == 0) {
@@ -64,7 +64,8 @@ template <class Make> double measured(Make make, std::uint32_t threads, std::uin
         auto lock = make();
         std::uint64_t inside = 0;
         const auto began = std::chrono::steady_clock::now();
-        enter(*lock, threads, times, [&inside] { ++inside; }, [] {});
+        enter(
+            *lock, threads, times, [&inside] { ++inside; }, [] {});
         const std::chrono::duration<double, std::nano> took = std::chrono::steady_clock::now() - began;
         best = std::min(best, took.count() / static_cast<double>(inside));
     }

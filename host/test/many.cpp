@@ -79,7 +79,8 @@ void buffers() {
                 std::memcpy(lengths.as<void>(), given.data(), sizeof given);
                 std::memcpy(entries.as<void>(), all.data(), count * 2);
                 std::memset(rows.as<void>(), 0x33, room * 4);
-                const hmcs_many_reply answer = hmcs_run_many(tree.words(), lengths.as<std::uint32_t>(), 3, entries.as<std::uint16_t>(), count, rows.as<std::uint32_t>(), room);
+                const hmcs_many_reply answer =
+                    hmcs_run_many(tree.words(), lengths.as<std::uint32_t>(), 3, entries.as<std::uint16_t>(), count, rows.as<std::uint32_t>(), room);
                 const std::uint32_t number = count < all.size() ? HMCS_LENGTHS_WRONG : room < 24 ? HMCS_ROWS_SHORT : HMCS_ACCEPTED;
                 CHECK(answer.number == number && answer.place == 0 && answer.rows == (number == 0 ? 3U : 0U));
                 for (std::size_t k = 0; k < room; ++k) {

@@ -58,13 +58,24 @@ void locks() {
     const hmcs::WaitsSoFar so_far = lock.waits();
     const auto unchanged = [&] { return hmcs::same(lock.state(), before) && same_waits(lock.waits(), so_far); };
     const auto nothing = [] { return true; };
-    CHECK(fails([&] { hmcs::Lock copy = lock; CHECK(copy.run(schedule22).accepted()); }, unchanged) > 0);
+    CHECK(fails(
+              [&] {
+                  hmcs::Lock copy = lock;
+                  CHECK(copy.run(schedule22).accepted());
+              },
+              unchanged) > 0);
     CHECK(fails([&] { CHECK(lock.chain(1).accepted()); }, unchanged) > 0);
     CHECK(fails([&] { (void)lock.waits(); }, unchanged) > 0);
     CHECK(fails([&] { CHECK(lock.run_waits(schedule22).accepted()); }, unchanged) > 0);
     CHECK(!hmcs::same(lock.state(), before) && lock.waits().all.attempts > so_far.all.attempts);
     CHECK(fails([&] { CHECK(lock.run(schedule22).accepted()); }, nothing) > 0);
-    CHECK(fails([&] { (void)lock.step(0); (void)lock.holder(); (void)lock.tenures(1); }, nothing) == 0);
+    CHECK(fails(
+              [&] {
+                  (void)lock.step(0);
+                  (void)lock.holder();
+                  (void)lock.tenures(1);
+              },
+              nothing) == 0);
     hmcs_state state{};
     hmcs::UnderWay under_way{};
     const auto fresh = [&] { return hmcs::same(state, hmcs_state{}) && under_way == hmcs::UnderWay{}; };

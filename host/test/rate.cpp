@@ -76,9 +76,27 @@ void compare(std::uint16_t h1, std::uint16_t h2, const hmcs_passing_times &times
 void edges() {
     const double infinity = std::numeric_limits<double>::infinity();
     const std::array<std::uint16_t, 5> thresholds = {0, 1, 2, 255, 65535};
-    const std::vector<double> times = {least, std::nextafter(least, 0), std::nextafter(least, 1), most, std::nextafter(most, 0), std::nextafter(most, infinity),
-                                       1.0, 0.1, 1.0 / 3, 0.0, -0.0, -1.0, -least, infinity, -infinity, std::numeric_limits<double>::quiet_NaN(),
-                                       std::numeric_limits<double>::denorm_min(), DBL_MIN, DBL_MAX, from_bits(0x7FF0000000000001), from_bits(0xFFF8000000000000)};
+    const std::vector<double> times = {least,
+                                       std::nextafter(least, 0),
+                                       std::nextafter(least, 1),
+                                       most,
+                                       std::nextafter(most, 0),
+                                       std::nextafter(most, infinity),
+                                       1.0,
+                                       0.1,
+                                       1.0 / 3,
+                                       0.0,
+                                       -0.0,
+                                       -1.0,
+                                       -least,
+                                       infinity,
+                                       -infinity,
+                                       std::numeric_limits<double>::quiet_NaN(),
+                                       std::numeric_limits<double>::denorm_min(),
+                                       DBL_MIN,
+                                       DBL_MAX,
+                                       from_bits(0x7FF0000000000001),
+                                       from_bits(0xFFF8000000000000)};
     for (std::uint16_t h1 : thresholds) {
         for (std::uint16_t h2 : thresholds) {
             for (double p1 : times) {
@@ -94,7 +112,7 @@ void edges() {
 
 // A generator of the xorshift kind: the same numbers everywhere.
 class Random {
-public:
+  public:
     std::uint64_t word() {
         state_ ^= state_ << 13;
         state_ ^= state_ >> 7;
@@ -104,7 +122,7 @@ public:
 
     std::uint64_t below(std::uint64_t bound) { return (word() >> 16) % bound; }
 
-private:
+  private:
     std::uint64_t state_ = 0x2545F4914F6CDD1D;
 };
 

@@ -31,7 +31,8 @@ template <class Trace> void right(const hmcs::Tree &tree, std::uint32_t times, s
     hmcs::AtomicLock<Trace> lock(tree.words());
     lock.trace().seed(seed);
     std::size_t inside = 0; // not atomic: the lock keeps it
-    enter(lock, threads, times, [&inside] { ++inside; }, [] {});
+    enter(
+        lock, threads, times, [&inside] { ++inside; }, [] {});
     const hmcs::trace::Written written = lock.trace().written();
     const Compared seen = compared(tree, written.steps);
     CHECK(!lock.trace().abandoned() && inside == std::size_t{threads} * times);
@@ -135,7 +136,8 @@ template <class Trace> hmcs::trace::Written faulty(const hmcs::Tree &tree, Fault
     lock.trace().seed(run + 1);
     lock.trace().patience(std::chrono::milliseconds(10));
     // some faults show where the next thread is always there, one where nobody is
-    enter(lock, tree.words().threads, times, [run] { yield(run % 3); }, [run] { yield(run / 3 % 3 * 20); });
+    enter(
+        lock, tree.words().threads, times, [run] { yield(run % 3); }, [run] { yield(run / 3 % 3 * 20); });
     hmcs::trace::Written written = lock.trace().written();
     const Compared seen = compared(tree, written.steps);
     const std::size_t size = written.steps.size();
@@ -197,7 +199,8 @@ int samples(const std::string &folder) {
     hmcs::trace::Steps steps;
     while (!has(steps, HMCS_PASSED_ENTRY) || !has(steps, HMCS_ROOT_ENTRY) || !has(steps, HMCS_STAY)) {
         hmcs::AtomicLock<Exact> lock(tree.words());
-        enter(lock, 3, 3, [] {}, [] {});
+        enter(
+            lock, 3, 3, [] {}, [] {});
         steps = lock.trace().written().steps;
     }
     const bool ok = write(folder + "/reference-lock.journal", steps.journal());

@@ -19,7 +19,7 @@ struct Abandoned {};
 // A trace in which threads yield at random, so that they meet at every row, and at each stay. Where no thread of the lock has taken another step for
 // longer than the patience, the threads that wait give up; no thread gives up elsewhere.
 template <class Inner> class Shaken : public Inner {
-public:
+  public:
     explicit Shaken(std::size_t threads) : Inner(threads), own_(threads) {
         for (std::size_t i = 0; i < threads; ++i) {
             own_[i].random = static_cast<std::uint32_t>(i) + 1;
@@ -53,11 +53,11 @@ public:
         return kind;
     }
 
-private:
+  private:
     struct alignas(64) Own {
         std::uint32_t random = 1;
         std::uint64_t stays = 0;
-        std::uint64_t moves = 0; // of all threads, when it last looked
+        std::uint64_t moves = 0;                     // of all threads, when it last looked
         std::chrono::steady_clock::time_point since; // when it saw as many for the first time
     };
 

@@ -52,8 +52,10 @@ void accepted() {
             // in two pieces, the second from where the first ended
             const std::size_t middle = length / 3;
             hmcs_state pieces = hmcs::Lock(tree).state();
-            CHECK(hmcs::check_steps(tree, pieces, part(trace.threads, 0, middle), part(trace.kinds, 0, middle), part(trace.domains, 0, middle)).checked == middle);
-            CHECK(hmcs::check_steps(tree, pieces, part(trace.threads, middle, length), part(trace.kinds, middle, length), part(trace.domains, middle, length)).accepted());
+            CHECK(hmcs::check_steps(tree, pieces, part(trace.threads, 0, middle), part(trace.kinds, 0, middle), part(trace.domains, 0, middle)).checked ==
+                  middle);
+            CHECK(hmcs::check_steps(tree, pieces, part(trace.threads, middle, length), part(trace.kinds, middle, length), part(trace.domains, middle, length))
+                      .accepted());
             CHECK(same(pieces, lock.state()));
         }
     }

@@ -70,7 +70,8 @@ void acquire_parent() {
     tree.add_thread(second);
     hmcs::Lock lock(tree);
     CHECK(lock.run({0, 0, 0, 0, 0, 0, 1, 1, 1, 1, 1, 0, 0, 0, 0, 0, 0}).accepted());
-    CHECK(lock.state().places.rows[0] == HMCS_ROW_GRANT && lock.state().places.words[0] == HMCS_STATUS_ACQUIRE_PARENT && lock.state().places.peers[0] == 256 + second);
+    CHECK(lock.state().places.rows[0] == HMCS_ROW_GRANT && lock.state().places.words[0] == HMCS_STATUS_ACQUIRE_PARENT &&
+          lock.state().places.peers[0] == 256 + second);
     CHECK((three(lock, socket) == Three{1, 1, 1}) && (three(lock, first) == Three{1, 1, 1}) && (three(lock, second) == Three{0, 0, 0}));
     CHECK(lock.step(0).accepted() && (three(lock, second) == Three{0, 1, 1}) && (three(lock, socket) == Three{1, 1, 1}));
     CHECK(lock.run({1, 1, 1}).counts.root == 1);
@@ -126,7 +127,8 @@ void bad_counters() {
         for (const std::size_t domain : {0, 3, 63}) {
             CHECK(with(counter, domain, 1) == HMCS_BAD_STATE);
         }
-        CHECK(with(counter, 1, 1) == HMCS_ACCEPTED && with(counter, 2, HMCS_MOST_COUNTED + 1) == HMCS_BAD_STATE && with(counter, 1, UINT64_MAX) == HMCS_BAD_STATE);
+        CHECK(with(counter, 1, 1) == HMCS_ACCEPTED && with(counter, 2, HMCS_MOST_COUNTED + 1) == HMCS_BAD_STATE &&
+              with(counter, 1, UINT64_MAX) == HMCS_BAD_STATE);
     }
     CHECK(with(&hmcs_state::longest, 1, 2) == HMCS_ACCEPTED && with(&hmcs_state::longest, 1, 3) == HMCS_BAD_STATE);
     CHECK(with(&hmcs_state::longest, 2, 16) == HMCS_ACCEPTED && with(&hmcs_state::longest, 2, 17) == HMCS_BAD_STATE);
@@ -195,7 +197,8 @@ void order() {
     const Schedule one(65537, 0);
     CHECK(hmcs_run(tree, near, one.data(), 65537, trace.data(), 65537).number == HMCS_SCHEDULE_LONG);
     const hmcs_run_reply run = hmcs_run(tree, near, one.data(), 65536, trace.data(), 65536);
-    CHECK(run.number == HMCS_COUNTER_FULL && run.place == 4999 * 10 + 3 && run.steps == 0 && same(run.state, near) && trace == std::vector<std::uint16_t>(65537, 77));
+    CHECK(run.number == HMCS_COUNTER_FULL && run.place == 4999 * 10 + 3 && run.steps == 0 && same(run.state, near) &&
+          trace == std::vector<std::uint16_t>(65537, 77));
     const hmcs_run_reply shorter = hmcs_run(tree, near, one.data(), run.place, trace.data(), 65536);
     CHECK(shorter.number == 0 && shorter.entries == 4999 && shorter.state.entries[1] == HMCS_MOST_COUNTED && shorter.state.tenures[1] == 4999);
 }

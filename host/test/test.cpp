@@ -53,7 +53,8 @@ void layouts() {
     std::uint16_t trace[1] = {77};
     const std::uint16_t schedule[1] = {0};
     const hmcs_run_reply run = hmcs_run(tree.words(), *state, schedule, 1, trace, 1);
-    CHECK(run.number == HMCS_BAD_STATE && run.place == 0 && run.steps == 0 && run.entries == 0 && run.stays == 0 && run.root == 0 && run.passed == 0 && run.crossed == 0);
+    CHECK(run.number == HMCS_BAD_STATE && run.place == 0 && run.steps == 0 && run.entries == 0 && run.stays == 0 && run.root == 0 && run.passed == 0 &&
+          run.crossed == 0);
     CHECK(same(run.state, *state) && trace[0] == 77);
     auto kept = std::make_unique<hmcs_state>(*state);
     const hmcs_step_answer answer = hmcs_step_in_place(tree.words(), kept.get(), 0);
@@ -66,8 +67,10 @@ void tree_layout() {
     std::memset(&t, 0, sizeof t);
     t.domains = 64;
     t.threads = 256;
-    for (int d = 0; d < 64; ++d) t.thresholds[d] = 1;
-    for (int i = 0; i < 256; ++i) t.homes[i] = static_cast<std::uint8_t>(1 + i % 63);
+    for (int d = 0; d < 64; ++d)
+        t.thresholds[d] = 1;
+    for (int i = 0; i < 256; ++i)
+        t.homes[i] = static_cast<std::uint8_t>(1 + i % 63);
     CHECK(hmcs_fresh(t, 0).number == 0);
     hmcs_tree u = t;
     u.parents[63] = 63;
@@ -82,7 +85,8 @@ void tree_layout() {
     r = hmcs_fresh(u, 0);
     CHECK(r.number == HMCS_BAD_HOME && r.place == 255);
     u = t;
-    for (int i = 0; i < 256; ++i) u.homes[i] = static_cast<std::uint8_t>(1 + i % 62);
+    for (int i = 0; i < 256; ++i)
+        u.homes[i] = static_cast<std::uint8_t>(1 + i % 62);
     r = hmcs_fresh(u, 0);
     CHECK(r.number == HMCS_EMPTY_DOMAIN && r.place == 63);
     u = t;
@@ -125,7 +129,8 @@ void example() {
         CHECK(same(r.state, by_value));
         const std::uint16_t *t = trace.as<std::uint16_t>();
         CHECK(t[0] == 0 && t[1] == 1 && t[2] == 2);
-        for (int k = 3; k < 22; ++k) CHECK(t[k] == 0x7777);
+        for (int k = 3; k < 22; ++k)
+            CHECK(t[k] == 0x7777);
         const hmcs_run_reply s = hmcs_run(tree.words(), fresh.state, schedule.as<std::uint16_t>(), 22, trace.as<std::uint16_t>(), 21);
         CHECK(s.number == HMCS_TRACE_SHORT && s.steps == 0 && same(s.state, fresh.state));
     }
@@ -226,7 +231,8 @@ void files() {
         for (std::size_t cut = 0; cut < bytes.size(); ++cut) {
             Guarded file(cut, at_end);
             Guarded output(64, at_end);
-            if (cut != 0) std::memcpy(file.as<void>(), bytes.data(), cut);
+            if (cut != 0)
+                std::memcpy(file.as<void>(), bytes.data(), cut);
             std::uint32_t place = 9, length = 9;
             const std::uint32_t number = hmcs_run_file(file.as<std::uint8_t>(), cut, output.as<std::uint8_t>(), 64, &place, &length);
             CHECK(number == 0 || (number == HMCS_FILE_CUT && place == cut && length == 0));

@@ -23,8 +23,7 @@ bool refused(const std::string &text, std::uint32_t number, std::size_t place) {
 
 bool accepted(const std::string &text, const hmcs::Tree &tree) {
     const hmcs::TextResult result = hmcs::read_tree(text);
-    return result.accepted() && result.refusal.place == 0 && result.message.empty() &&
-           std::memcmp(&result.tree.words(), &tree.words(), sizeof no_tree) == 0;
+    return result.accepted() && result.refusal.place == 0 && result.message.empty() && std::memcmp(&result.tree.words(), &tree.words(), sizeof no_tree) == 0;
 }
 
 // Domains with threshold 1 and one thread each, and the tree that they are.
@@ -102,7 +101,8 @@ void wrong_texts() {
 void messages() {
     CHECK(hmcs::read_tree("(2(#2)  1(#1))").message ==
           "the text leaves the grammar of trees, at byte 7: expected a threshold from 1 to 65,535 after one space\n(2(#2)  1(#1))\n       ^\n");
-    CHECK(hmcs::read_tree("(2(#2)").message == "the text leaves the grammar of trees: it ends too soon, at byte 6: expected ), or one space and another domain\n(2(#2)\n      ^\n");
+    CHECK(hmcs::read_tree("(2(#2)").message ==
+          "the text leaves the grammar of trees: it ends too soon, at byte 6: expected ), or one space and another domain\n(2(#2)\n      ^\n");
     CHECK(hmcs::read_tree("(#1)\n").message == "the text leaves the grammar of trees, at byte 4: expected the end of the text\n(#1).\n    ^\n");
     CHECK(hmcs::read_tree("(#257)").message == "there are no threads, or more than 256\n");
     const std::string far = hmcs::read_tree(children(1000) + "x").message;

@@ -30,8 +30,6 @@ inline hmcs::Tree two_domains(hmcs::RootKind root) {
     return tree;
 }
 
-inline hmcs::Tree example_tree() {
-    return two_domains(hmcs::RootKind::queue);
-}
+inline hmcs::Tree example_tree() { return two_domains(hmcs::RootKind::queue); }
 
 #endif

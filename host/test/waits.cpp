@@ -65,8 +65,8 @@ void buffers() {
                 std::memcpy(schedule.as<void>(), schedule22.data(), schedule22.size() * 2);
                 std::memset(trace.as<void>(), 0x33, length * 2);
                 std::memset(rows.as<void>(), 0x33, room * 8);
-                const hmcs_waits_reply r = hmcs_run_waits(tree.words(), fresh, schedule.as<std::uint16_t>(), schedule22.size(), trace.as<std::uint16_t>(), length,
-                                                        rows.as<std::uint64_t>(), room);
+                const hmcs_waits_reply r = hmcs_run_waits(tree.words(), fresh, schedule.as<std::uint16_t>(), schedule22.size(), trace.as<std::uint16_t>(),
+                                                          length, rows.as<std::uint64_t>(), room);
                 const std::uint32_t number = length < schedule22.size() ? HMCS_TRACE_SHORT : room < 20 ? HMCS_WAITS_BUFFER_SHORT : HMCS_ACCEPTED;
                 CHECK(r.number == number && r.place == 0 && r.entries == (number == 0 ? 3U : 0U) && r.rows == (number == 0 ? 4U : 0U));
                 CHECK(number == 0 || same(r.state, fresh));

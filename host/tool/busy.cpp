@@ -9,7 +9,7 @@ namespace {
 // Which threads can move, kept up to date step by step. A step changes that for its own thread and for at most one more: the one that it links
 // itself to, grants or shows a ticket to. Only Wait, Linger and Watch have stays.
 class Movers {
-public:
+  public:
     explicit Movers(const hmcs::Tree &tree) : lock_(tree), moving_(tree.words().threads, true), workers_(HMCS_RECORDS), ticket_holders_(65536) {}
 
     bool can_move(std::size_t thread) const { return moving_[thread]; }
@@ -28,7 +28,7 @@ public:
         }
     }
 
-private:
+  private:
     // A thread that waits in a queue or for a link is remembered by its record, and one at a ticket root by its ticket.
     void look_at(std::uint16_t thread) {
         const hmcs_state &state = lock_.state();

@@ -26,7 +26,8 @@ std::string chain(const Words &words) {
 } // namespace
 
 Command chain_command() {
-    return {"chain", "why a thread waits after a lock file's run",
+    return {"chain",
+            "why a thread waits after a lock file's run",
             "usage: hmcs chain FILE THREAD\n"
             "       hmcs chain TREE THREAD --schedule S [--ticket]\n"
             "Runs the schedule of a lock file from a fresh lock and then says why the thread waits: which thread\n"

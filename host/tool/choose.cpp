@@ -66,7 +66,7 @@ double expected_cost(const hmcs::Tree &tree, const std::vector<bool> &passes_on,
 
 // All thresholds from 1 to the number of members of each level, and beyond it as far as the limit allows.
 class Search {
-public:
+  public:
     Search(const hmcs::Tree &tree, const std::vector<Level> &levels, std::uint64_t limit, const std::optional<hmcs::PassingTimes> &times)
         : tree_(tree), levels_(levels), limit_(limit), times_(times), thresholds_(levels.size(), 1) {
         for (std::uint32_t domain = 0; domain < tree.words().domains; ++domain) {
@@ -78,7 +78,7 @@ public:
     std::vector<Candidate> candidates;
     std::uint64_t smallest = UINT64_MAX; // of all longest waits that were met
 
-private:
+  private:
     // A threshold above the number of members only makes longer waits, so the search of a level ends where the limit is passed there.
     void descend(std::size_t level) {
         for (std::uint32_t threshold = 1; threshold <= 65535; ++threshold) {
@@ -127,7 +127,7 @@ private:
     std::uint64_t limit_;
     const std::optional<hmcs::PassingTimes> &times_;
     std::vector<std::uint16_t> thresholds_;
-    std::vector<bool> passes_on_; // of each domain, whether it has more than one member
+    std::vector<bool> passes_on_;                       // of each domain, whether it has more than one member
     static constexpr std::uint32_t most_useful_ = 1024; // larger thresholds differ by less than a thousandth of the entries
 };
 
@@ -233,7 +233,8 @@ Choice choose_for(const Words &words, const Input &input) {
 std::string nothing_to_choose(const Words &words, const hmcs::Tree &tree) {
     const std::uint64_t limit = number("--max-wait", words.value("--max-wait", ""), UINT64_MAX - 1), wait = hmcs::wait_bounds(tree).largest();
     if (wait > limit) {
-        fail("choose: this tree has no domain below the root, so no threshold; its longest wait is " + std::to_string(wait) + ", above " + std::to_string(limit));
+        fail("choose: this tree has no domain below the root, so no threshold; its longest wait is " + std::to_string(wait) + ", above " +
+             std::to_string(limit));
     }
     if (words.has("--csv") || words.has("--json") || words.has("--page")) {
         fail("choose: this tree has no domain below the root, so no threshold to choose and no table");
@@ -282,7 +283,8 @@ double cost_of(const Trial &trial) {
 }
 
 Command choose_command() {
-    return {"choose", "which thresholds, so that nobody waits too long?",
+    return {"choose",
+            "which thresholds, so that nobody waits too long?",
             "usage: hmcs choose TREE --max-wait N [--times P1,P2,P3 [--hold H]] [--level L ..] [--schedule S]\n"
             "                        [--csv | --json] [--page OUT.html] [--ticket]\n"
             "Finds a threshold for each level so that no thread can wait for more than N entries of others, on\n"
@@ -303,7 +305,14 @@ Command choose_command() {
             "  --ticket          the root of a text is a ticket lock\n"
             "\n"
             "  hmcs choose \"$(hmcs machine)\" --max-wait 200 --times 0.05,0.2,1\n",
-            with_table_options({{"--max-wait", true}, {"--times", true}, {"--hold", true}, {"--level", true}, {"--schedule", true}, {"--jobs", true}, {"--page", true}, {"--ticket", false}}),
+            with_table_options({{"--max-wait", true},
+                                {"--times", true},
+                                {"--hold", true},
+                                {"--level", true},
+                                {"--schedule", true},
+                                {"--jobs", true},
+                                {"--page", true},
+                                {"--ticket", false}}),
             1,
             1,
             choose};

@@ -29,8 +29,8 @@ std::string against(const Choice &choice, const Candidate &other) {
 std::string advice(const Choice &choice) {
     const Candidate &best = choice.tried[choice.chosen];
     const std::optional<std::string> text = text_of(with_thresholds(choice.tree, choice.levels, best.thresholds));
-    return "Take " + name_of(choice, best) + (text ? ", that is " + *text : "") + ": no thread waits for more than " +
-           std::to_string(best.possible_wait) + " entries of others as long as nobody stalls, and " +
+    return "Take " + name_of(choice, best) + (text ? ", that is " + *text : "") + ": no thread waits for more than " + std::to_string(best.possible_wait) +
+           " entries of others as long as nobody stalls, and " +
            (choice.times ? "an entry takes " + four_digits(cost_of(best.trial)) + " on average."
                          : percent(best.trial.counts.root, best.trial.counts.entries) + " of the entries go through the root.");
 }
@@ -132,10 +132,13 @@ std::string choice_text(const Choice &choice) { return advice(choice) + "\n" + b
 
 std::string choice_page(const Choice &choice) {
     return page_of("Which thresholds?", advice(choice),
-                   "Every row is a run of " + choice.schedule + " from a fresh lock. The longest possible wait is proved for every schedule as long as nobody stalls; "
-                   "the other figures are those of the run.",
+                   "Every row is a run of " + choice.schedule +
+                       " from a fresh lock. The longest possible wait is proved for every schedule as long as nobody stalls; "
+                       "the other figures are those of the run.",
                    section("Time against the longest wait", "Each dot is a row of the table; the chosen one is filled.", choice_picture(choice)) +
-                       longer_waits(choice) + section("The rows that nothing else beats", "", "<div class=\"scroll\">" + choice_table(choice).html("One row for each choice of thresholds") + "</div>\n") +
+                       longer_waits(choice) +
+                       section("The rows that nothing else beats", "",
+                               "<div class=\"scroll\">" + choice_table(choice).html("One row for each choice of thresholds") + "</div>\n") +
                        section("The tree", "", "<div class=\"scroll\">" + tree_table(choice.tree).html("The domains, each below its parent") + "</div>\n"));
 }
 

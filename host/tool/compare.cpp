@@ -70,7 +70,8 @@ std::string compare(const Words &words) {
 } // namespace
 
 Command compare_command() {
-    return {"compare", "several trees side by side",
+    return {"compare",
+            "several trees side by side",
             "usage: hmcs compare TREE TREE .. [--schedule S ..] [--times P1,P2,P3 [--hold H]] [--csv | --json]\n"
             "Runs the same schedules on several trees, each from a fresh lock, and prints a row for each: the\n"
             "columns are those of `hmcs sweep`. TREE is as for `hmcs tree`; ticket:TREE has a ticket lock at\n"

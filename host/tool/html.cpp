@@ -82,8 +82,8 @@ void remember_command(const std::vector<std::string> &words) {
 
 std::string page_of(const std::string &title, const std::string &first, const std::string &more, const std::string &body) {
     return "<!doctype html>\n<html lang=\"en\">\n<meta charset=\"utf-8\">\n<meta name=\"viewport\" content=\"width=device-width, initial-scale=1\">\n<title>" +
-           escaped(title) + "</title>\n<style>" + style + "</style>\n<main>\n<h1>" + escaped(title) + "</h1>\n<p class=\"first\">" + escaped(first) + "</p>\n<p>" +
-           escaped(more) + "</p>\n" + body + "</main>\n" + footer() + "</html>\n";
+           escaped(title) + "</title>\n<style>" + style + "</style>\n<main>\n<h1>" + escaped(title) + "</h1>\n<p class=\"first\">" + escaped(first) +
+           "</p>\n<p>" + escaped(more) + "</p>\n" + body + "</main>\n" + footer() + "</html>\n";
 }
 
 std::string section(const std::string &title, const std::string &words, const std::string &body) {

@@ -26,8 +26,8 @@ hmcs::Tree tree_of_text(const std::string &where, std::string text, bool ticket)
     }
     hmcs::TextResult result = hmcs::read_tree(text);
     if (result.refused()) {
-        throw Stop{refused, where + ": refused by " + std::to_string(result.refusal.number) + " at " + std::to_string(result.refusal.place) + ": " +
-                                result.message};
+        throw Stop{refused,
+                   where + ": refused by " + std::to_string(result.refusal.number) + " at " + std::to_string(result.refusal.place) + ": " + result.message};
     }
     hmcs_tree words = result.tree.words();
     words.ticket_root = ticket ? 1 : 0;

@@ -63,8 +63,8 @@ std::string fault(const hmcs::Lock &lock, const Journal &journal, std::size_t at
     const std::size_t from = at - std::min(at, shown_before);
     hmcs::Lock lock = lock_after(Input{input.tree, {threads.begin(), threads.begin() + static_cast<std::ptrdiff_t>(from)}, false});
     const std::string before = steps_table(lock, journal.entries, from, at).text();
-    std::string said = path + ": refused by " + std::to_string(refusal.number) + " at byte " + std::to_string(refusal.place) + ", entry " +
-                       std::to_string(at) + ": " + refusal.text() + "\n" + fault(lock, journal, at, bytes) + "\n";
+    std::string said = path + ": refused by " + std::to_string(refusal.number) + " at byte " + std::to_string(refusal.place) + ", entry " + std::to_string(at) +
+                       ": " + refusal.text() + "\n" + fault(lock, journal, at, bytes) + "\n";
     if (at > from) {
         said += at - from == 1 ? "the step before it:\n" : "the " + std::to_string(at - from) + " steps before it:\n";
         said += before;
@@ -136,7 +136,8 @@ std::string journal(const Words &words) {
 } // namespace
 
 Command journal_command() {
-    return {"journal", "checks a journal that a plugin wrote of its steps",
+    return {"journal",
+            "checks a journal that a plugin wrote of its steps",
             "usage: hmcs journal TREE FILE [--ticket]\n"
             "       hmcs journal FILE --from-lock LOCKFILE\n"
             "Checks a journal, one journal entry for each step, against steps from a fresh lock of the tree. TREE\n"

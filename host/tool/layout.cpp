@@ -40,7 +40,10 @@ Processor processor_of(const std::string &name, const std::string &line, const s
     Processor processor;
     processor.number = number(name + ": a processor", fields[0], UINT32_MAX);
     for (std::size_t k = 1; k < std::min(fields.size(), names.size()); ++k) {
-        std::string *const field = names[k] == "Core" ? &processor.core : names[k] == "Socket" ? &processor.socket : names[k] == "Node" ? &processor.node : nullptr;
+        std::string *const field = names[k] == "Core"     ? &processor.core
+                                   : names[k] == "Socket" ? &processor.socket
+                                   : names[k] == "Node"   ? &processor.node
+                                                          : nullptr;
         if (field != nullptr) {
             *field = fields[k];
         } else if (is_cache(names[k]) && !fields[k].empty()) {

@@ -83,7 +83,8 @@ std::string machine(const Words &words) {
 } // namespace
 
 Command machine_command() {
-    return {"machine", "the tree of a computer, as text",
+    return {"machine",
+            "the tree of a computer, as text",
             "usage: hmcs machine [FILE] [--smt] [--threads N] [--workers | --csv | --json]\n"
             "Prints the text of a tree that has the shape of a computer: its sockets or NUMA nodes, within them\n"
             "the groups of cores that share a last cache, and one thread for each core. A group with one member\n"

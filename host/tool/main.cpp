@@ -10,8 +10,9 @@
 namespace {
 
 std::vector<tool::Command> commands() {
-    return {tool::machine_command(), tool::tree_command(),  tool::make_command(),  tool::show_command(), tool::run_command(),  tool::steps_command(),  tool::waits_command(),
-            tool::tenures_command(), tool::chain_command(), tool::sweep_command(), tool::choose_command(), tool::compare_command(), tool::page_command(), tool::rate_command(), tool::journal_command()};
+    return {tool::machine_command(), tool::tree_command(),    tool::make_command(),    tool::show_command(),  tool::run_command(),
+            tool::steps_command(),   tool::waits_command(),   tool::tenures_command(), tool::chain_command(), tool::sweep_command(),
+            tool::choose_command(),  tool::compare_command(), tool::page_command(),    tool::rate_command(),  tool::journal_command()};
 }
 
 std::string help() {
@@ -46,7 +47,9 @@ std::string obey(const std::vector<std::string> &words) {
         }
         if (read.others().size() < command.least_words || read.others().size() > command.most_words) {
             const std::string most = std::to_string(command.most_words);
-            const std::string or_more = command.least_words == command.most_words ? "" : command.most_words - command.least_words == 1 ? " or " + most : " to " + most;
+            const std::string or_more = command.least_words == command.most_words       ? ""
+                                        : command.most_words - command.least_words == 1 ? " or " + most
+                                                                                        : " to " + most;
             const std::string expected = std::to_string(command.least_words) + or_more + (command.most_words == 1 ? " argument" : " arguments");
             tool::fail(words[0] + ": expected " + expected + ", got " + std::to_string(read.others().size()) + "; see `hmcs " + words[0] + " --help`");
         }

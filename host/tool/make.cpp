@@ -44,7 +44,8 @@ std::string make(const Words &words) {
 } // namespace
 
 Command make_command() {
-    return {"make", "writes a lock file from a tree and a schedule",
+    return {"make",
+            "writes a lock file from a tree and a schedule",
             "usage: hmcs make TREE SCHEDULE -o FILE [--ticket]\n"
             "       hmcs make SHOWN -o FILE\n"
             "Writes the lock file of a tree and a schedule; no lock file for them is shorter. TREE is as for\n"

@@ -70,9 +70,13 @@ std::string waits_section(const hmcs::Tree &tree, const Measured &result) {
         const std::uint64_t so_far = result.under_way[thread] == 0 ? 0 : result.under_way[thread] - 1;
         const bool unfinished = waits.attempts == 0 || so_far > waits.largest;
         const std::uint64_t shown = std::max(waits.largest, so_far);
-        const std::string text = (unfinished ? "at least " : "") + std::to_string(shown) + (waits.attempts == 0 ? ", never entered" : unfinished ? ", under way" : "");
-        rows += std::string(unfinished ? "<tr class=hatched>" : "<tr>") + "<th scope=row>" + std::to_string(thread) + "<td>" + std::to_string(waits.attempts) + "<td>" +
-                (waits.attempts == 0 ? "-" : decimal(waits.total, waits.attempts, 2)) + "<td class=\"left fill\">" + number_bar(text, shown, largest) + "</td></tr>\n";
+        const std::string text = (unfinished ? "at least " : "") + std::to_string(shown) +
+                                 (waits.attempts == 0 ? ", never entered"
+                                  : unfinished        ? ", under way"
+                                                      : "");
+        rows += std::string(unfinished ? "<tr class=hatched>" : "<tr>") + "<th scope=row>" + std::to_string(thread) + "<td>" + std::to_string(waits.attempts) +
+                "<td>" + (waits.attempts == 0 ? "-" : decimal(waits.total, waits.attempts, 2)) + "<td class=\"left fill\">" + number_bar(text, shown, largest) +
+                "</td></tr>\n";
     }
     const std::string head = "<caption>Waits of each thread</caption><thead><tr><th scope=col>thread<th scope=col>entries<th scope=col>mean wait"
                              "<th scope=col class=left>largest wait</thead>";
@@ -82,7 +86,8 @@ std::string waits_section(const hmcs::Tree &tree, const Measured &result) {
     return section("Waits",
                    "How many entries of others an attempt waited for. Means are those of attempts that ended; a hatched thread never entered, or its attempt "
                    "under way has waited longer than all that it finished.",
-                   shown + folded("The waits as a table, the means as exact fractions", scrolled(waits_table(tree, result), "Waits of each thread, in entries of others"), false));
+                   shown + folded("The waits as a table, the means as exact fractions",
+                                  scrolled(waits_table(tree, result), "Waits of each thread, in entries of others"), false));
 }
 
 std::string tenures_section(const hmcs::Tree &tree, const Measured &measured) {
@@ -96,7 +101,8 @@ std::string tenures_section(const hmcs::Tree &tree, const Measured &measured) {
         rows += "<tr><th scope=row class=left>" + std::string(2 * (domain.level - 2), ' ') + std::to_string(domain.number) + "<td class=\"left fill\">" +
                 number_bar(std::to_string(longest) + " of " + std::to_string(threshold), longest, threshold) + "</td></tr>\n";
     }
-    const std::string head = "<caption>Longest tenure of each domain</caption><thead><tr><th scope=col class=left>domain<th scope=col class=left>longest tenure, of the threshold</thead>";
+    const std::string head = "<caption>Longest tenure of each domain</caption><thead><tr><th scope=col class=left>domain<th scope=col class=left>longest "
+                             "tenure, of the threshold</thead>";
     return section("Tenures", "How many members of a domain held the lock one after another at most, of as many as its threshold allows.",
                    "<table class=\"wide\">" + head + "<tbody>\n" + rows + "</tbody></table>\n" +
                        folded("The tenures as a table", scrolled(tenures_table(tree, measured), "Entries and tenures of each domain"), false));
@@ -106,8 +112,8 @@ std::string tenures_section(const hmcs::Tree &tree, const Measured &measured) {
 std::string first_words(const Measured &measured) {
     const Missing missing = measured.missing();
     const Totals &c = measured.counts;
-    const std::string split = std::to_string(c.entries) + " entries in " + std::to_string(c.steps) + " turns, of which " + percent(c.root, c.entries) +
-                              " went through the root.";
+    const std::string split =
+        std::to_string(c.entries) + " entries in " + std::to_string(c.steps) + " turns, of which " + percent(c.root, c.entries) + " went through the root.";
     if (missing.comparable()) {
         return split + " Every thread entered, at least " + std::to_string(missing.fewest_entries) + " times; the largest wait was " +
                std::to_string(missing.largest_finished) + " entries of others.";
@@ -140,20 +146,22 @@ std::string page(const Words &words) {
         refuse(words.others()[0], measured.refusal);
     }
     const Recording recording = record(input.tree, input.schedule);
-    const std::string name = words.has("--schedule") ? as_utf8(words.value("--schedule", "")) : as_utf8(std::filesystem::path(words.others()[0]).filename().string());
+    const std::string name =
+        words.has("--schedule") ? as_utf8(words.value("--schedule", "")) : as_utf8(std::filesystem::path(words.others()[0]).filename().string());
     const std::string more = std::to_string(input.tree.words().threads) + " threads, " + std::to_string(input.tree.words().domains) + " domains, " +
                              std::to_string(input.schedule.size()) + " turns from a fresh lock. A turn lets one thread take one step; turns are not time.";
-    const std::string html = page_of(name, first_words(measured), more,
-                                     tree_section(input.tree) + counts_section(measured.counts) +
-                                         timeline_section(input.tree, recording, first_shown(words, recording), count) + entries_section(recording) +
-                                         waits_section(input.tree, measured) + tenures_section(input.tree, measured));
+    const std::string html =
+        page_of(name, first_words(measured), more,
+                tree_section(input.tree) + counts_section(measured.counts) + timeline_section(input.tree, recording, first_shown(words, recording), count) +
+                    entries_section(recording) + waits_section(input.tree, measured) + tenures_section(input.tree, measured));
     return write_bytes(path, html, words.others());
 }
 
 } // namespace
 
 Command page_command() {
-    return {"page", "a page that shows a lock file's run",
+    return {"page",
+            "a page that shows a lock file's run",
             "usage: hmcs page FILE -o OUT.html [--from K] [--count N]\n"
             "       hmcs page TREE --schedule S -o OUT.html [--ticket] ..\n"
             "Writes one self-contained page on a lock file's run: the tree; how the entries split; a timeline,\n"
@@ -164,8 +172,7 @@ Command page_command() {
             "  -o OUT.html  where the page goes\n"
             "  --from K     the first of the turns that are shown one by one; if not given, shortly before the first\n"
             "               entry\n"
-            "  --count N    how many of them, 200 if not given\n"
-            +
+            "  --count N    how many of them, 200 if not given\n" +
                 std::string(run_help) +
                 "\n"
                 "  hmcs page two-sockets.lock -o two-sockets.html\n",

@@ -18,7 +18,7 @@ namespace {
 
 // Runs that wait, and how many are done. The first exception of a job ends them all.
 class Jobs {
-public:
+  public:
     Jobs(std::size_t count, const std::function<void(std::size_t)> &run) : count_(count), run_(run) {}
 
     void work() {
@@ -60,7 +60,7 @@ public:
         }
     }
 
-private:
+  private:
     std::size_t count_;
     const std::function<void(std::size_t)> &run_;
     std::atomic<std::size_t> next_{0}, done_{0};

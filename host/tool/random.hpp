@@ -8,13 +8,13 @@ namespace tool {
 
 // splitmix64, of Steele, Lea and Flood, "Fast Splittable Pseudorandom Number Generators", 2014.
 class Random {
-public:
+  public:
     explicit Random(std::uint64_t seed) : word_(seed) {}
 
     // A number below a bound of at most 2^32, from the upper half of the next word.
     std::uint64_t below(std::uint64_t bound) { return ((next() >> 32) * bound) >> 32; }
 
-private:
+  private:
     std::uint64_t next() {
         word_ += 0x9E3779B97F4A7C15;
         std::uint64_t z = word_;

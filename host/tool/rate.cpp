@@ -24,7 +24,8 @@ std::string rate(const Words &words) {
 } // namespace
 
 Command rate_command() {
-    return {"rate", "how many entries a busy lock makes in a unit of time",
+    return {"rate",
+            "how many entries a busy lock makes in a unit of time",
             "usage: hmcs rate H1 H2 P1 P2 P3\n"
             "Prints how many entries a busy lock of three levels makes in one unit of time, without a run. H1\n"
             "is the threshold of the threads' homes, H2 that of the domains between them and the root; P1, P2\n"

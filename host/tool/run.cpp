@@ -66,7 +66,8 @@ std::string run(const Words &words) {
 } // namespace
 
 Command run_command() {
-    return {"run", "what a lock file's run counts",
+    return {"run",
+            "what a lock file's run counts",
             "usage: hmcs run FILE [--trace | --csv | --json]\n"
             "       hmcs run TREE --schedule S [--ticket] ..\n"
             "Runs the schedule of a lock file from a fresh lock and prints its counts: steps, how many of them\n"
@@ -74,8 +75,7 @@ Command run_command() {
             "that never entered, and attempts that had not ended.\n"
             "\n"
             "  --trace        the entering threads instead, one per line\n"
-            "  --csv, --json  for programs\n"
-            +
+            "  --csv, --json  for programs\n" +
                 std::string(run_help) +
                 "\n"
                 "  hmcs run two-sockets.lock\n",

@@ -12,14 +12,13 @@ namespace tool {
 
 const char *const usual_schedule = "busy:65536:1";
 
-const char *const schedule_help =
-    "  busy:COUNT:SEED           any thread that can move, so that no turn is lost\n"
-    "  busy:COUNT:SEED:WORK      the same, and a thread that has let the lock go pauses for 0 to 2*WORK turns\n"
-    "  random:COUNT:SEED         any thread, also one that can only wait\n"
-    "  bursts:COUNT:SEED:LENGTH  any thread, for 1 to LENGTH turns in a row\n"
-    "  turns:COUNT               the threads in turn, 0, 1, 2 and so on\n"
-    "  journal:FILE              the turns that a plugin's journal recorded\n"
-    "  FILE                      thread numbers with white space between them\n";
+const char *const schedule_help = "  busy:COUNT:SEED           any thread that can move, so that no turn is lost\n"
+                                  "  busy:COUNT:SEED:WORK      the same, and a thread that has let the lock go pauses for 0 to 2*WORK turns\n"
+                                  "  random:COUNT:SEED         any thread, also one that can only wait\n"
+                                  "  bursts:COUNT:SEED:LENGTH  any thread, for 1 to LENGTH turns in a row\n"
+                                  "  turns:COUNT               the threads in turn, 0, 1, 2 and so on\n"
+                                  "  journal:FILE              the turns that a plugin's journal recorded\n"
+                                  "  FILE                      thread numbers with white space between them\n";
 
 namespace {
 

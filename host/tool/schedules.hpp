@@ -10,7 +10,7 @@
 namespace tool {
 
 class Schedule {
-public:
+  public:
     // turns:COUNT, random:COUNT:SEED, bursts:COUNT:SEED:LENGTH, busy:COUNT:SEED[:WORK], or a file, which is read here. A seed may be a range, such
     // as 1..20.
     explicit Schedule(const std::string &word);
@@ -24,7 +24,7 @@ public:
     // The turns for an accepted tree. Those of `busy` depend on its thresholds, all others only on the number of its threads.
     std::vector<std::uint16_t> turns(const hmcs::Tree &tree) const;
 
-private:
+  private:
     enum class Kind { given, turns, random, bursts, busy };
 
     // The turns of a file; one that names no thread of the tree is refused, with its place.

@@ -36,14 +36,15 @@ std::string show(const Words &words) {
         return *text + "\n";
     }
     const std::string ticket = input.tree.root() == hmcs::RootKind::ticket ? " --ticket" : "";
-    return (text ? "tree: " + *text + ticket : std::string("this tree has no text: its domains or threads are numbered in another order")) + "\n\n" + tree_table(input.tree).text() + "\nschedule: " +
-           std::to_string(input.schedule.size()) + " turns\n" + numbers(input.schedule);
+    return (text ? "tree: " + *text + ticket : std::string("this tree has no text: its domains or threads are numbered in another order")) + "\n\n" +
+           tree_table(input.tree).text() + "\nschedule: " + std::to_string(input.schedule.size()) + " turns\n" + numbers(input.schedule);
 }
 
 } // namespace
 
 Command show_command() {
-    return {"show", "the tree and the schedule of a lock file",
+    return {"show",
+            "the tree and the schedule of a lock file",
             "usage: hmcs show FILE [--tree | --schedule]\n"
             "Prints what is in a lock file: its tree as text and as `hmcs tree` shows it, and its schedule\n"
             "as thread numbers.\n"

@@ -46,7 +46,8 @@ std::string steps(const Words &words) {
 } // namespace
 
 Command steps_command() {
-    return {"steps", "one line for each step of a lock file's run",
+    return {"steps",
+            "one line for each step of a lock file's run",
             "usage: hmcs steps FILE [--from K] [--count N] [--csv | --json]\n"
             "       hmcs steps TREE --schedule S [--ticket] ..\n"
             "Steps through a lock file's schedule from a fresh lock and prints a line for each step: the turn,\n"
@@ -55,8 +56,7 @@ Command steps_command() {
             "\n"
             "  --from K       the first turn to print, from 0\n"
             "  --count N      how many to print\n"
-            "  --csv, --json  for programs\n"
-            +
+            "  --csv, --json  for programs\n" +
                 std::string(run_help) +
                 "\n"
                 "  hmcs steps two-sockets.lock --from 100 --count 20\n",

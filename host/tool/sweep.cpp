@@ -1,6 +1,6 @@
 // `sweep`: which threshold? One row for each that is tried.
-#include "parallel.hpp"
 #include "sweep.hpp"
+#include "parallel.hpp"
 #include "tool.hpp"
 #include "trees.hpp"
 
@@ -206,7 +206,8 @@ Table sweep_table(const Sweep &sweep) {
     for (const Axis &axis : sweep.axes) {
         table.column(several ? "threshold of " + axis.name : "threshold");
     }
-    const Shown shown{sweep.times.has_value(), std::any_of(sweep.schedules.begin(), sweep.schedules.end(), [](const Schedule &s) { return s.has_seeds(); }), sweep.hold.has_value()};
+    const Shown shown{sweep.times.has_value(), std::any_of(sweep.schedules.begin(), sweep.schedules.end(), [](const Schedule &s) { return s.has_seeds(); }),
+                      sweep.hold.has_value()};
     add_trial_columns(table, shown);
     for (const Axis &axis : sweep.axes) {
         table.column(several ? "longest tenure of " + axis.name : "longest tenure");
@@ -236,7 +237,8 @@ Table sweep_table(const Sweep &sweep) {
 }
 
 Command sweep_command() {
-    return {"sweep", "which threshold? one row for each that is tried",
+    return {"sweep",
+            "which threshold? one row for each that is tried",
             "usage: hmcs sweep TREE (--level L | --domain D[,D..]).. --thresholds T [--schedule S ..]\n"
             "                       [--times P1,P2,P3 [--hold H]] [--jobs N] [--csv | --json] [--page OUT.html] [--ticket]\n"
             "Runs schedules on a tree with one threshold after another, each from a fresh lock, and prints a\n"
@@ -277,8 +279,16 @@ Command sweep_command() {
             "socket to socket less often, and a thread may wait longer:\n"
             "\n"
             "  hmcs sweep '(16(4(#4) 4(#4)) 16(4(#4) 4(#4)))' --level 2 --thresholds 1..64x2\n",
-            with_table_options(
-                {{"--domain", true}, {"--level", true}, {"--thresholds", true}, {"--schedule", true}, {"--each-seed", false}, {"--times", true}, {"--hold", true}, {"--jobs", true}, {"--page", true}, {"--ticket", false}}),
+            with_table_options({{"--domain", true},
+                                {"--level", true},
+                                {"--thresholds", true},
+                                {"--schedule", true},
+                                {"--each-seed", false},
+                                {"--times", true},
+                                {"--hold", true},
+                                {"--jobs", true},
+                                {"--page", true},
+                                {"--ticket", false}}),
             1,
             1,
             sweep};

@@ -27,8 +27,9 @@ std::string chart_row(const SweepRow &row, std::uint64_t largest) {
         cells += "<th scope=row>" + std::to_string(threshold);
     }
     const std::string why = comparable ? "" : "<div class=\"why\">" + escaped(row.trial.missing.why_not()) + "</div>";
-    return std::string(comparable ? "<tr>" : "<tr class=hatched>") + cells + "<td>" + percent(row.trial.counts.root, row.trial.counts.entries) + "<td class=\"half\">" +
-           share_bar(row.trial.counts) + "<td class=\"left half\">" + number_bar(wait_text(row), row.trial.missing.at_least(), largest) + why + "</td></tr>\n";
+    return std::string(comparable ? "<tr>" : "<tr class=hatched>") + cells + "<td>" + percent(row.trial.counts.root, row.trial.counts.entries) +
+           "<td class=\"half\">" + share_bar(row.trial.counts) + "<td class=\"left half\">" +
+           number_bar(wait_text(row), row.trial.missing.at_least(), largest) + why + "</td></tr>\n";
 }
 
 std::string chart(const Sweep &sweep, std::size_t schedule) {
@@ -41,8 +42,8 @@ std::string chart(const Sweep &sweep, std::size_t schedule) {
         rows += row.schedule == schedule ? chart_row(row, largest_wait(sweep)) : "";
     }
     return "<div class=\"scroll\"><table class=\"wide\"><caption>For each threshold, how the entries split and the largest wait</caption><thead><tr>" + head +
-           "<th scope=col>root<th scope=col class=left>how the entries split<th scope=col class=left>largest wait, in entries of others</thead><tbody>\n" + rows +
-           "</tbody></table></div>\n";
+           "<th scope=col>root<th scope=col class=left>how the entries split<th scope=col class=left>largest wait, in entries of others</thead><tbody>\n" +
+           rows + "</tbody></table></div>\n";
 }
 
 // A colour from light for the smallest wait of the rows that can be compared to strong for the largest.
@@ -71,15 +72,15 @@ std::string grid(const Sweep &sweep, std::size_t schedule) {
         }
         const bool comparable = row.trial.missing.comparable();
         rows += in_line == 0 ? "<tr><th scope=row>" + std::to_string(row.thresholds[0]) : "";
-        rows += std::string("<td") + (comparable ? " style=\"background:" + wait_colour(sweep, row.trial.waits.largest) + "\"" : " class=hatched") + "><b>" + wait_text(row) +
-                "</b><span>root " + percent(row.trial.counts.root, row.trial.counts.entries) + "</span>" +
+        rows += std::string("<td") + (comparable ? " style=\"background:" + wait_colour(sweep, row.trial.waits.largest) + "\"" : " class=hatched") + "><b>" +
+                wait_text(row) + "</b><span>root " + percent(row.trial.counts.root, row.trial.counts.entries) + "</span>" +
                 (comparable ? "" : "<span>" + escaped(row.trial.missing.why_not()) + "</span>");
         in_line = (in_line + 1) % sweep.axes[1].thresholds.size();
         rows += in_line == 0 ? "</td></tr>\n" : "";
     }
     return "<div class=\"scroll\"><table class=\"grid\"><caption>Largest wait, and below it the share of root entries. Rows: threshold of " +
-           escaped(sweep.axes[0].name) + "; columns: threshold of " + escaped(sweep.axes[1].name) + "</caption><thead><tr><td></td>" + head + "</thead><tbody>\n" +
-           rows + "</tbody></table></div>\n";
+           escaped(sweep.axes[0].name) + "; columns: threshold of " + escaped(sweep.axes[1].name) + "</caption><thead><tr><td></td>" + head +
+           "</thead><tbody>\n" + rows + "</tbody></table></div>\n";
 }
 
 // What one axis of comparable rows shows: up to which threshold the wait does not grow, and from which on nothing changes.
@@ -102,8 +103,8 @@ std::string advice(const Sweep &sweep) {
         free = row->trial.waits.largest <= rows.front()->trial.waits.largest ? row : free;
     }
     const auto same = [](const SweepRow &a, const SweepRow &b) {
-        return a.trial.counts.entries == b.trial.counts.entries && a.trial.counts.root == b.trial.counts.root && a.trial.counts.crossed == b.trial.counts.crossed &&
-               a.trial.waits.total == b.trial.waits.total && a.trial.waits.largest == b.trial.waits.largest;
+        return a.trial.counts.entries == b.trial.counts.entries && a.trial.counts.root == b.trial.counts.root &&
+               a.trial.counts.crossed == b.trial.counts.crossed && a.trial.waits.total == b.trial.waits.total && a.trial.waits.largest == b.trial.waits.largest;
     };
     std::size_t settled = rows.size() - 1;
     while (settled > 0 && same(*rows[settled - 1], *rows.back())) {
@@ -129,7 +130,8 @@ std::string first_words(const Sweep &sweep) {
     }
     const std::string all = std::to_string(sweep.rows.size());
     const std::string compared = marked == 0 ? " All " + all + " rows can be compared."
-                                             : " " + std::to_string(marked) + " of " + all + " rows are hatched and must not be compared: threads or attempts are missing from their waits.";
+                                             : " " + std::to_string(marked) + " of " + all +
+                                                   " rows are hatched and must not be compared: threads or attempts are missing from their waits.";
     return "The threshold of " + named + " was tried on one tree." + compared + advice(sweep);
 }
 
@@ -146,10 +148,12 @@ std::string sweep_page(const Sweep &sweep) {
     }
     body += section("The numbers", "", "<div class=\"scroll\">" + sweep_table(sweep).html("One row for each run") + "</div>\n");
     const std::optional<std::string> text = text_of(sweep.tree);
-    body += section("The tree", text ? "As it was given: " + *text : "", "<div class=\"scroll\">" + tree_table(sweep.tree).html("The domains, each below its parent") + "</div>\n");
+    body += section("The tree", text ? "As it was given: " + *text : "",
+                    "<div class=\"scroll\">" + tree_table(sweep.tree).html("The domains, each below its parent") + "</div>\n");
     const bool stalled = std::any_of(sweep.rows.begin(), sweep.rows.end(), [](const SweepRow &row) { return row.trial.stalled(); });
     return page_of("Which threshold?", first_words(sweep),
-                   std::string("Waits are counted in entries of other threads, not in time. They are those of attempts that ended; each row also says which threads and attempts they leave out.") +
+                   std::string("Waits are counted in entries of other threads, not in time. They are those of attempts that ended; each row also says which "
+                               "threads and attempts they leave out.") +
                        (stalled ? " Where a largest wait is above the longest possible one, a thread that could move was passed over meanwhile." : ""),
                    body);
 }

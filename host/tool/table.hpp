@@ -24,12 +24,12 @@ struct Value {
     static Value of_decimal(const std::string &number) { return Value(Kind::number, number); }
     static Value of_truth(bool truth) { return Value(Kind::truth, truth ? "true" : "false"); }
 
-private:
+  private:
     Value(Kind k, const std::string &t) : kind(k), text(t) {}
 };
 
 class Table {
-public:
+  public:
     void column(const std::string &name, Side side = Side::right);
     void mean_column(const std::string &name); // an exact fraction and a decimal; three columns for a program
 
@@ -47,7 +47,7 @@ public:
     std::string json() const; // a list of objects
     std::string html(const std::string &caption) const;
 
-private:
+  private:
     struct Cell {
         std::string text;
         std::vector<Value> values;

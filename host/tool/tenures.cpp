@@ -76,7 +76,8 @@ Table tenures_table(const hmcs::Tree &tree, const Measured &measured) {
 }
 
 Command tenures_command() {
-    return {"tenures", "how long each domain of a lock file kept the lock",
+    return {"tenures",
+            "how long each domain of a lock file kept the lock",
             "usage: hmcs tenures FILE [--csv | --json]\n"
             "       hmcs tenures TREE --schedule S [--ticket] ..\n"
             "Runs the schedule of a lock file from a fresh lock and prints for each domain, indented below its\n"
@@ -87,8 +88,7 @@ Command tenures_command() {
             "many attempts had not ended, and how long the longest of these has waited so far, in entries of\n"
             "others. A domain with a thread that never entered is marked.\n"
             "\n"
-            "  --csv, --json  for programs\n"
-            +
+            "  --csv, --json  for programs\n" +
                 std::string(run_help) +
                 "\n"
                 "  hmcs tenures two-sockets.lock\n",

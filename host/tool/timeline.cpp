@@ -56,7 +56,7 @@ std::vector<Doing> gathered(const std::vector<Change> &changes, const Window &wi
 
 // A path of horizontal strokes on the lanes of one picture.
 class Strokes {
-public:
+  public:
     void add(std::size_t lane, std::size_t column, std::size_t length) {
         if (lane != lane_ || path_.empty()) {
             path_ += "M" + std::to_string(column) + " " + std::to_string(lane) + ".5";
@@ -70,7 +70,7 @@ public:
 
     std::string path(const std::string &name) const { return path_.empty() ? "" : "<path class=\"" + name + "\" d=\"" + path_ + "\"/>"; }
 
-private:
+  private:
     std::string path_;
     std::size_t lane_ = 0, end_ = 0;
 };

@@ -34,7 +34,7 @@ struct Option {
 
 // The words after a command: options by name, in their order, and the others by position.
 class Words {
-public:
+  public:
     Words(const std::vector<std::string> &words, const std::vector<Option> &known);
 
     bool asks_for_help() const { return help_; }
@@ -45,7 +45,7 @@ public:
     std::string value(const std::string &name, const std::string &otherwise) const; // refuses one that is given twice
     const std::vector<std::string> &others() const { return others_; }
 
-private:
+  private:
     std::vector<std::pair<std::string, std::string>> options_;
     std::vector<std::string> others_;
     bool help_ = false;

@@ -18,7 +18,8 @@ std::string rounds_line(const hmcs::Tree &tree) {
 } // namespace
 
 Command tree_command() {
-    return {"tree", "the domains of a tree, indented",
+    return {"tree",
+            "the domains of a tree, indented",
             "usage: hmcs tree TREE [--ticket] [--csv | --json]\n"
             "Prints the domains of a tree, each indented below its parent: number, level (the root is at level\n"
             "1), threshold, allowance, longest wait, and the threads that are at home in it. The longest wait is\n"

@@ -215,7 +215,8 @@ void add_trial(Table &table, const Trial &trial, const Shown &shown) {
     } else {
         table.mean(trial.waits.numerator, trial.waits.denominator, "not comparable");
     }
-    table.cell(missing.never_entered == 0 ? "0" : std::to_string(missing.never_entered) + " of " + std::to_string(missing.threads), Value(missing.never_entered));
+    table.cell(missing.never_entered == 0 ? "0" : std::to_string(missing.never_entered) + " of " + std::to_string(missing.threads),
+               Value(missing.never_entered));
     table.cell(missing.fewest_entries);
     table.cell(missing.under_way);
     if (missing.under_way == 0) {

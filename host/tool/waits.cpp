@@ -82,7 +82,8 @@ Table waits_table(const hmcs::Tree &tree, const Measured &measured) {
 }
 
 Command waits_command() {
-    return {"waits", "how long each thread of a lock file waited",
+    return {"waits",
+            "how long each thread of a lock file waited",
             "usage: hmcs waits FILE [--csv | --json]\n"
             "       hmcs waits TREE --schedule S [--ticket] ..\n"
             "Runs the schedule of a lock file from a fresh lock and prints for each thread, and for all\n"
@@ -94,8 +95,7 @@ Command waits_command() {
             "an attempt wait for more entries as long as nobody stalls. On schedules in which a thread that could\n"
             "move is passed over, more entries may be seen.\n"
             "\n"
-            "  --csv, --json  for programs, the mean as numerator, denominator and decimal\n"
-            +
+            "  --csv, --json  for programs, the mean as numerator, denominator and decimal\n" +
                 std::string(run_help) +
                 "\n"
                 "  hmcs waits two-sockets.lock\n",

@@ -9,7 +9,8 @@
 extern "C" uint32_t reference_run_file(const uint8_t *file, size_t file_length, uint8_t *output, size_t output_length, uint32_t *place, uint32_t *length);
 
 extern "C" int LLVMFuzzerTestOneInput(const uint8_t *data, size_t size) {
-    if (size < 2) return 0;
+    if (size < 2)
+        return 0;
     const size_t room = data[1] == 0 ? data[0] : 140000;
     const std::vector<uint8_t> file(data + 2, data + size);
     std::vector<uint8_t> ours(room + 16, 0xa5), theirs(room + 16, 0xa5);

@@ -3,3 +3,4 @@ pub mod Law
 pub mod RoundsLaw
 pub mod Cases
 pub mod WaitBoundsLaw
+pub mod Witnesses

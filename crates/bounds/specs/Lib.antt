@@ -4,3 +4,4 @@ pub mod Laws
 pub mod Cases
 pub mod StarvationFreedom
 pub mod LongestWait
+pub mod Witnesses

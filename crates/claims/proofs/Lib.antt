@@ -4,3 +4,4 @@ pub mod Words
 pub mod Claims
 pub mod RefusedCalls
 pub mod MoveCases
+pub mod Witnesses

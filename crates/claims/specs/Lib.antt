@@ -4,3 +4,4 @@ pub mod Reached
 pub mod RefusedCalls
 pub mod MoveCases
 pub mod Tenures
+pub mod Witnesses

@@ -6,3 +6,4 @@ pub mod Tables
 pub mod Laws
 pub mod Journals
 pub mod Cases
+pub mod Witnesses

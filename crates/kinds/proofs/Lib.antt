@@ -3,3 +3,4 @@ pub mod Refusing
 pub mod Buffers
 pub mod Telling
 pub mod Cases
+pub mod Witnesses

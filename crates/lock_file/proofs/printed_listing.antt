@@ -4,3 +4,4 @@ pub mod Numerals
 pub mod NumeralLaw
 pub mod OneNumeral
 pub mod Lengths
+pub mod Witnesses

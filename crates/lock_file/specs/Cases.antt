@@ -1,9 +1,11 @@
 -- Cases of reading, in one list: the printed example's bytes, kinds of root, defaults, and 2 and 3 at their places. Assumes nothing: these are definitions.
-use mathlib.Core.Bool.{Bool, false, _&&_}
+use mathlib.Core.Path.{_≡_}
+use mathlib.Core.Bool.{Bool, true, false, _&&_}
 use mathlib.Core.List.{List, [], _∷_, _++_}
 use Prim.Native.Nat.{ℕ, suc}
 use lib.Dec.{eqb}
 use lib.ListN.{replicate, getD}
+use Rattle.model.specs.declared.TreeWords.{TreeWords}
 use Rattle.model.specs.Cases.{same-numbers}
 use Rattle.lock_file.specs.declared.ReadReply.{ReadReply}
 use Rattle.lock_file.specs.Reading.{Reading, refused, described, file-read}
@@ -75,3 +77,24 @@ cases =
     -- refused: nothing of what was read before
     ∷ replies 2 13 0 0 0 0 0 (read-answer (example-tree ++ (0 ∷ [])))
     ∷ same-numbers (schedule-answer (example-tree ++ (0 ∷ [])) (replicate 3 7)) (replicate 3 7) ∷ []
+
+-- EVERY PART COUNTS: what a file gives, and readings that differ in one part alone: domains, kind of root, threads, parents, thresholds, homes, schedule
+abbrev pub words : (domains root threads : ℕ) → (parents thresholds homes : List ℕ) → TreeWords
+words d k t ps hs ms = record { domains = d; threads = t; parents = ps; thresholds = hs; homes = ms; «ticket_root» = k }
+
+abbrev pub expected : Reading → Bool
+expected = gives 2 1 3 (0 ∷ 1 ∷ []) (0 ∷ 2 ∷ []) (4 ∷ 5 ∷ []) (6 ∷ [])
+
+unfoldable pub parts : List Bool
+parts =
+    expected (described (words 2 1 3 (0 ∷ 1 ∷ []) (0 ∷ 2 ∷ []) (4 ∷ 5 ∷ [])) (6 ∷ []))
+    ∷ expected (described (words 7 1 3 (0 ∷ 1 ∷ []) (0 ∷ 2 ∷ []) (4 ∷ 5 ∷ [])) (6 ∷ []))
+    ∷ expected (described (words 2 7 3 (0 ∷ 1 ∷ []) (0 ∷ 2 ∷ []) (4 ∷ 5 ∷ [])) (6 ∷ []))
+    ∷ expected (described (words 2 1 7 (0 ∷ 1 ∷ []) (0 ∷ 2 ∷ []) (4 ∷ 5 ∷ [])) (6 ∷ []))
+    ∷ expected (described (words 2 1 3 (0 ∷ 7 ∷ []) (0 ∷ 2 ∷ []) (4 ∷ 5 ∷ [])) (6 ∷ []))
+    ∷ expected (described (words 2 1 3 (0 ∷ 1 ∷ []) (0 ∷ 7 ∷ []) (4 ∷ 5 ∷ [])) (6 ∷ []))
+    ∷ expected (described (words 2 1 3 (0 ∷ 1 ∷ []) (0 ∷ 2 ∷ []) (4 ∷ 7 ∷ [])) (6 ∷ []))
+    ∷ expected (described (words 2 1 3 (0 ∷ 1 ∷ []) (0 ∷ 2 ∷ []) (4 ∷ 5 ∷ [])) (7 ∷ [])) ∷ []
+
+unfoldable pub Every-part : Type 0
+Every-part = parts ≡ true ∷ replicate 7 false

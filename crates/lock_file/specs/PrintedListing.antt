@@ -2,3 +2,4 @@
 pub mod Listing
 pub mod ListingLaws
 pub mod Cases
+pub mod Witnesses

@@ -17,3 +17,4 @@ pub mod Cases
 pub mod TicketCases
 pub mod ClaimCases
 pub mod CounterCases
+pub mod Witnesses

@@ -20,3 +20,4 @@ pub mod ClaimCases
 pub mod Search
 pub mod TicketCases
 pub mod CounterCases
+pub mod Witnesses

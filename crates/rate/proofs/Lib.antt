@@ -5,3 +5,4 @@ pub mod Tests
 pub mod Rounding
 pub mod Units
 pub mod Cases
+pub mod Witnesses

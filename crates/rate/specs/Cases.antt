@@ -1,5 +1,6 @@
 -- Cases of the rate, in one list: rates that tell the roundings and their order, both ends of the range and the floats beyond them, and each refusal at its place. A float is written as its bit pattern; the rates are what a program outside computes. Assumes nothing: these are definitions.
-use mathlib.Core.Bool.{Bool, true, _&&_}
+use mathlib.Core.Path.{_≡_}
+use mathlib.Core.Bool.{Bool, true, false, _&&_}
 use mathlib.Core.List.{List, [], _∷_}
 use Prim.Native.Nat.{ℕ}
 use lib.Dec.{eqb}
@@ -98,3 +99,13 @@ refused-times =
 
 unfoldable pub cases : Bool
 cases = all rates && (all refused-thresholds && all refused-times)
+
+-- EVERY PART COUNTS: the right reply, and replies that are wrong in the number, the place and the bits alone
+abbrev pub reply : (number place bits : ℕ) → RateReply
+reply n p x = record { number = n; place = p; rate = ofBits binary64 x }
+
+unfoldable pub parts : List Bool
+parts = replies 24 1 one (reply 24 1 one) ∷ replies 24 1 one (reply 8 1 one) ∷ replies 24 1 one (reply 24 2 one) ∷ replies 24 1 one (reply 24 1 fifth) ∷ []
+
+unfoldable pub Every-part : Type 0
+Every-part = parts ≡ true ∷ false ∷ false ∷ false ∷ []

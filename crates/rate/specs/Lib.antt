@@ -3,3 +3,4 @@ pub mod Rate
 pub mod Answers
 pub mod Laws
 pub mod Cases
+pub mod Witnesses

@@ -25,7 +25,7 @@ use Rattle.waits.specs.Attempts.{swaps-at, draws, begins-from, begins, e
 use Rattle.waits.specs.Rows.{largest, divisor-in, mean, row-with, row-of, rows-below-from, all-rows}
 use Rattle.waits.specs.Refusals.{bad-row-room, row-room-tests, waits-tests-before-19, waits-tests, waits-refusal}
 use Rattle.waits.specs.Answers.{waits-reply, refused-by, waits-answer, waits-trace, waits-rows}
-use Rattle.waits.specs.Cases.{Case, rows-given, refused-from, refused-with, full-entries, reached, no-attempt, no-wait, taking-turns, cases, answered, holds, all-hold}
+use Rattle.waits.specs.Cases.{Case, rows-given, refused-from, refused-with, full-entries, reached, no-attempt, no-wait, taking-turns, cases, answered, holds, all-hold, parts, Every-part}
 use Rattle.model.proofs.Tests.{and-both}
 use Rattle.model.proofs.Walks.{walked, Sized, zero-from, first-pass, first-meets, formed-by-walks, same-formed, counts-by-walks, above-by-walks, zipped}
 use Rattle.model.proofs.Computing.{far-below, have-room, walked-counter, tests-by, late-tests, same-late, same-lock-formed, state-sized, sized}
@@ -104,3 +104,7 @@ unfolding zero-from first-pass first-meets counts-by-walks above-by-walks walked
     counted under-way-after finished finished-by waits-from waits-below-from largest divisor-in mean row-with row-of rows-below-from all-rows bad-row-room rows-given
     refused-from refused-with full-entries reached no-attempt no-wait taking-turns cases walked zipped formed-by-walks walked-refusal holds-by-walks all-hold-by-walks
 cases-hold = same-cases cases cases-sized ∙ refl
+
+pub every-part : Every-part
+unfolding fresh-words fresh-counters padded tree two-in-root same-numbers same-places same-counts same-state same-counters same-lock refused-from refused-with full-entries parts Every-part
+every-part = refl

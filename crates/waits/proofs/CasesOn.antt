@@ -26,7 +26,7 @@ use Rattle.waits.specs.Rows.{largest, divisor-in, mean, row-with, row-of
 use Rattle.waits.specs.Refusals.{bad-row-room, row-room-tests, bad-under-way, under-way-tests, waits-on-tests-before-19, waits-on-tests, waits-on-refusal}
 use Rattle.waits.specs.Answers.{waits-reply, refused-on, waits-on-answer, waits-on-trace, waits-on-rows, waits-on-under-way}
 use Rattle.waits.specs.Cases.{full-entries, reached, no-attempt, no-wait}
-use Rattle.waits.specs.CasesOn.{On-case, all-numbers, goes-on, refused-from, four-in-root, three-wait, all-enter, on-cases, answered, holds, all-hold}
+use Rattle.waits.specs.CasesOn.{On-case, all-numbers, goes-on, refused-from, four-in-root, three-wait, all-enter, on-cases, answered, holds, all-hold, parts, Every-part}
 use Rattle.model.proofs.Tests.{and-both}
 use Rattle.model.proofs.Walks.{walked, Sized, zero-from, first-pass, first-meets, formed-by-walks, same-formed, counts-by-walks, above-by-walks, zipped}
 use Rattle.model.proofs.Computing.{far-below, have-room, walked-counter, tests-by, late-tests, same-late, same-lock-formed, state-sized, sized}
@@ -109,3 +109,7 @@ unfolding zero-from first-pass first-meets counts-by-walks above-by-walks walked
     counted under-way-after finished finished-by waits-from under-way-from waits-below-from under-way-below largest divisor-in mean row-with row-of rows-below-from capped row-of-all all-rows-from bad-row-room bad-under-way waits-reply all-numbers goes-on
     refused-from full-entries reached no-attempt no-wait four-in-root three-wait all-enter on-cases walked zipped formed-by-walks walked-refusal holds-by-walks all-hold-by-walks
 on-cases-hold = same-cases on-cases cases-sized ∙ refl
+
+pub every-part : Every-part
+unfolding fresh-words fresh-counters padded tree two-in-root same-numbers same-places same-counts same-state same-counters same-lock refused-from full-entries parts Every-part
+every-part = refl

@@ -15,3 +15,4 @@ pub mod CallsJoining
 pub mod Measuring
 pub mod Cases
 pub mod CasesOn
+pub mod Witnesses

@@ -1,5 +1,6 @@
 -- Cases of waits, in one list: rows by hand, attempts that begin before the run or end behind it, both kinds of root, means that reduce, refusals and their order. Assumes nothing: these are definitions.
-use mathlib.Core.Bool.{Bool, true, _&&_, _||_}
+use mathlib.Core.Path.{_≡_}
+use mathlib.Core.Bool.{Bool, true, false, _&&_, _||_}
 use mathlib.Core.List.{List, [], _∷_, _++_}
 use Prim.Native.Nat.{ℕ}
 use lib.Dec.{eqb}
@@ -123,3 +124,23 @@ holds c =
 unfoldable pub all-hold : List Case → Bool
 all-hold [] = true
 all-hold (c ∷ cs) = holds c && all-hold cs
+
+-- EVERY PART COUNTS: the right answer to a refused line, and answers that are wrong in the number, the place, the counts, the state, the trace and the rows alone
+abbrev pub reply : (number place stays : ℕ) → LockState → RunReply
+reply n p k s = record { number = n; place = p; counts = record { steps = 0; entries = 0; stays = k; root = 0; passed = 0; crossed = 0 }; state = s }
+
+unfoldable pub parts : List Bool
+parts =
+    let c = refused-with 18 two-in-root (0 ∷ 0 ∷ []) 2 3 in
+    let trace : List ℕ = replicate 2 9 in
+    let rows : List ℕ = replicate 3 7 in
+    answered (reply 18 0 0 fresh-lock) trace rows c
+    ∷ answered (reply 13 0 0 fresh-lock) trace rows c
+    ∷ answered (reply 18 1 0 fresh-lock) trace rows c
+    ∷ answered (reply 18 0 1 fresh-lock) trace rows c
+    ∷ answered (reply 18 0 0 full-entries) trace rows c
+    ∷ answered (reply 18 0 0 fresh-lock) (0 ∷ 9 ∷ []) rows c
+    ∷ answered (reply 18 0 0 fresh-lock) trace (7 ∷ 7 ∷ 0 ∷ []) c ∷ []
+
+unfoldable pub Every-part : Type 0
+Every-part = parts ≡ true ∷ replicate 6 false

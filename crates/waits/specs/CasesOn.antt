@@ -1,5 +1,6 @@
 -- Cases of runs with waits that go on, in one list: an attempt from before the run that finishes, goes on or is not known, others' entries counted on, numbers up to 2^63 and a total that is cut, 27 and its order. Assumes nothing: these are definitions.
-use mathlib.Core.Bool.{Bool, true, _&&_, _||_}
+use mathlib.Core.Path.{_≡_}
+use mathlib.Core.Bool.{Bool, true, false, _&&_, _||_}
 use mathlib.Core.List.{List, [], _∷_, _++_}
 use Prim.Native.Nat.{ℕ, _+_, _-_, _*_}
 use lib.Dec.{eqb}
@@ -134,3 +135,26 @@ holds c =
 unfoldable pub all-hold : List On-case → Bool
 all-hold [] = true
 all-hold (c ∷ cs) = holds c && all-hold cs
+
+-- EVERY PART COUNTS: the right answer to a refused line, and answers that are wrong in the number, the place, the counts, the rows told, the state, the trace, the rows and the numbers alone
+abbrev pub reply : (number place stays rows : ℕ) → LockState → WaitsReply
+reply n p k m s = record { number = n; place = p; counts = record { steps = 0; entries = 0; stays = k; root = 0; passed = 0; crossed = 0 }; rows = m; state = s }
+
+unfoldable pub parts : List Bool
+parts =
+    let us : List ℕ = 1 ∷ 0 ∷ 1 ∷ [] in
+    let c = refused-from fresh-lock 27 2 two-in-root (0 ∷ 0 ∷ []) 2 3 us in
+    let trace : List ℕ = replicate 2 9 in
+    let rows : List ℕ = replicate 3 7 in
+    answered (reply 27 2 0 0 fresh-lock) trace rows us c
+    ∷ answered (reply 18 2 0 0 fresh-lock) trace rows us c
+    ∷ answered (reply 27 0 0 0 fresh-lock) trace rows us c
+    ∷ answered (reply 27 2 1 0 fresh-lock) trace rows us c
+    ∷ answered (reply 27 2 0 3 fresh-lock) trace rows us c
+    ∷ answered (reply 27 2 0 0 full-entries) trace rows us c
+    ∷ answered (reply 27 2 0 0 fresh-lock) (0 ∷ 9 ∷ []) rows us c
+    ∷ answered (reply 27 2 0 0 fresh-lock) trace (7 ∷ 7 ∷ 0 ∷ []) us c
+    ∷ answered (reply 27 2 0 0 fresh-lock) trace rows (0 ∷ 0 ∷ 1 ∷ []) c ∷ []
+
+unfoldable pub Every-part : Type 0
+Every-part = parts ≡ true ∷ replicate 8 false

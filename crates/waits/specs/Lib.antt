@@ -8,3 +8,4 @@ pub mod GoingOn
 pub mod Meanings
 pub mod Cases
 pub mod CasesOn
+pub mod Witnesses

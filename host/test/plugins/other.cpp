@@ -7,6 +7,4 @@ extern "C" __attribute__((visibility("default"))) hmcs_run_reply hmcs_run(hmcs_t
     return reply;
 }
 
-extern "C" __attribute__((visibility("default"))) unsigned plugin_entries() {
-    return hmcs_run({}, {}, nullptr, 0, nullptr, 0).entries;
-}
+extern "C" __attribute__((visibility("default"))) unsigned plugin_entries() { return hmcs_run({}, {}, nullptr, 0, nullptr, 0).entries; }

@@ -13,7 +13,7 @@ use Rattle.model.specs.Cases.{same-numbers}
 use Rattle.lock_file.specs.Reading.{reached-refusal, field-end, entry-end, domain-size, domain-end, parent-at, threshold-at, stored, domains-from, domains-read, thread-end, home-at, threads-from, threads-behind, threads-read, thread-count, schedule-start, tree-read, entries-from, entries-at, reading-of, file-read}
 use Rattle.lock_file.specs.PrintedListing.Listing.{digits, numeral, number-then, trace-lines, spaced, first-line, listing}
 use Rattle.lock_file.specs.FileAnswers.FileAnswers.{listing-outcome, run-outcome, file-trace, file-outcome, outcome-reply, outcome-output, file-answer, output-answer}
-use Rattle.lock_file.specs.FileAnswers.Cases.{cases}
+use Rattle.lock_file.specs.FileAnswers.Cases.{cases, parts, Every-part}
 use Rattle.lock_file.specs.FileAnswers.FileLaws.{met-numbers}
 use Rattle.lock_file.specs.FileAnswers.Witnesses.{met-files, Numbers-met}
 use Rattle.lock_file.proofs.file_answers.Computing.{quick-refusal, quick-run, quick-reading, same-reading}
@@ -40,3 +40,7 @@ unfolding same-numbers any-below filter-below read-word tree-of is-ticket is-chi
     numeral number-then trace-lines spaced first-line listing listing-outcome run-outcome file-trace quick-refusal quick-run quick-reading file-outcome
     outcome-reply outcome-output file-answer output-answer Numbers-met met-files met-numbers
 numbers-met = rw same-reading refl
+
+pub every-part : Every-part
+unfolding parts Every-part
+every-part = refl

@@ -8,7 +8,7 @@ use Rattle.model.specs.Cases.{padded, tree, at-ticket-root, two-homes, first-en
 use Rattle.lock_file.specs.FileWriter.Writing.{written-domain, written-domains, written-thread, written-threads, written-schedule, first-byte, written-tree, written-file}
 use Rattle.lock_file.specs.FileWriter.Refusals.{bad-file-length, bad-file-room, write-tests, write-refusal}
 use Rattle.lock_file.specs.FileWriter.Answers.{write-reply, file-buffer, write-answer, file-buffer-answer}
-use Rattle.lock_file.specs.FileWriter.Cases.{writes, refuses, edges, unread, empty-leaf, cases, holds, all-hold}
+use Rattle.lock_file.specs.FileWriter.Cases.{writes, refuses, edges, unread, empty-leaf, cases, holds, all-hold, parts, Every-part}
 
 pub cases-hold : all-hold cases ≡ true
 unfolding any-below read-word tree-of is-child is-leaf depth-from depth level meets on-path under refusal accepted lowest-bad first-refusal bad-domains
@@ -17,3 +17,7 @@ unfolding any-below read-word tree-of is-child is-leaf depth-from depth level me
     bad-file-length bad-file-room write-tests write-refusal write-reply file-buffer write-answer file-buffer-answer writes refuses edges unread empty-leaf
     cases holds all-hold
 cases-hold = refl
+
+pub every-part : Every-part
+unfolding root-alone tree padded same-numbers writes parts Every-part
+every-part = refl

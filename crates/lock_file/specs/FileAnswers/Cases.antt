@@ -1,5 +1,6 @@
 -- Cases of the file call, in one list: the printed example, 1, 4 and 5, 9, 16, 12 and 14 at their places. Assumes nothing: these are definitions.
-use mathlib.Core.Bool.{Bool, _&&_}
+use mathlib.Core.Path.{_≡_}
+use mathlib.Core.Bool.{Bool, true, false, _&&_}
 use mathlib.Core.List.{List, [], _∷_, _++_}
 use Prim.Native.Nat.{ℕ, _+_, _*_}
 use lib.Dec.{eqb}
@@ -47,3 +48,13 @@ cases =
     ∷ replies 1 0 0 (file-answer (replicate 65537 0) [])
     -- the room that always suffices, which hmcs.h names: 39 bytes for the first line and 4 for each of 32,768 entries
     ∷ eqb listing-room (39 + 4 * 32768) ∷ []
+
+-- EVERY PART COUNTS: the right reply, and replies that are wrong in the number, the place and the length alone
+abbrev pub reply : (number place length : ℕ) → FileReply
+reply n p l = record { number = n; place = p; length = l }
+
+unfoldable pub parts : List Bool
+parts = replies 14 3 5 (reply 14 3 5) ∷ replies 14 3 5 (reply 12 3 5) ∷ replies 14 3 5 (reply 14 4 5) ∷ replies 14 3 5 (reply 14 3 0) ∷ []
+
+unfoldable pub Every-part : Type 0
+Every-part = parts ≡ true ∷ replicate 3 false

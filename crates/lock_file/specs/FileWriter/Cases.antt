@@ -1,6 +1,6 @@
 -- Cases of writing the lock file, in one list: the printed example byte by byte, each default at its edge, both kinds of root, words that are not read, refusals in their order, buffers. Assumes nothing: these are definitions.
 use mathlib.Core.Path.{_≡_}
-use mathlib.Core.Bool.{Bool, true, _&&_}
+use mathlib.Core.Bool.{Bool, true, false, _&&_}
 use mathlib.Core.List.{List, [], _∷_, _++_}
 use Prim.Native.Nat.{ℕ, _+_, _*_, _≤_, _<_}
 use lib.Dec.{eqb}
@@ -10,6 +10,7 @@ use Rattle.model.specs.Trees.{tree-of}
 use Rattle.model.specs.Refusals.{refusal, accepted}
 use Rattle.model.specs.Cases.{tree, at-ticket-root, two-homes, first-entries, root-alone, two-in-root, same-numbers}
 use Rattle.lock_file.specs.Cases.{example}
+use Rattle.lock_file.specs.declared.file_writer.WriteReply.{WriteReply}
 use Rattle.lock_file.specs.FileWriter.Writing.{written-file}
 use Rattle.lock_file.specs.FileWriter.Refusals.{write-refusal}
 use Rattle.lock_file.specs.FileWriter.Answers.{write-answer, file-buffer-answer}
@@ -87,15 +88,34 @@ cases =
     ∷ refuses 4 0 (tree 0 1 [] [] []) [] 9
     ∷ refuses 5 0 (tree 1 0 [] [] []) [] 0 ∷ []
 
-unfoldable pub holds : Case → Bool
-holds c =
-    let r = write-answer (c .words) (c .schedule) (c .buffer) in
+-- WHEN A LINE HOLDS, of the reply and of the buffer after it
+abbrev pub answered : WriteReply → (left : List ℕ) → Case → Bool
+answered r xs c =
     (eqb (r .number) (c .number) && (eqb (r .place) (c .place) && eqb (r .length) (c .long)))
-    && same-numbers (file-buffer-answer (c .words) (c .schedule) (c .buffer)) (c .after)
+    && same-numbers xs (c .after)
+
+unfoldable pub holds : Case → Bool
+holds c = answered (write-answer (c .words) (c .schedule) (c .buffer)) (file-buffer-answer (c .words) (c .schedule) (c .buffer)) c
 
 unfoldable pub all-hold : List Case → Bool
 all-hold [] = true
 all-hold (c ∷ cs) = holds c && all-hold cs
+
+-- EVERY PART COUNTS: the right answer to a line, and answers that are wrong in the number, the place, the length and the buffer alone
+abbrev pub reply : (number place length : ℕ) → WriteReply
+reply n p l = record { number = n; place = p; length = l }
+
+unfoldable pub parts : List Bool
+parts =
+    let c = writes root-alone [] (1 ∷ 1 ∷ 0 ∷ 0 ∷ []) 1 in
+    answered (reply 0 0 4) (1 ∷ 1 ∷ 0 ∷ 0 ∷ 7 ∷ []) c
+    ∷ answered (reply 1 0 4) (1 ∷ 1 ∷ 0 ∷ 0 ∷ 7 ∷ []) c
+    ∷ answered (reply 0 1 4) (1 ∷ 1 ∷ 0 ∷ 0 ∷ 7 ∷ []) c
+    ∷ answered (reply 0 0 5) (1 ∷ 1 ∷ 0 ∷ 0 ∷ 7 ∷ []) c
+    ∷ answered (reply 0 0 4) (1 ∷ 1 ∷ 0 ∷ 0 ∷ 0 ∷ []) c ∷ []
+
+unfoldable pub Every-part : Type 0
+Every-part = parts ≡ true ∷ replicate 4 false
 
 -- THE LONGEST FILE. One domain and one thread that steps n times make 4 bytes and two for each entry: 32,766 entries make 65,536 bytes exactly; one entry more is refused by 1, whatever the room
 abbrev pub steps-of-one : (n : ℕ) → List ℕ

@@ -1,0 +1,146 @@
+-- The witnesses of `model` hold. Assumes nothing.
+use mathlib.Core.Path.{_≡_, refl}
+use mathlib.Core.Bool.{Bool, true, false, _&&_, cond}
+use mathlib.Core.List.{List, [], _∷_, _++_}
+use mathlib.Core.Logic.{_≢_}
+use Prim.Native.Nat.{ℕ, zero, suc, _<_}
+use native.Mathlib.Omega.{arith}
+use lib.Dec.{eqb, ltb}
+use lib.ListN.{getD, length}
+use borrow.Author.Tests.{ltb-true, eqb-true}
+use Rattle.model.specs.Scans.{any-below, all-below, largest-below, filter-below}
+use Rattle.model.specs.Trees.{Tree, read-word, tree-of, is-ticket, is-child, is-leaf, depth-from, depth, level, meets, on-path, child-from, child, own-record, is-record, is-member, owner-domain, under}
+use Rattle.model.specs.Places.{place-of, is-idle, is-watch}
+use Rattle.model.specs.States.{fresh-words, fresh-state, numbers-at, store-numbers}
+use Rattle.model.specs.Steps.{is-kind, is-entry, prep-row, swap-row, link-row, wait-row, leave-row, check-row, help-row, cas-row, linger-row, grant-row, draw-row, watch-row, is-watched, shown-members, raise-row, row, step}
+use Rattle.model.specs.Runs.{steps, state-after, how-many, entering, counts-of, run-of, run, ended-in, entries-under, occurrences}
+use Rattle.model.specs.Tenures.{finds-none, taken-from, given, starts, checks-at, word-to-grant, tenure-length, domain-entries, domain-tenures, longest-tenure}
+use Rattle.model.specs.Counters.{fresh-counters, fresh-lock, each-with-index, counters-after, good-count, good-counts, count-above, any-above}
+use Rattle.model.specs.WellFormed.{good-tail, good-next, good-status, queue-on-path, good-place, good-watch, good-thread, good-counters, well-formed}
+use Rattle.model.specs.Refusals.{refusal, accepted, lowest-bad, first-refusal, bad-domains, bad-threads, bad-parent, too-deep, no-threshold, bad-home, empty-domain, tree-tests, bad-state, bad-length, bad-entry, bad-room, bad-counter, step-tests, run-tests, tree-refusal, step-refusal, run-refusal}
+use Rattle.model.specs.Answers.{counters-behind}
+use Rattle.model.specs.Laws.{All-threads, Form-law, Unread-law}
+use Rattle.model.specs.CounterLaws.{Counter-form-law, Room-law}
+use Rattle.model.specs.Search.{with-parent, six-levels}
+use Rattle.model.specs.Cases.{padded, tree, at-ticket-root, count-up, two-homes, first-entries, three-levels}
+use Rattle.model.specs.CounterCases.{counters, one-pass}
+use Rattle.model.specs.ClaimCases.{two-homes-again}
+use Rattle.model.specs.Witnesses.{Meets, crossing, Trees-meet, States-met, counted-before, Counters-met, kinds-of, Kinds-met, Tests-numbered, Unread-met, status-after, Words-met, Domains-met, Own-parent, Witnesses}
+use Rattle.model.proofs.Tests.{and-both}
+use Rattle.model.proofs.Lists.{same-or}
+use Rattle.model.proofs.Trees.Accepted.{sixteen-bit}
+use Rattle.model.proofs.Laws.Form.{form-law}
+use Rattle.model.proofs.Laws.Counters.{fresh-good, fresh-room, room-law}
+use Rattle.model.proofs.Laws.Refusals.{tree-numbered, run-numbered-before-19}
+
+-- a schedule whose entries pass a test
+unfoldable known : Tree → List ℕ → Bool
+known t [] = true
+known t (i ∷ is) = ltb i (t .threads) && known t is
+
+known-threads : (t : Tree) (is : List ℕ) → known t is ≡ true → All-threads t is
+unfolding known All-threads
+known-threads t [] e = tt
+known-threads t (i ∷ is) e = let both = and-both (ltb i (t .threads)) (known t is) e in (ltb-true _ _ (both .0), known-threads t is (both .1))
+
+trees-meet : Trees-meet
+unfolding known any-below filter-below read-word tree-of is-ticket is-child is-leaf depth-from depth level meets on-path under refusal accepted lowest-bad first-refusal bad-domains bad-threads bad-parent too-deep no-threshold bad-home empty-domain tree-tests tree-refusal padded tree at-ticket-root two-homes three-levels first-entries crossing
+trees-meet =
+    record {
+      queue-root = record { sixteen-bit = sixteen-bit two-homes; accepted = refl; threads = known-threads _ _ refl; real = omega arith };
+      ticket-root = record { sixteen-bit = sixteen-bit (at-ticket-root two-homes); accepted = refl; threads = known-threads _ _ refl; real = omega arith };
+      inner = record { sixteen-bit = sixteen-bit three-levels; accepted = refl; threads = known-threads _ _ refl; real = omega arith };
+    }
+
+two-homes-known : All-threads (tree-of two-homes) first-entries
+unfolding known read-word tree-of padded tree two-homes first-entries
+two-homes-known = known-threads _ _ refl
+
+states-met : States-met
+unfolding States-met Form-law Room-law
+states-met =
+    let t = tree-of two-homes in
+    let ok = trees-meet .queue-root .accepted in
+    let law = form-law t (sixteen-bit two-homes) ok in
+    record {
+      formed = law .of-run first-entries (fresh-state t 0) two-homes-known (law .of-fresh 0);
+      good = fresh-good t;
+      room = fresh-room 1 (omega arith);
+      not-bad = room-law t (sixteen-bit two-homes) _ (2 ∷ []) (fresh-room 1 (omega arith));
+    }
+
+counters-met : Counters-met
+unfolding occurrences ended-in entries-under finds-none taken-from given starts checks-at word-to-grant tenure-length domain-entries domain-tenures
+    longest-tenure fresh-counters each-with-index counters-after good-count good-counts count-above any-above bad-counter counters-behind is-entry any-below
+    all-below filter-below read-word tree-of is-ticket is-child is-leaf depth-from depth level meets on-path child-from child own-record is-record is-member
+    owner-domain under place-of is-watch is-idle numbers-at store-numbers fresh-words is-kind prep-row swap-row link-row wait-row leave-row check-row help-row cas-row linger-row grant-row draw-row watch-row is-watched shown-members raise-row row step steps state-after run-of run good-tail good-next good-status
+    queue-on-path good-place good-watch good-thread good-counters well-formed refusal accepted lowest-bad first-refusal bad-domains bad-threads bad-parent
+    too-deep no-threshold bad-home empty-domain tree-tests bad-state bad-length bad-entry bad-room step-tests run-tests tree-refusal step-refusal run-refusal
+    padded tree two-homes counters counted-before
+counters-met = record { of-step = refl; of-step-counted = refl; of-run = refl; of-run-counted = refl }
+
+kinds-met : Kinds-met
+unfolding any-below filter-below read-word tree-of is-ticket meets on-path child-from child own-record place-of is-watch is-idle numbers-at store-numbers fresh-words fresh-state
+    is-kind prep-row swap-row link-row wait-row leave-row check-row help-row cas-row linger-row grant-row draw-row watch-row is-watched shown-members raise-row
+    row step steps state-after run-of run padded tree two-homes three-levels first-entries crossing kinds-of
+kinds-met = record { of-two-homes = refl; of-three-levels = refl }
+
+tests-numbered : Tests-numbered
+unfolding Tests-numbered
+tests-numbered t s is room = (tree-numbered t, run-numbered-before-19 t s is room)
+
+-- what holds of 0, 1 and 2 holds below 3
+below-three : (P : ℕ → Type 0) → P 0 → P 1 → P 2 → (k : ℕ) → k < 3 → P k
+below-three P a b c zero h = a
+below-three P a b c (suc zero) h = b
+below-three P a b c (suc (suc zero)) h = c
+below-three P a b c (suc (suc (suc k))) h = absurd (omega arith)
+
+unread-met : Unread-met
+unfolding two-homes two-homes-again tree padded
+unread-met =
+    record {
+      alike = record {
+        domains = refl;
+        threads = refl;
+        parents = λ d p s. below-three (λ d. 0 < d → getD (two-homes-again .parents) d 0 ≡ getD (two-homes .parents) d 0) (λ p. absurd (omega arith)) (λ p. refl) (λ p. refl) d s p;
+        thresholds = λ d p s. below-three (λ d. 0 < d → getD (two-homes-again .thresholds) d 0 ≡ getD (two-homes .thresholds) d 0) (λ p. absurd (omega arith)) (λ p. refl) (λ p. refl) d s p;
+        homes = λ i s. below-three (λ i. getD (two-homes-again .homes) i 0 ≡ getD (two-homes .homes) i 0) refl refl refl i s;
+        root = (λ e. refl, λ e. refl);
+      };
+      parent = λ e. absurd (omega arith);
+      threshold = λ e. absurd (omega arith);
+    }
+
+words-met : Words-met
+unfolding any-below filter-below read-word tree-of is-ticket meets on-path child-from child own-record place-of is-watch is-idle numbers-at store-numbers fresh-words fresh-state
+    is-kind prep-row swap-row link-row wait-row leave-row check-row help-row cas-row linger-row grant-row draw-row watch-row is-watched shown-members raise-row
+    row step steps state-after run-of run padded tree two-homes one-pass status-after
+words-met = record { count = refl; waits = refl; granted = refl }
+
+domains-met : Domains-met
+unfolding any-below filter-below read-word tree-of is-ticket is-child is-leaf depth-from depth level meets on-path under is-member refusal accepted lowest-bad first-refusal bad-domains bad-threads bad-parent too-deep no-threshold bad-home empty-domain tree-tests tree-refusal padded tree count-up two-homes three-levels six-levels
+domains-met = record { member = refl; leaf = refl; inner = refl; root = refl; six-accepted = refl; six-path = refl; off-path = refl }
+
+own-parent : Own-parent
+unfolding Own-parent with-parent
+own-parent t i c d =
+    record { home = refl; parent = λ e on near. by e (eqb e d) refl }
+  where
+    by : (e : ℕ) (b : Bool) → eqb e d ≡ b → cond b (t .parent d) (t .parent e) ≡ t .parent e
+    by e true z = rw (eqb-true e d z) refl
+    by e false z = refl
+
+pub witnesses : Witnesses
+witnesses =
+    record {
+      trees = trees-meet;
+      states = states-met;
+      counters-alone = counters-met;
+      kinds = kinds-met;
+      tests = tests-numbered;
+      unread = unread-met;
+      words = words-met;
+      domains = domains-met;
+      own-parent = own-parent;
+    }

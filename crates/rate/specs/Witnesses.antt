@@ -1,0 +1,18 @@
+-- WHO MEETS WHAT THE LAWS ASK: inputs that the laws of the rate accept; docs/WITNESSES.md is the list. Assumes nothing: these are definitions and statements.
+use Prim.Native.Nat.{_<_, _^_}
+use lib.Dec.{T}
+use lib.Ieee.{binary64, fits, ofBits}
+use Rattle.rate.specs.declared.PassingTimes.{PassingTimes}
+use Rattle.rate.specs.Laws.{Accepted}
+use Rattle.rate.specs.Cases.{twentieth, fifth, one}
+
+-- the times of the example in docs/RATE.md
+unfoldable pub example-times : PassingTimes
+example-times = record { p1 = ofBits binary64 twentieth; p2 = ofBits binary64 fifth; p3 = ofBits binary64 one }
+
+pub record Witnesses : Type 0 where
+  -- its thresholds, of 16 bits; and both thresholds 1, where p3 is a value that an f64 holds
+  pub example : Accepted 16 4 example-times
+  pub sixteen-bit : (16 < 2 ^ 16) × (4 < 2 ^ 16)
+  pub ones : Accepted 1 1 example-times
+  pub held : T (fits binary64 (example-times .p3))
