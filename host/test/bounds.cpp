@@ -26,7 +26,7 @@ void beyond() {
     CHECK((deep.domains == Numbers{0, UINT64_MAX, 18445618199572250625u, 281462092005375, 4294836225, 65535}));
 }
 
-// Refused as a fresh lock is, the buffer as it came; accepted, 0 behind the domains; both between guard pages.
+// Refused as a fresh lock is, the buffer as it came; accepted, 0 after the domains; both between guard pages.
 void buffer() {
     hmcs::Tree empty = example_tree();
     empty.add_domain(0, 4);

@@ -22,7 +22,7 @@ struct Answer {
     Threads chain;
 };
 
-// The call between guard pages, with the buffer at either end of them: whether what is behind the chain, or of a refused call all of it, is as it came.
+// The call between guard pages, with the buffer at either end of them: whether what is after the chain, or of a refused call all of it, is as it came.
 Answer ask(const hmcs_tree &tree, const hmcs_state &state, std::uint16_t thread, std::size_t room) {
     Answer answer{};
     for (bool at_end : {false, true}) {
@@ -101,7 +101,7 @@ void ticket_root() {
     CHECK(explains(after(two_domains(RootKind::ticket), {2, 2, 2, 0, 0, 0, 1, 1, 1}, 65535), 1, {1, 0, 2}));
 }
 
-// As many threads as there is room for, one behind another: the longest chain.
+// As many threads as there is room for, one after another: the longest chain.
 void longest() {
     for (const RootKind root : {RootKind::queue, RootKind::ticket}) {
         const hmcs::Tree tree = root_alone(root, 256);

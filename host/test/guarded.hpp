@@ -11,7 +11,7 @@
 
 namespace {
 
-// Memory with pages before and behind it that nobody may read or write.
+// Memory with pages before and after it that nobody may read or write.
 class Guarded {
   public:
     // The bytes end where the guard behind begins, or begin where the guard before ends.

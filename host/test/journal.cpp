@@ -78,7 +78,7 @@ void real_steps() {
     }
 }
 
-// About as many entries as the library takes at a time, and twice as many: the first wrong kind behind them, a cut, a thread that the tree lacks.
+// About as many entries as the library takes at a time, and twice as many: the first wrong kind after them, a cut, a thread that the tree lacks.
 void pieces() {
     const hmcs::Tree tree = example_tree();
     for (const std::size_t steps : {1023, 1024, 1025, 2047, 2048, 2049}) {

@@ -47,7 +47,7 @@ Schedule mixed(std::uint16_t threads, std::size_t length) {
 }
 
 void wrapper() {
-    // thread 0 enters through its home and the root, thread 1 waits behind it, 0 passes the lock on, 1 enters
+    // thread 0 enters through its home and the root, thread 1 waits after it, 0 passes the lock on, 1 enters
     hmcs::Lock lock(example_tree()), plain(example_tree());
     const Schedule schedule = {0, 0, 0, 0, 1, 1, 1, 1, 0, 0, 0, 1};
     const hmcs::KindsResult result = lock.run_kinds(schedule);

@@ -33,7 +33,7 @@ void longest() {
     CHECK(read.accepted() && read.schedule.size() == 32766 && read.schedule.size() <= HMCS_SCHEDULE_ROOM);
 }
 
-// A buffer between guard pages that has room, one element too few or none; what is behind the schedule stays.
+// A buffer between guard pages that has room, one element too few or none; what is after the schedule stays.
 void buffers() {
     const Bytes file = hmcs::write_file(example_tree(), schedule22).file;
     const std::size_t turns = schedule22.size();

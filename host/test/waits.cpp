@@ -19,7 +19,7 @@ using Numbers = std::array<std::uint64_t, HMCS_NUMBERS_PER_WAITS_ROW>;
 
 Numbers numbers_of(const hmcs::Waits &w) { return {w.attempts, w.total, w.largest, w.numerator, w.denominator}; }
 
-// Threads 0 and 1 take turns in one queue, each going behind the other before that one enters.
+// Threads 0 and 1 take turns in one queue, each going after the other before that one enters.
 Schedule taking_turns() {
     Schedule schedule;
     const std::array<std::array<std::uint16_t, 2>, 9> parts = {{{1, 2}, {0, 3}, {1, 6}, {0, 7}, {1, 7}, {0, 7}, {1, 4}, {0, 4}, {1, 2}}};

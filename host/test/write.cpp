@@ -14,7 +14,7 @@ namespace {
 using Schedule = std::vector<std::uint16_t>;
 using Bytes = std::vector<std::uint8_t>;
 
-// The tree's bytes of the example, its first byte as given, and two bytes an entry behind them.
+// The tree's bytes of the example, its first byte as given, and two bytes an entry after them.
 Bytes example_file(std::uint8_t first) {
     Bytes file = {first, 2, 2, 0, 0, 3, 0, 1, 1, 0, 1, 2};
     for (const std::uint16_t entry : schedule22) {

@@ -131,6 +131,8 @@ std::string shortest(double number) {
     return std::string(text, written.ptr);
 }
 
+const char *const bypassed = " (bypassed)";
+
 void warn_of(const std::string &name, const Trial &trial) {
     if (!trial.missing.comparable()) {
         warn(name + ": " + trial.missing.why_not() + "; its waits cannot be compared");
@@ -205,7 +207,8 @@ void add_trial(Table &table, const Trial &trial, const Shown &shown) {
         table.cell(count);
     }
     // waits that cannot be compared are not shown as if they could
-    table.cell(comparable ? std::to_string(trial.waits.largest) : "at least " + std::to_string(missing.at_least()), Value(trial.waits.largest));
+    const std::string seen = std::to_string(trial.waits.largest) + (trial.stalled() ? bypassed : "");
+    table.cell(comparable ? seen : "at least " + std::to_string(missing.at_least()), Value(trial.waits.largest));
     if (shown.seeds) {
         table.cell(trial.least_wait);
     }

@@ -29,7 +29,9 @@ struct Trial {
     bool stalled() const { return waits.largest > possible_wait; }
 };
 
-// What it means that a wait above the longest possible one was seen.
+// Stands after a wait above the longest possible one.
+extern const char *const bypassed;
+// What it means that such a wait was seen.
 std::string above_possible(std::uint64_t seen, std::uint64_t possible);
 // Says on standard error what a reader of the row must know: that it cannot be compared, or that somebody stalled.
 void warn_of(const std::string &name, const Trial &trial);

@@ -9,10 +9,10 @@ namespace tool {
 
 namespace {
 
-void add(Table &table, const hmcs::Waits &waits) {
+void add(Table &table, const hmcs::Waits &waits, std::uint64_t possible) {
     table.cell(waits.attempts);
     table.cell(waits.total);
-    table.cell(waits.largest);
+    table.cell(std::to_string(waits.largest) + (waits.largest > possible ? bypassed : ""), Value(waits.largest));
     table.mean(waits.numerator, waits.denominator);
 }
 
@@ -62,7 +62,7 @@ Table waits_table(const hmcs::Tree &tree, const Measured &measured) {
         table.row();
         table.cell(thread);
         table.cell(tree.words().homes[thread]);
-        add(table, measured.threads[thread]);
+        add(table, measured.threads[thread], bounds.threads[thread]);
         add_under_way(table, under_way != 0, under_way - 1);
         table.cell(capped(bounds.threads[thread]), Value(bounds.threads[thread]));
         table.cell(entered ? "yes" : "NEVER", Value::of_truth(entered));
@@ -74,7 +74,7 @@ Table waits_table(const hmcs::Tree &tree, const Measured &measured) {
     table.row();
     table.cell("all");
     table.cell("", Value());
-    add(table, measured.all);
+    add(table, measured.all, bounds.largest());
     add_under_way(table, missing.under_way != 0, missing.longest_under_way);
     table.cell(capped(bounds.largest()), Value(bounds.largest()));
     table.cell(missing.never_entered == 0 ? "yes" : "all but " + std::to_string(missing.never_entered), Value::of_truth(missing.never_entered == 0));

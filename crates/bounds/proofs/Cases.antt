@@ -1,4 +1,4 @@
--- The cases of the calls hold, by computation. Assumes nothing.
+-- The cases of the calls hold, by computation.
 use mathlib.Core.Path.{_≡_, refl}
 use mathlib.Core.Bool.{true}
 use Rattle.model.specs.Scans.{all, any-below, all-below, largest-below, filter-below}

@@ -1,4 +1,4 @@
--- The law of the call of allowances. Assumes nothing.
+-- The law of the call of allowances.
 use mathlib.Core.Path.{_≡_, _∙_}
 use mathlib.Core.List.{List}
 use Prim.Native.Nat.{ℕ, zero, suc, _+_, _≤_, _<_, _^_}

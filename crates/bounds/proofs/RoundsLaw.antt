@@ -1,4 +1,4 @@
--- The laws of the call of rounds. Assumes nothing.
+-- The laws of the call of rounds.
 use mathlib.Core.Path.{_≡_, _∙_}
 use Prim.Native.Nat.{ℕ, _+_, _*_, _<_, _^_}
 use native.Mathlib.Omega.{arith}

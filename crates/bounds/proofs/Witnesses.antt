@@ -1,4 +1,4 @@
--- The witnesses of `bounds` hold. Assumes nothing.
+-- The witnesses of `bounds` hold.
 use mathlib.Core.Path.{_≡_, refl, sym, subst, _∙_}
 use mathlib.Core.Bool.{Bool, true, false, _||_}
 use mathlib.Core.List.{List, [], _∷_}

@@ -1,4 +1,4 @@
--- What the calls answer, for every tree: document 01's allowances, the rounds of a fair schedule in which every thread enters, and W of every thread, each cut at the largest number of 64 bits. Assumes nothing: these are definitions.
+-- What the calls answer, for every tree: document 01's allowances, the rounds of a fair schedule in which every thread enters, and W of every thread, each cut at the largest number of 64 bits.
 use mathlib.Core.Bool.{_&&_, not, cond}
 use mathlib.Core.List.{List, [], _∷_}
 use Prim.Native.Nat.{ℕ, zero, suc, _+_, _*_, min}

@@ -1,4 +1,4 @@
--- Cases of the calls, each in one list. Of wait bounds: threads in the root, thresholds below, at and above the members, one member, numbers that are cut, after the last thread, a refused tree. Of allowances: leaves, levels, the largest child, words that are cut, the root and room that the tree lacks. Of rounds: threads in the root, leaves, levels, numbers that are cut, a refused tree. Assumes nothing: these are definitions.
+-- Cases of the calls, each in one list. Of wait bounds: threads in the root, thresholds below, at and above the members, one member, numbers that are cut, after the last thread, a refused tree. Of allowances: leaves, levels, the largest child, words that are cut, the root and room that the tree lacks. Of rounds: threads in the root, leaves, levels, numbers that are cut, a refused tree.
 use mathlib.Core.Bool.{Bool, _&&_}
 use mathlib.Core.List.{List, [], _∷_}
 use Prim.Native.Nat.{ℕ}

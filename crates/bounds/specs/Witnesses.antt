@@ -1,4 +1,4 @@
--- WHO MEETS WHAT THE LAWS ASK: inputs that have at once all that a law of `bounds` asks of them beside a tree, a schedule and a thread, which `Witnesses` of `model` has; docs/WITNESSES.md is the list. Assumes nothing: these are definitions and statements.
+-- WHO MEETS WHAT THE LAWS ASK: inputs that have at once all that a law of `bounds` asks of them beside a tree, a schedule and a thread, which `Witnesses` of `model` has; docs/WITNESSES.md is the list.
 use mathlib.Core.Path.{_≡_}
 use mathlib.Core.Bool.{true}
 use mathlib.Core.List.{List, [], _∷_, _++_}

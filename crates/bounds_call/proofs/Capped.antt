@@ -1,4 +1,4 @@
--- Sums and products of numbers that were cut. Assumes nothing.
+-- Sums and products of numbers that were cut.
 use mathlib.Core.Path.{_≡_, ap, _∙_}
 use Prim.Native.Nat.{ℕ, zero, suc, _+_, _*_}
 use native.Mathlib.Omega.{arith}

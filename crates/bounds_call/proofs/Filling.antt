@@ -1,4 +1,4 @@
--- The words of the domains from one on are their allowances, and each domain's comes from those of its children. Assumes nothing.
+-- The words of the domains from one on are their allowances, and each domain's comes from those of its children.
 use mathlib.Core.Path.{_≡_, refl, sym, ap, _∙_}
 use mathlib.Core.Bool.{Bool, true, false, cond}
 use mathlib.Core.List.{List, [], _∷_}
@@ -108,7 +108,7 @@ pub filled-all : (t : Tree) (ws : List ℕ) → Filled t 1 ws → length ws ≡ 
 filled-all t ws filled l = listed (allowance-word t) ws 64 0 l (λ x h. word-of t ws filled x (eqb x 0) (ltb x (t .domains)) refl refl)
 
 module _ (t : Tree) (valid : Accepted t) where
-  -- the children of d come behind it, so their words are there
+  -- the children of d come after it, so their words are there
   pub member-word :
       (d : ℕ) (ws : List ℕ) → Filled t (suc d) ws →
       cond (is-leaf t d) 1 (largest-below (t .domains) (λ c. cond (is-child t d c) (getD ws c 0) 0)) ≡ capped (member-allowance t d)

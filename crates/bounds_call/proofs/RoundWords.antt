@@ -1,4 +1,4 @@
--- The words of the call of rounds: levels, the rounds above each domain by its parent's, and those of each thread. Assumes nothing.
+-- The words of the call of rounds: levels, the rounds above each domain by its parent's, and those of each thread.
 use mathlib.Core.Path.{_≡_, refl, sym, ap, _∙_}
 use mathlib.Core.Bool.{true, cond}
 use mathlib.Core.List.{List}

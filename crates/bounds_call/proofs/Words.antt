@@ -1,4 +1,4 @@
--- What the call of allowances keeps and leaves, by its tree's words. Assumes nothing.
+-- What the call of allowances keeps and leaves, by its tree's words.
 use mathlib.Core.Path.{_≡_, sym, ap, _∙_}
 use mathlib.Core.Bool.{cond}
 use mathlib.Core.List.{List}

@@ -1,4 +1,4 @@
--- What the inner functions of the calls of allowances and rounds read and leave in their arrays. Assumes nothing: these are definitions.
+-- What the inner functions of the calls of allowances and rounds read and leave in their arrays.
 use mathlib.Core.Path.{_≡_}
 use mathlib.Core.Bool.{cond}
 use mathlib.Core.List.{List}

@@ -1,4 +1,4 @@
--- The cases hold: each is computed. Assumes nothing.
+-- The cases hold: each is computed.
 use mathlib.Core.Path.{_≡_, refl, ap, _∙_}
 use mathlib.Core.Bool.{Bool, true, _&&_}
 use mathlib.Core.List.{List, [], _∷_, _++_}
@@ -24,7 +24,7 @@ use Rattle.model.proofs.Tests.{and-both}
 use Rattle.model.proofs.Walks.{walked, zero-from, first-pass, formed-by-walks, same-formed, counts-by-walks, zipped}
 use Rattle.model.proofs.Computing.{refusal-by, same-lock-formed, state-sized, sized}
 
--- the tests behind 10
+-- the tests after 10
 abbrev later : Tree → LockState → (thread room : ℕ) → List Test
 later t s i room = entry-tests t (i ∷ []) ++ (test 20 1 (bad-buffer t room) ∷ test 21 1 (bad-chain t (s .words) i) ∷ [])
 

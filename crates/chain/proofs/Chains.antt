@@ -1,4 +1,4 @@
--- The chain said without fuel, and the refusals of the call. Assumes nothing.
+-- The chain said without fuel, and the refusals of the call.
 use mathlib.Core.Path.{_≡_, refl, ap, _∙_}
 use mathlib.Core.Bool.{Bool, true, false, _||_, cond}
 use mathlib.Core.List.{List, [], _∷_, _++_, append-nil}

@@ -1,4 +1,4 @@
--- What refuses a chain: the tests of a step, then 20 and 21. Assumes nothing.
+-- What refuses a chain: the tests of a step, then 20 and 21.
 use mathlib.Core.Path.{_≡_, refl, sym, ap, _∙_}
 use mathlib.Core.Bool.{Bool, true, false}
 use mathlib.Core.List.{List, [], _∷_, _++_}

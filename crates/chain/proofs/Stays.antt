@@ -1,4 +1,4 @@
--- Which steps are stays, by the row. Assumes nothing.
+-- Which steps are stays, by the row.
 use mathlib.Core.Path.{_≡_, refl}
 use mathlib.Core.Bool.{Bool, false, not}
 use Prim.Native.Nat.{ℕ}

@@ -1,4 +1,4 @@
--- Document 02, (x): when a chain is refused, and what is answered. Assumes nothing: these are definitions.
+-- Document 02, (x): when a chain is refused, and what is answered.
 use mathlib.Core.Bool.{Bool, cond}
 use mathlib.Core.List.{List, [], _∷_, _++_}
 use Prim.Native.Nat.{ℕ}

@@ -1,4 +1,4 @@
--- Cases of the chain, in one list: states reached from fresh at both kinds of root, spoilt states that tell who is looked to, each reason for 21, the refusals before it, and counters at and above 2^63. Assumes nothing: these are definitions.
+-- Cases of the chain, in one list: states reached from fresh at both kinds of root, spoilt states that tell who is looked to, each reason for 21, the refusals before it, and counters at and above 2^63.
 use mathlib.Core.Bool.{Bool, true, _&&_}
 use mathlib.Core.List.{List, [], _∷_, _++_}
 use Prim.Native.Nat.{ℕ, _+_}

@@ -1,4 +1,4 @@
--- Document 02, (x), and its sentence in (xii): the chain of threads that a thread waits for. Assumes nothing: these are definitions.
+-- Document 02, (x), and its sentence in (xii): the chain of threads that a thread waits for.
 use mathlib.Core.Bool.{Bool, false, _&&_, _||_, cond}
 use mathlib.Core.List.{List, [], _∷_, _++_}
 use Prim.Native.Nat.{ℕ, zero, suc, _+_, _-_}

@@ -1,4 +1,4 @@
--- THE LAWS OF THE CHAIN, document 02, (x). Each is a statement; proofs/ has its proof. Assumes nothing.
+-- THE LAWS OF THE CHAIN, document 02, (x). Each is a statement; proofs/ has its proof.
 use mathlib.Core.Path.{_≡_}
 use mathlib.Core.Bool.{true, false}
 use mathlib.Core.List.{List, [], _∷_, _++_}
@@ -36,17 +36,17 @@ Chain-law = (t : Tree) (s : State) (i : ℕ) → i < t .threads → Is-chain t s
 unfoldable pub Chain-refusal-law : Type 0
 Chain-refusal-law = (t : Tree) (s : LockState) (i room : ℕ) → Refuses-exactly (chain-tests t s i room)
 
--- 3. FROM FRESH. While the thread ahead takes no step, the one behind can only stay: after every schedule without the one ahead, its next step is a stay
+-- 3. FROM FRESH. While the thread ahead takes no step, the one after it can only stay: after every schedule without the one ahead, its next step is a stay
 unfoldable pub Only-stays : Tree → State → (behind ahead : ℕ) → Type 0
 Only-stays t s a b = (js : List ℕ) → All-threads t js → occurrences b js ≡ 0 → step t a (run t js s .state) .kind ≡ stay
 
--- two threads one behind the other in a list
+-- two threads one after the other in a list
 pub record Link-in (chain : List ℕ) (behind ahead : ℕ) : Type 0 where
   pub before : List ℕ
   pub after : List ℕ
   pub there : chain ≡ before ++ (behind ∷ ahead ∷ after)
 
--- the chain has its thread first, no thread twice, and at its end a thread whose next step is not a stay; at every link, while the thread ahead takes no step, the one behind can only stay
+-- the chain has its thread first, no thread twice, and at its end a thread whose next step is not a stay; at every link, while the thread ahead takes no step, the one after it can only stay
 pub record Explains (t : Tree) (s : State) (i : ℕ) (chain : List ℕ) : Type 0 where
   pub more : List ℕ
   pub itself-first : chain ≡ i ∷ more

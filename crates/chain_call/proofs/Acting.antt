@@ -1,4 +1,4 @@
--- A thread acts at the domains of its path from a number up, which its place and one status tell. Assumes nothing.
+-- A thread acts at the domains of its path from a number up, which its place and one status tell.
 use mathlib.Core.Path.{_≡_, refl, sym, ap, _∙_}
 use mathlib.Core.Bool.{Bool, true, false, _&&_, _||_, cond, false≢true}
 use Prim.Native.Nat.{ℕ, suc, _+_, _-_, _≤_, _<_}

@@ -1,4 +1,4 @@
--- From what the refusals and the links answer to the answer of the call. Assumes nothing.
+-- From what the refusals and the links answer to the answer of the call.
 use mathlib.Core.Path.{_≡_, refl, sym, ap, _∙_}
 use mathlib.Core.Bool.{true}
 use mathlib.Core.List.{List, [], _∷_, _++_}

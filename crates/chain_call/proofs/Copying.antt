@@ -1,4 +1,4 @@
--- A front of a list, copied to the front of a buffer one by one. Assumes nothing.
+-- A front of a list, copied to the front of a buffer one by one.
 use mathlib.Core.Path.{_≡_, refl, ap, _∙_}
 use mathlib.Core.List.{List, [], _∷_, _++_}
 use Prim.Native.Nat.{ℕ, zero, suc, _+_, _≤_, _<_}

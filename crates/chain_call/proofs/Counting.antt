@@ -1,4 +1,4 @@
--- Counts of threads: the only one of those below a bound that pass a test. Assumes nothing.
+-- Counts of threads: the only one of those below a bound that pass a test.
 use mathlib.Core.Path.{_≡_, refl, ap, _∙_}
 use mathlib.Core.Bool.{Bool, true, false, cond}
 use mathlib.Core.List.{List, [], _∷_, _++_, append-nil}

@@ -1,4 +1,4 @@
--- The tables of a state, filled thread by thread. Assumes nothing.
+-- The tables of a state, filled thread by thread.
 use mathlib.Core.Path.{_≡_, refl, ap, _∙_}
 use mathlib.Core.Bool.{true, _&&_, cond}
 use mathlib.Core.List.{List}

@@ -1,4 +1,4 @@
--- The links of a chain, followed one after another. Assumes nothing.
+-- The links of a chain, followed one after another.
 use mathlib.Core.Path.{_≡_, refl, sym, ap, _∙_}
 use mathlib.Core.Bool.{Bool, true, false, cond}
 use mathlib.Core.List.{List, [], _∷_, _++_}

@@ -1,4 +1,4 @@
--- A link that is read from the tables is the link of the definition. Assumes nothing.
+-- A link that is read from the tables is the link of the definition.
 use mathlib.Core.Path.{_≡_, refl, sym, ap, _∙_}
 use mathlib.Core.Bool.{Bool, true, false, _&&_, not, cond}
 use mathlib.Core.List.{List, []}

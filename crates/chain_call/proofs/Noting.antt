@@ -1,4 +1,4 @@
--- A thread's path noted in a table, domain by domain: each record is named by one of them at most. Assumes nothing.
+-- A thread's path noted in a table, domain by domain: each record is named by one of them at most.
 use mathlib.Core.Path.{_≡_, refl, sym, ap, _∙_}
 use mathlib.Core.Bool.{Bool, true, false, _&&_, _||_}
 use mathlib.Core.List.{List}

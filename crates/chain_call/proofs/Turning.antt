@@ -1,4 +1,4 @@
--- One turn of the loop that follows the links. Assumes nothing.
+-- One turn of the loop that follows the links.
 use mathlib.Core.Path.{_≡_, sym, _∙_}
 use mathlib.Core.Bool.{Bool, true, false}
 use mathlib.Core.List.{List}

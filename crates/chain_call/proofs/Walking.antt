@@ -1,4 +1,4 @@
--- A walk up a thread's path: at which domain it is, with which record. Assumes nothing.
+-- A walk up a thread's path: at which domain it is, with which record.
 use mathlib.Core.Path.{_≡_, sym, ap, _∙_}
 use Prim.Native.Nat.{ℕ, suc, _+_, _≤_, _<_}
 use native.Mathlib.Omega.{arith}

@@ -1,4 +1,4 @@
--- What the code answers where a chain is refused. Assumes nothing: this is a definition.
+-- What the code answers where a chain is refused.
 use Rattle.model.specs.Refusals.{Refusal}
 use Rattle.chain.specs.declared.ChainReply.{ChainReply}
 

@@ -1,4 +1,4 @@
--- What the tables of a state hold, from which the links of a chain are read. proofs/ shows that the links are those of the definition. Assumes nothing: these are definitions.
+-- What the tables of a state hold, from which the links of a chain are read. proofs/ shows that the links are those of the definition.
 use mathlib.Core.Path.{_≡_}
 use mathlib.Core.Bool.{Bool, true, _&&_, cond}
 use mathlib.Core.List.{List}

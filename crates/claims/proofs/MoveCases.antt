@@ -1,4 +1,4 @@
--- The cases of "someone can move" hold, and it is false of states that a caller may hand in. Assumes nothing.
+-- The cases of "someone can move" hold, and it is false of states that a caller may hand in.
 use mathlib.Core.Path.{_≡_, refl, sym}
 use mathlib.Core.Bool.{Bool, true, false, _&&_, not, cond, true≢false}
 use mathlib.Core.List.{List, [], _∷_, _++_, nil≢cons}

@@ -1,4 +1,4 @@
--- The witnesses of `claims` hold. Assumes nothing.
+-- The witnesses of `claims` hold.
 use mathlib.Core.Path.{_≡_, refl, ap, _∙_}
 use mathlib.Core.Bool.{Bool, true, false, _&&_, cond}
 use mathlib.Core.List.{List, [], _∷_, _++_}

@@ -1,4 +1,4 @@
--- THE THIRD DEMAND: of every list of steps and runs on one fresh lock, one claim. Assumes nothing: these are definitions.
+-- THE THIRD DEMAND: of every list of steps and runs on one fresh lock, one claim.
 use mathlib.Core.Path.{_≡_}
 use mathlib.Core.Bool.{true}
 use mathlib.Core.List.{List, _∷_, _++_}

@@ -1,4 +1,4 @@
--- COMPUTED CASES OF "SOMEONE CAN MOVE", document 02, (ix): states reached from fresh in which all threads but one stay; and states that a caller may hand in, in which nobody can move. Assumes nothing: these are definitions.
+-- COMPUTED CASES OF "SOMEONE CAN MOVE", document 02, (ix): states reached from fresh in which all threads but one stay; and states that a caller may hand in, in which nobody can move.
 use mathlib.Core.Path.{_≡_}
 use mathlib.Core.Bool.{Bool, true, _&&_, not}
 use mathlib.Core.List.{List, [], _∷_, _++_}
@@ -27,7 +27,7 @@ busy-threads t s = filter-below (t .threads) (λ i. not (is-idle (place s i)))
 unfoldable pub moving-threads : Tree → State → List ℕ
 moving-threads t s = filter-below (t .threads) (λ i. not (is-idle (place s i)) && not (is-kind stay (step t i s .kind)))
 
--- behind a schedule from fresh: the threads that are not Idle, and the one of them that can move
+-- after a schedule from fresh: the threads that are not Idle, and the one of them that can move
 pub record Move-case : Type 0 where
   pub words : TreeWords
   pub start : ℕ
@@ -42,7 +42,7 @@ move-case w v is bs m = record { words = w; start = v; schedule = is; busy = bs;
 unfoldable pub three-in-root : TreeWords
 three-in-root = tree 1 3 (0 ∷ []) (0 ∷ []) (0 ∷ 0 ∷ 0 ∷ [])
 
--- thread 0 is Inside; thread 1 has Link before it, thread 2 waits behind it; thread 0 leaves and lingers
+-- thread 0 is Inside; thread 1 has Link before it, thread 2 waits after it; thread 0 leaves and lingers
 unfoldable pub until-lingering : List ℕ
 until-lingering = 0 ∷ 0 ∷ 1 ∷ 1 ∷ 2 ∷ 2 ∷ 2 ∷ 0 ∷ 0 ∷ 0 ∷ []
 

@@ -1,4 +1,4 @@
--- WHAT HOLDS IN EVERY STATE REACHED FROM FRESH, beside the claim. Each is a statement; proofs/ has its proof. Assumes nothing.
+-- WHAT HOLDS IN EVERY STATE REACHED FROM FRESH, beside the claim. Each is a statement; proofs/ has its proof.
 use mathlib.Core.Path.{_≡_}
 use mathlib.Core.Bool.{true, _&&_, not, cond}
 use mathlib.Core.List.{List, [], _∷_, _++_}
@@ -104,12 +104,12 @@ pub record Acted-once (t : Tree) (s : State) (d m : ℕ) : Type 0 where
   pub acting : Acts-for t s d m thread
   pub only : (j : ℕ) → Acts-for t s d m j → j ≡ thread
 
--- members hold consecutive tickets from a number on, and the ticket counter is the one behind the last
+-- members hold consecutive tickets from a number on, and the ticket counter is the one after the last
 unfoldable pub Consecutive : State → (from : ℕ) → List ℕ → Type 0
 Consecutive s v [] = s .ticket ≡ v
 Consecutive s v (m ∷ ms) = (status s m ≡ v) × Consecutive s (wrap (v + 1)) ms
 
--- each domain has a queue of members, none twice: the tail names its last, and at a ticket root there is none, but the members hold consecutive tickets from the grant on; behind its first are those who stand ungranted, in order; and exactly one thread acts for each of its members, and none for a member that is not in it
+-- each domain has a queue of members, none twice: the tail names its last, and at a ticket root there is none, but the members hold consecutive tickets from the grant on; after its first are those who stand ungranted, in order; and exactly one thread acts for each of its members, and none for a member that is not in it
 pub record Has-queues (t : Tree) (f : State) (S : List ℕ) (s : State) : Type 0 where
   pub queue : (domain : ℕ) → List ℕ
   pub tails : (d : ℕ) → tail s d ≡ cond (is-ticket t d) none (last-or-none (queue d))

@@ -1,4 +1,4 @@
--- A list with refused calls, some of which name other trees, has the claim. Assumes nothing: these are definitions.
+-- A list with refused calls, some of which name other trees, has the claim.
 use Rattle.model.specs.Trees.{tree-of}
 use Rattle.model.specs.Counters.{fresh-lock}
 use Rattle.model.specs.Cases.{two-homes}

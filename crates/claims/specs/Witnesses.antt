@@ -1,4 +1,4 @@
--- WHO MEETS WHAT THE LAWS ASK: inputs that have at once all that a law of `claims` asks of them beside a tree, a schedule and a thread, which `Witnesses` of `model` has; docs/WITNESSES.md is the list. Assumes nothing: these are definitions and statements.
+-- WHO MEETS WHAT THE LAWS ASK: inputs that have at once all that a law of `claims` asks of them beside a tree, a schedule and a thread, which `Witnesses` of `model` has; docs/WITNESSES.md is the list.
 use mathlib.Core.Path.{_≡_}
 use mathlib.Core.Bool.{true}
 use mathlib.Core.List.{List, [], _∷_, _++_}
@@ -20,7 +20,7 @@ use Rattle.model.specs.CounterCases.{one-pass}
 use Rattle.model.specs.ClaimCases.{call, mixed-calls, mixed-schedule}
 use Rattle.claims.specs.Reached.{last-state, Asks-well}
 
--- a call behind the list of mixed calls: the longest run that is allowed, on the list's tree
+-- a call after the list of mixed calls: the longest run that is allowed, on the list's tree
 abbrev pub longest-call : Call
 longest-call = call two-homes (a-run (replicate 65536 0) (replicate 65536 0))
 
@@ -32,7 +32,7 @@ pub record Call-meets : Type 0 where
   pub room : length (joined mixed-calls (fresh-answer two-homes 0 .state)) + length (asked-entries (longest-call .ask)) ≤ most-counted
   pub stretches : Stretches (tree-of two-homes) fresh-lock mixed-schedule 0 mixed-calls
 
--- STATES REACHED FROM FRESH in document 01's example. Thread 0 enters and thread 1 waits behind it
+-- STATES REACHED FROM FRESH in document 01's example. Thread 0 enters and thread 1 waits after it
 unfoldable pub until-waiting : List ℕ
 until-waiting = replicate 4 0 ++ replicate 3 1
 
@@ -50,7 +50,7 @@ pub record States-reached : Type 0 where
 unfoldable pub Thresholds-one : Type 0
 Thresholds-one = (d : ℕ) → tree-of one-pass .threshold d ≤ 1
 
--- behind a list of one step its thread is not Idle
+-- after a list of one step its thread is not Idle
 pub record List-meets : Type 0 where
   pub names : Names (tree-of two-homes) (call two-homes (one-step 0) ∷ []) (fresh-answer two-homes 0 .state)
   pub busy : place (last-state (call two-homes (one-step 0) ∷ []) (fresh-answer two-homes 0 .state) .words) 0 ≢ Idle

@@ -29,7 +29,7 @@ fn digit_count(value: u32) -> usize
     n
 }
 
-// Writes a numeral at a position, the last digit first, and returns the position behind it.
+// Writes a numeral at a position, the last digit first, and returns the position after it.
 fn put_numeral(output: &mut [u8], at: usize, value: u32) -> usize
     requires { ⌜ at + length (numeral value) ≤ length (now output) ⌝ }
     ensures { λ r. ⌜ r ≡ at + length (numeral value) ⌝ }
@@ -47,7 +47,7 @@ fn put_numeral(output: &mut [u8], at: usize, value: u32) -> usize
     at + count
 }
 
-// Writes a numeral and the byte behind it, and returns the position behind both.
+// Writes a numeral and the byte after it, and returns the position behind both.
 fn put_number(output: &mut [u8], at: usize, value: u32, behind: u8) -> usize
     requires { ⌜ at + length (number-then value behind) ≤ length (now output) ⌝ }
     ensures { λ r. ⌜ r ≡ at + length (number-then value behind) ⌝ }
@@ -58,7 +58,7 @@ fn put_number(output: &mut [u8], at: usize, value: u32, behind: u8) -> usize
     end + 1
 }
 
-// How many bytes a numeral and the byte behind it take.
+// How many bytes a numeral and the byte after it take.
 fn number_length(value: u32) -> usize
     ensures { λ r. ⌜ r ≡ length (numeral value) + 1 ⌝ }
     ensures { λ r. ⌜ r ≤ 11 ⌝ }
@@ -74,7 +74,7 @@ fn put_ok(output: &mut [u8])
     output[1] = 107;
 }
 
-// Writes numbers from a position on, each behind a space, and a line feed; returns the position behind it.
+// Writes numbers from a position on, each after a space, and a line feed; returns the position after it.
 fn put_spaced(output: &mut [u8], start: usize, numbers: &[u32]) -> usize
     requires { ⌜ start + length (spaced (now numbers)) ≤ length (now output) ⌝ }
     ensures { λ r. ⌜ r ≡ start + length (spaced (now (numbers .entry))) ⌝ }
@@ -138,7 +138,7 @@ fn first_line_length(counts: Counts) -> usize
     2 + spaced_length(&numbers)
 }
 
-// Writes a line for each trace element from a position on, and returns the position behind the last.
+// Writes a line for each trace element from a position on, and returns the position after the last.
 fn put_trace(output: &mut [u8], start: usize, trace: &[u16]) -> usize
     requires { ⌜ start + length (trace-lines (now trace)) ≤ length (now output) ⌝ }
     ensures { λ r. ⌜ r ≡ start + length (trace-lines (now (trace .entry))) ⌝ }

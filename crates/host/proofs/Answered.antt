@@ -1,4 +1,4 @@
--- The code's refusal as the host gets it. Assumes nothing: this is a definition.
+-- The code's refusal as the host gets it.
 use Rattle.refusals.specs.declared.Refusal.{Refusal}
 use Rattle.host.specs.declared.Answer.{Answer}
 

@@ -1,4 +1,4 @@
--- What a fresh call in place leaves, and that a step in place is a call of a list. Assumes nothing.
+-- What a fresh call in place leaves, and that a step in place is a call of a list.
 use borrow.Author.Tests.{eq-eqb, ne-eqb}
 use Rattle.model.specs.Answers.{fresh-answer}
 use Rattle.model.specs.Calls.{answer-to, answer}

@@ -1,7 +1,7 @@
 -- The calls in place meet their contracts: one walk of their MIR, by hand, for all of them. The borrow is opened, the state is copied out of it and passed to a function by value, what that function's reply leaves of the state is stored back, and the borrow is closed at it.
 -- All that the walk knows of the function by value is that it meets its contract. No field of a state, of a reply or of an answer is named here, so the walk holds for any of them of plain data. The code after the call names the fields of the reply, and replies differ in them: each call in place says in its own proof which step of `stores`, `answers` and `reads` each statement is.
 -- The toolchain's letters: 𝓤 is the algebra of resources, H the heap (what code may own of memory), A the atoms of ghost state, W what is given (the laws of the heap and the rules of ghost state), 𝓜 the model of the heap with the machine's memory, 𝓖 the rules of ghost state with their atoms, 𝓡 what it is to run a routine, 𝓣 the tables of calls (C) and of loops (Λ).
--- Assumes nothing.
+--
 use mathlib.Core.Path.{_≡_, refl, ap, subst}
 use Prim.Native.Nat.{ℕ, _<_, _^_}
 use mathlib.Core.List.{[], _∷_, List}

@@ -1,4 +1,4 @@
--- A refusal as the host gets it. Assumes nothing: these are definitions.
+-- A refusal as the host gets it.
 use Rattle.model.specs.Refusals.{Refusal}
 use Rattle.host.specs.declared.Answer.{Answer}
 

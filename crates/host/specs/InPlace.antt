@@ -1,4 +1,4 @@
--- What the calls on a state that the host keeps return: all but the state; and that they are calls of the third demand's lists. Assumes nothing: these are definitions.
+-- What the calls on a state that the host keeps return: all but the state; and that they are calls of the third demand's lists.
 use mathlib.Core.Path.{_≡_}
 use mathlib.Core.Bool.{cond}
 use mathlib.Core.Logic.{_≢_}

@@ -1,4 +1,4 @@
--- THE VERSION of the library, and how many bytes each struct of the header has in it. Assumes nothing: these are definitions.
+-- THE VERSION of the library, and how many bytes each struct of the header has in it.
 use Prim.Native.Nat.{ℕ}
 use mathlib.Core.List.{List, [], _∷_}
 

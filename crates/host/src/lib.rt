@@ -190,7 +190,7 @@ pub extern "C" fn hmcs_read_text(text: &[u8]) -> TextReply
     text_tree_call::read_text(text)
 }
 
-// Many schedules on one tree, all entries behind one another, each run from its own fresh lock: of each a row of eight numbers at the front of the rows; refused as a whole, the rows as they came.
+// Many schedules on one tree, all entries one after another, each run from its own fresh lock: of each a row of eight numbers at the front of the rows; refused as a whole, the rows as they came.
 #[no_mangle]
 pub extern "C" fn hmcs_run_many(
     tree: TreeWords,

@@ -1,4 +1,4 @@
--- The check, one entry after another, and with any number of turns that is enough. Assumes nothing.
+-- The check, one entry after another, and with any number of turns that is enough.
 use mathlib.Core.Path.{_≡_, refl, sym, ap, _∙_}
 use mathlib.Core.Bool.{cond}
 use mathlib.Core.List.{List}

@@ -1,4 +1,4 @@
--- THE CHECK, exactly: accepted where all entries are steps of the table, refused at the first that is not. Assumes nothing.
+-- THE CHECK, exactly: accepted where all entries are steps of the table, refused at the first that is not.
 use mathlib.Core.Path.{_≡_, refl, sym, ap, _∙_}
 use mathlib.Core.List.{List, [], _++_, append-nil}
 use mathlib.Core.Logic.{_≢_}

@@ -1,4 +1,4 @@
--- An entry at the front of some bytes, by the relation and by reading. Assumes nothing.
+-- An entry at the front of some bytes, by the relation and by reading.
 use mathlib.Core.Path.{_≡_, refl, ap, _∙_}
 use mathlib.Core.Bool.{Bool, true, false, cond}
 use mathlib.Core.List.{List, [], _∷_, _++_}

@@ -1,4 +1,4 @@
--- Entries that are steps of the table, read one behind another by the check; and what the check of some bytes comes to. Assumes nothing.
+-- Entries that are steps of the table, read one after another by the check; and what the check of some bytes comes to.
 use mathlib.Core.Path.{_≡_, refl, sym, ap, _∙_, subst}
 use mathlib.Core.List.{List, [], _∷_, _++_, append-assoc}
 use mathlib.Core.Logic.{_≢_}
@@ -21,7 +21,7 @@ use Rattle.journal.specs.Laws.{kind-numbers, Of-the-table, Begins-with, 
 use Rattle.journal.proofs.Fronts.{end-there, broken-there, entry-there, entry-long, nothing-left, whole, broken, front-of}
 use Rattle.journal.proofs.Checking.{unknown-thread, same-kind, other-kind, broken-entry, journal-end}
 
--- STEPS OF THE TABLE: the first, and those behind it
+-- STEPS OF THE TABLE: the first, and those after it
 module _ (t : Tree) (s : State) where
   pub none-taken : Of-the-table t s []
   unfolding steps threads-of kinds-of kind-numbers All-threads
@@ -69,7 +69,7 @@ module _ (t : Tree) (bs : List ℕ) where
       ∙ passes-over es (done ++ f) rest (together ∙ simp append-assoc) (step t (x .thread) s .state) (others-taken t s x xs o) n
       ∙ ap (λ p. checked n t (after t (step t (x .thread) s .state) xs) bs p (last-thread (x .thread) xs)) end)
 
--- WHAT THE CHECK OF SOME BYTES COMES TO, from a state on and behind a thread
+-- WHAT THE CHECK OF SOME BYTES COMES TO, from a state on and after a thread
 pub data Outcome (t : Tree) (s : State) (before : ℕ) (bytes : List ℕ) (offset : ℕ) (r : Refusal) : Type 0 where
   all-taken : (xs : List Named-step) → Entries before bytes xs → Of-the-table t s xs → r ≡ accepted → Outcome t s before bytes offset r
   stopped :
@@ -85,7 +85,7 @@ module _ (t : Tree) (bs : List ℕ) where
       let y : offset + 0 ≡ offset = omega arith in
       stopped [] rest [] n refl no-entry (none-taken t s) f z (rw y e)
 
-  -- one step of the table, then what the check of the bytes behind it comes to
+  -- one step of the table, then what the check of the bytes after it comes to
   one-more :
       (s : State) (b : ℕ) (rest : List ℕ) (offset : ℕ) (r : Refusal) (x : Named-step) (g : Begins-with b rest x) → x .thread < t .threads →
       x .kind ≡ kind-number (step t (x .thread) s .kind) → Outcome t (step t (x .thread) s .state) (x .thread) (g .further) (offset + length (g .front)) r →
@@ -97,7 +97,7 @@ module _ (t : Tree) (bs : List ℕ) where
       stopped (g .front ++ front) rest′ (x ∷ xs) n (g .together ∙ ap (λ y. g .front ++ y) e ∙ simp append-assoc) (next-entry refl (g .entry) es)
       (one-taken t s x xs h k o) f z (d ∙ ap (refusal n) place)
 
-  -- the first entry decides, or the check of what is behind it
+  -- the first entry decides, or the check of what is after it
   module _ (n : ℕ) (done rest : List ℕ) (s : State) (b : ℕ) (e : bs ≡ done ++ rest) where
     abbrev Comes-to : Type 0
     Comes-to = Outcome t s b rest (length done) (checked (suc n) t s bs (length done) b)

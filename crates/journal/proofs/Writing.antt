@@ -1,4 +1,4 @@
--- Bytes are the entries of at most one list, and every schedule has a journal. Assumes nothing.
+-- Bytes are the entries of at most one list, and every schedule has a journal.
 use mathlib.Core.Path.{_≡_, refl, sym, ap, _∙_, subst}
 use mathlib.Core.List.{List, [], _∷_, _++_}
 use Prim.Native.Nat.{ℕ, _+_, _*_, _%_, _/_}

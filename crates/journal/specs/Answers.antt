@@ -1,4 +1,4 @@
--- Document 02, (xiv): what the check of a journal answers, for every input. Assumes nothing: these are definitions.
+-- Document 02, (xiv): what the check of a journal answers, for every input.
 use mathlib.Core.Bool.{cond}
 use mathlib.Core.List.{List}
 use Prim.Native.Nat.{ℕ, zero, suc}

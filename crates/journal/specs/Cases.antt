@@ -1,4 +1,4 @@
--- Cases of the journal's check, in one list: accepted journals, each number and its place, their order, both kinds of root. Assumes nothing: these are definitions.
+-- Cases of the journal's check, in one list: accepted journals, each number and its place, their order, both kinds of root.
 use mathlib.Core.Bool.{Bool, true, _&&_}
 use mathlib.Core.List.{List, [], _∷_, _++_}
 use Prim.Native.Nat.{ℕ}
@@ -49,12 +49,12 @@ cases =
     -- at a ticket root the draw enters at once, from a start of 0
     ∷ answers 0 0 (at-ticket-root two-in-root) (2 ∷ 2 ∷ 3 ∷ 1 ∷ 0 ∷ 1 ∷ 0 ∷ [])
     ∷ answers 26 0 (at-ticket-root two-in-root) enters-by-default
-    -- 25: cut off behind the bit map, in the thread, before the kind; the place is the entry's first byte
+    -- 25: cut off after the bit map, in the thread, before the kind; the place is the entry's first byte
     ∷ answers 25 4 two-in-root (enters-by-default ++ (1 ∷ []))
     ∷ answers 25 4 two-in-root (enters-by-default ++ (1 ∷ 0 ∷ []))
     ∷ answers 25 4 two-in-root (enters-by-default ++ (2 ∷ []))
     ∷ answers 25 4 two-in-root (enters-by-default ++ (3 ∷ 0 ∷ 0 ∷ []))
-    -- 25: another bit, with bytes enough behind it
+    -- 25: another bit, with bytes enough after it
     ∷ answers 25 2 two-in-root (2 ∷ 1 ∷ 4 ∷ 0 ∷ 0 ∷ 0 ∷ 0 ∷ 0 ∷ [])
     ∷ answers 25 0 two-in-root (128 ∷ [])
     ∷ answers 25 0 two-in-root (7 ∷ 0 ∷ 0 ∷ 1 ∷ [])

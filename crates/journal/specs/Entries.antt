@@ -1,4 +1,4 @@
--- WHAT A JOURNAL IS, apart from reading it: document 02, (xiv). Which bytes are the entries of which threads and kinds. Assumes nothing: these are definitions.
+-- WHAT A JOURNAL IS, apart from reading it: document 02, (xiv). Which bytes are the entries of which threads and kinds.
 use mathlib.Core.Path.{_≡_}
 use mathlib.Core.List.{List, [], _∷_, _++_}
 use Prim.Native.Nat.{ℕ, _+_, _*_}
@@ -18,7 +18,7 @@ pub data Entry-bytes (before : ℕ) : (bytes : List ℕ) → Named-step → Type
   kind-given : (kind : ℕ) → Entry-bytes before (2 ∷ kind ∷ []) (named before kind)
   both-given : (low high kind : ℕ) → Entry-bytes before (3 ∷ low ∷ high ∷ kind ∷ []) (named (low + 256 * high) kind)
 
--- entries behind one another: each leaves its thread to the next
+-- entries one after another: each leaves its thread to the next
 pub data Entries : (before : ℕ) → (bytes : List ℕ) → List Named-step → Type 0 where
   no-entry : {before : ℕ} → Entries before [] []
   next-entry :

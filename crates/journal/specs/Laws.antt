@@ -1,4 +1,4 @@
--- THE LAWS OF THE JOURNAL'S CHECK. Each is a statement; proofs/ has its proof. None speaks of the reader. Assumes nothing.
+-- THE LAWS OF THE JOURNAL'S CHECK. Each is a statement; proofs/ has its proof. None speaks of the reader.
 use mathlib.Core.Path.{_≡_}
 use mathlib.Core.List.{List, [], _∷_, _++_}
 use mathlib.Core.Logic.{_≢_}

@@ -1,4 +1,4 @@
--- The journal read by positions; proofs/ shows that this is the relation of Entries. Assumes nothing: these are definitions.
+-- The journal read by positions; proofs/ shows that this is the relation of Entries.
 use mathlib.Core.Bool.{cond}
 use mathlib.Core.List.{List}
 use Prim.Native.Nat.{ℕ, _+_, _-_, _*_, _%_, _/_}
@@ -17,7 +17,7 @@ entry-thread bs p b m = cond (eqb (m % 2) 1) (getD bs (p + 1) 0 + 256 * getD bs 
 abbrev pub entry-kind : (bytes : List ℕ) → (position bits : ℕ) → ℕ
 entry-kind bs p m = cond (eqb (m / 2) 1) (getD bs (p + (1 + 2 * (m % 2))) 0) 0
 
--- the entry of a bit map, with bytes enough behind it
+-- the entry of a bit map, with bytes enough after it
 abbrev pub entry-of : (bytes : List ℕ) → (position before bits : ℕ) → Entry
 entry-of bs p b m = Named (entry-thread bs p b m) (entry-kind bs p m) (p + entry-size m)
 

@@ -1,7 +1,7 @@
 // What an entry of a journal is read as, and the words in which its check is answered. What they mean is in specs/.
 pub mod step_check;
 
-// What stands at a position: an entry with the thread and the kind that it names and the position behind it; an entry that is cut off or has another bit set; the end of the journal.
+// What stands at a position: an entry with the thread and the kind that it names and the position after it; an entry that is cut off or has another bit set; the end of the journal.
 pub enum Entry {
     Named {
         thread: u16,

@@ -1,4 +1,4 @@
--- The check of a journal piece by piece: the state so far, the entries still ahead, and what a piece comes to. Assumes nothing.
+-- The check of a journal piece by piece: the state so far, the entries still ahead, and what a piece comes to.
 use mathlib.Core.Path.{_≡_, sym, ap, _∙_, subst}
 use mathlib.Core.Bool.{true, false, not}
 use mathlib.Core.List.{List, [], _∷_}

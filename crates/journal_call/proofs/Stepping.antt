@@ -1,4 +1,4 @@
--- A piece of the journal against the steps of its threads: the check goes on behind it, or 26 stands at the first entry whose kind is not the step's. Assumes nothing.
+-- A piece of the journal against the steps of its threads: the check goes on after it, or 26 stands at the first entry whose kind is not the step's.
 use mathlib.Core.Path.{_≡_, refl, sym, ap, _∙_}
 use mathlib.Core.List.{List}
 use mathlib.Core.Logic.{_≢_}
@@ -68,7 +68,7 @@ module _ (t : Tree) (bs : List ℕ) where
         checked (length bs) t s bs p b ≡ refusal 26 (position-after m bs p b)
     stops-here m h f d = enough t bs (length bs) (length is + length bs) s p b (omega arith) (omega arith) ∙ stretch-stops r s m h f d (length bs)
 
-  -- behind a piece: the number with which reading stopped, or the end
+  -- after a piece: the number with which reading stopped, or the end
   pub stopped-by : (s : State) (p b n : ℕ) → Stops (t .threads) bs p b n → n ≢ 0 → checked (length bs) t s bs p b ≡ refusal n p
   stopped-by s p b _ for-room z = absurd (z refl)
   stopped-by s p b _ (for-broken f) z = enough t bs (length bs) (suc (length bs)) s p b (omega arith) (omega arith) ∙ broken-entry t bs (length bs) s p b f

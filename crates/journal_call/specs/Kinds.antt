@@ -1,4 +1,4 @@
--- Kinds that entries name against those that the run's loop tells of their steps. Assumes nothing: these are definitions.
+-- Kinds that entries name against those that the run's loop tells of their steps.
 use mathlib.Core.Path.{_≡_}
 use mathlib.Core.Bool.{Bool, false, not}
 use mathlib.Core.List.{List}

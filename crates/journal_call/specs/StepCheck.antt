@@ -1,2 +1,2 @@
--- What the functions behind the call promise. The definitions that it meets are in `step_check`.
+-- What the functions after the call promise. The definitions that it meets are in `step_check`.
 pub mod Stretches

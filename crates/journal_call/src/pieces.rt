@@ -19,7 +19,7 @@ fn smaller(a: usize, b: usize) -> usize
     b
 }
 
-// So many behind an index, or as many as there are.
+// So many after an index, or as many as there are.
 fn end_behind(room: usize, count: usize, wanted: usize) -> usize
     requires { ⌜ count < room ⌝ }
     requires { ⌜ (0 < wanted) × (wanted ≤ 32) ⌝ }
@@ -32,7 +32,7 @@ fn end_behind(room: usize, count: usize, wanted: usize) -> usize
     count + wanted
 }
 
-// Four behind an index, or thirty-two, or as many as there are.
+// Four after an index, or thirty-two, or as many as there are.
 fn block_end(room: usize, count: usize, four: bool) -> usize
     requires { ⌜ count < room ⌝ }
     ensures { λ r. ⌜ (count < r) × (r ≤ count + 32) ⌝ }

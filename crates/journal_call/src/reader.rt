@@ -14,7 +14,7 @@ pub struct Reader<'a> {
     pub position: usize,
 }
 
-// Some entries behind one another: how many, the position behind them, the thread that the last one names. Where the entry at that position is refused by 25 or 12, this number, else 0.
+// Some entries one after another: how many, the position after them, the thread that the last one names. Where the entry at that position is refused by 25 or 12, this number, else 0.
 pub struct Piece {
     pub count: usize,
     pub position: usize,
@@ -162,7 +162,7 @@ pub fn stopped(count: usize, position: usize, before: u16, number: u32) -> Piece
     }
 }
 
-// Reads entries from a position on, one behind another, into the room from one index on and up to another; up to the journal's end or the first that 25 or 12 refuses.
+// Reads entries from a position on, one after another, into the room from one index on and up to another; up to the journal's end or the first that 25 or 12 refuses.
 pub fn read_some(
     journal: &[u8],
     position: usize,
@@ -206,7 +206,7 @@ pub fn read_some(
     stopped(count, at, last, 0)
 }
 
-// The position behind so many entries; where there are fewer, behind the last of them.
+// The position after so many entries; where there are fewer, after the last of them.
 pub fn position_after(journal: &[u8], position: usize, before: u16, count: usize) -> usize
     ensures { λ r. ⌜ r ≡ position-after count (now (journal .entry)) position before ⌝ }
 {

@@ -1,4 +1,4 @@
--- THE BUFFERS after a call: each row at its place, nothing after them; and one call after another. Assumes nothing.
+-- THE BUFFERS after a call: each row at its place, nothing after them; and one call after another.
 use mathlib.Core.Path.{_≡_, refl, sym, ap, _∙_}
 use mathlib.Core.List.{List, [], _∷_, _++_}
 use mathlib.Core.Logic.{_≢_}

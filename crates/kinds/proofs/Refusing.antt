@@ -1,4 +1,4 @@
--- What refuses a run that tells its steps, in plain numbers. Assumes nothing.
+-- What refuses a run that tells its steps, in plain numbers.
 use mathlib.Core.Path.{_≡_, refl, sym, ap, _∙_}
 use mathlib.Core.List.{List, []}
 use mathlib.Core.Logic.{_≢_}

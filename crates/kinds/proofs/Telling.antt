@@ -1,4 +1,4 @@
--- A row is what single calls say: a run of the entries before it, then a step. Assumes nothing.
+-- A row is what single calls say: a run of the entries before it, then a step.
 use mathlib.Core.Path.{_≡_, refl, sym, ap, _∙_}
 use mathlib.Core.Bool.{true, false}
 use mathlib.Core.List.{List, [], _∷_, _++_}
@@ -50,7 +50,7 @@ module _ (w : TreeWords) (s : LockState) (is b : List ℕ) (f : Formed (tree-of 
   abbrev i : ℕ
   i = getD is k 0
 
-  -- the entries before one, and the state behind them
+  -- the entries before one, and the state after them
   abbrev js : List ℕ
   js = take k is
 

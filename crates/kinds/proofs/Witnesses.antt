@@ -1,4 +1,4 @@
--- The witnesses of `kinds` hold. Assumes nothing.
+-- The witnesses of `kinds` hold.
 use mathlib.Core.Path.{_≡_, refl}
 use Rattle.model.specs.Scans.{any-below, all-below, filter-below}
 use Rattle.model.specs.Trees.{read-word, tree-of, is-ticket, is-child, is-leaf, depth-from, depth, level, meets, on-path, child-from, child, own-record, is-record, is-member, owner-domain, under}

@@ -1,4 +1,4 @@
--- A run that tells kind and domain of each of its steps: what refuses it, what it answers, and its buffers after it, for every input. Assumes nothing: these are definitions.
+-- A run that tells kind and domain of each of its steps: what refuses it, what it answers, and its buffers after it, for every input.
 use mathlib.Core.Bool.{Bool, cond}
 use mathlib.Core.List.{List, [], _∷_, _++_}
 use Prim.Native.Nat.{ℕ, _/_}

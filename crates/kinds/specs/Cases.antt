@@ -1,4 +1,4 @@
--- Cases of a run that tells its steps, in one list: rows by hand at both kinds of root, refusals and their order. Assumes nothing: these are definitions.
+-- Cases of a run that tells its steps, in one list: rows by hand at both kinds of root, refusals and their order.
 use mathlib.Core.Bool.{Bool, true, _&&_, _||_}
 use mathlib.Core.List.{List, [], _∷_, _++_}
 use Prim.Native.Nat.{ℕ}
@@ -58,7 +58,7 @@ full-entries = lock-state fresh-words (record { entries = set (replicate 64 0) 1
 
 unfoldable pub cases : List Case
 cases =
-    -- thread 0 enters through its home and the root, thread 1 waits behind it at home, 0 passes the lock on, and 1 enters and leaves
+    -- thread 0 enters through its home and the root, thread 1 waits after it at home, 0 passes the lock on, and 1 enters and leaves
     told two-homes fresh-words (replicate 4 0 ++ replicate 4 1 ++ replicate 3 0 ++ replicate 2 1)
     (1 ∷ 1 ∷ 1 ∷ 1 ∷ 1 ∷ 0 ∷ 2 ∷ 0 ∷ 1 ∷ 1 ∷ 1 ∷ 1 ∷ 1 ∷ 1 ∷ 0 ∷ 1 ∷ 5 ∷ 1 ∷ 1 ∷ 1 ∷ 1 ∷ 1 ∷ 3 ∷ 1 ∷ 5 ∷ 1 ∷ [])
     -- a crossed entry is at the domain between home and root, and leaving is at home

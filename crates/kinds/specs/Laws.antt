@@ -1,4 +1,4 @@
--- THE LAWS OF A RUN THAT TELLS ITS STEPS. Each is a statement; proofs/ has its proof. Assumes nothing.
+-- THE LAWS OF A RUN THAT TELLS ITS STEPS. Each is a statement; proofs/ has its proof.
 use mathlib.Core.Path.{_≡_}
 use mathlib.Core.List.{List, [], _∷_, _++_}
 use mathlib.Core.Logic.{_≢_}
@@ -42,7 +42,7 @@ Kinds-run-law =
 abbrev pub row-at : (index : ℕ) → (buffer : List ℕ) → List ℕ
 row-at k b = take 2 (drop (2 * k) b)
 
--- a row of an accepted call is that of the table's step in the state behind the entries before it
+-- a row of an accepted call is that of the table's step in the state after the entries before it
 unfoldable pub Row-law : Type 0
 Row-law =
     (w : TreeWords) (s : LockState) (schedule trace rows : List ℕ) → refused-by w s schedule trace rows .number ≡ 0 → (k : ℕ) → k < length schedule →

@@ -1,4 +1,4 @@
--- WHO MEETS WHAT THE LAWS ASK: calls that have at once all that a law of `kinds` asks of them, where no line of the cases does; docs/WITNESSES.md is the list. Assumes nothing: these are definitions and statements.
+-- WHO MEETS WHAT THE LAWS ASK: calls that have at once all that a law of `kinds` asks of them, where no line of the cases does; docs/WITNESSES.md is the list.
 use mathlib.Core.Path.{_≡_}
 use mathlib.Core.List.{[], _∷_}
 use lib.ListN.{replicate}

@@ -1,4 +1,4 @@
--- A run on lent arrays: the state that they are, and what is told beside it. Assumes nothing: these are definitions.
+-- A run on lent arrays: the state that they are, and what is told beside it.
 use mathlib.Core.Bool.{cond}
 use mathlib.Core.List.{List}
 use Prim.Native.Nat.{ℕ, _/_, _%_}

@@ -1,4 +1,4 @@
--- A file that reading accepts: how far each part came. Assumes nothing.
+-- A file that reading accepts: how far each part came.
 use mathlib.Core.Path.{_≡_, refl}
 use mathlib.Core.Bool.{Bool, true, false, cond}
 use mathlib.Core.List.{List}

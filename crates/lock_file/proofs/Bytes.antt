@@ -1,4 +1,4 @@
--- The bytes of a file from a position on: the next byte, and what stands behind it. Assumes nothing.
+-- The bytes of a file from a position on: the next byte, and what stands after it.
 use mathlib.Core.Path.{_≡_, sym, _∙_, ap}
 use mathlib.Core.List.{List, _∷_}
 use Prim.Native.Nat.{ℕ, _+_, _-_, _≤_, _<_}
@@ -10,7 +10,7 @@ use borrow.Author.Tests.{lt-leb, le-ltb}
 use Rattle.lock_file.specs.declared.Reached.the-variants.{At}
 use Rattle.lock_file.specs.Reading.{byte, field-end, entry-end}
 
--- a byte, and those behind it
+-- a byte, and those after it
 pub next-byte : (bs : List ℕ) (at : ℕ) → at < length bs → drop at bs ≡ byte bs at ∷ drop (at + 1) bs
 next-byte bs at h = rw add-one (drop-cons bs at 0 h)
 

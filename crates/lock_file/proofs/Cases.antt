@@ -1,4 +1,4 @@
--- The cases of reading hold, by computation. Assumes nothing.
+-- The cases of reading hold, by computation.
 use mathlib.Core.Path.{_≡_, refl}
 use mathlib.Core.Bool.{true}
 use Rattle.model.specs.Refusals.{refusal, accepted}

@@ -1,4 +1,4 @@
--- THE FORMAT: reading accepts a file exactly if the file describes a tree and a schedule. Assumes nothing.
+-- THE FORMAT: reading accepts a file exactly if the file describes a tree and a schedule.
 use mathlib.Core.Path.{_≡_, refl, sym, _∙_, ap}
 use mathlib.Core.List.{List, _∷_, _++_}
 use mathlib.Core.Logic.{_≢_, _⊎_, inl, inr}

@@ -1,4 +1,4 @@
--- Parts of a lock file, read from left to right: bytes behind the position reached are not looked at, and a part that ends too early is completed by bytes 0. Assumes nothing.
+-- Parts of a lock file, read from left to right: bytes after the position reached are not looked at, and a part that ends too early is completed by bytes 0.
 use mathlib.Core.Path.{_≡_, refl, sym, _∙_}
 use mathlib.Core.Bool.{Bool, true, false, cond}
 use mathlib.Core.List.{List}
@@ -21,12 +21,12 @@ Part-reader = (bytes : List ℕ) → (at : ℕ) → Reached
 abbrev pub Same-before : (end : ℕ) → (bs cs : List ℕ) → Type 0
 Same-before n bs cs = (j : ℕ) → j < n → byte bs j ≡ byte cs j
 
--- a part that ends at a position: what stands behind it does not matter
+-- a part that ends at a position: what stands after it does not matter
 pub record Part-reached (read : Part-reader) (bs : List ℕ) (at next : ℕ) : Type 0 where
   pub ahead : at ≤ next
   pub alike : (cs : List ℕ) → Same-before next bs cs → next ≤ length cs → read cs at ≡ At next
 
--- a bit map without a meaning: what stands behind it does not matter
+-- a bit map without a meaning: what stands after it does not matter
 pub record Part-bad (read : Part-reader) (bs : List ℕ) (at place : ℕ) : Type 0 where
   pub ahead : at ≤ place
   pub inside : place < length bs
@@ -59,7 +59,7 @@ not-bad p next e = let z : _≡_ {A = ℕ} 0 1 = cc in omega arith
 bad-not-ended : (p : ℕ) → BadMap p ≡ Ended → ⊥
 bad-not-ended p e = let z : _≡_ {A = ℕ} 0 1 = cc in omega arith
 
--- one part behind another, read by a value that the bytes of the first give
+-- one part after another, read by a value that the bytes of the first give
 module _
     (first : Part-reader) (value : (bytes : List ℕ) → (at : ℕ) → ℕ) (second : (value : ℕ) → Part-reader) (first-part : Part first)
     (second-part : (v : ℕ) → Part (second v))
@@ -80,7 +80,7 @@ module _
     unfolding onward
     both-bad bs at place e = rw e
 
-    -- the second part in another file, behind the same first part
+    -- the second part in another file, after the same first part
     second-in :
         (bs cs : List ℕ) (at next : ℕ) (r : Reached) → first cs at ≡ At next → value bs at ≡ value cs at →
         second (value bs at) cs next ≡ r → both cs at ≡ r
@@ -132,7 +132,7 @@ module _
               second-in bs cs at middle (At (b .end)) (a .alike cs before (omega arith)) (given bs cs at middle e before) (b .filled cs same long);
         }
 
-    -- the first part is cut short: behind the bytes 0 that complete it the second finds bytes 0 only
+    -- the first part is cut short: after the bytes 0 that complete it the second finds bytes 0 only
     ended-first : (bs : List ℕ) (at : ℕ) → first bs at ≡ Ended → Part-ended both bs at
     ended-first bs at e =
         let a = first-part .ended bs at e in
@@ -333,7 +333,7 @@ module _ (largest : ℕ) (size : (map : ℕ) → ℕ) (positive : (map : ℕ) �
   entries-part (suc k) =
       both-part entry-reader (λ bs at. 0) (λ v. entries-reader k) entry-part (λ v. entries-part k) (λ bs cs at next e same. refl)
 
-  -- a field that says how many entries stand behind it
+  -- a field that says how many entries stand after it
   module _
       (width : ℕ) (some : 0 < width) (count : (bytes : List ℕ) → (at : ℕ) → ℕ)
       (counted : (bs cs : List ℕ) (at : ℕ) → Same-before (at + width) bs cs → count bs at ≡ count cs at)

@@ -1,4 +1,4 @@
--- Reading, one entry at a time: what is known where an entry ends, and the next entry. Assumes nothing.
+-- Reading, one entry at a time: what is known where an entry ends, and the next entry.
 use mathlib.Core.Path.{_≡_, refl}
 use mathlib.Core.Bool.{Bool, true, false, cond}
 use mathlib.Core.List.{List}
@@ -61,7 +61,7 @@ reached-cases (At next) f g h = f next refl
 reached-cases Ended f g h = g refl
 reached-cases (BadMap p) f g h = h p refl
 
--- one domain's entry, and those behind it
+-- one domain's entry, and those after it
 module _ (bs : List ℕ) (k d at : ℕ) (ps hs : List ℕ) where
   pub domain-then :
       (next : ℕ) → domain-end bs at ≡ At next →
@@ -107,7 +107,7 @@ pub thread-within : (bs : List ℕ) (at next : ℕ) → thread-end bs at ≡ At 
 unfolding thread-end
 thread-within bs at next e = entry-within bs 1 at (1 + byte bs at % 2) next (omega arith) e
 
--- one thread's entry, and those behind it
+-- one thread's entry, and those after it
 module _ (bs : List ℕ) (k i before at : ℕ) (hs : List ℕ) where
   pub thread-then :
       (next : ℕ) → thread-end bs at ≡ At next →
@@ -149,7 +149,7 @@ module _ (bs : List ℕ) (T i before at : ℕ) (hs : List ℕ) where
       let z : T - i ≡ suc (T - (i + 1)) = omega arith in
       rw z (thread-bad bs (T - (i + 1)) i before at hs p e)
 
--- the schedule's entries from the k-th on, stored one behind another
+-- the schedule's entries from the k-th on, stored one after another
 module _ (bs : List ℕ) (n k at : ℕ) (l : List ℕ) where
   pub schedule-next :
       k < n →

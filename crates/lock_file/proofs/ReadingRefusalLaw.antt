@@ -1,4 +1,4 @@
--- REFUSALS OF READING: 2 exactly if the file only ends too early, 3 exactly at the first byte with which the bytes so far begin no lock file. Assumes nothing.
+-- REFUSALS OF READING: 2 exactly if the file only ends too early, 3 exactly at the first byte with which the bytes so far begin no lock file.
 use mathlib.Core.Path.{_≡_, refl, sym, _∙_, ap}
 use mathlib.Core.Bool.{Bool, true, false, cond}
 use mathlib.Core.List.{List, [], _∷_, _++_, append-nil}
@@ -108,7 +108,7 @@ bad-no-beginning bs p e b =
     (λ at f. let both : BadMap p ≡ At at = sym whole ∙ f in let z : _≡_ {A = ℕ} 0 1 = cc in omega arith)
     (b .lock-file)
 
--- A FILE THAT ENDS TOO EARLY is the beginning of one with bytes 0 behind it
+-- A FILE THAT ENDS TOO EARLY is the beginning of one with bytes 0 after it
 zeros-behind : (bs : List ℕ) (n j : ℕ) → byte bs j ≡ byte (bs ++ replicate n 0) j
 zeros-behind [] n j = sym (zeros n j)
 zeros-behind (x ∷ xs) n zero = refl

@@ -1,4 +1,4 @@
--- The schedule's entries: reading them, and their bytes standing there, are the same. Assumes nothing.
+-- The schedule's entries: reading them, and their bytes standing there, are the same.
 use mathlib.Core.Path.{_≡_, refl, ap}
 use mathlib.Core.List.{List, _∷_}
 use Prim.Native.Nat.{ℕ, zero, suc, _+_, _*_, _-_, _/_, _%_, _≤_}

@@ -1,4 +1,4 @@
--- Words stored where there is room: what stands at each index. Assumes nothing.
+-- Words stored where there is room: what stands at each index.
 use mathlib.Core.Path.{_≡_, refl, sym, _∙_}
 use mathlib.Core.List.{List}
 use mathlib.Core.Bool.{Bool, true, false}

@@ -1,4 +1,4 @@
--- The threads' entries: what reading them stores, and that it reads exactly the entries that stand there. Assumes nothing.
+-- The threads' entries: what reading them stores, and that it reads exactly the entries that stand there.
 use mathlib.Core.Path.{_≡_, refl, sym, _∙_, ap}
 use mathlib.Core.List.{List, [], _++_, append-assoc}
 use mathlib.Core.Logic.{_≢_, _⊎_, inl, inr}

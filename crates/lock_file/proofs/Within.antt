@@ -1,4 +1,4 @@
--- Where reading comes to lies within the file. Assumes nothing.
+-- Where reading comes to lies within the file.
 use mathlib.Core.Path.{_≡_, refl}
 use mathlib.Core.Bool.{cond}
 use mathlib.Core.List.{List}

@@ -1,4 +1,4 @@
--- What reading a lock file without running it answers, for every file: refusals 1 to 3, or the tree and the schedule. Assumes nothing: these are definitions.
+-- What reading a lock file without running it answers, for every file: refusals 1 to 3, or the tree and the schedule.
 use mathlib.Core.Bool.{cond}
 use mathlib.Core.List.{List}
 use Prim.Native.Nat.{ℕ, _≤_}
@@ -23,7 +23,7 @@ unfoldable pub reading-reply : Reading → ReadReply
 reading-reply (refused r) = record { number = r .number; place = r .place; length = 0; tree = no-tree }
 reading-reply (described w is) = record { number = 0; place = 0; length = length is; tree = w }
 
--- the schedule at the front of the buffer and nothing behind it changed; refused, or with too little room, as it came
+-- the schedule at the front of the buffer and nothing after it changed; refused, or with too little room, as it came
 unfoldable pub reading-buffer : Reading → (schedule : List ℕ) → List ℕ
 reading-buffer (refused r) b = b
 reading-buffer (described w is) b = filled is b

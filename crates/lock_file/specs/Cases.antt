@@ -1,4 +1,4 @@
--- Cases of reading, in one list: the printed example's bytes, kinds of root, defaults, and 2 and 3 at their places. Assumes nothing: these are definitions.
+-- Cases of reading, in one list: the printed example's bytes, kinds of root, defaults, and 2 and 3 at their places.
 use mathlib.Core.Path.{_≡_}
 use mathlib.Core.Bool.{Bool, true, false, _&&_}
 use mathlib.Core.List.{List, [], _∷_, _++_}

@@ -1,4 +1,4 @@
--- WHAT A LOCK FILE IS, apart from reading it: which bytes describe a tree and a schedule. Assumes nothing: these are definitions.
+-- WHAT A LOCK FILE IS, apart from reading it: which bytes describe a tree and a schedule.
 use mathlib.Core.Path.{_≡_}
 use mathlib.Core.List.{List, [], _∷_, _++_}
 use mathlib.Core.Logic.{_⊎_}
@@ -14,7 +14,7 @@ pub data Domain-entry : (parent threshold : ℕ) → (bytes : List ℕ) → Type
   threshold-only : (low high : ℕ) → Domain-entry 0 (low-first low high) (2 ∷ low ∷ high ∷ [])
   both-fields : (p low high : ℕ) → Domain-entry p (low-first low high) (3 ∷ p ∷ low ∷ high ∷ [])
 
--- a thread's entry for a home, behind a thread with the home before
+-- a thread's entry for a home, after a thread with the home before
 pub data Thread-entry : (before home : ℕ) → (bytes : List ℕ) → Type 0 where
   home-before : (h : ℕ) → Thread-entry h h (0 ∷ [])
   home-given : (before h : ℕ) → Thread-entry before h (1 ∷ h ∷ [])
@@ -30,7 +30,7 @@ pub data Domain-entries (parents thresholds : List ℕ) : (domain left : ℕ) �
       (d k p h : ℕ) (xs ys : List ℕ) → Domain-entry p h xs → Holds parents d p → Holds thresholds d h →
       Domain-entries parents thresholds (d + 1) k ys → Domain-entries parents thresholds d (suc k) (xs ++ ys)
 
--- the entries of as many threads as are left, from one on, behind a thread with the home before
+-- the entries of as many threads as are left, from one on, after a thread with the home before
 pub data Thread-entries (homes : List ℕ) : (thread left before : ℕ) → (bytes : List ℕ) → Type 0 where
   no-thread : (i before : ℕ) → Thread-entries homes i 0 before []
   next-thread :

@@ -1,4 +1,4 @@
--- Document 01, "The lock file", with the kind of root of document 02, (xii): reading it from left to right, with refusals 2 and 3. Assumes nothing: these are definitions.
+-- Document 01, "The lock file", with the kind of root of document 02, (xii): reading it from left to right, with refusals 2 and 3.
 use mathlib.Core.Bool.{cond}
 use mathlib.Core.List.{List, [], _∷_, _++_}
 use Prim.Native.Nat.{ℕ, zero, suc, _+_, _*_, _-_, _/_, _%_}
@@ -43,11 +43,11 @@ bit-0 m = m % 2
 abbrev pub bit-1 : (map : ℕ) → ℕ
 bit-1 m = m / 2 % 2
 
--- behind a field or an entry of some size; ended where the file ends inside it or where it is still due
+-- after a field or an entry of some size; ended where the file ends inside it or where it is still due
 unfoldable pub field-end : (bytes : List ℕ) → (at size : ℕ) → Reached
 field-end bs at size = cond (ltb (length bs - at) size) Ended (At (at + size))
 
--- behind an entry that starts with a bit map; a map above the largest has a bit set that has no meaning
+-- after an entry that starts with a bit map; a map above the largest has a bit set that has no meaning
 unfoldable pub entry-end : (bytes : List ℕ) → (largest at size : ℕ) → Reached
 entry-end bs largest at size = cond (leb (length bs) at) Ended (cond (ltb largest (byte bs at)) (BadMap at) (field-end bs at size))
 
@@ -172,6 +172,6 @@ reading-of bs (BadMap p) w = refused (reached-refusal bs (BadMap p))
 unfoldable pub file-read : (bytes : List ℕ) → Reading
 file-read bs = reading-of bs (tree-read bs .reached) (tree-read bs .tree)
 
--- entries at the front of a buffer and nothing behind them changed; a buffer that is too short for them, as it came
+-- entries at the front of a buffer and nothing after them changed; a buffer that is too short for them, as it came
 unfoldable pub filled : (entries buffer : List ℕ) → List ℕ
 filled is b = cond (ltb (length b) (length is)) b (is ++ drop (length is) b)

@@ -1,4 +1,4 @@
--- THE LAWS OF THE LOCK FILE. Each is a statement; proofs/ has its proof. Assumes nothing.
+-- THE LAWS OF THE LOCK FILE. Each is a statement; proofs/ has its proof.
 use mathlib.Core.Path.{_≡_}
 use mathlib.Core.List.{List, _++_}
 use mathlib.Core.Logic.{_⊎_}
@@ -21,7 +21,7 @@ pub record Lock-file (bytes : List ℕ) : Type 0 where
   pub schedule : List ℕ
   pub describes : Describes bytes tree schedule
 
--- the beginning of a lock file: with more bytes behind it, or none, it is one. Lock files above 65,536 bytes count too
+-- the beginning of a lock file: with more bytes after it, or none, it is one. Lock files above 65,536 bytes count too
 pub record Beginning (bytes : List ℕ) : Type 0 where
   pub more : List ℕ
   pub more-bytes : (k : ℕ) → k < length more → getD more k 0 < 256

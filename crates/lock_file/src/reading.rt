@@ -10,7 +10,7 @@ use crate::ThreadsRead;
 use crate::TreeRead;
 use model::TreeWords;
 
-// The byte at a position; 0 behind the file.
+// The byte at a position; 0 after the file.
 fn byte_at(file: &[u8], at: usize) -> u8
     ensures { λ r. ⌜ r ≡ byte (now (file .entry)) at ⌝ }
 {

@@ -1,4 +1,4 @@
--- The branches of the rows: for each row of the step table where it is taken, as facts, and what it comes to. Here alone the rows are unfolded and their tests split; the proofs that go by rows match on these branches. Where a row differs at the root, the root's branches and the inner domains' are apart, as in the two templates of Listing 1. Assumes nothing.
+-- The branches of the rows: for each row of the step table where it is taken, as facts, and what it comes to. Here alone the rows are unfolded and their tests split; the proofs that go by rows match on these branches. Where a row differs at the root, the root's branches and the inner domains' are apart, as in the two templates of Listing 1.
 use mathlib.Core.Path.{_≡_, refl}
 use mathlib.Core.Bool.{Bool, true, false}
 use mathlib.Core.List.{[], _∷_}
@@ -19,7 +19,7 @@ module _ (t : Tree) (i : ℕ) (s : State) where
   abbrev pub swapped : (domain : ℕ) → State
   swapped l = with-tail l (own-record t i l + 1) s
 
-  -- Link behind the old tail
+  -- Link after the old tail
   abbrev pub stood-behind : (domain : ℕ) → Row-result
   stood-behind l = record { kind = other; standing = begins (own-record t i l); state = with-place i (Link l (tail s l - 1)) (swapped l) }
 
@@ -48,7 +48,7 @@ pub data Branch (t : Tree) (i : ℕ) (s : State) : Place → Row-result → Type
   idle-draws : {x : Row-result} → is-ticket t (t .home i) ≡ true → Branch t i s Draw x → Branch t i s Idle x
   idle-prepares : {x : Row-result} → is-ticket t (t .home i) ≡ false → Branch t i s (Prep (t .home i)) x → Branch t i s Idle x
   prepares : (l v : ℕ) → Word-at l locked wait-word v → Branch t i s (Prep l) (prep-with t i l v s)
-  -- Swap: alone at the root, alone below it, behind another
+  -- Swap: alone at the root, alone below it, after another
   swap-root : (l : ℕ) → l ≡ 0 → tail s l ≡ none → Branch t i s (Swap l) (swap-at-root t i l (swapped t i s l))
   swap-inner : (l : ℕ) → l ≢ 0 → tail s l ≡ none → Branch t i s (Swap l) (acquires-parent t i l (swapped t i s l))
   swap-behind : (l : ℕ) → tail s l ≢ none → Branch t i s (Swap l) (stood-behind t i s l)

@@ -1,4 +1,4 @@
--- The cases of the table hold, and the allowance is reached. Assumes nothing.
+-- The cases of the table hold, and the allowance is reached.
 use mathlib.Core.Path.{_≡_, refl, _∙_}
 use mathlib.Core.Bool.{true}
 use Rattle.model.specs.Scans.{any-below, all-below, largest-below, filter-below}

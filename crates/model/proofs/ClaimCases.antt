@@ -1,4 +1,4 @@
--- The allowances are reached, and a list with refused calls is answered as it says. Assumes nothing.
+-- The allowances are reached, and a list with refused calls is answered as it says.
 use mathlib.Core.Path.{_≡_, refl, ap, _∙_}
 use mathlib.Core.Bool.{Bool, true, false, _&&_, cond}
 use mathlib.Core.List.{List, [], _∷_, _++_}

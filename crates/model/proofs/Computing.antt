@@ -1,4 +1,4 @@
--- COMPUTED CASES, QUICKLY: whether a state is well formed is asked by walks, and 19 is left out where the counters have room. Each gives what the definition gives, so that a case is computed so. Assumes nothing.
+-- COMPUTED CASES, QUICKLY: whether a state is well formed is asked by walks, and 19 is left out where the counters have room. Each gives what the definition gives, so that a case is computed so.
 use mathlib.Core.Path.{_≡_, refl, sym, ap, _∙_}
 use mathlib.Core.Bool.{Bool, true, false, _&&_, not, cond}
 use mathlib.Core.List.{List, [], _∷_, _++_, append-nil}
@@ -53,7 +53,7 @@ room-left c n e h =
       longest = λ d l. omega (arith, far (c .longest) (b .1) d);
     }
 
--- ANSWERS, where 10 is tested by walks, and 19 only where counters have no room: the tests before 19 and what they refuse, by whether the state is well formed and by the tests behind it
+-- ANSWERS, where 10 is tested by walks, and 19 only where counters have no room: the tests before 19 and what they refuse, by whether the state is well formed and by the tests after it
 abbrev pub tests-by : Tree → (formed : Bool) → List Test → List Test
 tests-by t b xs = tree-tests t ++ ((test 10 1 (λ p. not b) ∷ []) ++ xs)
 
@@ -67,7 +67,7 @@ walked-counter t s is p = above-by-walks t (counters-after t (s .counters) (take
 abbrev pub late-tests : Tree → LockState → (schedule : List ℕ) → List Test
 late-tests t s is = cond (have-room (s .counters)) [] (test 19 (length is) (walked-counter t s is) ∷ [])
 
--- what is refused of a state with any counters, by whether its words are well formed, by the tests behind 10 and by the schedule
+-- what is refused of a state with any counters, by whether its words are well formed, by the tests after 10 and by the schedule
 unfoldable pub counted-refusal : Tree → (formed : Bool) → LockState → List Test → (schedule : List ℕ) → Refusal
 counted-refusal t b s xs is = first-refusal (tests-by t (b && counts-by-walks t (s .counters)) xs ++ late-tests t s is)
 

@@ -1,4 +1,4 @@
--- Counters behind steps, index by index; and how little a step adds. Assumes nothing.
+-- Counters after steps, index by index; and how little a step adds.
 use mathlib.Core.Path.{_≡_, refl, sym, ap, _∙_}
 use mathlib.Core.Bool.{Bool, true, false, _&&_, cond}
 use mathlib.Core.List.{List, [], _∷_, _++_}

@@ -1,4 +1,4 @@
--- The cases of the counters hold, by walks where 10 is tested. Assumes nothing.
+-- The cases of the counters hold, by walks where 10 is tested.
 use mathlib.Core.Path.{_≡_, refl, ap, _∙_}
 use mathlib.Core.Bool.{Bool, true, not, _&&_}
 use mathlib.Core.List.{List, [], _∷_, _++_}

@@ -1,4 +1,4 @@
--- The count of threads at Inside is at most 1 exactly if two threads at Inside are the same thread. Assumes nothing.
+-- The count of threads at Inside is at most 1 exactly if two threads at Inside are the same thread.
 use mathlib.Core.Path.{_≡_, refl, _∙_}
 use mathlib.Core.Bool.{Bool, true, false, cond, false≢true}
 use mathlib.Core.Logic.{_≢_}

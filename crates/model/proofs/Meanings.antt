@@ -1,4 +1,4 @@
--- What the claim's definitions come to: under, allowances, prefixes, stretches, places. Assumes nothing.
+-- What the claim's definitions come to: under, allowances, prefixes, stretches, places.
 use mathlib.Core.Path.{_≡_, refl, sym, ap, _∙_}
 use mathlib.Core.Bool.{Bool, true, false, cond, false≢true}
 use mathlib.Core.List.{List, [], _∷_, _++_}

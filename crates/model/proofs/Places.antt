@@ -1,4 +1,4 @@
--- A place and its four numbers: each gives the other back; a store of a place, read back. Assumes nothing.
+-- A place and its four numbers: each gives the other back; a store of a place, read back.
 use mathlib.Core.Path.{_≡_, refl, sym, ap, _∙_}
 use mathlib.Core.Bool.{Bool, true, false, _&&_, cond, false≢true}
 use mathlib.Core.Logic.{_≢_}

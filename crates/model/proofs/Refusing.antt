@@ -1,4 +1,4 @@
--- Tests in order: what an answer says of them. Assumes nothing.
+-- Tests in order: what an answer says of them.
 use mathlib.Core.Path.{_≡_, refl, ap, _∙_}
 use mathlib.Core.Bool.{Bool, true, false, cond}
 use mathlib.Core.List.{List, [], _∷_, _++_}
@@ -11,7 +11,7 @@ use Rattle.model.specs.Refusals.{Refusal, refusal, accepted, Test, lowes
 use Rattle.model.specs.Laws.{Numbered}
 use Rattle.model.proofs.Tests.{or-neither}
 
--- a test that finds no bad place gives the answer of those behind it
+-- a test that finds no bad place gives the answer of those after it
 pub lowest-none : (n : ℕ) (f : ℕ → Bool) (k p : ℕ) (r : Refusal) → ((j : ℕ) → j < k → f (p + j) ≡ false) → lowest-bad n f k p r ≡ r
 unfolding lowest-bad
 lowest-none n f zero p r h = refl
@@ -19,7 +19,7 @@ lowest-none n f (suc k) p r h =
     let here : f p ≡ false = rw add-zero at (h 0 (omega arith)) in
     rw here (lowest-none n f k (suc p) r (λ j l. let z : suc p + j ≡ p + suc j = omega arith in rw z (h (suc j) (omega arith))))
 
--- an answer of number 0: no bad place, and number 0 behind it
+-- an answer of number 0: no bad place, and number 0 after it
 pub lowest-passes :
     (n : ℕ) (f : ℕ → Bool) (k p : ℕ) (r : Refusal) → 0 < n → lowest-bad n f k p r .number ≡ 0 →
     ((j : ℕ) → j < k → f (p + j) ≡ false) × (r .number ≡ 0)

@@ -1,4 +1,4 @@
--- Stores one after another in a buffer: joined, and at its front. Assumes nothing.
+-- Stores one after another in a buffer: joined, and at its front.
 use mathlib.Core.Path.{_≡_, refl, sym, _∙_}
 use mathlib.Core.List.{List, [], _∷_, _++_}
 use mathlib.Core.Logic.{_≢_}
@@ -8,7 +8,7 @@ use native.Mathlib.Nat.{add-zero}
 use lib.ListN.{length, set, drop}
 use lib.Seq.{sets, set-comm, sets-eq}
 
--- a store behind the places that others fill may come first
+-- a store after the places that others fill may come first
 pub sets-behind : (l : List ℕ) (i : ℕ) (vs : List ℕ) (j a : ℕ) → i + length vs ≤ j → sets (set l j a) i vs ≡ set (sets l i vs) j a
 sets-behind l i [] j a h = refl
 sets-behind l i (v ∷ vs) j a h =

@@ -1,4 +1,4 @@
--- From tests to facts: connectives and scans. Assumes nothing.
+-- From tests to facts: connectives and scans.
 use mathlib.Core.Path.{_≡_, refl, sym}
 use mathlib.Core.List.{List, [], _∷_, _++_}
 use mathlib.Core.Bool.{Bool, true, false, _&&_, _||_, cond, false≢true, true≢false}

@@ -1,4 +1,4 @@
--- The cases of a ticket lock at the root hold. Assumes nothing.
+-- The cases of a ticket lock at the root hold.
 use mathlib.Core.Path.{_≡_, refl, _∙_}
 use mathlib.Core.Bool.{true}
 use Rattle.model.specs.Scans.{any-below, all-below, filter-below}

@@ -1,4 +1,4 @@
--- The row of Wait by what its status says: not granted, granted the domain, or granted the lock. Assumes nothing.
+-- The row of Wait by what its status says: not granted, granted the domain, or granted the lock.
 use mathlib.Core.Path.{_≡_, refl, _∙_}
 use mathlib.Core.Bool.{true}
 use mathlib.Core.Logic.{_≢_}

@@ -1,4 +1,4 @@
--- WALKS: a test of every word of an array by its index walks the array once for each word. Walked once it gives the same; so whether a state is well formed is computed by walks. Assumes nothing.
+-- WALKS: a test of every word of an array by its index walks the array once for each word. Walked once it gives the same; so whether a state is well formed is computed by walks.
 use mathlib.Core.Path.{_≡_, refl, sym, ap, _∙_}
 use mathlib.Core.Bool.{Bool, true, false, _&&_, cond}
 use mathlib.Core.List.{List, [], _∷_}
@@ -54,7 +54,7 @@ whole f d n xs h =
     all-same n (λ k. f k (getD xs k d)) (λ k. f (0 + k) (getD xs k d)) (λ k _. ap (λ j. f j (getD xs k d)) (omega arith))
     ∙ rw (sym h) (walk f d 0 xs)
 
--- ROOM THAT IS ALL ZERO passes, so that what lies behind the first n numbers is not asked: every number there is 0
+-- ROOM THAT IS ALL ZERO passes, so that what lies after the first n numbers is not asked: every number there is 0
 unfoldable pub zero-from : (first : ℕ) → List ℕ → Bool
 zero-from n [] = true
 zero-from zero (v ∷ vs) = eqb v 0 && zero-from zero vs
@@ -68,7 +68,7 @@ zero-at zero (v ∷ vs) e (suc d) h = zero-at zero vs (and-both (eqb v 0) (zero-
 zero-at (suc n) (v ∷ vs) e zero h = absurd (omega arith)
 zero-at (suc n) (v ∷ vs) e (suc d) h = zero-at n vs e d (omega arith)
 
--- a test of the 64 domains, of the first n where those behind them are known to pass
+-- a test of the 64 domains, of the first n where those after them are known to pass
 unfoldable pub first-pass : (zeros : Bool) → (n : ℕ) → (ℕ → Bool) → Bool
 first-pass b n f = cond (b && leb n 64) (all-below n f) (all-below 64 f)
 
@@ -175,7 +175,7 @@ unfolding well-formed formed-by-walks good-next good-status good-thread good-wat
 same-formed t s h =
     rw (tails-same t s, whole (next-fits t) 0 320 (s .nexts) (h .nexts), whole (status-fits t) 0 320 (s .statuses) (h .statuses), places-same (thread-walked t s) (s .places) (h .places))
 
--- THE COUNTERS, whose room behind the domains of the tree is 0
+-- THE COUNTERS, whose room after the domains of the tree is 0
 abbrev pub zeros-from : (first : ℕ) → Counters → Bool
 zeros-from n c = zero-from n (c .entries) && (zero-from n (c .tenures) && zero-from n (c .longest))
 

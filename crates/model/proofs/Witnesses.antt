@@ -1,4 +1,4 @@
--- The witnesses of `model` hold. Assumes nothing.
+-- The witnesses of `model` hold.
 use mathlib.Core.Path.{_≡_, refl}
 use mathlib.Core.Bool.{Bool, true, false, _&&_, cond}
 use mathlib.Core.List.{List, [], _∷_, _++_}

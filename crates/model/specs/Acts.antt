@@ -1,4 +1,4 @@
--- Document 01's "a thread acts for its record at a domain"; watching and raising at a ticket root are acting there. Assumes nothing: these are definitions.
+-- Document 01's "a thread acts for its record at a domain"; watching and raising at a ticket root are acting there.
 use mathlib.Core.Bool.{Bool, true, false, _&&_, _||_, not, cond}
 use Prim.Native.Nat.{ℕ}
 use lib.Dec.{eqb, ltb, leb}

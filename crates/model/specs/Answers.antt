@@ -1,4 +1,4 @@
--- What the fresh call, a step and a run answer, for every input. Assumes nothing: these are definitions.
+-- What the fresh call, a step and a run answer, for every input.
 use mathlib.Core.Bool.{cond}
 use mathlib.Core.List.{List, [], _∷_, _++_}
 use Prim.Native.Nat.{ℕ}
@@ -34,7 +34,7 @@ unfoldable pub first-domain : List Step → ℕ
 first-domain [] = 0
 first-domain (x ∷ xs) = x .domain
 
--- the counters behind a schedule's steps
+-- the counters after a schedule's steps
 unfoldable pub counters-behind : Tree → (schedule : List ℕ) → LockState → Counters
 counters-behind t is s = counters-after t (s .counters) (steps t is (s .words))
 
@@ -68,7 +68,7 @@ run-accepted x c = record { number = 0; place = 0; counts = x .counts; state = l
 unfoldable pub run-reply : Refusal → LockState → Run → Counters → RunReply
 run-reply r s x c = cond (eqb (r .number) 0) (run-accepted x c) (run-refused r s)
 
--- the trace buffer after a run: the entering threads at its front and nothing behind them; refused, as it came
+-- the trace buffer after a run: the entering threads at its front and nothing after them; refused, as it came
 unfoldable pub run-buffer : Refusal → (buffer : List ℕ) → Run → List ℕ
 run-buffer r b x = cond (eqb (r .number) 0) (x .trace ++ drop (length (x .trace)) b) b
 

@@ -1,4 +1,4 @@
--- LISTS OF CALLS on one lock: what is asked of them, what each is expected to answer, and their schedule. The third demand is a claim of such lists. Assumes nothing: these are definitions.
+-- LISTS OF CALLS on one lock: what is asked of them, what each is expected to answer, and their schedule. The third demand is a claim of such lists.
 use mathlib.Core.Path.{_≡_}
 use mathlib.Core.Bool.{cond}
 use mathlib.Core.List.{List, [], _∷_, _++_}
@@ -76,15 +76,15 @@ Names t [] s = Unit {0}
 Names t (c ∷ cs) s = (call-refusal c s .number ≡ 0 → tree-of (c .tree) ≡ t) × Names t cs (state-in (answer c s))
 
 -- WHAT IS EXPECTED, worked out from the step table over a schedule from the fresh state alone: no other state is handed in
--- the step table's words behind the first k entries
+-- the step table's words after the first k entries
 unfoldable pub state-at : Tree → (fresh : State) → (schedule : List ℕ) → (k : ℕ) → State
 state-at t f S k = run t (take k S) f .state
 
--- the steps of the stretch of n entries behind the first k
+-- the steps of the stretch of n entries after the first k
 unfoldable pub stretch : Tree → (fresh : State) → (schedule : List ℕ) → (k n : ℕ) → List Step
 stretch t f S k n = take n (drop k (steps t S f))
 
--- the counters behind the first k entries
+-- the counters after the first k entries
 unfoldable pub counters-at : Tree → (fresh : LockState) → (schedule : List ℕ) → (k : ℕ) → Counters
 counters-at t f S k = counters-after t (f .counters) (stretch t (f .words) S 0 k)
 

@@ -1,4 +1,4 @@
--- Document 01, "Ladder of cases": those marked *, Inside in unused room, a case on three levels, and steps with their whole states, in one table; and an allowance that is reached. Assumes nothing: these are definitions.
+-- Document 01, "Ladder of cases": those marked *, Inside in unused room, a case on three levels, and steps with their whole states, in one table; and an allowance that is reached.
 use mathlib.Core.Bool.{Bool, true, false, _&&_}
 use mathlib.Core.List.{List, [], _∷_, _++_}
 use Prim.Native.Nat.{ℕ, zero, suc, _-_}
@@ -19,7 +19,7 @@ use Rattle.model.specs.Runs.{steps, state-after, begun, ended, entries-u
 use Rattle.model.specs.Counters.{lock-state, fresh-counters}
 use Rattle.model.specs.Answers.{no-counts, fresh-answer, step-answer, run-answer, trace-answer}
 
--- INPUTS. A tree by its numbers of domains and threads, its parents, thresholds and homes; the room behind them is 0
+-- INPUTS. A tree by its numbers of domains and threads, its parents, thresholds and homes; the room after them is 0
 unfoldable pub padded : (room : ℕ) → List ℕ → List ℕ
 padded n xs = xs ++ replicate (n - length xs) 0
 

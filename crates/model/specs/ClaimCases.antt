@@ -1,4 +1,4 @@
--- COMPUTED CASES OF THE THIRD DEMAND: allowances that are reached, so that no other allowance and no narrower "under" holds; and a list with refused calls, of which the claim speaks. Assumes nothing: these are definitions.
+-- COMPUTED CASES OF THE THIRD DEMAND: allowances that are reached, so that no other allowance and no narrower "under" holds; and a list with refused calls, of which the claim speaks.
 use mathlib.Core.Path.{_≡_}
 use mathlib.Core.Bool.{Bool, true, _&&_, not}
 use mathlib.Core.List.{List, [], _∷_, _++_}
@@ -16,7 +16,7 @@ use Rattle.model.specs.Answers.{fresh-answer}
 use Rattle.model.specs.Calls.{Ask, one-step, a-run, Call, Answer, stepped, ran, answers, joined, Names}
 use Rattle.model.specs.Cases.{tree, count-up, same-numbers, two-homes}
 
--- ALLOWANCES. All that the claim's `bounded` asks, of a schedule until m begins to stand with a thread's step, and the entries behind it: and there the entries under q are as many as q's allowance, which is the number given
+-- ALLOWANCES. All that the claim's `bounded` asks, of a schedule until m begins to stand with a thread's step, and the entries after it: and there the entries under q are as many as q's allowance, which is the number given
 unfoldable pub reaches : TreeWords → (until : List ℕ) → (beginner : ℕ) → (meanwhile : List ℕ) → (m q number : ℕ) → Bool
 reaches w until i meanwhile m q n =
     let t = tree-of w in

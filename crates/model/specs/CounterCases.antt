@@ -1,4 +1,4 @@
--- COMPUTED CASES of the counters, document 02, (vii): what runs leave in them, at both kinds of root; 10 for each reason that has to do with them; and 19 where a step would push one past 2^63. Assumes nothing: these are definitions.
+-- COMPUTED CASES of the counters, document 02, (vii): what runs leave in them, at both kinds of root; 10 for each reason that has to do with them; and 19 where a step would push one past 2^63.
 use mathlib.Core.Path.{_≡_}
 use mathlib.Core.Bool.{Bool, true, _&&_}
 use mathlib.Core.List.{List, [], _∷_, _++_}
@@ -19,7 +19,7 @@ use Rattle.model.specs.Counters.{lock-state, most-counted}
 use Rattle.model.specs.Answers.{step-answer, run-answer, trace-answer}
 use Rattle.model.specs.Cases.{padded, tree, at-ticket-root, counters as ticket-counters, two-homes, first-entries, same-numbers, same-counters, same-lock, uncounted}
 
--- counters by their first numbers, from the root on; the room behind them is 0
+-- counters by their first numbers, from the root on; the room after them is 0
 unfoldable pub counters : (entries tenures longest : List ℕ) → Counters
 counters es ns ls = record { entries = padded 64 es; tenures = padded 64 ns; longest = padded 64 ls }
 
@@ -28,7 +28,7 @@ pub data Case : Type 0 where
   leaves : TreeWords → (schedule : List ℕ) → Counters → Case
   -- a run from fresh words and these counters, with a trace buffer of so much room: number and place; refused, state and trace as they came
   run-with : TreeWords → Counters → (schedule : List ℕ) → (room number place : ℕ) → Case
-  -- a step in the words behind a schedule, with these counters
+  -- a step in the words after a schedule, with these counters
   step-with : TreeWords → (before : List ℕ) → Counters → (thread number place : ℕ) → Case
   -- an accepted step in these words, from fresh counters, and the counters that it leaves
   step-leaves : TreeWords → State → (thread : ℕ) → Counters → Case

@@ -1,4 +1,4 @@
--- Document 02, (vii): the counters that cross a call beside the words of the lock, what steps add to them, and what they may be. Assumes nothing: these are definitions.
+-- Document 02, (vii): the counters that cross a call beside the words of the lock, what steps add to them, and what they may be.
 use mathlib.Core.Bool.{Bool, _&&_, _||_, not, cond}
 use mathlib.Core.List.{List, [], _∷_}
 use Prim.Native.Nat.{ℕ, suc, _+_, max}
@@ -31,7 +31,7 @@ unfoldable pub each-with-index : (ℕ → ℕ → ℕ) → (from : ℕ) → List
 each-with-index f k [] = []
 each-with-index f k (v ∷ vs) = f k v ∷ each-with-index f (suc k) vs
 
--- the counters behind some steps: entries and tenures are added, the longest takes in each length that is told
+-- the counters after some steps: entries and tenures are added, the longest takes in each length that is told
 unfoldable pub counters-after : Tree → Counters → List Step → Counters
 counters-after t c xs =
     record {
@@ -40,7 +40,7 @@ counters-after t c xs =
       longest = each-with-index (λ d v. max v (longest-tenure t d xs)) 0 (c .longest);
     }
 
--- the lock state behind some steps
+-- the lock state after some steps
 unfoldable pub lock-after : Tree → LockState → List Step → LockState
 lock-after t s xs = lock-state (state-after (s .words) xs) (counters-after t (s .counters) xs)
 

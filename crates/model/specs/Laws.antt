@@ -1,4 +1,4 @@
--- THE LAWS OF THE STEP TABLE AND THE REFUSALS, for the second demand. Each is a statement; proofs/ has its proof. Assumes nothing.
+-- THE LAWS OF THE STEP TABLE AND THE REFUSALS, for the second demand. Each is a statement; proofs/ has its proof.
 use mathlib.Core.Path.{_≡_}
 use mathlib.Core.Bool.{Bool, true, false, _&&_, not, cond}
 use mathlib.Core.List.{List, [], _∷_, _++_}
@@ -59,7 +59,7 @@ pub record Keeps-form (t : Tree) : Type 0 where
 unfoldable pub Form-law : Type 0
 Form-law = (t : Tree) → Sixteen-bit t → tree-refusal t .number ≡ 0 → Keeps-form t
 
--- 2. RUNS. One run behind another: counts are added, one by one
+-- 2. RUNS. One run after another: counts are added, one by one
 unfoldable pub add-counts : Counts → Counts → Counts
 add-counts x y =
     record {

@@ -1,4 +1,4 @@
--- WHAT THE CLAIM'S DEFINITIONS COME TO, said a second time and another way, so that a weaker definition is refused. Each is a statement; proofs/ has its proof. Assumes nothing.
+-- WHAT THE CLAIM'S DEFINITIONS COME TO, said a second time and another way, so that a weaker definition is refused. Each is a statement; proofs/ has its proof.
 use mathlib.Core.Path.{_≡_}
 use mathlib.Core.Bool.{true, false}
 use mathlib.Core.List.{List, [], _∷_, _++_}
@@ -59,7 +59,7 @@ Inside-count-law =
 unfoldable pub Prefix-law : Type 0
 Prefix-law = (xs ys : List ℕ) → Prefix xs ys ⟺ (take (length xs) ys ≡ xs)
 
--- STRETCHES. The schedule is the accepted calls' own entries, one call's behind the other's
+-- STRETCHES. The schedule is the accepted calls' own entries, one call's after the other's
 unfoldable pub own-entries : Tree → (fresh : LockState) → (schedule : List ℕ) → (k : ℕ) → List Call → List ℕ
 own-entries t f S k [] = []
 own-entries t f S k (c ∷ cs) = let own = added c (lock-at t f S k) in own ++ own-entries t f S (k + length own) cs

@@ -1,4 +1,4 @@
--- A thread's place in four numbers: row, domain, the other record, word. Assumes nothing: these are definitions.
+-- A thread's place in four numbers: row, domain, the other record, word.
 use mathlib.Core.Bool.{Bool, true, false, _&&_, _||_, cond}
 use mathlib.Core.List.{List, [], _∷_}
 use Prim.Native.Nat.{ℕ}

@@ -1,4 +1,4 @@
--- Document 01, "When a call says no": numbers 4 to 13; and of document 02 16 (iv), 19 and what (vii) adds to 10. Assumes nothing: these are definitions.
+-- Document 01, "When a call says no": numbers 4 to 13; and of document 02 16 (iv), 19 and what (vii) adds to 10.
 use mathlib.Core.Bool.{Bool, false, _&&_, _||_, not, cond}
 use mathlib.Core.List.{List, [], _∷_, _++_}
 use Prim.Native.Nat.{ℕ, zero, suc, _+_}
@@ -85,7 +85,7 @@ bad-entry t is p = leb (t .threads) (getD is p 0)
 unfoldable pub bad-room : (schedule : List ℕ) → (room : ℕ) → ℕ → Bool
 bad-room is room p = ltb room (length is)
 
--- 19: a counter is above 2^63 behind the step of the schedule entry at this position
+-- 19: a counter is above 2^63 after the step of the schedule entry at this position
 unfoldable pub bad-counter : Tree → LockState → (schedule : List ℕ) → (position : ℕ) → Bool
 bad-counter t s is p = any-above (counters-after t (s .counters) (take (p + 1) (steps t is (s .words))))
 

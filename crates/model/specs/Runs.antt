@@ -1,4 +1,4 @@
--- Runs: steps one after another, and what is counted of them. Assumes nothing: these are definitions.
+-- Runs: steps one after another, and what is counted of them.
 use mathlib.Core.Bool.{Bool, cond}
 use mathlib.Core.List.{List, [], _∷_, _++_}
 use Prim.Native.Nat.{ℕ, _+_}

@@ -1,4 +1,4 @@
--- Tests over all numbers below a bound, and whether all tests of a list hold. Assumes nothing: these are definitions.
+-- Tests over all numbers below a bound, and whether all tests of a list hold.
 use mathlib.Core.Bool.{Bool, true, false, _&&_, _||_, cond}
 use mathlib.Core.List.{List, [], _∷_, _++_}
 use Prim.Native.Nat.{ℕ, zero, suc, max}

@@ -1,4 +1,4 @@
--- Document 02, (viii): the search for a domain's child on a thread's path leaves as soon as it has the child, and says how many domains it looked at. Its laws, and computed cases. Assumes nothing: these are definitions and statements; proofs/ has their proofs.
+-- Document 02, (viii): the search for a domain's child on a thread's path leaves as soon as it has the child, and says how many domains it looked at. Its laws, and computed cases.
 use mathlib.Core.Path.{_≡_}
 use mathlib.Core.Bool.{true, false, cond}
 use mathlib.Core.List.{List, [], _∷_, map}

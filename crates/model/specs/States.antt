@@ -1,4 +1,4 @@
--- A lock's state: tails, nexts, statuses, places, the two counters of a ticket lock, and the status words. Assumes nothing: these are definitions.
+-- A lock's state: tails, nexts, statuses, places, the two counters of a ticket lock, and the status words.
 use mathlib.Core.Bool.{cond}
 use Prim.Native.Nat.{ℕ, zero, suc, _+_, _%_, _<_}
 use lib.Dec.{eqb}

@@ -1,4 +1,4 @@
--- Document 01, "Step table": one schedule entry is one row; and document 02, (xii): the rows of a ticket lock at the root. Assumes nothing: these are definitions.
+-- Document 01, "Step table": one schedule entry is one row; and document 02, (xii): the rows of a ticket lock at the root.
 use mathlib.Core.Bool.{Bool, true, false, _&&_, not, cond}
 use mathlib.Core.List.{List, [], _∷_}
 use Prim.Native.Nat.{ℕ, _+_, _-_}

@@ -1,4 +1,4 @@
--- Document 02, (vii): of every domain but the root its threads' entries, its tenures and its longest tenure, told by the steps. No step reads them. Assumes nothing: these are definitions.
+-- Document 02, (vii): of every domain but the root its threads' entries, its tenures and its longest tenure, told by the steps. No step reads them.
 use mathlib.Core.Bool.{Bool, true, false, cond}
 use mathlib.Core.List.{List, [], _∷_, _++_}
 use Prim.Native.Nat.{ℕ, _+_, max}

@@ -1,4 +1,4 @@
--- CASES OF A TICKET LOCK AT THE ROOT, document 02, (xii): steps with their whole states, runs, and each reason to refuse, in one table. Assumes nothing: these are definitions.
+-- CASES OF A TICKET LOCK AT THE ROOT, document 02, (xii): steps with their whole states, runs, and each reason to refuse, in one table.
 use mathlib.Core.Path.{_≡_}
 use mathlib.Core.List.{List, [], _∷_, _++_}
 use Prim.Native.Nat.{ℕ}

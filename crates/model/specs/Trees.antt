@@ -1,4 +1,4 @@
--- Document 01, "The tree, the threads and the words": domains and threads, paths, members and records; and the allowances of its third demand. Assumes nothing: these are definitions.
+-- Document 01, "The tree, the threads and the words": domains and threads, paths, members and records; and the allowances of its third demand.
 use mathlib.Core.Bool.{Bool, _&&_, _||_, not, cond}
 use mathlib.Core.List.{List}
 use Prim.Native.Nat.{ℕ, zero, suc, _+_, _*_, _-_, _%_}

@@ -1,4 +1,4 @@
--- Document 01: "A state from a caller is well formed if .."; and document 02, (xii), of a ticket lock at the root. Assumes nothing: these are definitions.
+-- Document 01: "A state from a caller is well formed if .."; and document 02, (xii), of a ticket lock at the root.
 use mathlib.Core.Bool.{Bool, true, false, _&&_, _||_, not, cond}
 use Prim.Native.Nat.{ℕ, _-_}
 use lib.Dec.{eqb, ltb, leb}

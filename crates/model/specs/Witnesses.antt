@@ -1,4 +1,4 @@
--- WHO MEETS WHAT THE LAWS ASK. Of each law of `model` that asks something of its input, an input that has all of it at once; docs/WITNESSES.md is the list. Assumes nothing: these are definitions and statements.
+-- WHO MEETS WHAT THE LAWS ASK. Of each law of `model` that asks something of its input, an input that has all of it at once; docs/WITNESSES.md is the list.
 use mathlib.Core.Path.{_≡_}
 use mathlib.Core.Bool.{true, false}
 use mathlib.Core.List.{List, [], _∷_, _++_, map}
@@ -38,7 +38,7 @@ pub record Trees-meet : Type 0 where
   pub ticket-root : Meets (at-ticket-root two-homes) (first-entries ++ 2 ∷ []) 2
   pub inner : Meets three-levels crossing 1
 
--- 2. STATES AND COUNTERS. From fresh, also behind a schedule: formed, with good counters, and none that a further schedule pushes too far
+-- 2. STATES AND COUNTERS. From fresh, also after a schedule: formed, with good counters, and none that a further schedule pushes too far
 pub record States-meet (w : TreeWords) (before after : List ℕ) : Type 0 where
   pub formed : Formed (tree-of w) (run (tree-of w) before (fresh-state (tree-of w) 0) .state)
   pub good : good-counts (tree-of w) fresh-counters ≡ true

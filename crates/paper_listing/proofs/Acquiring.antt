@@ -1,4 +1,4 @@
--- The lines of Acquire, entry by entry, do what the rows from Idle to Inside do. Assumes nothing.
+-- The lines of Acquire, entry by entry, do what the rows from Idle to Inside do.
 use mathlib.Core.Path.{_≡_, refl, ap}
 use mathlib.Core.Bool.{Bool, true, false, cond}
 use mathlib.Core.List.{[]}
@@ -110,7 +110,7 @@ module _ (t : Tree) (valid : Accepted t) (i : ℕ) (h : i < t .threads) (s : Sta
       rw own
       (together (goes line-9 (acquire-stack t i 0) _) (Swap (t .home i)) (idle-elsewhere t i (memory-of s) n e) refl (moved refl) (rw e at c))
 
-  -- SWAP, behind another: at the root and elsewhere
+  -- SWAP, after another: at the root and elsewhere
   behind-together :
       (k : ℕ) → k ≤ height t i → eqb (tail s (ancestor t i k)) 0 ≡ false → (b : Bool) → eqb (ancestor t i k) 0 ≡ b →
       Together t i s (stood-behind t i s (ancestor t i k)) (entry t i (standing (control (cond b line-67 line-9) (acquire-stack t i k)) s))

@@ -1,4 +1,4 @@
--- One entry of the listing does what the row of the step table does, in every well-formed state; so both agree after every schedule from fresh. Assumes nothing.
+-- One entry of the listing does what the row of the step table does, in every well-formed state; so both agree after every schedule from fresh.
 use mathlib.Core.Path.{_≡_, refl, sym, _∙_}
 use mathlib.Core.Bool.{Bool, true, false, cond}
 use mathlib.Core.List.{List, [], _∷_, _++_, append-assoc, append-nil}

@@ -1,4 +1,4 @@
--- Where the listing's test of a Check and the table's give different places: above the threshold, with a next. Assumes nothing.
+-- Where the listing's test of a Check and the table's give different places: above the threshold, with a next.
 use mathlib.Core.Path.{_≡_, sym, _∙_}
 use mathlib.Core.Bool.{Bool, true, false, cond}
 use mathlib.Core.Logic.{_≢_, _⊎_, inl, inr}

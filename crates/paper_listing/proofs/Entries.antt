@@ -1,4 +1,4 @@
--- What one schedule entry takes of the listing, at each point where a thread stands. Assumes nothing.
+-- What one schedule entry takes of the listing, at each point where a thread stands.
 use mathlib.Core.Path.{_≡_, refl, ap, _∙_}
 use mathlib.Core.Bool.{Bool, true, false, cond}
 use mathlib.Core.List.{List, [], _∷_}

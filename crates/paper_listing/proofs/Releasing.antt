@@ -1,4 +1,4 @@
--- The lines of Release, entry by entry, do what the rows from Inside to Idle do. Assumes nothing.
+-- The lines of Release, entry by entry, do what the rows from Inside to Idle do.
 use mathlib.Core.Path.{_≡_, refl, _∙_}
 use mathlib.Core.Bool.{Bool, true, false, cond}
 use mathlib.Core.List.{List, [], _∷_}

@@ -1,4 +1,4 @@
--- What one schedule entry takes of Release, ReleaseReal and ReleaseHelper. Assumes nothing.
+-- What one schedule entry takes of Release, ReleaseReal and ReleaseHelper.
 use mathlib.Core.Path.{_≡_, refl, _∙_}
 use mathlib.Core.Bool.{Bool, true, false, cond}
 use mathlib.Core.List.{List, [], _∷_}

@@ -1,4 +1,4 @@
--- The calls of a thread at an index of its path, and how its control corresponds to a place of the step table. Assumes nothing.
+-- The calls of a thread at an index of its path, and how its control corresponds to a place of the step table.
 use mathlib.Core.Path.{_≡_, refl}
 use mathlib.Core.Bool.{cond}
 use mathlib.Core.List.{List, [], _∷_}
@@ -48,7 +48,7 @@ top-node-at at-home = refl
 top-node-at (by-29 k fs x) = refl
 top-node-at (by-41 k fs x) = refl
 
--- a call of ReleaseHelper, behind which its caller ends
+-- a call of ReleaseHelper, after which its caller ends
 pub data Helper-back : Return → Type 0 where
   of-31 : Helper-back behind-31
   of-43 : Helper-back behind-43

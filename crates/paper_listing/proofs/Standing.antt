@@ -1,4 +1,4 @@
--- Where a thread stands, by the calls that it has made and by the index on its path: each the other. Assumes nothing.
+-- Where a thread stands, by the calls that it has made and by the index on its path: each the other.
 use mathlib.Core.Path.{_≡_, refl, sym, ap, _∙_}
 use mathlib.Core.Bool.{true, not, false≢true}
 use mathlib.Core.List.{List, [], _∷_}

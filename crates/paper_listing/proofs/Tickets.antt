@@ -1,4 +1,4 @@
--- The lines of the ticket lock, entry by entry, do what the rows Draw, Watch and Raise do. Assumes nothing.
+-- The lines of the ticket lock, entry by entry, do what the rows Draw, Watch and Raise do.
 use mathlib.Core.Path.{_≡_, refl, ap, _∙_}
 use mathlib.Core.Bool.{Bool, true, false, cond}
 use mathlib.Core.List.{List, [], _∷_}

@@ -1,4 +1,4 @@
--- How much of the listing one schedule entry takes, by document 01's step table and, at a ticket root, the rows of document 02, (xii); and that the listing and the table agree. Assumes nothing: these are definitions.
+-- How much of the listing one schedule entry takes, by document 01's step table and, at a ticket root, the rows of document 02, (xii); and that the listing and the table agree.
 use mathlib.Core.Path.{_≡_}
 use mathlib.Core.Bool.{Bool, true, false, cond}
 use mathlib.Core.List.{List, [], _∷_}

@@ -1,4 +1,4 @@
--- What Listing 1 (source document 000) and the ticket lock at a root (source document 001) share: memory, calls and returns, program points. Assumes nothing: these are definitions.
+-- What Listing 1 (source document 000) and the ticket lock at a root (source document 001) share: memory, calls and returns, program points.
 use mathlib.Core.Bool.{cond}
 use mathlib.Core.List.{List, [], _∷_}
 use Prim.Native.Nat.{ℕ}
@@ -38,7 +38,7 @@ store-ticket v m = record { locks = m .locks; nexts = m .nexts; statuses = m .st
 abbrev pub store-grant : (value : ℕ) → Memory → Memory
 store-grant v m = record { locks = m .locks; nexts = m .nexts; statuses = m .statuses; ticket = m .ticket; grant = v }
 
--- WHERE A CALL RETURNS: to the program that called Acquire or Release, or behind the call in a line
+-- WHERE A CALL RETURNS: to the program that called Acquire or Release, or after the call in a line
 pub data Return : Type 0 where
   from-acquire from-release : Return
   behind-17 behind-29 behind-31 behind-41 behind-43 behind-82 : Return
@@ -98,7 +98,7 @@ release-real t l r b fs = control (cond (is-ticket t l) (ticket-lock line-92) (c
 unfoldable pub release-helper : (domain node val : ℕ) → Return → List Frame → Control
 release-helper l r v b fs = control (line-53 v) (frame l r b ∷ fs)
 
--- RETURNS: a call that ends goes back behind the line that made it; behind 17, 31, 43 and 82 its caller ends too (lines 18, 32, 44 and 83)
+-- RETURNS: a call that ends goes back after the line that made it; after 17, 31, 43 and 82 its caller ends too (lines 18, 32, 44 and 83)
 unfoldable pub goes-back : Return → (caller-ends : Control) → (callers : List Frame) → Control
 goes-back from-acquire c fs = control critical []
 goes-back from-release c fs = control outside []

@@ -1,4 +1,4 @@
--- Listing 1 of the paper on HMCS locks (source document 000), line by line. Fences are left out; docs/LISTING.md holds the lines beside the step table. Assumes nothing: these are definitions.
+-- Listing 1 of the paper on HMCS locks (source document 000), line by line. Fences are left out; docs/LISTING.md holds the lines beside the step table.
 use mathlib.Core.Bool.{cond}
 use mathlib.Core.List.{List, [], _∷_}
 use Prim.Native.Nat.{ℕ, _+_, _-_}

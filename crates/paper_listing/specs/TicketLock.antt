@@ -1,4 +1,4 @@
--- The ticket lock of source document 001, section 2, as a program text: at a ticket root it stands in for Listing 1's second template, lines 63 to 89, behind which its lines are numbered. A ticket is kept in the status of the node that takes it. Assumes nothing: these are definitions.
+-- The ticket lock of source document 001, section 2, as a program text: at a ticket root it stands in for Listing 1's second template, lines 63 to 89, after which its lines are numbered. A ticket is kept in the status of the node that takes it.
 use mathlib.Core.Bool.{cond}
 use mathlib.Core.List.{List}
 use Prim.Native.Nat.{ℕ, _+_}

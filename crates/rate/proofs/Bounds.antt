@@ -1,4 +1,4 @@
--- Bounds of whole numbers: what two 16-bit numbers make fits 32 bits and is exact as a float. Assumes nothing.
+-- Bounds of whole numbers: what two 16-bit numbers make fits 32 bits and is exact as a float.
 use Prim.Native.Nat.{ℕ, _-_, _*_, _^_, _≤_, _<_}
 use native.Mathlib.Nat.{le-trans, lt-of-le-of-lt, mul-le-mul}
 use native.Mathlib.Omega.{arith}

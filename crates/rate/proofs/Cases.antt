@@ -1,4 +1,4 @@
--- The cases hold: each is computed. Assumes nothing.
+-- The cases hold: each is computed.
 use mathlib.Core.Path.{_≡_, refl}
 use mathlib.Core.Bool.{true}
 use lib.Ieee.{ofBits, toBits, add, mul, div, ofInt, lt, le}

@@ -1,4 +1,4 @@
--- Floats that are finite and not negative, as fractions num / den: what each operation does to them, and the bounds that rounding keeps. Assumes nothing.
+-- Floats that are finite and not negative, as fractions num / den: what each operation does to them, and the bounds that rounding keeps.
 use mathlib.Core.Path.{_≡_, refl, sym, ap, _∙_, subst}
 use mathlib.Core.Bool.{Bool, true, false, _&&_, _||_, cond, true≢false}
 use Prim.Native.Nat.{ℕ, zero, suc, _+_, _-_, _*_, _/_, _%_, _^_, _≤_, _<_, compare}

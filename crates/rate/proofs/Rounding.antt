@@ -1,4 +1,4 @@
--- Each operation of an accepted rate rounds once, and the rate is a finite number above zero. Assumes nothing.
+-- Each operation of an accepted rate rounds once, and the rate is a finite number above zero.
 use mathlib.Core.Path.{sym, ap, _∙_, subst}
 use mathlib.Core.Bool.{false}
 use Prim.Native.Nat.{ℕ, _+_, _-_, _*_, _^_, _≤_, _<_}

@@ -1,4 +1,4 @@
--- The answer by its five tests, and the laws of times and answers. Assumes nothing.
+-- The answer by its five tests, and the laws of times and answers.
 use mathlib.Core.Path.{_≡_, refl, sym, ap, _∙_, subst}
 use mathlib.Core.Bool.{Bool, true, false, not, cond}
 use Prim.Native.Nat.{ℕ, _<_}

@@ -1,4 +1,4 @@
--- With both thresholds 1 the products are 0, adding 0 keeps a value that the format holds, and the rate is 1 over p3. Assumes nothing.
+-- With both thresholds 1 the products are 0, adding 0 keeps a value that the format holds, and the rate is 1 over p3.
 use mathlib.Core.Path.{_≡_, refl, sym, ap, _∙_, subst}
 use mathlib.Core.Bool.{Bool, true, false, not, _&&_}
 use Prim.Native.Nat.{ℕ, zero, suc, _+_, _-_, _*_, _^_, _≤_, _<_, _%_}

@@ -1,4 +1,4 @@
--- The witnesses of the rate hold. Assumes nothing.
+-- The witnesses of the rate hold.
 use mathlib.Core.Path.{_≡_, refl}
 use Prim.Native.Nat.{_<_, _^_}
 use native.Mathlib.Omega.{arith}

@@ -1,4 +1,4 @@
--- Document 02, (xiii): when a rate is refused, what is answered, and the answer in numbers alone. Assumes nothing: these are definitions.
+-- Document 02, (xiii): when a rate is refused, what is answered, and the answer in numbers alone.
 use Prim.Native.Nat.{ℕ, zero, suc}
 use mathlib.Core.Bool.{Bool, false, not, cond}
 use mathlib.Core.List.{List, [], _∷_}

@@ -1,4 +1,4 @@
--- Cases of the rate, in one list: rates that tell the roundings and their order, both ends of the range and the floats beyond them, and each refusal at its place. A float is written as its bit pattern; the rates are what a program outside computes. Assumes nothing: these are definitions.
+-- Cases of the rate, in one list: rates that tell the roundings and their order, both ends of the range and the floats beyond them, and each refusal at its place. A float is written as its bit pattern; the rates are what a program outside computes.
 use mathlib.Core.Path.{_≡_}
 use mathlib.Core.Bool.{Bool, true, false, _&&_}
 use mathlib.Core.List.{List, [], _∷_}

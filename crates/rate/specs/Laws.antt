@@ -1,4 +1,4 @@
--- THE LAWS OF THE RATE. Each is a statement; proofs/ has its proof. Assumes nothing.
+-- THE LAWS OF THE RATE. Each is a statement; proofs/ has its proof.
 use mathlib.Core.Path.{_≡_}
 use mathlib.Core.Bool.{true, false}
 use Prim.Native.Nat.{ℕ, _+_, _*_, _^_, _≤_, _<_}

@@ -1,4 +1,4 @@
--- Document 02, (xiii): the rate of a busy three-level lock. Floats are the values of IEEE 754, as `lib.Ieee` has them: `fin false m e` is m * 2 ^ e. Each operation rounds once, to the nearest value and at a tie to the even one. Assumes nothing: these are definitions.
+-- Document 02, (xiii): the rate of a busy three-level lock. Floats are the values of IEEE 754, as `lib.Ieee` has them: `fin false m e` is m * 2 ^ e. Each operation rounds once, to the nearest value and at a tie to the even one.
 use Prim.Native.Nat.{ℕ, _-_, _*_}
 use mathlib.Core.Bool.{Bool, false, _&&_}
 use lib.IntN.{pos, negsuc}

@@ -1,4 +1,4 @@
--- WHO MEETS WHAT THE LAWS ASK: inputs that the laws of the rate accept; docs/WITNESSES.md is the list. Assumes nothing: these are definitions and statements.
+-- WHO MEETS WHAT THE LAWS ASK: inputs that the laws of the rate accept; docs/WITNESSES.md is the list.
 use Prim.Native.Nat.{_<_, _^_}
 use lib.Dec.{T}
 use lib.Ieee.{binary64, fits, ofBits}

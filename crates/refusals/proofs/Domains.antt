@@ -1,4 +1,4 @@
--- One walk over the domains: those passed fail none of 6 to 8. Assumes nothing.
+-- One walk over the domains: those passed fail none of 6 to 8.
 use mathlib.Core.Path.{_≡_, refl}
 use mathlib.Core.Bool.{Bool, false}
 use mathlib.Core.List.{List, []}

@@ -1,4 +1,4 @@
--- Which bytes are no homes, in one pass over the parents. Assumes nothing.
+-- Which bytes are no homes, in one pass over the parents.
 use mathlib.Core.Path.{_≡_, refl, sym, ap, _∙_}
 use mathlib.Core.Bool.{Bool, true, false, _||_, true≢false, false≢true}
 use mathlib.Core.List.{List, []}

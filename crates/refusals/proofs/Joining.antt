@@ -1,4 +1,4 @@
--- One list of tests behind another: the first decides if it refuses, the other if it does not. Assumes nothing.
+-- One list of tests after another: the first decides if it refuses, the other if it does not.
 use mathlib.Core.Path.{_≡_, refl, _∙_}
 use mathlib.Core.Bool.{Bool, true, false, cond}
 use mathlib.Core.List.{List, [], _∷_, _++_}

@@ -1,4 +1,4 @@
--- Levels in one pass: each domain's from its parent's. Assumes nothing.
+-- Levels in one pass: each domain's from its parent's.
 use mathlib.Core.Path.{_≡_, refl, sym, ap, _∙_}
 use mathlib.Core.Bool.{true, false}
 use mathlib.Core.List.{List, []}

@@ -1,4 +1,4 @@
--- The way up from a domain, one step at a time. Assumes nothing.
+-- The way up from a domain, one step at a time.
 use mathlib.Core.Path.{_≡_, refl}
 use mathlib.Core.Bool.{true, false}
 use mathlib.Core.List.{List, []}

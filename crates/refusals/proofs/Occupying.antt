@@ -1,4 +1,4 @@
--- THREADS UNDER DOMAINS: a walk from the highest domain down marks those on some thread's path; where all leaves are homes, that is every domain. Assumes nothing.
+-- THREADS UNDER DOMAINS: a walk from the highest domain down marks those on some thread's path; where all leaves are homes, that is every domain.
 use mathlib.Core.Path.{_≡_, refl, sym, ap, _∙_}
 use mathlib.Core.Bool.{Bool, true, false, not, true≢false}
 use mathlib.Core.List.{List, []}

@@ -1,4 +1,4 @@
--- A tree by its arrays: where a word is read, it is the array's. Assumes nothing.
+-- A tree by its arrays: where a word is read, it is the array's.
 use mathlib.Core.Path.{_≡_, refl, ap}
 use mathlib.Core.Bool.{Bool, true, false, not}
 use mathlib.Core.List.{List}

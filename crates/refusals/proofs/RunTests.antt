@@ -1,4 +1,4 @@
--- A run's tests: those of its tree and its state, then those of its schedule. Assumes nothing.
+-- A run's tests: those of its tree and its state, then those of its schedule.
 use mathlib.Core.Path.{_≡_, sym, ap, _∙_}
 use mathlib.Core.List.{List}
 use Prim.Native.Nat.{ℕ}

@@ -1,4 +1,4 @@
--- Scans: one place more, and what the lowest bad place is to a list of tests. Assumes nothing.
+-- Scans: one place more, and what the lowest bad place is to a list of tests.
 use mathlib.Core.Path.{_≡_, refl, sym, _∙_}
 use mathlib.Core.Bool.{Bool, true, false, _&&_}
 use mathlib.Core.List.{List, _∷_}

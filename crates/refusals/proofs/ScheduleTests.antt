@@ -1,4 +1,4 @@
--- The tests of a schedule in order: what the code tests is the schedule's refusal. Assumes nothing.
+-- The tests of a schedule in order: what the code tests is the schedule's refusal.
 use mathlib.Core.Path.{_≡_, refl, _∙_}
 use mathlib.Core.List.{List, []}
 use Prim.Native.Nat.{ℕ, _≤_, _<_}

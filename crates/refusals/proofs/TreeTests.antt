@@ -1,4 +1,4 @@
--- The tests of a tree in order: what the scans answer is the tree's refusal. Assumes nothing.
+-- The tests of a tree in order: what the scans answer is the tree's refusal.
 use mathlib.Core.Path.{_≡_, refl, sym, ap, fun-ext, _∙_}
 use mathlib.Core.Bool.{Bool}
 use mathlib.Core.List.{List, [], _++_}

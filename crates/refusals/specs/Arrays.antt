@@ -1,4 +1,4 @@
--- A tree by the arrays that a test reads, and what earlier tests have shown of them. Assumes nothing: these are definitions.
+-- A tree by the arrays that a test reads, and what earlier tests have shown of them.
 use mathlib.Core.Path.{_≡_}
 use mathlib.Core.Bool.{Bool, true, false, _||_, not, cond}
 use mathlib.Core.List.{List, [], _++_}

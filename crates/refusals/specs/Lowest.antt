@@ -1,4 +1,4 @@
--- What a scan answers. Assumes nothing: these are definitions.
+-- What a scan answers.
 use mathlib.Core.Path.{_≡_}
 use mathlib.Core.Bool.{Bool, true, false}
 use Prim.Native.Nat.{ℕ, _≤_, _<_}

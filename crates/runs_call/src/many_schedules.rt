@@ -64,7 +64,7 @@ pub fn many_refusal_of(tree: TreeWords, lengths: &[u32], entries: usize, room: u
     }
 }
 
-// Many schedules, the entries of all of them behind one another: of each, run from its own fresh lock, one row of eight numbers at the front of the rows. Refused as a whole, the rows as they came.
+// Many schedules, the entries of all of them one after another: of each, run from its own fresh lock, one row of eight numbers at the front of the rows. Refused as a whole, the rows as they came.
 pub fn run_many(tree: TreeWords, lengths: &[u32], entries: &[u16], rows: &mut [u32]) -> ManyReply
     ensures { λ r. ⌜ r ≡ many-reply tree (now (lengths .entry)) (now (entries .entry)) (now (rows .entry)) ⌝ }
     ensures { λ r. ⌜ now (rows .exit) ≡ rows-answer tree (now (lengths .entry)) (now (entries .entry)) (now (rows .entry)) ⌝ }

@@ -1,4 +1,4 @@
--- A schedule run alone on an accepted tree: the tree and the fresh words pass, and the trace buffer has room, so its own tests decide. Assumes nothing.
+-- A schedule run alone on an accepted tree: the tree and the fresh words pass, and the trace buffer has room, so its own tests decide.
 use mathlib.Core.Path.{_≡_, refl, sym, ap, _∙_}
 use mathlib.Core.Bool.{Bool}
 use mathlib.Core.List.{List, [], _++_}

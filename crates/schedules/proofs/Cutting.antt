@@ -1,4 +1,4 @@
--- The schedules: as many as lengths, each of its length, behind one another all entries. Assumes nothing.
+-- The schedules: as many as lengths, each of its length, one after another all entries.
 use mathlib.Core.Path.{_≡_, refl, sym, ap, _∙_}
 use mathlib.Core.List.{List, [], _∷_, _++_}
 use Prim.Native.Nat.{ℕ, zero, suc, _+_, _≤_, _<_}
@@ -13,7 +13,7 @@ unfolding cut
 as-many [] es = refl
 as-many (n ∷ ns) es = ap suc (as-many ns (drop n es))
 
--- the k-th starts behind the lengths before it
+-- the k-th starts after the lengths before it
 pub in-order : (ns es : List ℕ) (k : ℕ) → k < length ns → getD (cut ns es) k [] ≡ schedule-at ns es k
 unfolding cut total
 in-order [] es k h = absurd (omega arith)

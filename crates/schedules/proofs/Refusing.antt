@@ -1,4 +1,4 @@
--- What refuses the whole call, in plain numbers. Assumes nothing.
+-- What refuses the whole call, in plain numbers.
 use mathlib.Core.Path.{_≡_, refl, _∙_}
 use mathlib.Core.List.{List, [], _++_}
 use mathlib.Core.Logic.{_≢_}

@@ -1,4 +1,4 @@
--- Document 02, (xi): what the call answers, and the row buffer after it, for every input. Assumes nothing: these are definitions.
+-- Document 02, (xi): what the call answers, and the row buffer after it, for every input.
 use mathlib.Core.Bool.{cond}
 use mathlib.Core.List.{List, _++_}
 use Prim.Native.Nat.{ℕ}
@@ -21,7 +21,7 @@ many-reply w ns es b =
     let r = many-answer w ns es b in
     record { number = r .number; place = r .place; rows = cond (eqb (r .number) 0) (length ns) 0 }
 
--- the row buffer by the call's refusal: the rows at its front and nothing behind them; refused, as it came
+-- the row buffer by the call's refusal: the rows at its front and nothing after them; refused, as it came
 unfoldable pub row-buffer : Refusal → (buffer rows : List ℕ) → List ℕ
 row-buffer r b xs = cond (eqb (r .number) 0) (xs ++ drop (length xs) b) b
 

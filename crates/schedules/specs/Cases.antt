@@ -1,4 +1,4 @@
--- Cases of many schedules in one call, in one list: rows, refusals of a row, refusals of the call and their order, lengths near 2^32, buffers. Assumes nothing: these are definitions.
+-- Cases of many schedules in one call, in one list: rows, refusals of a row, refusals of the call and their order, lengths near 2^32, buffers.
 use mathlib.Core.Bool.{Bool, true, _&&_}
 use mathlib.Core.List.{List, [], _∷_, _++_}
 use Prim.Native.Nat.{ℕ}
@@ -18,7 +18,7 @@ pub record Case : Type 0 where
   pub place : ℕ
   pub after : List ℕ
 
--- accepted, with these rows at the front of a buffer of sevens, and so many numbers behind them
+-- accepted, with these rows at the front of a buffer of sevens, and so many numbers after them
 unfoldable pub rows-given : TreeWords → (lengths entries rows : List ℕ) → (front behind : ℕ) → Case
 rows-given w ns es xs n m =
     record { words = w; lengths = ns; entries = es; buffer = replicate n 7 ++ replicate m 7; number = 0; place = 0; after = xs ++ replicate m 7 }

@@ -1,4 +1,4 @@
--- THE LAWS OF MANY SCHEDULES IN ONE CALL. Each is a statement; proofs/ has its proof. Assumes nothing.
+-- THE LAWS OF MANY SCHEDULES IN ONE CALL. Each is a statement; proofs/ has its proof.
 use mathlib.Core.Path.{_≡_}
 use mathlib.Core.List.{List, [], _∷_}
 use mathlib.Core.Logic.{_≢_, _⊎_}
@@ -39,7 +39,7 @@ None-law =
 abbrev pub schedule-at : (lengths entries : List ℕ) → (k : ℕ) → List ℕ
 schedule-at ns es k = take (getD ns k 0) (drop (total (take k ns)) es)
 
--- where the lengths add up, the entries are the schedules behind one another, each of its length
+-- where the lengths add up, the entries are the schedules one after another, each of its length
 pub record Cuts (lengths entries : List ℕ) : Type 0 where
   pub as-many : length (cut lengths entries) ≡ length lengths
   pub in-order : (k : ℕ) → k < length lengths → getD (cut lengths entries) k [] ≡ schedule-at lengths entries k
@@ -69,7 +69,7 @@ Row-law =
     (w : TreeWords) (lengths entries buffer : List ℕ) → many-answer w lengths entries buffer .number ≡ 0 → (k : ℕ) → k < length lengths →
     Says w (schedule-at lengths entries k) (row-at k (rows-answer w lengths entries buffer))
 
--- 4. THE BUFFER keeps its length and what is behind the rows; refused, all of it. The reply says how many rows stand at its front
+-- 4. THE BUFFER keeps its length and what is after the rows; refused, all of it. The reply says how many rows stand at its front
 pub record Keeps-rest (w : TreeWords) (lengths entries buffer : List ℕ) : Type 0 where
   pub long : length (rows-answer w lengths entries buffer) ≡ length buffer
   pub behind : drop (8 * length lengths) (rows-answer w lengths entries buffer) ≡ drop (8 * length lengths) buffer

@@ -1,4 +1,4 @@
--- Document 02, (xi): what refuses the whole call, 4 to 9 and 16, then 22, then 23. Assumes nothing: these are definitions.
+-- Document 02, (xi): what refuses the whole call, 4 to 9 and 16, then 22, then 23.
 use mathlib.Core.Bool.{Bool, not}
 use mathlib.Core.List.{List, [], _∷_, _++_}
 use Prim.Native.Nat.{ℕ, _/_}

@@ -1,4 +1,4 @@
--- Document 02, (xi): the schedules of a call, and the row of each. Assumes nothing: these are definitions.
+-- Document 02, (xi): the schedules of a call, and the row of each.
 use mathlib.Core.List.{List, [], _∷_, _++_}
 use Prim.Native.Nat.{ℕ, _+_}
 use lib.ListN.{take, drop}
@@ -11,7 +11,7 @@ unfoldable pub total : (lengths : List ℕ) → ℕ
 total [] = 0
 total (n ∷ ns) = n + total ns
 
--- the schedules: the entries, which stand behind one another, cut by the lengths
+-- the schedules: the entries, which stand one after another, cut by the lengths
 unfoldable pub cut : (lengths entries : List ℕ) → List (List ℕ)
 cut [] es = []
 cut (n ∷ ns) es = take n es ∷ cut ns (drop n es)
@@ -31,7 +31,7 @@ unfoldable pub rows-of : TreeWords → (schedules : List (List ℕ)) → List (L
 rows-of w [] = []
 rows-of w (is ∷ iss) = row-of (alone w is) ∷ rows-of w iss
 
--- some lists behind one another
+-- some lists one after another
 unfoldable pub behind-one-another : List (List ℕ) → List ℕ
 behind-one-another [] = []
 behind-one-another (xs ∷ xss) = xs ++ behind-one-another xss

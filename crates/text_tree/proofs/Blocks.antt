@@ -1,4 +1,4 @@
--- The domains and threads below a domain stand together: what holds of each such block, of a leaf, of a child, and of two behind one another. Assumes nothing.
+-- The domains and threads below a domain stand together: what holds of each such block, of a leaf, of a child, and of two one after another.
 use mathlib.Core.Path.{_≡_, refl, _∙_, ap}
 use mathlib.Core.Bool.{Bool, true, false}
 use mathlib.Core.Logic.{_≢_, _⊎_, inl, inr, ⊎-elim}
@@ -115,7 +115,7 @@ module _ (parent threshold home : ℕ → ℕ) where
               };
         }
 
-  -- two lists of children behind one another
+  -- two lists of children one after another
   module _ (d lo mid hi i k j levels : ℕ) (a : Block parent threshold home d lo lo mid i k levels) (b : Block parent threshold home d mid mid hi k j levels) (under : d < lo) where
     by-part : {C : Type 0} (n m : ℕ) → (n < m → C) → (m ≤ n → C) → C
     by-part {C} n m f g = go (ltb n m) refl

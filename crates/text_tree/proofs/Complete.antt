@@ -1,4 +1,4 @@
--- Every text of the grammar is read to its end, and its words are added one by one. Assumes nothing.
+-- Every text of the grammar is read to its end, and its words are added one by one.
 use mathlib.Core.Path.{_≡_, refl, sym, _∙_, ap}
 use mathlib.Core.Bool.{true}
 use mathlib.Core.List.{List, [], _∷_, _++_, append-assoc, append-nil}
@@ -123,7 +123,7 @@ threshold-reads (numeral {b} {bs} l u xs) rest d ds p w f =
           ∙ ap (λ n. read-on rest (to (in-threshold n d ds (r .place) w))) (sym (first-value b bs));
     }
 
--- TREES, from behind their first parenthesis
+-- TREES, from after their first parenthesis
 pub record Tree-reads (bytes rest : List ℕ) (q : Position) (ds : List ℕ) (w : TreeWords) : Type 0 where
   pub inner-bytes : List ℕ
   pub opens : bytes ≡ 40 ∷ inner-bytes

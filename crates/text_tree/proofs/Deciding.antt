@@ -1,4 +1,4 @@
--- THE ANSWERS: accepted, 15, 4 and 5, each exactly where its sentence says. Assumes nothing.
+-- THE ANSWERS: accepted, 15, 4 and 5, each exactly where its sentence says.
 use mathlib.Core.Path.{_≡_, refl, sym, _∙_, ap}
 use mathlib.Core.Bool.{Bool, true, false}
 use mathlib.Core.List.{List, [], _++_, append-assoc}

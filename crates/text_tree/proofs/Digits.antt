@@ -1,4 +1,4 @@
--- What the tests of a byte say of it, and limits of numbers. Assumes nothing.
+-- What the tests of a byte say of it, and limits of numbers.
 use mathlib.Core.Path.{_≡_, refl, sym, _∙_}
 use mathlib.Core.Bool.{Bool, true, false}
 use mathlib.Core.Logic.{_⊎_, inl, inr}

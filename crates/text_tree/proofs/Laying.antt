@@ -1,4 +1,4 @@
--- Domains and threads that are laid out stay where they stand, whatever is laid out behind them. Assumes nothing.
+-- Domains and threads that are laid out stay where they stand, whatever is laid out after them.
 use mathlib.Core.Path.{_≡_, refl, sym, _∙_, ap}
 use mathlib.Core.List.{List, [], _∷_, _++_, append-assoc, append-nil}
 use Prim.Native.Nat.{ℕ, _+_, _≤_, _<_}

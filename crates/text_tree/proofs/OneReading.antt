@@ -1,4 +1,4 @@
--- Each text has one reading. Assumes nothing.
+-- Each text has one reading.
 use mathlib.Core.Path.{_≡_, refl, sym, _∙_, ap}
 use mathlib.Core.List.{List, [], _∷_, _++_, append-assoc}
 use Prim.Native.Nat.{ℕ, _≤_, _<_}
@@ -87,7 +87,7 @@ inner-inner {es} {fs} {ps} {qs} xs ys x y p q e ih =
     let r = ih (sym (append-assoc xs (41 ∷ []) x) ∙ inside ∙ append-assoc ys (41 ∷ []) y) in
     (ap inner (r .0), r .1)
 
--- two domains, whatever stands behind them: their thresholds, their trees and what stands behind are the same
+-- two domains, whatever stands after them: their thresholds, their trees and what stands after are the same
 domain-domain :
     {k l g h : ℕ} {xs ys us vs : List ℕ} {t u : Shape} (x y : List ℕ) → Numeral xs g → Tree-text k us t → Numeral ys h → Tree-text l vs u →
     xs ++ (us ++ x) ≡ ys ++ (vs ++ y) → (us ++ x ≡ vs ++ y → (t ≡ u) × (x ≡ y)) → (g ≡ h) × ((t ≡ u) × (x ≡ y))
@@ -101,7 +101,7 @@ domain-domain {xs = xs} {ys} {us} {vs} x y a t b u e ih =
     (ap (λ l. xs ++ l) (sym open-us) ∙ e ∙ ap (λ l. ys ++ l) open-vs) in
     (r .0, ih (open-us ∙ r .1 ∙ sym open-vs))
 
--- behind a domain the list goes on or is closed
+-- after a domain the list goes on or is closed
 regroup : (xs ys zs rest : List ℕ) → (xs ++ (ys ++ (32 ∷ zs))) ++ rest ≡ xs ++ (ys ++ (32 ∷ (zs ++ rest)))
 regroup xs ys zs rest = simp append-assoc
 

@@ -1,4 +1,4 @@
--- NOTHING ELSE REFUSES: an accepted text's tree passes the tests of a fresh lock, and every domain has a thread under it. Assumes nothing.
+-- NOTHING ELSE REFUSES: an accepted text's tree passes the tests of a fresh lock, and every domain has a thread under it.
 use mathlib.Core.Path.{_≡_, refl, _∙_}
 use mathlib.Core.Bool.{Bool, true, false, _&&_, not}
 use mathlib.Core.List.{List, []}

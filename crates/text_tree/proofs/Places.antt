@@ -1,4 +1,4 @@
--- What a text comes to, said by the grammar: it is a text, or the place is where it can no longer become one. Assumes nothing.
+-- What a text comes to, said by the grammar: it is a text, or the place is where it can no longer become one.
 use mathlib.Core.Path.{_≡_, refl, sym, _∙_}
 use mathlib.Core.Bool.{Bool, true, false, cond}
 use mathlib.Core.List.{List, [], _∷_, _++_, append-assoc, append-nil}
@@ -54,7 +54,7 @@ counts (closed (d ∷ ds) p w) b =
     counts-either p (eqb b 32) (to (domain-due d ds (p + 1) w)) (cond (eqb b 41) (to (closed ds (p + 1) w)) (stuck p)) refl
     (counts-either p (eqb b 41) (to (closed ds (p + 1) w)) (stuck p) refl refl)
 
--- where reading is stuck, the bytes behind are no matter
+-- where reading is stuck, the bytes after are no matter
 pub left-at : (bs : List ℕ) (p : ℕ) → read-on bs (stuck p) ≡ leaves p
 unfolding read-on
 left-at [] p = refl

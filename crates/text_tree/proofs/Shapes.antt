@@ -1,4 +1,4 @@
--- A text's tree is laid out in blocks. Assumes nothing.
+-- A text's tree is laid out in blocks.
 use mathlib.Core.Path.{_≡_, refl, _∙_, ap}
 use mathlib.Core.List.{List, [], _∷_, _++_}
 use Prim.Native.Nat.{ℕ, suc, _+_, _-_, _≤_, _<_}

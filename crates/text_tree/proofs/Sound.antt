@@ -1,4 +1,4 @@
--- Where reading stands, bytes behind it make a text: the bytes that were read are the beginning of one. Assumes nothing.
+-- Where reading stands, bytes after it make a text: the bytes that were read are the beginning of one.
 use mathlib.Core.Path.{_≡_, refl}
 use mathlib.Core.Bool.{cond}
 use mathlib.Core.List.{List, [], _∷_, _++_, append-assoc, append-nil}
@@ -15,13 +15,13 @@ use Rattle.text_tree.specs.Reading.{Position, at-start, opened, count-du
 use Rattle.text_tree.proofs.Digits.{digit-bounds, first-digit-bounds, grows-digit, grows-limit}
 use Rattle.text_tree.proofs.Complete.{first-value}
 
--- what may stand behind a domain, as many parentheses being open
+-- what may stand after a domain, as many parentheses being open
 pub data Rest : (open-above : ℕ) → (bytes : List ℕ) → Type 0 where
   at-end : Rest 0 []
   closes : {j : ℕ} {z : List ℕ} → Rest j z → Rest (suc j) (41 ∷ z)
   goes-on : {j k : ℕ} {x z : List ℕ} {es : Domains} → j + k ≡ 4 → Domains-text k x es → Rest j z → Rest (suc j) (32 ∷ (x ++ (41 ∷ z)))
 
--- bytes behind those that were read make a text, whichever way is open
+-- bytes after those that were read make a text, whichever way is open
 abbrev pub Reaches : Position → (bytes : List ℕ) → Type 0
 Reaches at-start u = (ys : List ℕ) (t : Shape) → Text ys t → Some-text (u ++ ys)
 Reaches (opened d ds p w) u =

@@ -1,4 +1,4 @@
--- The words that reading adds are those of the tree, as long as there is room for them. Assumes nothing.
+-- The words that reading adds are those of the tree, as long as there is room for them.
 use mathlib.Core.Path.{_≡_, refl, sym, _∙_, ap}
 use mathlib.Core.Bool.{Bool, true, false}
 use mathlib.Core.List.{List, [], _∷_, _++_, append-assoc}

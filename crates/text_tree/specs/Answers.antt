@@ -1,4 +1,4 @@
--- What reading a text answers, for every text. Assumes nothing: these are definitions.
+-- What reading a text answers, for every text.
 use mathlib.Core.Bool.{cond}
 use mathlib.Core.List.{List}
 use Prim.Native.Nat.{ℕ}

@@ -1,4 +1,4 @@
--- Cases of trees as text, in one list. Bytes: the space 32, # 35, ( 40, ) 41, the digits 48 to 57. Assumes nothing: these are definitions.
+-- Cases of trees as text, in one list. Bytes: the space 32, # 35, ( 40, ) 41, the digits 48 to 57.
 use mathlib.Core.Bool.{Bool, _&&_}
 use mathlib.Core.List.{List, [], _∷_, _++_}
 use Prim.Native.Nat.{ℕ, zero, suc}
@@ -25,7 +25,7 @@ gives d t ps hs ms bs = answers 0 0 d t ps hs ms (text-answer bs)
 abbrev pub example : List ℕ
 example = 40 ∷ 50 ∷ 40 ∷ 35 ∷ 50 ∷ 41 ∷ 32 ∷ 49 ∷ 54 ∷ 40 ∷ 35 ∷ 49 ∷ 41 ∷ 41 ∷ []
 
--- the example cut behind each of its first bytes
+-- the example cut after each of its first bytes
 abbrev pub cut : ℕ → List Bool
 cut zero = refuses 15 0 [] ∷ []
 cut (suc n) = refuses 15 (suc n) (take (suc n) example) ∷ cut n
@@ -50,7 +50,7 @@ root-with ds = 40 ∷ 35 ∷ (ds ++ (41 ∷ []))
 
 unfoldable pub cases : List Bool
 cases =
-    -- the printed example; cut, it ends too soon; a byte behind it is one too many
+    -- the printed example; cut, it ends too soon; a byte after it is one too many
     gives 3 3 (replicate 64 0) (0 ∷ 2 ∷ 16 ∷ replicate 61 0) (1 ∷ 1 ∷ 2 ∷ replicate 253 0) example
     ∷ all (cut 13)
     ∷ refuses 15 14 (example ++ (10 ∷ []))

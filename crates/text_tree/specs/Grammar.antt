@@ -1,4 +1,4 @@
--- WHAT A TEXT OF A TREE IS, apart from reading it: document 02, (i). Which bytes are the text of which tree, and the words of that tree. Assumes nothing: these are definitions.
+-- WHAT A TEXT OF A TREE IS, apart from reading it: document 02, (i). Which bytes are the text of which tree, and the words of that tree.
 use mathlib.Core.Path.{_≡_}
 use mathlib.Core.List.{List, [], _∷_, _++_}
 use Prim.Native.Nat.{ℕ, suc, _+_, _*_, _-_, _≤_}
@@ -15,7 +15,7 @@ mutual
     last : (threshold : ℕ) → Shape → Domains
     more : (threshold : ℕ) → Shape → Domains → Domains
 
--- the value of decimal digits, behind those that were read
+-- the value of decimal digits, after those that were read
 unfoldable pub value-from : (value : ℕ) → (digits : List ℕ) → ℕ
 value-from v [] = v
 value-from v (b ∷ bs) = value-from (10 * v + (b - 48)) bs
@@ -53,7 +53,7 @@ pub record Some-text (bytes : List ℕ) : Type 0 where
   pub shape : Shape
   pub text : Text bytes shape
 
--- the beginning of a text: with more bytes behind it, or none, it is one
+-- the beginning of a text: with more bytes after it, or none, it is one
 pub record Beginning (bytes : List ℕ) : Type 0 where
   pub further : List ℕ
   pub some-text : Some-text (bytes ++ further)
@@ -94,7 +94,7 @@ domains-in t = length (laid-out t .parents)
 abbrev pub threads-in : Shape → ℕ
 threads-in t = length (laid-out t .homes)
 
--- words at the front of some room, and 0 behind them
+-- words at the front of some room, and 0 after them
 abbrev pub in-room : (room : ℕ) → (words : List ℕ) → List ℕ
 in-room room ws = ws ++ replicate (room - length ws) 0
 

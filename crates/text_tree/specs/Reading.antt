@@ -1,4 +1,4 @@
--- Reading a text byte by byte, from left to right. Assumes nothing: these are definitions.
+-- Reading a text byte by byte, from left to right.
 use mathlib.Core.Bool.{Bool, _&&_, cond}
 use mathlib.Core.List.{List, [], _∷_}
 use Prim.Native.Nat.{ℕ, _+_, _*_, _-_}
@@ -11,9 +11,9 @@ use Rattle.text_tree.specs.Words.{least, root-words, new-number, domain-
 pub data Position : Type 0 where
   -- nothing is read
   at-start : Position
-  -- behind an opening parenthesis
+  -- after an opening parenthesis
   opened : (domain : ℕ) → (above : List ℕ) → (at : ℕ) → TreeWords → Position
-  -- behind `#`
+  -- after `#`
   count-due : (domain : ℕ) → (above : List ℕ) → (at : ℕ) → TreeWords → Position
   -- in a thread count
   in-count : (count domain : ℕ) → (above : List ℕ) → (at : ℕ) → TreeWords → Position
@@ -21,10 +21,10 @@ pub data Position : Type 0 where
   domain-due : (domain : ℕ) → (above : List ℕ) → (at : ℕ) → TreeWords → Position
   -- in a threshold
   in-threshold : (threshold domain : ℕ) → (above : List ℕ) → (at : ℕ) → TreeWords → Position
-  -- behind a closing parenthesis
+  -- after a closing parenthesis
   closed : (above : List ℕ) → (at : ℕ) → TreeWords → Position
 
--- no text could continue with the byte at a place, or reading stands behind it
+-- no text could continue with the byte at a place, or reading stands after it
 pub data Moved : Type 0 where
   stuck : (place : ℕ) → Moved
   to : Position → Moved

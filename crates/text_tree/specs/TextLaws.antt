@@ -1,4 +1,4 @@
--- THE LAWS OF TREES AS TEXT. Each is a statement; proofs/ has its proof. Assumes nothing.
+-- THE LAWS OF TREES AS TEXT. Each is a statement; proofs/ has its proof.
 use mathlib.Core.Path.{_≡_}
 use mathlib.Core.Bool.{true}
 use mathlib.Core.List.{List}

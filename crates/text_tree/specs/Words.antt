@@ -1,4 +1,4 @@
--- The words of a tree while its text is read: counts stop at one more than there is room for, and words without room are not stored. Assumes nothing: these are definitions.
+-- The words of a tree while its text is read: counts stop at one more than there is room for, and words without room are not stored.
 use mathlib.Core.Bool.{cond}
 use mathlib.Core.List.{List}
 use Prim.Native.Nat.{ℕ, _+_, _-_}
@@ -14,7 +14,7 @@ least limit n = cond (ltb n limit) n limit
 unfoldable pub no-words : TreeWords
 no-words = record { domains = 0; threads = 0; parents = replicate 64 0; thresholds = replicate 64 0; homes = replicate 256 0; «ticket_root» = 0 }
 
--- behind the first parenthesis: the root alone
+-- after the first parenthesis: the root alone
 unfoldable pub root-words : TreeWords
 root-words = record { domains = 1; threads = 0; parents = replicate 64 0; thresholds = replicate 64 0; homes = replicate 256 0; «ticket_root» = 0 }
 

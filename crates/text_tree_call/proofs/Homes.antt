@@ -1,4 +1,4 @@
--- The homes of threads are stored one by one. Assumes nothing.
+-- The homes of threads are stored one by one.
 use mathlib.Core.Path.{_≡_}
 use mathlib.Core.List.{List}
 use Prim.Native.Nat.{ℕ, suc, _+_, _-_, _≤_, _<_}

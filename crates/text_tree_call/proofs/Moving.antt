@@ -1,4 +1,4 @@
--- One byte more is read: where reading stands behind it. The end of a text is read as a byte that no text has. Assumes nothing.
+-- One byte more is read: where reading stands after it. The end of a text is read as a byte that no text has.
 use mathlib.Core.Path.{_≡_, refl, sym, _∙_}
 use mathlib.Core.Bool.{Bool, true, false, cond}
 use mathlib.Core.List.{List, [], _∷_}
@@ -41,7 +41,7 @@ nothing-left at bs h = empty (drop at bs) (omega (arith, length-drop at bs))
     empty [] e = refl
     empty (x ∷ xs) e = absurd (omega arith)
 
--- every position but that behind a whole text
+-- every position but that after a whole text
 abbrev pub Unfinished : Position → Type 0
 Unfinished at-start = Unit
 Unfinished (opened d ds p w) = Unit
@@ -92,7 +92,7 @@ unfolding text-read from move
 start-stuck bs n = next bs 0 at-start tt ∙ rw (ne-eqb _ _ n) (left-at (drop 1 bs) 0)
 
 module _ (bs : List ℕ) (at : ℕ) (d : ℕ) (ds : List ℕ) (w : TreeWords) where
-  -- behind an opening parenthesis
+  -- after an opening parenthesis
   pub opened-count : getD bs at 0 ≡ 35 → from bs at (opened d ds at w) ≡ from bs (at + 1) (count-due d ds (at + 1) w)
   unfolding from move
   opened-count e = next bs at (opened d ds at w) tt ∙ rw (eq-eqb _ _ e)
@@ -160,7 +160,7 @@ module _ (bs : List ℕ) (at : ℕ) (d : ℕ) (ds : List ℕ) (w : TreeWords) wh
   unfolding from move
   threshold-stuck h e k = next bs at (in-threshold h d ds at w) tt ∙ rw (e, ne-eqb _ _ k) (left-at (drop (at + 1) bs) at)
 
-  -- behind a closing parenthesis
+  -- after a closing parenthesis
   pub closed-space : getD bs at 0 ≡ 32 → from bs at (closed (d ∷ ds) at w) ≡ from bs (at + 1) (domain-due d ds (at + 1) w)
   unfolding from move
   closed-space e = next bs at (closed (d ∷ ds) at w) tt ∙ rw e
@@ -174,7 +174,7 @@ module _ (bs : List ℕ) (at : ℕ) (d : ℕ) (ds : List ℕ) (w : TreeWords) wh
   closed-stuck n k =
       next bs at (closed (d ∷ ds) at w) tt ∙ rw (ne-eqb _ _ n, ne-eqb _ _ k) (left-at (drop (at + 1) bs) at)
 
--- behind a whole text
+-- after a whole text
 pub text-over : (bs : List ℕ) (at : ℕ) (w : TreeWords) → at ≡ length bs → from bs at (closed [] at w) ≡ whole w
 unfolding from read-on ended
 text-over bs at w e = let h : length bs ≤ at = omega arith in rw (nothing-left at bs h)

@@ -1,4 +1,4 @@
--- What the functions inside the reader promise, one case of their code each. Assumes nothing.
+-- What the functions inside the reader promise, one case of their code each.
 use mathlib.Core.Path.{_≡_, sym, _∙_, ap}
 use mathlib.Core.Bool.{true, false}
 use mathlib.Core.List.{List, [], _∷_}
@@ -161,7 +161,7 @@ module _ (bs : List ℕ) (start : ℕ) (before : TreeWords) (d left at : ℕ) (w
       record { same = λ ds l. here .same ds l ∙ begun .same ds ∙ ap (inside bs (new-number (w .domains)) d ds (b .tree)) e; within = tt }
 
   module _ (open-at : ℕ) (e : b .reached ≡ Behind open-at) (r : Reading) (read : Domain-read bs open-at (b .tree) (new-number (w .domains)) left r) (f : Next) (next : Followed bs (r .reached) f) where
-    -- up to behind the domain
+    -- up to after the domain
     list-same :
         (ds : List ℕ) → length ds + left ≡ 4 → from bs start (domain-due d ds start before) ≡ followed bs d ds (r .tree) f
     list-same ds l =

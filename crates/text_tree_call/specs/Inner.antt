@@ -1,4 +1,4 @@
--- What the functions inside the reader promise: what is left of the text comes to the same from where they stop as from where they start. Assumes nothing: these are definitions.
+-- What the functions inside the reader promise: what is left of the text comes to the same from where they stop as from where they start.
 use mathlib.Core.Path.{_≡_}
 use mathlib.Core.Bool.{false}
 use mathlib.Core.List.{List, [], _∷_}
@@ -55,7 +55,7 @@ pub record Threshold-read (bytes : List ℕ) (at : ℕ) (r : Number) : Type 0 wh
   pub same : (d : ℕ) (ds : List ℕ) (w : TreeWords) → from bytes at (domain-due d ds at w) ≡ measured bytes d ds w r
   pub stopped : Threshold-stopped bytes at r
 
--- DOMAINS. What a text comes to behind a domain, those above it being given
+-- DOMAINS. What a text comes to after a domain, those above it being given
 abbrev pub resumed : (bytes : List ℕ) → (above : List ℕ) → TreeWords → Reached → Outcome
 resumed bs ds w (Behind end) = from bs end (closed ds end w)
 resumed bs ds w (Stuck p) = leaves p

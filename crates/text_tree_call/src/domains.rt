@@ -93,7 +93,7 @@ fn follow(text: &[u8], reached: Reached) -> Next
     }
 }
 
-// A domain from behind its opening parenthesis to behind its closing one; `left` levels may lie below it.
+// A domain from after its opening parenthesis to after its closing one; `left` levels may lie below it.
 fn read_domain(text: &[u8], at: usize, tree: TreeWords, domain: u8, left: usize) -> Reading
     ensures { λ r. ⌜ Domain-read (now (text .entry)) at tree domain left r ⌝ }
 {
@@ -109,7 +109,7 @@ fn read_domain(text: &[u8], at: usize, tree: TreeWords, domain: u8, left: usize)
     read_list(text, at, tree, domain, left - 1)
 }
 
-// The domains below a domain, to behind its closing parenthesis; `left` levels may lie below them.
+// The domains below a domain, to after its closing parenthesis; `left` levels may lie below them.
 fn read_list(text: &[u8], start: usize, before: TreeWords, domain: u8, left: usize) -> Reading
     ensures { λ r. ⌜ List-read (now (text .entry)) start before domain left r ⌝ }
 {

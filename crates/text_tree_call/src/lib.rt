@@ -8,7 +8,7 @@ ghost use Rattle.text_tree.specs.Answers.{text-answer, refused-by, counted-repl
 use model::TreeWords;
 use text_tree::TextReply;
 
-// How far reading a domain came: behind it, or to a byte with which no text could continue.
+// How far reading a domain came: after it, or to a byte with which no text could continue.
 pub(crate) enum Reached {
     Behind(usize),
     Stuck(usize),

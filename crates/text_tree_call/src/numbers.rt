@@ -7,7 +7,7 @@ ghost use Rattle.text_tree.specs.Reading.{is-digit, is-first-digit, grown, grow
 ghost use Rattle.text_tree_call.specs.Inner.{Count-read, Count-ended, Threshold-read, Threshold-ended};
 use crate::Number;
 
-// The byte at a position; 0, which no text has, behind the text.
+// The byte at a position; 0, which no text has, after the text.
 pub(crate) fn byte_at(text: &[u8], at: usize) -> u8
     ensures { λ r. ⌜ r ≡ getD (now (text .entry)) at 0 ⌝ }
 {
@@ -76,7 +76,7 @@ fn read_more_count(text: &[u8], start: usize, first: u32) -> Number
     Number::Value(at, number)
 }
 
-// A thread count, from behind `#`.
+// A thread count, from after `#`.
 pub(crate) fn read_count(text: &[u8], at: usize) -> Number
     ensures { λ r. ⌜ Count-read (now (text .entry)) at r ⌝ }
 {

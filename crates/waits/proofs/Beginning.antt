@@ -1,4 +1,4 @@
--- From fresh, a thread's beginnings are its finished attempts and the one under way. Assumes nothing.
+-- From fresh, a thread's beginnings are its finished attempts and the one under way.
 use mathlib.Core.Path.{_≡_, refl, sym, ap, subst, _∙_}
 use mathlib.Core.Bool.{Bool, true, false, cond, true≢false}
 use mathlib.Core.List.{List, [], _∷_, _++_}

@@ -1,4 +1,4 @@
--- A thread's attempts and their total are no more than the entries, since no two of its attempts overlap. Assumes nothing.
+-- A thread's attempts and their total are no more than the entries, since no two of its attempts overlap.
 use mathlib.Core.Path.{_≡_, refl, ap}
 use mathlib.Core.Bool.{Bool, true, false, cond}
 use mathlib.Core.List.{List, [], _∷_, _++_}

@@ -1,4 +1,4 @@
--- THE ROW BUFFER after a call: each row at its place, nothing behind them. Assumes nothing.
+-- THE ROW BUFFER after a call: each row at its place, nothing after them.
 use mathlib.Core.Path.{_≡_, refl, ap, _∙_}
 use mathlib.Core.List.{List, [], _∷_, _++_, append-assoc}
 use mathlib.Core.Logic.{_≢_}

@@ -1,4 +1,4 @@
--- THE BUFFERS after a call that goes on: rows and numbers at their places. Assumes nothing.
+-- THE BUFFERS after a call that goes on: rows and numbers at their places.
 use mathlib.Core.Path.{_≡_, refl, sym, ap, _∙_}
 use mathlib.Core.Bool.{Bool, true, false, cond}
 use mathlib.Core.List.{List, [], _∷_, _++_, append-assoc}

@@ -1,4 +1,4 @@
--- Two calls one after another give what one call on the joined schedule gives. Assumes nothing.
+-- Two calls one after another give what one call on the joined schedule gives.
 use mathlib.Core.Path.{_≡_, refl, sym, ap, _∙_}
 use mathlib.Core.List.{List, _++_}
 use Prim.Native.Nat.{ℕ, zero, suc, _+_, _-_, _≤_, _<_, max}

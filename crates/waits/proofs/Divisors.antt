@@ -1,4 +1,4 @@
--- The greatest common divisor and the mean, by divisibility. Assumes nothing.
+-- The greatest common divisor and the mean, by divisibility.
 use mathlib.Core.Path.{_≡_, refl, sym, ap, subst, _∙_}
 use mathlib.Core.Logic.{_≢_}
 use Prim.Native.Nat.{ℕ, zero, suc, one, _*_, _/_, _%_, _≤_, _<_, _∣_}

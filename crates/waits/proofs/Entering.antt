@@ -1,4 +1,4 @@
--- A thread's entries are its attempts, or one more: of the attempt that was under way before the run. Assumes nothing.
+-- A thread's entries are its attempts, or one more: of the attempt that was under way before the run.
 use mathlib.Core.Path.{_≡_, refl, sym, ap, subst, _∙_}
 use mathlib.Core.Bool.{Bool, true, false, cond, true≢false}
 use mathlib.Core.List.{List, [], _∷_, _++_}

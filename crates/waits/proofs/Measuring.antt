@@ -1,4 +1,4 @@
--- An attempt's wait is the entries between its beginning and its end, and the number of one under way those since its beginning. Assumes nothing.
+-- An attempt's wait is the entries between its beginning and its end, and the number of one under way those since its beginning.
 use mathlib.Core.Path.{_≡_, refl, ap, _∙_}
 use mathlib.Core.Bool.{true, false, cond}
 use mathlib.Core.List.{List, [], _∷_, _++_}

@@ -1,4 +1,4 @@
--- A thread is on its way from the beginning of an attempt to its entry, and no step begins another one there. Assumes nothing.
+-- A thread is on its way from the beginning of an attempt to its entry, and no step begins another one there.
 use mathlib.Core.Path.{_≡_, refl, sym, _∙_}
 use mathlib.Core.Bool.{Bool, true, false, _&&_, not, true≢false}
 use mathlib.Core.Logic.{_≢_}
@@ -21,7 +21,7 @@ use Rattle.model.proofs.Trees.Paths.{path-real}
 use Rattle.model.proofs.Trees.Tickets.{queue-facts}
 use Rattle.waits.specs.Attempts.{swaps-at, draws, begins-from}
 
--- on the way: behind the beginning of an attempt, and before its entry
+-- on the way: after the beginning of an attempt, and before its entry
 unfoldable pub on-way : Tree → (thread : ℕ) → Place → Bool
 on-way t i Idle = false
 on-way t i (Prep l) = not (eqb l (t .home i))

@@ -1,4 +1,4 @@
--- What refuses a run with waits that goes on, in plain numbers. Assumes nothing.
+-- What refuses a run with waits that goes on, in plain numbers.
 use mathlib.Core.Path.{_≡_, refl, sym, ap, _∙_}
 use mathlib.Core.Bool.{Bool, true, false, _&&_, not}
 use mathlib.Core.List.{List, []}

@@ -1,4 +1,4 @@
--- Sums and largest of numbers behind one another. Assumes nothing.
+-- Sums and largest of numbers one after another.
 use mathlib.Core.Path.{_≡_, ap, _∙_}
 use mathlib.Core.List.{List, [], _∷_, _++_}
 use Prim.Native.Nat.{ℕ, _+_, max}

@@ -1,4 +1,4 @@
--- The witnesses of `waits` hold. Assumes nothing.
+-- The witnesses of `waits` hold.
 use mathlib.Core.Path.{_≡_, refl}
 use mathlib.Core.List.{List, [], _∷_}
 use Rattle.model.specs.Scans.{any-below, all-below, filter-below}

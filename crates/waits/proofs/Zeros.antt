@@ -1,4 +1,4 @@
--- Numbers that are all 0 are none, and then no total is cut. Assumes nothing.
+-- Numbers that are all 0 are none, and then no total is cut.
 use mathlib.Core.Path.{_≡_, refl, sym, ap, _∙_}
 use mathlib.Core.List.{List, []}
 use Prim.Native.Nat.{ℕ, zero, suc, _*_, _≤_}

@@ -1,4 +1,4 @@
--- Document 02, (vi): what a run with waits answers, and its buffers after it, for every input; and the same where it goes on from attempts under way. Assumes nothing: these are definitions.
+-- Document 02, (vi): what a run with waits answers, and its buffers after it, for every input; and the same where it goes on from attempts under way.
 use mathlib.Core.Bool.{cond}
 use mathlib.Core.List.{List, _++_}
 use Prim.Native.Nat.{ℕ, _+_, _-_}
@@ -43,7 +43,7 @@ waits-answer w s is b rs =
 unfoldable pub waits-trace : TreeWords → LockState → (schedule trace rows : List ℕ) → List ℕ
 waits-trace w s is b rs = run-buffer (refused-by w s is b rs) b (run (tree-of w) is (s .words))
 
--- the row buffer: the rows at its front and nothing behind them; refused, as it came
+-- the row buffer: the rows at its front and nothing after them; refused, as it came
 unfoldable pub waits-rows : TreeWords → LockState → (schedule trace rows : List ℕ) → List ℕ
 waits-rows w s is b rs = row-buffer (refused-by w s is b rs) rs (all-rows (tree-of w) (steps (tree-of w) is (s .words)))
 

@@ -1,4 +1,4 @@
--- Document 02, (vi): the attempts of a thread and their waits, from the list of a run's steps, and the attempt that is under way after them. Assumes nothing: these are definitions.
+-- Document 02, (vi): the attempts of a thread and their waits, from the list of a run's steps, and the attempt that is under way after them.
 use mathlib.Core.Bool.{Bool, true, false, _&&_, cond}
 use mathlib.Core.List.{List, [], _∷_, _++_}
 use Prim.Native.Nat.{ℕ, zero, suc, _+_}

@@ -1,4 +1,4 @@
--- Cases of waits, in one list: rows by hand, attempts that begin before the run or end behind it, both kinds of root, means that reduce, refusals and their order. Assumes nothing: these are definitions.
+-- Cases of waits, in one list: rows by hand, attempts that begin before the run or end after it, both kinds of root, means that reduce, refusals and their order.
 use mathlib.Core.Path.{_≡_}
 use mathlib.Core.Bool.{Bool, true, false, _&&_, _||_}
 use mathlib.Core.List.{List, [], _∷_, _++_}
@@ -28,7 +28,7 @@ pub record Case : Type 0 where
   pub place : ℕ
   pub after : List ℕ
 
--- accepted from the words of a state, with these rows at the front of a buffer of sevens, and two numbers behind them
+-- accepted from the words of a state, with these rows at the front of a buffer of sevens, and two numbers after them
 unfoldable pub rows-given : TreeWords → State → (schedule : List ℕ) → (threads : ℕ) → (rows : List ℕ) → Case
 rows-given w s is n xs =
     record {

@@ -1,4 +1,4 @@
--- Cases of runs with waits that go on, in one list: an attempt from before the run that finishes, goes on or is not known, others' entries counted on, numbers up to 2^63 and a total that is cut, 27 and its order. Assumes nothing: these are definitions.
+-- Cases of runs with waits that go on, in one list: an attempt from before the run that finishes, goes on or is not known, others' entries counted on, numbers up to 2^63 and a total that is cut, 27 and its order.
 use mathlib.Core.Path.{_≡_}
 use mathlib.Core.Bool.{Bool, true, false, _&&_, _||_}
 use mathlib.Core.List.{List, [], _∷_, _++_}

@@ -1,4 +1,4 @@
--- THE LAWS OF A RUN WITH WAITS THAT GOES ON from attempts under way. Each is a statement; proofs/ has its proof. Assumes nothing.
+-- THE LAWS OF A RUN WITH WAITS THAT GOES ON from attempts under way. Each is a statement; proofs/ has its proof.
 use mathlib.Core.Path.{_≡_}
 use mathlib.Core.Bool.{cond}
 use mathlib.Core.List.{List, [], _∷_, _++_}

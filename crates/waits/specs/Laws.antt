@@ -1,4 +1,4 @@
--- THE LAWS OF WAITS. Each is a statement; proofs/ has its proof. Assumes nothing.
+-- THE LAWS OF WAITS. Each is a statement; proofs/ has its proof.
 use mathlib.Core.Path.{_≡_}
 use mathlib.Core.List.{List, [], _∷_, _++_}
 use mathlib.Core.Logic.{_≢_, _⊎_}
@@ -68,7 +68,7 @@ Mean-law = (total attempts : ℕ) → In-lowest-terms total attempts (mean total
 abbrev pub row-at : (index : ℕ) → (buffer : List ℕ) → List ℕ
 row-at k b = take 5 (drop (5 * k) b)
 
--- a column of the first rows: its numbers behind one another
+-- a column of the first rows: its numbers one after another
 unfoldable pub column : (at rows : ℕ) → (buffer : List ℕ) → List ℕ
 column c zero b = []
 column c (suc n) b = column c n b ++ (getD (row-at n b) c 0 ∷ [])
@@ -84,7 +84,7 @@ pub record Says (w : TreeWords) (s : LockState) (schedule trace rows : List ℕ)
 unfoldable pub Row-law : Type 0
 Row-law = (w : TreeWords) (s : LockState) (schedule trace rows : List ℕ) → refused-by w s schedule trace rows .number ≡ 0 → Says w s schedule trace rows
 
--- 5. THE ROW BUFFER keeps its length and what is behind the rows; refused, all of it. The reply says how many rows stand at its front
+-- 5. THE ROW BUFFER keeps its length and what is after the rows; refused, all of it. The reply says how many rows stand at its front
 pub record Keeps-rest (w : TreeWords) (s : LockState) (schedule trace rows : List ℕ) : Type 0 where
   pub long : length (waits-rows w s schedule trace rows) ≡ length rows
   pub behind : drop (5 * (tree-of w .threads + 1)) (waits-rows w s schedule trace rows) ≡ drop (5 * (tree-of w .threads + 1)) rows

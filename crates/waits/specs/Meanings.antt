@@ -1,4 +1,4 @@
--- THAT THE DEFINITION OF WAITS SAYS WHAT IT READS: laws. Each is a statement; proofs/ has its proof. Assumes nothing.
+-- THAT THE DEFINITION OF WAITS SAYS WHAT IT READS: laws. Each is a statement; proofs/ has its proof.
 use mathlib.Core.Path.{_≡_}
 use mathlib.Core.Bool.{true, false}
 use mathlib.Core.List.{List, [], _∷_, _++_}

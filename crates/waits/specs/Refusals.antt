@@ -1,4 +1,4 @@
--- Document 02, (vi): what refuses a run with waits: 4 to 9, 16 and 10 to 13, then 18, and 19 last of all; and where it goes on, 27 before 19. Assumes nothing: these are definitions.
+-- Document 02, (vi): what refuses a run with waits: 4 to 9, 16 and 10 to 13, then 18, and 19 last of all; and where it goes on, 27 before 19.
 use mathlib.Core.Bool.{Bool, _&&_, _||_, not}
 use mathlib.Core.List.{List, [], _∷_, _++_}
 use Prim.Native.Nat.{ℕ, _+_, _/_}

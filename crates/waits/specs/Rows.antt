@@ -1,4 +1,4 @@
--- Document 02, (vi): the row of some waits, and the mean as a fraction in lowest terms. Assumes nothing: these are definitions.
+-- Document 02, (vi): the row of some waits, and the mean as a fraction in lowest terms.
 use mathlib.Core.Bool.{cond}
 use mathlib.Core.List.{List, [], _∷_, _++_}
 use Prim.Native.Nat.{ℕ, zero, suc, _/_, _%_, max, min}

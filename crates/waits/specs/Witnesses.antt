@@ -1,4 +1,4 @@
--- WHO MEETS WHAT THE LAWS ASK: inputs that have at once all that a law of `waits` asks of them, where no line of the cases does; docs/WITNESSES.md is the list. Assumes nothing: these are definitions and statements.
+-- WHO MEETS WHAT THE LAWS ASK: inputs that have at once all that a law of `waits` asks of them, where no line of the cases does; docs/WITNESSES.md is the list.
 use mathlib.Core.Path.{_≡_}
 use mathlib.Core.Bool.{true, false}
 use mathlib.Core.List.{List, [], _∷_}

@@ -1,4 +1,4 @@
-// load FILE NUMBER ...: loads the plugins, each open to those that come behind it, and asks each for its entries, which must be the number.
+// load FILE NUMBER ...: loads the plugins, each open to those that come after it, and asks each for its entries, which must be the number.
 #include <cstdio>
 #include <cstdlib>
 #include <dlfcn.h>

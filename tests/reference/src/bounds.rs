@@ -13,7 +13,7 @@ pub fn capped_allowance(tree: &Tree, domain: usize) -> u64 {
     allowance(tree, domain_record(domain)).min(u64::MAX as u128) as u64
 }
 
-/// 0 for the root and behind the domains; a refused call leaves the buffer as it came.
+/// 0 for the root and after the domains; a refused call leaves the buffer as it came.
 pub fn allowances(words: &TreeWords, buffer: &mut [u64; DOMAIN_ROOM]) -> (u32, u32) {
     let tree = words.tree();
     if let Err(refusal) = accept_tree(&tree) {

@@ -8,7 +8,7 @@ use crate::words::TreeWords;
 /// The form of the call, the reference's and the library's: number, place and length.
 pub type WriteFile = fn(&TreeWords, &[u16], &mut [u8]) -> FileAnswer;
 
-/// A bit map, and behind it each field whose value is not what its absence means.
+/// A bit map, and after it each field whose value is not what its absence means.
 fn push_entry(file: &mut Vec<u8>, fields: &[(u8, Option<Vec<u8>>)]) {
     file.push(fields.iter().filter(|(_, field)| field.is_some()).map(|(bit, _)| bit).sum());
     file.extend(fields.iter().filter_map(|(_, field)| field.clone()).flatten());

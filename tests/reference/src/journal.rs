@@ -15,7 +15,7 @@ pub struct JournalAnswer {
 /// The form of the call, the step table's and the library's.
 pub type CheckJournal = fn(&TreeWords, &[u8]) -> JournalAnswer;
 
-/// Thread and kind of the first entry, and the bytes behind it; none where it is cut off or has another bit set.
+/// Thread and kind of the first entry, and the bytes after it; none where it is cut off or has another bit set.
 fn first_entry(bytes: &[u8], before: u16) -> Option<(u16, u8, &[u8])> {
     let (&map, mut rest) = bytes.split_first()?;
     if map & !3 != 0 {

@@ -53,7 +53,7 @@ impl Reader<'_> {
     }
 
     /// The first byte is the number of domains, and 128 more for a ticket root.
-    /// Domains behind the room are read and not kept: the tree is refused for their number.
+    /// Domains after the room are read and not kept: the tree is refused for their number.
     fn domains(&mut self, tree: &mut Tree) -> Outcome<()> {
         let first = self.byte()?;
         tree.ticket_root = first >= TICKET_ROOT_BIT;

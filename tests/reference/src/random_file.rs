@@ -42,13 +42,13 @@ pub fn valid_draft(random: &mut Random) -> Draft {
     draft
 }
 
-/// A file has room for so many entries behind its longest head.
+/// A file has room for so many entries after its longest head.
 fn cut_to_fit(draft: &mut Draft) {
     let head = 3 + 4 * draft.parents.len() + 2 * draft.homes.len();
     draft.schedule.truncate((LONGEST_FILE - head) / 2);
 }
 
-/// A file of 65,536 bytes or a few more: entries of thread 0 behind a valid one.
+/// A file of 65,536 bytes or a few more: entries of thread 0 after a valid one.
 fn overlong(random: &mut Random) -> Vec<u8> {
     let mut file = valid_draft(random).write(random);
     file.resize(LONGEST_FILE + random.between(0, 3), 0);

@@ -46,7 +46,7 @@ fn lower(file: &mut [u8], differs: &impl Fn(&[u8]) -> bool) -> bool {
     changed
 }
 
-/// Lowers one byte by one and takes away a stretch behind it.
+/// Lowers one byte by one and takes away a stretch after it.
 fn take_away_counted(file: &mut Vec<u8>, differs: &impl Fn(&[u8]) -> bool) -> bool {
     if file.len() > SHORT {
         return false;

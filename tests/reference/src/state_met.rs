@@ -24,10 +24,10 @@ pub struct StateMet {
     counters: CountersMet,
 }
 
-/// The entries that the library counts in one go at most; 19 must be met behind them too.
+/// The entries that the library counts in one go at most; 19 must be met after them too.
 const PIECE: u32 = 1_024;
 
-/// By position, 19 at the first entry, behind it, and behind a piece; another number where 19 would have come next; accepted with a counter of 2^63, and with one so near that the steps had to be taken.
+/// By position, 19 at the first entry, after it, and after a piece; another number where 19 would have come next; accepted with a counter of 2^63, and with one so near that the steps had to be taken.
 #[derive(Default)]
 struct CountersMet {
     past_at_first: u64,

@@ -5,7 +5,7 @@ use crate::listing::QNode;
 use crate::turnstile::{Stopped, Turn};
 use std::sync::atomic::{AtomicU16, Ordering::SeqCst};
 
-/// The lines of this program, numbered behind those of the listing, of which 89 is the last.
+/// The lines of this program, numbered after those of the listing, of which 89 is the last.
 pub const DRAW: u32 = 90;
 pub const WATCH: u32 = 91;
 pub const RAISE: u32 = 92;

@@ -127,7 +127,7 @@ fn is_under(tree: &Tree, thread: usize, domain: usize) -> bool {
     std::iter::successors(Some(tree.home(thread)), |&above| (above != ROOT).then(|| tree.parent(above))).any(|above| above == domain)
 }
 
-/// Two digits behind the point, of a number that is not below 0.
+/// Two digits after the point, of a number that is not below 0.
 fn decimal(numerator: u64, denominator: u64) -> String {
     format!("{:.2}", if denominator == 0 { 0.0 } else { numerator as f64 / denominator as f64 })
 }
@@ -231,7 +231,7 @@ fn thresholds_of_levels(tree: &Tree) -> Option<Vec<u16>> {
 
 const ROWS: [&str; 14] = ["Idle", "Prep", "Swap", "Link", "Wait", "Inside", "Check", "Help", "Cas", "Linger", "Grant", "Draw", "Watch", "Raise"];
 
-/// The domains, each behind its parent and before what follows on the parent's level, two spaces in front for each level below the root.
+/// The domains, each after its parent and before what follows on the parent's level, two spaces in front for each level below the root.
 pub fn tree_rows(tree: &Tree) -> Vec<String> {
     let mut rows = Vec::new();
     push_domain(tree, ROOT, 1, &mut rows);

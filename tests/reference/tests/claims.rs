@@ -75,7 +75,7 @@ impl Followed {
         self.state.places.iter().filter(|&&place| place == Place::Inside).count() <= 1
     }
 
-    /// Those who stand at a ticket root hold the tickets behind the grant, one after another, and the counter is the one behind the last.
+    /// Those who stand at a ticket root hold the tickets after the grant, one after another, and the counter is the one after the last.
     fn tickets_follow(&self) -> bool {
         let State { ticket, grant, statuses, .. } = &self.state;
         let mut last = *grant;

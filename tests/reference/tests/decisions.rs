@@ -240,7 +240,7 @@ fn numbers_of_the_kind_of_root() {
     }
 }
 
-/// What no run from fresh reaches goes by the table: a counter behind the grant, and a raise by a thread that did not enter.
+/// What no run from fresh reaches goes by the table: a counter after the grant, and a raise by a thread that did not enter.
 #[test]
 fn ticket_rows_in_states_not_reached() {
     let mut tree = tree();

@@ -14,7 +14,7 @@ fn refused(text: &str, number: u32, place: usize) {
     assert_eq!((domains, threads, parents, thresholds, homes, ticket_root), (0, 0, [0; 64], [0; 64], [0; 256], 0), "{text}");
 }
 
-/// The words of the tree's domains and threads, without the room behind them.
+/// The words of the tree's domains and threads, without the room after them.
 fn accepted(text: &str, parents: &[u8], thresholds: &[u16], homes: &[u8]) {
     let answer = read(text);
     assert_eq!((answer.number, answer.place), (0, 0), "{text}");

@@ -1,4 +1,4 @@
--- Where a chain ends: at the thread that enters, it has gone through all who stand before in the queue, each linked to the one before it, and on from the one who acts for the first. Assumes nothing.
+-- Where a chain ends: at the thread that enters, it has gone through all who stand before in the queue, each linked to the one before it, and on from the one who acts for the first.
 use mathlib.Core.Path.{_≡_, refl, sym, ap, _∙_}
 use mathlib.Core.Bool.{Bool, true, false, false≢true}
 use mathlib.Core.List.{List, [], _∷_, _++_, head-eq-of-cons-eq}

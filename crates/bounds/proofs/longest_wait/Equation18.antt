@@ -1,4 +1,4 @@
--- On three equal levels, where no threshold is below its number of members, W is what equation 18 allows. Assumes nothing.
+-- On three equal levels, where no threshold is below its number of members, W is what equation 18 allows.
 use mathlib.Core.Path.{_≡_, sym, ap, _∙_}
 use Prim.Native.Nat.{ℕ, zero, suc, _+_, _*_, _-_, _/_, _≤_, _<_}
 use native.Mathlib.Omega.{arith}

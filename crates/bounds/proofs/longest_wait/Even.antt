@@ -1,4 +1,4 @@
--- In an even tree all members of a level have the same passes and the same number of threads under them; so W is the number of the other threads. Assumes nothing.
+-- In an even tree all members of a level have the same passes and the same number of threads under them; so W is the number of the other threads.
 use mathlib.Core.Path.{_≡_, refl, sym, ap, _∙_}
 use mathlib.Core.Bool.{Bool, true, false, _&&_, not, cond}
 use Prim.Native.Nat.{ℕ, zero, suc, _+_, _*_, _≤_, _<_}

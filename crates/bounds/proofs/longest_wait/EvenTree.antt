@@ -1,4 +1,4 @@
--- In an even tree W is the number of the other threads: the threads of the tree, counted level by level, and the sums of W. Assumes nothing.
+-- In an even tree W is the number of the other threads: the threads of the tree, counted level by level, and the sums of W.
 use mathlib.Core.Path.{_≡_, refl, sym, ap, _∙_}
 use mathlib.Core.Bool.{Bool, true, false, cond, true≢false}
 use Prim.Native.Nat.{ℕ, zero, suc, _+_, _*_, _-_, _/_, _≤_, _<_}

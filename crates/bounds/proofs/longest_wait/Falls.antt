@@ -1,4 +1,4 @@
--- One step leaves no more to see in line, and an entry in line leaves less: where whoever is first has the lock. Assumes nothing.
+-- One step leaves no more to see in line, and an entry in line leaves less: where whoever is first has the lock.
 use mathlib.Core.Path.{_≡_, refl, sym, ap, _∙_}
 use mathlib.Core.List.{List, [], _∷_}
 use Prim.Native.Nat.{ℕ, suc, _+_, _*_, _/_, _≤_, _<_}

@@ -1,4 +1,4 @@
--- The wait-bound law: along an attempt what may still be seen in line falls with every entry in line, and at its beginning it is W. Assumes nothing.
+-- The wait-bound law: along an attempt what may still be seen in line falls with every entry in line, and at its beginning it is W.
 use mathlib.Core.Path.{_≡_, refl, sym, ap, _∙_}
 use mathlib.Core.Bool.{Bool, true, false, _&&_, not, cond, false≢true}
 use mathlib.Core.List.{List, [], _∷_, _++_, nil≢cons, head-eq-of-cons-eq, tail-eq-of-cons-eq}

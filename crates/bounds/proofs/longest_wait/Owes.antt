@@ -1,4 +1,4 @@
--- How many entries a thread may still see in line: so many at most, by the members before it in its queue, by whoever is first there, and by what that one in turn may still see. Assumes nothing.
+-- How many entries a thread may still see in line: so many at most, by the members before it in its queue, by whoever is first there, and by what that one in turn may still see.
 use mathlib.Core.Path.{_≡_, refl, ap, _∙_}
 use mathlib.Core.List.{List, _∷_}
 use mathlib.Core.Logic.{inl, inr}

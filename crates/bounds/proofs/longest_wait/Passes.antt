@@ -1,4 +1,4 @@
--- Passes bound the entries under a member while another stands ungranted. Assumes nothing.
+-- Passes bound the entries under a member while another stands ungranted.
 use mathlib.Core.Path.{_≡_, refl, ap, _∙_}
 use mathlib.Core.Bool.{Bool, true, false, not, cond}
 use mathlib.Core.List.{List, [], _∷_}

@@ -1,4 +1,4 @@
--- The entries of others in an attempt are in line or bypasses, and a prompt entry is in line. Assumes nothing.
+-- The entries of others in an attempt are in line or bypasses, and a prompt entry is in line.
 use mathlib.Core.Path.{_≡_, refl, sym, ap, _∙_}
 use mathlib.Core.Bool.{Bool, true, false, _||_, cond, false≢true}
 use mathlib.Core.List.{List, [], _∷_}

@@ -1,4 +1,4 @@
--- One step leaves no more to see in line, and an entry in line leaves less: in every case, by the levels above. Assumes nothing.
+-- One step leaves no more to see in line, and an entry in line leaves less: in every case, by the levels above.
 use mathlib.Core.Path.{_≡_, refl, sym, ap, _∙_}
 use mathlib.Core.List.{List, head-eq-of-cons-eq}
 use mathlib.Core.Logic.{_≢_, inl, inr}

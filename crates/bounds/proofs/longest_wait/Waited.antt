@@ -1,4 +1,4 @@
--- The waits that a run counts are those of its attempts. Assumes nothing.
+-- The waits that a run counts are those of its attempts.
 use mathlib.Core.Path.{_≡_, refl, sym, ap, _∙_}
 use mathlib.Core.Bool.{Bool, true, false, _&&_, cond, false≢true}
 use mathlib.Core.List.{List, [], _∷_, _++_, append-assoc}

@@ -1,4 +1,4 @@
--- W along a path: of a member it is that of the others, and for each tenure that of the domain above. Assumes nothing.
+-- W along a path: of a member it is that of the others, and for each tenure that of the domain above.
 use mathlib.Core.Path.{_≡_, refl, ap}
 use mathlib.Core.Bool.{cond}
 use Prim.Native.Nat.{ℕ, zero, suc, _+_, _*_, _-_, _/_, _≤_, _<_}

@@ -1,4 +1,4 @@
--- From Idle to Inside, from the root down: how long a thread stands behind others, and so how long an acquisition takes. Assumes nothing.
+-- From Idle to Inside, from the root down: how long a thread stands behind others, and so how long an acquisition takes.
 use mathlib.Core.Path.{_≡_, refl, ap, _∙_}
 use mathlib.Core.Bool.{true, false≢true}
 use mathlib.Core.List.{List, _∷_}

@@ -1,4 +1,4 @@
--- Who stands before a member: the sum of a value over them, which no step raises, and which is at most that of all other members. Assumes nothing.
+-- Who stands before a member: the sum of a value over them, which no step raises, and which is at most that of all other members.
 use mathlib.Core.Path.{_≡_, refl, sym, ap, _∙_}
 use mathlib.Core.Bool.{true, cond}
 use mathlib.Core.List.{List, [], _∷_, _++_}
@@ -91,7 +91,7 @@ nearer f d m r e q q′ (moves a x xs y z b g n) h o u =
     inr (omega arith, omega arith)
 nearer f d m r e q q′ (closes a y z b g) h o u = absurd (let w : count m (rest q) ≡ 0 = rw (y, rest-cons a []) (count-nil m) in omega arith)
 
--- the first is among those before a member behind it
+-- the first is among those before a member after it
 pub ahead-first : (f : ℕ → ℕ) (m r : ℕ) (q : List ℕ) → 1 ≤ count m (rest q) → count m q ≤ 1 → first q ≡ suc r → f r ≤ ahead f m q
 ahead-first f m r [] h o u = absurd (omega (arith, ap (count m) rest-nil, count-nil m))
 ahead-first f m r (x ∷ xs) h o u =

@@ -1,4 +1,4 @@
--- Quotients by a threshold, rounded down, times what is left above. Assumes nothing.
+-- Quotients by a threshold, rounded down, times what is left above.
 use mathlib.Core.Path.{_≡_, ap}
 use Prim.Native.Nat.{ℕ, suc, _+_, _*_, _-_, _/_, _≤_, _<_}
 use native.Mathlib.Omega.{arith}

@@ -1,4 +1,4 @@
--- The bounds along a path: each domain adds its own rounds to those above it. Assumes nothing.
+-- The bounds along a path: each domain adds its own rounds to those above it.
 use mathlib.Core.Path.{_≡_, refl, ap}
 use mathlib.Core.Bool.{cond}
 use Prim.Native.Nat.{ℕ, zero, suc, _+_, _*_, _-_, _≤_, _<_}

@@ -1,4 +1,4 @@
--- The computed cases hold. Assumes nothing.
+-- The computed cases hold.
 use mathlib.Core.Path.{_≡_, refl, ap, _∙_}
 use mathlib.Core.Bool.{true, _&&_}
 use mathlib.Core.List.{List, [], _∷_, _++_}

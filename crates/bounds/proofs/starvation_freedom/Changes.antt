@@ -1,4 +1,4 @@
--- The moves of the queues that one step of a thread is. Assumes nothing.
+-- The moves of the queues that one step of a thread is.
 use Prim.Native.Nat.{ℕ, _<_}
 use mathlib.Core.Path.{_≡_}
 use Rattle.model.specs.Trees.{Tree}

@@ -1,4 +1,4 @@
--- The tree with the thresholds that have an effect: it is accepted too, and has the same paths and moves. So what is left of a tenure is at most the passes. Assumes nothing.
+-- The tree with the thresholds that have an effect: it is accepted too, and has the same paths and moves. So what is left of a tenure is at most the passes.
 use mathlib.Core.Path.{_≡_, refl, sym, ap, _∙_}
 use mathlib.Core.Bool.{Bool, true, false, cond}
 use mathlib.Core.List.{List, _∷_}

@@ -1,4 +1,4 @@
--- Passes are at most the allowance. Assumes nothing.
+-- Passes are at most the allowance.
 use mathlib.Core.Path.{_≡_, refl}
 use mathlib.Core.Bool.{Bool, true, false, not, cond}
 use Prim.Native.Nat.{ℕ, zero, suc, _*_, _-_, _≤_, _<_}

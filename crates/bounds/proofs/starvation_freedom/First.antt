@@ -1,4 +1,4 @@
--- How long a member is first in a domain, where acquisitions from nearer to the root are bounded. Assumes nothing.
+-- How long a member is first in a domain, where acquisitions from nearer to the root are bounded.
 use mathlib.Core.Path.{_≡_, refl, ap, _∙_}
 use mathlib.Core.Logic.{inl, inr}
 use Prim.Native.Nat.{ℕ, suc, _+_, _-_, _≤_, _<_}

@@ -1,4 +1,4 @@
--- What one step does to whoever is first in a domain: it stays first, with the lock or on its way up, or the next member comes first, with the lock or with the domain alone. Assumes nothing.
+-- What one step does to whoever is first in a domain: it stays first, with the lock or on its way up, or the next member comes first, with the lock or with the domain alone.
 use mathlib.Core.Path.{_≡_, refl, sym, ap, _∙_}
 use mathlib.Core.List.{List, [], _∷_}
 use mathlib.Core.Logic.{_≢_, _⊎_, inl, inr}

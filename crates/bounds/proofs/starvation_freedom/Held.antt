@@ -1,4 +1,4 @@
--- The first of a queue has the lock, and others stand after it, each linked to the one before: what one step makes of that. Assumes nothing.
+-- The first of a queue has the lock, and others stand after it, each linked to the one before: what one step makes of that.
 use mathlib.Core.Path.{_≡_, refl, sym, ap, _∙_}
 use mathlib.Core.List.{List, [], _∷_, _++_, nil≢cons, head-eq-of-cons-eq, tail-eq-of-cons-eq}
 use mathlib.Core.Logic.{_≢_, _⊎_, inl, inr}

@@ -1,4 +1,4 @@
--- Nobody starves under fair schedules: the laws, from what holds within rounds. Assumes nothing.
+-- Nobody starves under fair schedules: the laws, from what holds within rounds.
 use mathlib.Core.Path.{_≡_, refl, sym, ap, _∙_, subst}
 use mathlib.Core.Bool.{Bool, true, false, cond, false≢true}
 use mathlib.Core.List.{List, [], _∷_}

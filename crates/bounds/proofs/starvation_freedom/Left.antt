@@ -1,4 +1,4 @@
--- What is left of a tenure, in entries: no step leaves more, and an entry leaves less. Assumes nothing.
+-- What is left of a tenure, in entries: no step leaves more, and an entry leaves less.
 use mathlib.Core.Path.{_≡_, refl, sym, ap, _∙_}
 use mathlib.Core.Logic.{_≢_}
 use Prim.Native.Nat.{ℕ, zero, suc, _+_, _≤_, _<_}

@@ -1,4 +1,4 @@
--- Who stands before a thread in its queue, each linked to the one before it. Assumes nothing.
+-- Who stands before a thread in its queue, each linked to the one before it.
 use mathlib.Core.Path.{_≡_, refl, sym, ap, _∙_}
 use mathlib.Core.Bool.{false}
 use mathlib.Core.List.{List, [], _∷_, _++_, append-assoc}

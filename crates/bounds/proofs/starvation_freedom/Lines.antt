@@ -1,4 +1,4 @@
--- A thread that stands, and who stands before it, through one step. Assumes nothing.
+-- A thread that stands, and who stands before it, through one step.
 use mathlib.Core.Path.{_≡_, refl, sym, ap, _∙_}
 use mathlib.Core.Bool.{true}
 use mathlib.Core.List.{List, [], _∷_, _++_, append-assoc, nil≢cons, head-eq-of-cons-eq, tail-eq-of-cons-eq}

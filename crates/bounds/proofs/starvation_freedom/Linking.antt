@@ -1,4 +1,4 @@
--- Who stands in a queue below the root is linked after one round, and so is everybody before it. Assumes nothing.
+-- Who stands in a queue below the root is linked after one round, and so is everybody before it.
 use mathlib.Core.Path.{_≡_, refl, sym, ap, _∙_}
 use mathlib.Core.List.{List, [], _∷_, _++_}
 use mathlib.Core.Logic.{_≢_, inl, inr}

@@ -1,4 +1,4 @@
--- Who is first in a domain and has the lock: whether its Check there is over. It comes to be over only where the count is the threshold or nobody is linked after it. Assumes nothing.
+-- Who is first in a domain and has the lock: whether its Check there is over. It comes to be over only where the count is the threshold or nobody is linked after it.
 use mathlib.Core.Path.{_≡_, sym, ap, _∙_}
 use mathlib.Core.Bool.{Bool, true, false, cond}
 use mathlib.Core.Logic.{_≢_, _⊎_, inl, inr}

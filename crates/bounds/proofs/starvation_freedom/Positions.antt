@@ -1,4 +1,4 @@
--- How far behind the first a member stands: at most as far as the domain has other members. Assumes nothing.
+-- How far after the first a member stands: at most as far as the domain has other members.
 use mathlib.Core.Path.{_≡_, refl, sym, ap, _∙_}
 use mathlib.Core.Bool.{Bool, true, cond}
 use mathlib.Core.List.{List, [], _∷_, _++_}
@@ -65,7 +65,7 @@ position-snoc m y (x ∷ xs) h =
     (λ e. position-here m x (xs ++ (y ∷ [])) e ∙ sym (position-here m x xs e))
     (λ n. position-past m x (xs ++ (y ∷ [])) n ∙ ap suc (position-snoc m y xs (omega (arith, count-cons m x xs, is-other m x n))) ∙ sym (position-past m x xs n))
 
--- whoever stands behind the first has someone before it
+-- whoever stands after the first has someone before it
 pub behind-first : (m : ℕ) (q : List ℕ) → 1 ≤ count m (rest q) → count m q ≤ 1 → (a : ℕ) × (first q ≡ suc a) × (1 ≤ position m q)
 behind-first m [] h o = absurd (omega (arith, ap (count m) rest-nil, count-nil m))
 behind-first m (x ∷ xs) h o =

@@ -1,4 +1,4 @@
--- What one step does to the queues: who leaves, who comes nearer, what is left of a tenure. Assumes nothing.
+-- What one step does to the queues: who leaves, who comes nearer, what is left of a tenure.
 use mathlib.Core.Path.{_≡_, refl, sym, ap, _∙_}
 use mathlib.Core.List.{List, _∷_}
 use mathlib.Core.Logic.{_≢_}
@@ -140,7 +140,7 @@ module _ (T : Tree) (tree-laws : Laws T) (a k : ℕ) (low-there : k < height T a
   handed inv (begun {st = st} i h e c) x z =
       handed (keeps T tree-laws st inv (start i h e)) c (put-other (st .stage) i (climb 0) a (λ y. apart out (λ o. omega arith) (sym e ∙ ap (st .stage) (sym y) ∙ x)) ∙ x) z
 
--- WHO IS FIRST does not stand behind the first after one step
+-- WHO IS FIRST does not stand after the first after one step
 pub first-not-behind : (d m : ℕ) (e : Event) (q q′ : List ℕ) → Change d e q q′ → first q ≡ suc m → count m q ≤ 1 → count m q′ ≤ 1 → count m (rest q′) ≡ 0
 first-not-behind d m e q q′ (stays z b g) f o o′ = let f′ : first q′ ≡ suc m = rw z f in omega (arith, first-count m q′ f′)
 first-not-behind d m e q q′ (opens r y z b g) f o o′ = absurd (omega (arith, ap first y, first-nil))

@@ -1,4 +1,4 @@
--- The length of a domain's tenures, and how many of them so many members take. Assumes nothing.
+-- The length of a domain's tenures, and how many of them so many members take.
 use mathlib.Core.Path.{_≡_, refl, _∙_}
 use mathlib.Core.Bool.{Bool, true, false, cond}
 use mathlib.Core.Logic.{_≢_}

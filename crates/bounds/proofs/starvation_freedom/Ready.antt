@@ -1,4 +1,4 @@
--- A thread that was granted the lock: it stays so until its own step, and that step enters. Assumes nothing.
+-- A thread that was granted the lock: it stays so until its own step, and that step enters.
 use mathlib.Core.Path.{_≡_, refl, sym, ap, _∙_}
 use mathlib.Core.Bool.{Bool, true, false, cond}
 use mathlib.Core.Logic.{_≢_, _⊎_, inl, inr}

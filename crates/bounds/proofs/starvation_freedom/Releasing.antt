@@ -1,4 +1,4 @@
--- From Inside to Idle: how many rounds each part of a release takes. Assumes nothing.
+-- From Inside to Idle: how many rounds each part of a release takes.
 use mathlib.Core.Path.{_≡_, refl, sym, ap, _∙_}
 use mathlib.Core.Bool.{Bool, true, false, false≢true}
 use mathlib.Core.Logic.{_≢_, _⊎_, inl, inr}

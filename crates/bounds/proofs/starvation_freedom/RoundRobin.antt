@@ -1,4 +1,4 @@
--- In round robin every thread occurs in each window of as many entries as there are threads. Assumes nothing.
+-- In round robin every thread occurs in each window of as many entries as there are threads.
 use mathlib.Core.Path.{_≡_, refl, sym, ap, _∙_}
 use mathlib.Core.List.{List, [], _∷_, _++_}
 use Prim.Native.Nat.{ℕ, zero, suc, _+_, _-_, _≤_, _<_}

@@ -1,4 +1,4 @@
--- Two states that the computed cases take for the same are the same. Assumes nothing.
+-- Two states that the computed cases take for the same are the same.
 use mathlib.Core.Path.{_≡_, refl, sym}
 use mathlib.Core.Bool.{true, _&&_, false≢true}
 use mathlib.Core.List.{List, [], _∷_}

@@ -1,4 +1,4 @@
--- What a thread's place says of its stage, for each place by itself. Assumes nothing.
+-- What a thread's place says of its stage, for each place by itself.
 use mathlib.Core.Path.{_≡_, refl, sym, ap, _∙_}
 use mathlib.Core.Bool.{true}
 use mathlib.Core.Logic.{_⊎_, inl, inr}

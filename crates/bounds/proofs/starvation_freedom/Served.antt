@@ -1,4 +1,4 @@
--- How long a thread stands in a linked queue below the root: the lock is passed on from member to member until the count is the threshold, and then the domains above are released and acquired anew. Assumes nothing.
+-- How long a thread stands in a linked queue below the root: the lock is passed on from member to member until the count is the threshold, and then the domains above are released and acquired anew.
 use mathlib.Core.Path.{_≡_, refl, sym, ap, _∙_}
 use mathlib.Core.List.{List, [], _∷_, _++_}
 use mathlib.Core.Logic.{_⊎_, inl, inr}

@@ -1,4 +1,4 @@
--- The bounds are at most those by allowances. Assumes nothing.
+-- The bounds are at most those by allowances.
 use mathlib.Core.Path.{_≡_, refl, ap}
 use mathlib.Core.Bool.{Bool, true, false, _&&_, not, cond}
 use Prim.Native.Nat.{ℕ, zero, suc, _+_, _*_, _-_, _≤_, _<_}

@@ -1,4 +1,4 @@
--- A state with the queues that it represents, and its steps, each with the one move of the queues that it is. Assumes nothing.
+-- A state with the queues that it represents, and its steps, each with the one move of the queues that it is.
 use mathlib.Core.Path.{_≡_, refl, ap, _∙_}
 use mathlib.Core.Bool.{Bool, true, false, cond}
 use mathlib.Core.List.{List}

@@ -1,4 +1,4 @@
--- What one step does to the stage of a thread on its way up; and that a domain which it has acquired counts 1 until it has the lock. Assumes nothing.
+-- What one step does to the stage of a thread on its way up; and that a domain which it has acquired counts 1 until it has the lock.
 use mathlib.Core.Path.{_≡_, refl, sym, ap, _∙_}
 use mathlib.Core.List.{List}
 use mathlib.Core.Logic.{_≢_, _⊎_, inl, inr}

@@ -1,4 +1,4 @@
--- Sums over all numbers below a bound. Assumes nothing.
+-- Sums over all numbers below a bound.
 use mathlib.Core.Path.{_≡_, refl, sym, ap}
 use mathlib.Core.Bool.{Bool, true, false, _&&_, not, cond}
 use mathlib.Core.List.{[], _∷_, _++_}

@@ -1,4 +1,4 @@
--- While a member is first in a domain and its lock is held: how many rounds until it leaves the domain's queue. Assumes nothing.
+-- While a member is first in a domain and its lock is held: how many rounds until it leaves the domain's queue.
 use mathlib.Core.Path.{_≡_, refl, sym, ap, _∙_}
 use mathlib.Core.Logic.{_≢_, inl, inr}
 use Prim.Native.Nat.{ℕ, zero, suc, _+_, _*_, _-_, _≤_, _<_}

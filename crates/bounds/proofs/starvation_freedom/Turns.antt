@@ -1,4 +1,4 @@
--- Where a thread's own step leads, place by place, with domains by their index on its path. Assumes nothing.
+-- Where a thread's own step leads, place by place, with domains by their index on its path.
 use mathlib.Core.Path.{_≡_, refl, sym, ap, _∙_}
 use mathlib.Core.Bool.{true}
 use mathlib.Core.Logic.{_≢_, _⊎_, inl, inr}

@@ -1,4 +1,4 @@
--- A thread that stands ungranted stands on or is granted; one that was granted its domain alone goes on with its next step. Assumes nothing.
+-- A thread that stands ungranted stands on or is granted; one that was granted its domain alone goes on with its next step.
 use mathlib.Core.Path.{_≡_, sym, ap, _∙_}
 use mathlib.Core.Logic.{_≢_, inl, inr}
 use Prim.Native.Nat.{ℕ, suc, _≤_, _<_}

@@ -1,4 +1,4 @@
--- The sum of the passes of some members of a domain, none twice: at most that of all but one. Assumes nothing.
+-- The sum of the passes of some members of a domain, none twice: at most that of all but one.
 use mathlib.Core.Path.{_≡_, refl, sym}
 use mathlib.Core.Bool.{true, _&&_, not, cond}
 use mathlib.Core.List.{List, [], _∷_}

@@ -1,4 +1,4 @@
--- What holds at some situation within so many rounds, and how such claims are put one behind the other. Assumes nothing.
+-- What holds at some situation within so many rounds, and how such claims are put one after the other.
 use mathlib.Core.Path.{_≡_, refl, sym, ap, _∙_}
 use mathlib.Core.List.{List, [], _∷_, _++_, append-assoc}
 use mathlib.Core.Logic.{_≢_, _⊎_, inl, inr}
@@ -23,7 +23,7 @@ unfolding All-threads
 threads-left t [] ys a = tt
 threads-left t (x ∷ xs) ys a = (a .0, threads-left t xs ys (a .1))
 
--- ROUNDS with anything behind them
+-- ROUNDS with anything after them
 abbrev pub Everyone : Tree → List ℕ → Type 0
 Everyone t r = (i : ℕ) → i < t .threads → 1 ≤ occurrences i r
 

@@ -1,4 +1,4 @@
--- HOW MANY ENTRIES of others a thread waits for at most while nobody stalls, as a function of the tree. Assumes nothing: these are definitions.
+-- HOW MANY ENTRIES of others a thread waits for at most while nobody stalls, as a function of the tree.
 use mathlib.Core.Bool.{_&&_, not, cond}
 use Prim.Native.Nat.{ℕ, zero, suc, _+_, _*_, _-_, _/_}
 use lib.Dec.{eqb, ltb}

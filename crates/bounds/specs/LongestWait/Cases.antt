@@ -1,4 +1,4 @@
--- COMPUTED CASES: what W comes to; attempts that see exactly W entries in line, all of them prompt, so that no lower number is a bound; and a stalled releaser, by whom more than W enter. Assumes nothing: these are definitions.
+-- COMPUTED CASES: what W comes to; attempts that see exactly W entries in line, all of them prompt, so that no lower number is a bound; and a stalled releaser, by whom more than W enter.
 use mathlib.Core.Path.{_≡_}
 use mathlib.Core.Bool.{Bool, true, _&&_}
 use mathlib.Core.List.{List, [], _∷_, _++_}

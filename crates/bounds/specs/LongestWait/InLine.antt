@@ -1,4 +1,4 @@
--- ENTRIES IN LINE for a thread, bypasses and prompt entries, by the chain of document 02, (x), just before the step. Assumes nothing: these are definitions.
+-- ENTRIES IN LINE for a thread, bypasses and prompt entries, by the chain of document 02, (x), just before the step.
 use mathlib.Core.Bool.{Bool, false, _&&_, _||_, not, cond}
 use mathlib.Core.List.{List, [], _∷_}
 use Prim.Native.Nat.{ℕ, _+_}

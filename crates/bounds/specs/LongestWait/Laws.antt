@@ -1,4 +1,4 @@
--- THE LONGEST WAIT. Which thresholds may one choose if a thread may wait for at most so many entries of others? The laws speak of the step table's steps along schedules of any length; no refusal has a part in them. Each is a statement; proofs/ has its proof. Assumes nothing.
+-- THE LONGEST WAIT. Which thresholds may one choose if a thread may wait for at most so many entries of others? The laws speak of the step table's steps along schedules of any length; no refusal has a part in them. Each is a statement; proofs/ has its proof.
 use mathlib.Core.Path.{_≡_}
 use mathlib.Core.Bool.{true, cond}
 use mathlib.Core.List.{List, _∷_, _++_}

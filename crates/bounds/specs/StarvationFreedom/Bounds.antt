@@ -1,4 +1,4 @@
--- HOW MANY ROUNDS of a fair schedule an acquisition and a release take at most, as functions of the tree. Assumes nothing: these are definitions.
+-- HOW MANY ROUNDS of a fair schedule an acquisition and a release take at most, as functions of the tree.
 use mathlib.Core.Bool.{_&&_, not, cond}
 use Prim.Native.Nat.{ℕ, zero, suc, _+_, _*_, _-_, _/_}
 use lib.Dec.{eqb, ltb}

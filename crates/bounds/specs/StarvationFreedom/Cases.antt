@@ -1,4 +1,4 @@
--- COMPUTED CASES: what the bounds come to; rounds written out, in which a thread enters late; and the stalled releaser of document 01, without whose turns another enters as often as one likes while a thread behind it never does. Assumes nothing: these are definitions.
+-- COMPUTED CASES: what the bounds come to; rounds written out, in which a thread enters late; and the stalled releaser of document 01, without whose turns another enters as often as one likes while a thread after it never does.
 use mathlib.Core.Path.{_≡_}
 use mathlib.Core.Bool.{Bool, true, _&&_}
 use mathlib.Core.List.{List, [], _∷_, _++_}
@@ -130,7 +130,7 @@ round-cases =
 unfoldable pub stalled-tree : Tree
 stalled-tree = tree-of (tree 3 3 (0 ∷ 0 ∷ 0 ∷ []) (0 ∷ 1 ∷ 1 ∷ []) (1 ∷ 1 ∷ 2 ∷ []))
 
--- thread 0 enters, thread 1 stands behind it in the leaf; thread 0 leaves and has released the root, and its next step is Help at home
+-- thread 0 enters, thread 1 stands after it in the leaf; thread 0 leaves and has released the root, and its next step is Help at home
 unfoldable pub until-stalled : List ℕ
 until-stalled = replicate 4 0 ++ replicate 3 1 ++ replicate 4 0
 

@@ -1,4 +1,4 @@
--- NOBODY STARVES under fair schedules: after so many rounds every thread has entered. The laws speak of the step table's steps along schedules of any length; no refusal has a part in them. Each is a statement; proofs/ has its proof. Assumes nothing.
+-- NOBODY STARVES under fair schedules: after so many rounds every thread has entered. The laws speak of the step table's steps along schedules of any length; no refusal has a part in them. Each is a statement; proofs/ has its proof.
 use mathlib.Core.Path.{_≡_}
 use mathlib.Core.Bool.{Bool, true, false}
 use mathlib.Core.List.{List, [], _∷_, _++_}
@@ -103,7 +103,7 @@ Everyone-law =
     (t : Tree) → Sixteen-bit t → tree-refusal t .number ≡ 0 → (start : ℕ) (before : List ℕ) → All-threads t before →
     Everyone-enters t (run t before (fresh-state t start) .state)
 
--- IN WINDOWS: every thread occurs among each N entries one behind the other
+-- IN WINDOWS: every thread occurs among each N entries one after the other
 pub record Windows (t : Tree) (N : ℕ) (schedule : List ℕ) : Type 0 where
   pub threads : All-threads t schedule
   pub everyone : (k i : ℕ) → k + N ≤ length schedule → i < t .threads → 1 ≤ occurrences i (take N (drop k schedule))

@@ -1,4 +1,4 @@
--- `above_words` meets its contract: the words of the domains passed are the rounds above them. Assumes nothing.
+-- `bounds_call::above_words` meets its contract: the words of the domains passed are the rounds above them.
 use mathlib.Core.Path.{_≡_, refl}
 use Prim.Native.Nat.{_≤_, _-_}
 use native.Mathlib.Omega.{arith}

@@ -1,4 +1,4 @@
--- `acquire_of` meets its contract: the definition's sums and products in order; cut one by one, they come to the whole, cut. Assumes nothing.
+-- `bounds_call::acquire_of` meets its contract: the definition's sums and products in order; cut one by one, they come to the whole, cut.
 use native.Mathlib.Omega.{arith}
 use borrow.Author.Needs.{needs}
 use Rattle.model.proofs.Trees.Reading.{few-domains}

@@ -1,4 +1,4 @@
--- `allowances` meets its contract: the words from domain d on are their allowances. Assumes nothing.
+-- `bounds_call::allowances` meets its contract: the words from domain d on are their allowances.
 use mathlib.Core.Path.{_≡_, refl, _∙_}
 use Prim.Native.Nat.{_≤_}
 use native.Mathlib.Omega.{arith}

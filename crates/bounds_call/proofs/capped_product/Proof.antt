@@ -1,4 +1,4 @@
--- `capped_product` meets its contract: the product is beyond 64 bits exactly where the quotient is too small. Assumes nothing.
+-- `bounds_call::capped_product` meets its contract: the product is beyond 64 bits exactly where the quotient is too small.
 use mathlib.Core.Path.{sym}
 use Prim.Native.Nat.{_<_}
 use native.Mathlib.Omega.{arith}

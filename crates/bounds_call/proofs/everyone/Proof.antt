@@ -1,4 +1,4 @@
--- `everyone` meets its contract: the largest of the rounds of the threads passed. Assumes nothing.
+-- `bounds_call::everyone` meets its contract: the largest of the rounds of the threads passed.
 use mathlib.Core.Path.{_≡_, refl}
 use Prim.Native.Nat.{_+_, _≤_, _-_}
 use native.Mathlib.Omega.{arith}

@@ -1,4 +1,4 @@
--- `level_of` meets its contract: the levels passed and those above make the level. Assumes nothing.
+-- `bounds_call::level_of` meets its contract: the levels passed and those above make the level.
 use mathlib.Core.Path.{_≡_}
 use Prim.Native.Nat.{_+_, _≤_, _<_}
 use native.Mathlib.Omega.{arith}

@@ -1,4 +1,4 @@
--- `levels_of` meets its contract: the largest level of the domains passed. Assumes nothing.
+-- `bounds_call::levels_of` meets its contract: the largest level of the domains passed.
 use mathlib.Core.Path.{_≡_, refl}
 use Prim.Native.Nat.{_≤_, _-_}
 use native.Mathlib.Omega.{arith}

@@ -1,4 +1,4 @@
--- `link_round` meets its contract. Assumes nothing.
+-- `bounds_call::link_round` meets its contract.
 use borrow.Author.Tests.{lt-ltb, le-ltb}
 use Rattle.bounds_call.proofs.link_round.Statement.{statement}
 use Rattle.bounds_call.proofs.link_round.Tie as tie

@@ -1,4 +1,4 @@
--- `rounds` meets its contract: the tree's refusal with zeros, or the largest of the threads' rounds and its product with the number of threads. Assumes nothing.
+-- `bounds_call::rounds` meets its contract: the tree's refusal with zeros, or the largest of the threads' rounds and its product with the number of threads.
 use mathlib.Core.Path.{_∙_}
 use borrow.Author.Needs.{needs}
 use Rattle.refusals.proofs.Reading.{refusal-words-same}

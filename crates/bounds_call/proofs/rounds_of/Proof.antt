@@ -1,4 +1,4 @@
--- `rounds_of` meets its contract: each array is what the next function reads. Assumes nothing.
+-- `bounds_call::rounds_of` meets its contract: each array is what the next function reads.
 use borrow.Author.Needs.{needs}
 use Rattle.bounds_call.proofs.rounds_of.Statement.{statement}
 use Rattle.bounds_call.proofs.rounds_of.Tie as tie

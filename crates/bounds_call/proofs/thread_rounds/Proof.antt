@@ -1,4 +1,4 @@
--- `thread_rounds` meets its contract: the home is the word that the tree reads. Assumes nothing.
+-- `bounds_call::thread_rounds` meets its contract: the home is the word that the tree reads.
 use native.Mathlib.Omega.{arith}
 use borrow.Author.Needs.{needs}
 use Rattle.model.proofs.Trees.Reading.{few-domains, few-threads}

@@ -1,4 +1,4 @@
--- In a state reached from fresh: who acts for which record of a queue, and what a thread's next step being a stay says of its place. Assumes nothing.
+-- In a state reached from fresh: who acts for which record of a queue, and what a thread's next step being a stay says of its place.
 use mathlib.Core.Path.{_≡_, refl, sym, ap, _∙_}
 use mathlib.Core.Bool.{true, false, false≢true}
 use mathlib.Core.Logic.{_≢_}
@@ -87,7 +87,7 @@ module _ (t : Tree) (valid : Accepted t) (bits : Sixteen-bit t) (s : WordState) 
   abbrev pub inv : Inv t g
   inv = q .represents .invariant
 
-  -- WAITING, by place: a stay stands behind another, with whom it is known
+  -- WAITING, by place: a stay stands after another, with whom it is known
   pub data Waits (i : ℕ) : Place → Type 0 where
     waits : (k p : ℕ) → k ≤ height t i → g .stage i ≡ queued k → is-ticket t (ancestor t i k) ≡ false → after (g .queue (ancestor t i k)) p ≡ suc (record-at t i k) →
         next s p ≡ suc (record-at t i k) → status s (record-at t i k) ≡ waiting-word (ancestor t i k) → Waits i (Wait (ancestor t i k))

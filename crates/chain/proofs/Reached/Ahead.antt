@@ -1,4 +1,4 @@
--- In a state reached from fresh, a thread whose next step is a stay looks to exactly one thread. Assumes nothing.
+-- In a state reached from fresh, a thread whose next step is a stay looks to exactly one thread.
 use mathlib.Core.Path.{_≡_, refl, sym, ap, _∙_}
 use mathlib.Core.Bool.{Bool, true, false, false≢true}
 use mathlib.Core.List.{List, [], _∷_}

@@ -1,4 +1,4 @@
--- Along a chain a number falls: by domain, and in one queue by how far behind the first a member stands. So no chain comes back. Assumes nothing.
+-- Along a chain a number falls: by domain, and in one queue by how far after the first a member stands. So no chain comes back.
 use mathlib.Core.Path.{_≡_, refl, sym, ap, _∙_}
 use mathlib.Core.Bool.{Bool, true, false, _||_, not, cond, false≢true}
 use mathlib.Core.Logic.{inl, inr}

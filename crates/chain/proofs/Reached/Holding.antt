@@ -1,4 +1,4 @@
--- While the thread ahead takes no step, the one behind can only stay: a step of any other thread leaves the link as it is. Assumes nothing.
+-- While the thread ahead takes no step, the one after it can only stay: a step of any other thread leaves the link as it is.
 use mathlib.Core.Path.{_≡_, refl, sym, ap, _∙_}
 use mathlib.Core.Bool.{true, false, _||_, false≢true}
 use mathlib.Core.Logic.{_≢_}
@@ -123,7 +123,7 @@ module _ (t : Tree) (valid : Accepted t) (bits : Sixteen-bit t) (s : WordState) 
   raising-fits c e y (at-watch k a u o) = absurd (let b = ap (λ m. words-of m .row) e in omega arith)
   raising-fits c e y (at-shown u o) = absurd (let b = ap (λ m. words-of m .row) e in omega arith)
 
-  -- so in its queue the member is behind the first
+  -- so in its queue the member is after the first
   pub record Granted (c r : ℕ) : Type 0 where
     pub index : ℕ
     pub acting : index < moves.acts (height t c) (g .stage c)

@@ -1,4 +1,4 @@
--- Queues as lists: who stands just before a member, how far behind the first it stands, and which ticket it holds. Assumes nothing.
+-- Queues as lists: who stands just before a member, how far after the first it stands, and which ticket it holds.
 use mathlib.Core.Path.{_≡_, refl, sym, ap, _∙_}
 use mathlib.Core.Bool.{cond}
 use mathlib.Core.List.{List, [], _∷_}
@@ -33,7 +33,7 @@ after-same (x ∷ xs) a b r e f o =
     (λ z. same-or b x _ (λ y. absurd (later a z e (sym (after-here b x xs y) ∙ f)))
     (λ y. after-same xs a b r (sym (after-past a x xs z) ∙ e) (sym (after-past b x xs y) ∙ f) (once-rest x xs o)))
 
--- and one, for whoever is behind the first
+-- and one, for whoever is after the first
 pub just-before : (q : List ℕ) (r : ℕ) → 1 ≤ count r (rest q) → Once q → (p : ℕ) × (after q p ≡ suc r)
 unfolding rest
 just-before [] r h o = absurd (omega (arith, count-nil r))

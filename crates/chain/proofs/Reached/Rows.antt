@@ -1,4 +1,4 @@
--- What a row of the step table leaves alone: the places of other threads, the words of other records, the grant. Assumes nothing.
+-- What a row of the step table leaves alone: the places of other threads, the words of other records, the grant.
 use mathlib.Core.Path.{_≡_, refl, sym, ap}
 use mathlib.Core.Bool.{true}
 use mathlib.Core.Logic.{_≢_}

@@ -1,4 +1,4 @@
--- While the thread ahead takes no step, the one behind can only stay: along every schedule without it. Assumes nothing.
+-- While the thread ahead takes no step, the one after it can only stay: along every schedule without it.
 use mathlib.Core.Path.{_≡_, sym, ap, _∙_}
 use mathlib.Core.Bool.{true, cond}
 use mathlib.Core.List.{List, [], _∷_}

@@ -1,4 +1,4 @@
--- From fresh every thread has its chain, which explains why it waits. Assumes nothing.
+-- From fresh every thread has its chain, which explains why it waits.
 use mathlib.Core.Path.{_≡_, refl, sym, ap, _∙_}
 use mathlib.Core.Bool.{Bool, true, false, cond, false≢true}
 use mathlib.Core.List.{List, [], _∷_, _++_, nil≢cons, head-eq-of-cons-eq, tail-eq-of-cons-eq}

@@ -1,4 +1,4 @@
--- `chain::chain` meets its contract: refused, or the chain copied. Assumes nothing.
+-- `chain_call::chain` meets its contract: refused, or the chain copied.
 use native.Mathlib.Omega.{arith}
 use Rattle.model.proofs.Trees.Reading.{few-threads}
 use Rattle.chain_call.proofs.Answering.{early-answered, answered-20, tree-good, form-good, thread-good, answered-21, answered}

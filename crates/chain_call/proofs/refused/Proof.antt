@@ -1,4 +1,4 @@
--- `chain::refused` meets its contract: the two numbers are the refusal's, and the length is 0. Assumes nothing.
+-- `chain_call::refused` meets its contract: the two numbers are the refusal's, and the length is 0.
 use Rattle.model.specs.Refusals.{refusal}
 use borrow.Author.Needs.{needs}
 use Rattle.chain_call.proofs.refused.Statement.{statement}

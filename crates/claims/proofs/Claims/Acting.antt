@@ -1,4 +1,4 @@
--- A thread acts for its record at a domain, as document 01 says, exactly if its stage acts there. Assumes nothing.
+-- A thread acts for its record at a domain, as document 01 says, exactly if its stage acts there.
 use mathlib.Core.Path.{_≡_, refl, sym, ap, _∙_}
 use mathlib.Core.Bool.{Bool, true, false, _||_, not, cond}
 use Prim.Native.Nat.{ℕ, suc, _≤_, _<_}

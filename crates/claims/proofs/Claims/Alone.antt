@@ -1,4 +1,4 @@
--- At most one thread is at Inside, in every state reached from fresh. Assumes nothing.
+-- At most one thread is at Inside, in every state reached from fresh.
 use mathlib.Core.Path.{_≡_, refl}
 use Prim.Native.Nat.{ℕ, _<_}
 use native.Mathlib.Omega.{arith}

@@ -1,4 +1,4 @@
--- While one member stands ungranted, the threads under another enter at most its allowance. Assumes nothing.
+-- While one member stands ungranted, the threads under another enter at most its allowance.
 use mathlib.Core.Path.{_≡_, refl, sym, ap, _∙_}
 use mathlib.Core.Bool.{Bool, true, false, cond}
 use mathlib.Core.List.{List, [], _∷_, _++_, append-assoc}

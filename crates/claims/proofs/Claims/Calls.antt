@@ -1,4 +1,4 @@
--- Each call of a list gives what the refusals and the step table give at its point of the whole schedule. Assumes nothing.
+-- Each call of a list gives what the refusals and the step table give at its point of the whole schedule.
 use mathlib.Core.Path.{_≡_, refl, sym, ap, _∙_}
 use mathlib.Core.Bool.{Bool, true, false, cond}
 use mathlib.Core.List.{List, [], _∷_, _++_, append-assoc, append-nil}
@@ -23,11 +23,11 @@ use Rattle.model.proofs.Counted.{counters-none, counters-join}
 use Rattle.model.proofs.Laws.Calls.{step-facts, run-facts}
 use Rattle.claims.proofs.Claims.Reached.{threads-join}
 
--- the lock state behind a schedule
+-- the lock state after a schedule
 abbrev pub reached : Tree → (fresh : LockState) → (schedule : List ℕ) → LockState
 reached t f pre = lock-state (run t pre (f .words) .state) (counters-behind t pre f)
 
--- behind no entries it is the fresh one
+-- after no entries it is the fresh one
 pub starts-here : (t : Tree) (f : LockState) → f ≡ reached t f []
 unfolding run run-of steps state-after counters-behind
 starts-here t f = rw (counters-none t (f .counters))
@@ -112,7 +112,7 @@ module _ (t : Tree) (f : LockState) (w : TreeWords) (pre rest : List ℕ) (s : L
   call-expected-by a n true z = accepted-expected a (n (eqb-true _ _ z)) z
   call-expected-by a n false z = refused-expected a z
 
-  -- the state that the call returns is the table's behind its entries
+  -- the state that the call returns is the table's after its entries
   returned-by :
       (a : Ask) → (ask-refusal u a s .number ≡ 0 → u ≡ t) → (b : Bool) → eqb (ask-refusal u a s .number) 0 ≡ b →
       state-in (answer-to w a s) ≡ reached t f (pre ++ cond b (asked-entries a) [])

@@ -1,4 +1,4 @@
--- THE THIRD DEMAND, proved. Assumes nothing.
+-- THE THIRD DEMAND, proved.
 use mathlib.Core.Path.{_≡_, refl}
 use mathlib.Core.List.{List, []}
 use Prim.Native.Nat.{ℕ}

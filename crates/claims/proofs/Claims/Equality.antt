@@ -1,4 +1,4 @@
--- At every Check reached from fresh the status is a count from 1 to the threshold. Assumes nothing.
+-- At every Check reached from fresh the status is a count from 1 to the threshold.
 use mathlib.Core.Path.{_≡_, refl, ap, _∙_}
 use mathlib.Core.Logic.{_⊎_, inl, inr}
 use Prim.Native.Nat.{ℕ, suc, _≤_, _<_}

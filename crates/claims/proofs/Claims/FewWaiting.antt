@@ -1,4 +1,4 @@
--- No queue has more than 256 members: a leaf's are threads, and any other domain's are child domains. Assumes nothing.
+-- No queue has more than 256 members: a leaf's are threads, and any other domain's are child domains.
 use mathlib.Core.Path.{_≡_, refl, sym, ap, _∙_}
 use mathlib.Core.Bool.{Bool, true, false, false≢true}
 use mathlib.Core.List.{List}

@@ -1,4 +1,4 @@
--- In each domain standing ungranted ends in the order in which it began. Assumes nothing.
+-- In each domain standing ungranted ends in the order in which it began.
 use mathlib.Core.Path.{_≡_, refl, sym, _∙_}
 use mathlib.Core.Bool.{Bool, true, false, cond}
 use mathlib.Core.List.{List, [], _∷_, _++_, append-assoc, append-nil}

@@ -1,4 +1,4 @@
--- In every state reached from fresh in which a thread is not Idle, one that is not Idle has a next step that is no stay. Assumes nothing.
+-- In every state reached from fresh in which a thread is not Idle, one that is not Idle has a next step that is no stay.
 use mathlib.Core.Path.{_≡_, refl, sym, ap, _∙_}
 use mathlib.Core.Bool.{true, false, false≢true}
 use mathlib.Core.List.{List, [], _∷_}
@@ -78,7 +78,7 @@ module _ (t : Tree) (valid : Accepted t) (bits : Sixteen-bit t) (s : WordState) 
   abbrev pub inv : Inv t g
   inv = q .represents .invariant
 
-  -- what a thread's place comes to: someone can move, itself or the one behind it in Link; or it stands ungranted; or it is Idle
+  -- what a thread's place comes to: someone can move, itself or the one after it in Link; or it stands ungranted; or it is Idle
   data Found (i : ℕ) : Type 0 where
     can-move : Mover t s → Found i
     stands : (k : ℕ) → g .stage i ≡ queued k → Found i
@@ -136,7 +136,7 @@ module _ (t : Tree) (valid : Accepted t) (bits : Sixteen-bit t) (s : WordState) 
         by (watch-shown _) = no-stay root-entry refl
         by (watch-unshown n) = absurd ((rw (root-record t valid i h) at n) shown)
 
-  -- whoever stands behind a record without next is in Link, and moves
+  -- whoever stands after a record without next is in Link, and moves
   link-behind :
       (d r m : ℕ) (ys : List ℕ) → is-ticket t d ≡ false → g .queue d ≡ r ∷ m ∷ ys → next s r ≡ 0 → Mover t s
   unfolding words-in reach may-stay

@@ -1,4 +1,4 @@
--- From fresh, the count that Check passes on is from 2 to the threshold: the law of counts at Check says that it was started. Assumes nothing.
+-- From fresh, the count that Check passes on is from 2 to the threshold: the law of counts at Check says that it was started.
 use mathlib.Core.Path.{_≡_, refl, sym, ap, _∙_}
 use mathlib.Core.Bool.{Bool, true, false, cond}
 use mathlib.Core.Logic.{_≢_}

@@ -1,4 +1,4 @@
--- Below the root the lock is passed on only where the threshold is at least 2. Assumes nothing.
+-- Below the root the lock is passed on only where the threshold is at least 2.
 use mathlib.Core.Path.{_≡_, refl, sym, ap, _∙_}
 use mathlib.Core.Bool.{Bool, true, false, _&&_, not, false≢true}
 use mathlib.Core.List.{List, [], _∷_, _++_}

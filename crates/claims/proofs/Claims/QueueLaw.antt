@@ -1,4 +1,4 @@
--- Each domain reached from fresh has its queue, and exactly one thread acts for each member in it. Assumes nothing.
+-- Each domain reached from fresh has its queue, and exactly one thread acts for each member in it.
 use mathlib.Core.Path.{_≡_, refl, sym, ap, _∙_}
 use mathlib.Core.Bool.{Bool, true, false, cond, false≢true}
 use mathlib.Core.Logic.{inl, inr}

@@ -1,4 +1,4 @@
--- From fresh, every schedule leads to a state that represents queues, and what its steps show is a run of moves. Assumes nothing.
+-- From fresh, every schedule leads to a state that represents queues, and what its steps show is a run of moves.
 use mathlib.Core.Path.{_≡_, refl, sym, _∙_}
 use mathlib.Core.List.{List, [], _∷_, _++_}
 use Prim.Native.Nat.{ℕ, zero, suc, _<_}

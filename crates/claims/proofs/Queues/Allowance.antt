@@ -1,4 +1,4 @@
--- While a member stands, the entries under another are at most its allowance. Assumes nothing.
+-- While a member stands, the entries under another are at most its allowance.
 use mathlib.Core.Path.{_≡_, refl, sym, ap, _∙_}
 use mathlib.Core.Bool.{Bool, true, false, cond, false≢true}
 use mathlib.Core.List.{List, [], _∷_, _++_}

@@ -1,4 +1,4 @@
--- The invariant, and that one thread at most acts for a record. Assumes nothing.
+-- The invariant, and that one thread at most acts for a record.
 use mathlib.Core.Path.{_≡_, refl, sym, ap, _∙_}
 use mathlib.Core.List.{List}
 use mathlib.Core.Logic.{_≢_}

@@ -1,4 +1,4 @@
--- The invariant where only a thread's stage changes, and where its record joins a queue. Assumes nothing.
+-- The invariant where only a thread's stage changes, and where its record joins a queue.
 use mathlib.Core.Path.{_≡_, refl}
 use Prim.Native.Nat.{ℕ, _≤_, _<_}
 use native.Mathlib.Omega.{arith}

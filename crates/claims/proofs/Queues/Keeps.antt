@@ -1,4 +1,4 @@
--- Each move keeps the invariant. Assumes nothing.
+-- Each move keeps the invariant.
 use mathlib.Core.Path.{_≡_, refl, sym, ap, _∙_}
 use mathlib.Core.List.{List, [], _∷_, _++_}
 use mathlib.Core.Logic.{_≢_}

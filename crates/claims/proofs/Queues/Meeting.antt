@@ -1,4 +1,4 @@
--- Two paths that meet: one from there up, and as far from the root. Assumes nothing.
+-- Two paths that meet: one from there up, and as far from the root.
 use mathlib.Core.Path.{_≡_, sym, ap, _∙_}
 use Prim.Native.Nat.{ℕ, zero, suc, _+_, _-_, _≤_, _<_}
 use native.Mathlib.Omega.{arith}

@@ -1,4 +1,4 @@
--- A tree of abstract queues: the stages of threads and the moves. No tails, nexts or status words here. Assumes nothing: these are definitions.
+-- A tree of abstract queues: the stages of threads and the moves. No tails, nexts or status words here.
 use mathlib.Core.Path.{_≡_}
 use mathlib.Core.Bool.{Bool, false, cond, _||_}
 use mathlib.Core.List.{List, [], _∷_, _++_}

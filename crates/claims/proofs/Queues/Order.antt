@@ -1,4 +1,4 @@
--- Along a run: the invariant, at most one inside, and grants in the order of the beginnings. Assumes nothing.
+-- Along a run: the invariant, at most one inside, and grants in the order of the beginnings.
 use mathlib.Core.Path.{_≡_, refl, sym, ap, _∙_}
 use mathlib.Core.List.{List, [], _∷_, _++_, append-nil, append-assoc, nil≢cons, head-eq-of-cons-eq, tail-eq-of-cons-eq}
 use mathlib.Core.Logic.{_≢_}

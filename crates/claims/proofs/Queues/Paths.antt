@@ -1,4 +1,4 @@
--- What the queues use of an accepted tree. Assumes nothing.
+-- What the queues use of an accepted tree.
 use mathlib.Core.Path.{_≡_}
 use mathlib.Core.Logic.{_≢_}
 use Prim.Native.Nat.{ℕ, _+_, _*_, _≤_, _<_}

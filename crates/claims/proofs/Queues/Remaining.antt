@@ -1,4 +1,4 @@
--- What a thread's record has left to enter while it is first, and that each move leaves it no more than before. Assumes nothing.
+-- What a thread's record has left to enter while it is first, and that each move leaves it no more than before.
 use mathlib.Core.Path.{_≡_, refl, sym, ap, _∙_}
 use mathlib.Core.List.{List, [], _∷_}
 use mathlib.Core.Logic.{_≢_}

@@ -1,4 +1,4 @@
--- Where a thread is on its way, one is that stands ungranted nowhere. Assumes nothing.
+-- Where a thread is on its way, one is that stands ungranted nowhere.
 use mathlib.Core.Path.{_≡_, refl}
 use mathlib.Core.List.{List, [], _∷_}
 use Prim.Native.Nat.{ℕ, zero, suc, _+_, _≤_, _<_}

@@ -1,4 +1,4 @@
--- The rows from Idle to Inside as moves of the queues. Assumes nothing.
+-- The rows from Idle to Inside as moves of the queues.
 use mathlib.Core.Path.{_≡_, refl}
 use mathlib.Core.Bool.{false}
 use Prim.Native.Nat.{ℕ, suc, _+_, _-_, _≤_, _<_}

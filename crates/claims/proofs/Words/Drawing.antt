@@ -1,4 +1,4 @@
--- The rows of a ticket lock at the root by which a thread acquires it: Draw, Idle's own where the root is home, and Watch. Assumes nothing.
+-- The rows of a ticket lock at the root by which a thread acquires it: Draw, Idle's own where the root is home, and Watch.
 use mathlib.Core.Path.{_≡_, refl, sym, ap, _∙_}
 use mathlib.Core.Bool.{true, false}
 use mathlib.Core.List.{List, [], _∷_, _++_}

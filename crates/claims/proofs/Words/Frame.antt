@@ -1,4 +1,4 @@
--- One thread's step: what the others keep, and how a new state is put together. Assumes nothing.
+-- One thread's step: what the others keep, and how a new state is put together.
 use mathlib.Core.Path.{_≡_, refl, sym, ap, _∙_}
 use mathlib.Core.Bool.{true, false}
 use mathlib.Core.List.{List, [], _∷_}

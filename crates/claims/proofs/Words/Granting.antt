@@ -1,4 +1,4 @@
--- Grant: with a count, at the root, and with ACQUIRE_PARENT. Assumes nothing.
+-- Grant: with a count, at the root, and with ACQUIRE_PARENT.
 use mathlib.Core.Path.{_≡_, refl, sym, ap, _∙_}
 use mathlib.Core.Bool.{false}
 use mathlib.Core.Logic.{_≢_}

@@ -1,4 +1,4 @@
--- The rows by which a thread joins a queue: Prep, Swap, Link, and Wait with ACQUIRE_PARENT. Assumes nothing.
+-- The rows by which a thread joins a queue: Prep, Swap, Link, and Wait with ACQUIRE_PARENT.
 use mathlib.Core.Path.{_≡_, refl, sym, ap, _∙_}
 use mathlib.Core.Bool.{true, false}
 use mathlib.Core.List.{List, [], _∷_, _++_}

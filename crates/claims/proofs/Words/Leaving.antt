@@ -1,4 +1,4 @@
--- The rows from Inside to Idle as moves of the queues. Assumes nothing.
+-- The rows from Inside to Idle as moves of the queues.
 use mathlib.Core.Path.{_≡_, refl, sym, _∙_}
 use mathlib.Core.Bool.{Bool, true, false, cond}
 use mathlib.Core.Logic.{_≢_}

@@ -1,4 +1,4 @@
--- The last of a queue, and who comes behind a member: what a tail and the nexts say. Assumes nothing.
+-- The last of a queue, and who comes after a member: what a tail and the nexts say.
 use mathlib.Core.Path.{_≡_, refl, sym, _∙_}
 use mathlib.Core.Bool.{cond}
 use mathlib.Core.List.{List, [], _∷_, _++_}
@@ -15,7 +15,7 @@ final [] = 0
 final (x ∷ []) = suc x
 final (x ∷ y ∷ ys) = final (y ∷ ys)
 
--- 0 for none, else one more than the member behind a
+-- 0 for none, else one more than the member after a
 unfoldable pub after : List ℕ → ℕ → ℕ
 after [] a = 0
 after (x ∷ xs) a = cond (eqb a x) (first xs) (after xs a)
@@ -72,7 +72,7 @@ pub after-past : (a x : ℕ) (xs : List ℕ) → a ≢ x → after (x ∷ xs) a 
 unfolding after
 after-past a x xs h = let e = ne-eqb a x h in rw e
 
--- whoever comes behind is behind the first
+-- whoever comes behind is after the first
 pub after-behind : (xs : List ℕ) (a b : ℕ) → after xs a ≡ suc b → 1 ≤ count b (rest xs)
 unfolding rest
 after-behind [] a b e = absurd (omega (arith, after-nil a))
@@ -121,7 +121,7 @@ after-snoc (x ∷ y ∷ ys) a b m e =
     (λ z. after-here a x (y ∷ ys ++ (m ∷ [])) z ∙ sym (after-here a x (y ∷ ys) z) ∙ e)
     (λ n. after-past a x (y ∷ ys ++ (m ∷ [])) n ∙ after-snoc (y ∷ ys) a b m (sym (after-past a x (y ∷ ys) n) ∙ e))
 
--- only the first has the second behind it
+-- only the first has the second after it
 pub before-second : (p x r : ℕ) (ys : List ℕ) → after (x ∷ r ∷ ys) p ≡ suc r → count r (x ∷ r ∷ ys) ≤ 1 → p ≡ x
 unfolding rest
 before-second p x r ys e c =

@@ -1,4 +1,4 @@
--- What a step of the table is to the queues: a move of them, or none. Assumes nothing.
+-- What a step of the table is to the queues: a move of them, or none.
 use mathlib.Core.Path.{_≡_, refl, ap, _∙_}
 use mathlib.Core.Bool.{cond}
 use mathlib.Core.List.{List, [], _∷_, _++_}

@@ -1,4 +1,4 @@
--- The row of a ticket lock at the root by which a thread lets go of it: Raise. Assumes nothing.
+-- The row of a ticket lock at the root by which a thread lets go of it: Raise.
 use mathlib.Core.Path.{_≡_, refl, sym, ap, _∙_}
 use mathlib.Core.Bool.{Bool, true, false, _&&_, false≢true}
 use mathlib.Core.List.{List, [], _∷_}
@@ -112,7 +112,7 @@ module _ (t : Tree) (valid : Accepted t) (s : WordState) (room : Room s) (g : St
       let other : d ≢ L = λ z. queue-lower t d nd ticket (z ∙ there) in
       rw (queues, put-other (g .queue) L q d other) (record { last = o .linked d nd .last; chain = o .linked d nd .chain })
 
-  -- WHO IS SHOWN: somebody behind the first
+  -- WHO IS SHOWN: somebody after the first
   behind-first : (x : ℕ) → is-watched t s x ≡ true → 1 ≤ count x (rest (g .queue 0))
   unfolding is-watched low acts words-in
   behind-first x y =
@@ -238,7 +238,7 @@ module _ (t : Tree) (valid : Accepted t) (s : WordState) (room : Room s) (g : St
     unfolding is-watched is-watch
     r-watched = any-found (t .threads) _ S S-real (rw (S-watches .watching-there, eq-eqb (own-record t S 0) r S-record))
 
-    -- the others behind it hold other tickets
+    -- the others after it hold other tickets
     only-r : (x : ℕ) → x ≢ r → is-shown x ≡ true → _≡_ {A = ℕ} 0 1
     unfolding Tickets words-in
     only-r x n y =

@@ -1,4 +1,4 @@
--- The rows by which a thread lets go of a queue: Cas that succeeds, and Grant. Assumes nothing.
+-- The rows by which a thread lets go of a queue: Cas that succeeds, and Grant.
 use mathlib.Core.Path.{_≡_, refl, sym, ap, _∙_}
 use mathlib.Core.Bool.{Bool, true, false, cond, false≢true}
 use mathlib.Core.List.{List, [], _∷_}

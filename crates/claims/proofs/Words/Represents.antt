@@ -1,4 +1,4 @@
--- When the words of a state stand for queues, stages and counts; and what leaves a thread's part of that alone. Assumes nothing.
+-- When the words of a state stand for queues, stages and counts; and what leaves a thread's part of that alone.
 use mathlib.Core.Path.{_≡_, refl, sym, ap, _∙_}
 use mathlib.Core.Bool.{Bool, true, false, cond}
 use mathlib.Core.List.{List, [], _∷_}
@@ -28,7 +28,7 @@ pub record Linked (w : Words) (q : List ℕ) (d : ℕ) : Type 0 where
   pub last : w .tails d ≡ final q
   pub chain : (a : ℕ) → 1 ≤ count a q → w .nexts a ≢ 0 → w .nexts a ≡ after q a
 
--- a ticket lock in words: the members hold consecutive tickets from the grant on, and the ticket counter is the one behind the last
+-- a ticket lock in words: the members hold consecutive tickets from the grant on, and the ticket counter is the one after the last
 unfoldable pub Tickets : (statuses : ℕ → ℕ) → (from behind : ℕ) → List ℕ → Type 0
 Tickets f v b [] = b ≡ v
 Tickets f v b (m ∷ ms) = (f m ≡ v) × Tickets f (wrap (v + 1)) b ms

@@ -1,4 +1,4 @@
--- Every step of the table, from a state that represents queues, is a move of the queues or none. Assumes nothing.
+-- Every step of the table, from a state that represents queues, is a move of the queues or none.
 use mathlib.Core.Path.{_≡_, refl, ap, _∙_}
 use mathlib.Core.Bool.{Bool, true, false, cond}
 use Prim.Native.Nat.{ℕ, _<_}

@@ -1,4 +1,4 @@
--- Tickets along a queue: who holds which, and that a queue of members is shorter than the counters count. Assumes nothing.
+-- Tickets along a queue: who holds which, and that a queue of members is shorter than the counters count.
 use mathlib.Core.Path.{_≡_, refl, sym, ap, _∙_}
 use mathlib.Core.List.{List, [], _∷_, _++_}
 use mathlib.Core.Logic.{_≢_}
@@ -71,7 +71,7 @@ unfolding Tickets
 tickets-behind f v b [] s h = omega (arith, h)
 tickets-behind f v b (x ∷ xs) s h = tickets-behind f _ b xs (wrap-fits (v + 1)) (h .1) ∙ next-wrap v (length xs)
 
--- a member holds a ticket as many behind the first as it stands behind it
+-- a member holds a ticket as many after the first as it stands after it
 pub record Held (f : ℕ → ℕ) (v a : ℕ) (q : List ℕ) : Type 0 where
   pub behind : ℕ
   pub within : behind < length q
@@ -92,7 +92,7 @@ unfolding Tickets
 tickets-first f v b a [] h e = absurd (omega (arith, first-nil))
 tickets-first f v b a (x ∷ xs) h e = let z : a ≡ x = omega (arith, first-cons x xs) in ap f z ∙ h .0
 
--- whoever is behind the first holds another ticket than the one shown
+-- whoever is after the first holds another ticket than the one shown
 pub tickets-rest : (f : ℕ → ℕ) (v b a : ℕ) (q : List ℕ) → v < 65536 → length q ≤ 320 → Tickets f v b q → 1 ≤ count a (rest q) → f a ≢ v
 unfolding Tickets
 tickets-rest f v b a [] s l h c = absurd (omega (arith, ap (count a) rest-nil, count-nil a))

@@ -1,4 +1,4 @@
--- The words of a state as functions, and what a store does to them. Assumes nothing.
+-- The words of a state as functions, and what a store does to them.
 use mathlib.Core.Path.{_≡_, refl, sym, ap, _∙_, fun-ext}
 use mathlib.Core.List.{List}
 use Prim.Native.Nat.{ℕ, _<_}

@@ -1,4 +1,4 @@
--- The rows from Idle to Inside, with the records that their moves make first. Assumes nothing.
+-- The rows from Idle to Inside, with the records that their moves make first.
 use mathlib.Core.Path.{_≡_, refl, ap, _∙_}
 use mathlib.Core.Bool.{true, false}
 use Prim.Native.Nat.{ℕ, suc, _+_, _-_, _≤_, _<_}

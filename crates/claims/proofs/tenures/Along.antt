@@ -1,4 +1,4 @@
--- The moves of a step keep what holds of a domain's tenures. Assumes nothing.
+-- The moves of a step keep what holds of a domain's tenures.
 use mathlib.Core.Path.{_≡_, refl, sym, ap, _∙_}
 use mathlib.Core.Bool.{Bool, true, false, cond}
 use mathlib.Core.List.{List, [], _∷_, _++_}

@@ -1,4 +1,4 @@
--- The computed cases hold. Assumes nothing.
+-- The computed cases hold.
 use mathlib.Core.Path.{refl}
 use Rattle.model.specs.Scans.{any-below, filter-below}
 use Rattle.model.specs.Trees.{read-word, tree-of, is-ticket, meets, on-path, child-from, child, own-record, under}

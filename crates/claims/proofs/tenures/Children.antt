@@ -1,4 +1,4 @@
--- A domain's entries are the sum of its children's: a thread under a domain with children is under exactly one of them. Assumes nothing.
+-- A domain's entries are the sum of its children's: a thread under a domain with children is under exactly one of them.
 use mathlib.Core.Path.{_≡_, refl, sym, ap, _∙_}
 use mathlib.Core.Bool.{Bool, true, false, cond, true≢false}
 use mathlib.Core.List.{List, [], _∷_}

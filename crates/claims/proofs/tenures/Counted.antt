@@ -1,4 +1,4 @@
--- The counters in a lock's state are what the steps of a list's schedule tell. Assumes nothing.
+-- The counters in a lock's state are what the steps of a list's schedule tell.
 use mathlib.Core.Path.{_≡_, refl, sym, ap, _∙_}
 use mathlib.Core.Bool.{Bool, true, false, cond}
 use mathlib.Core.List.{List, []}
@@ -29,7 +29,7 @@ use Rattle.claims.specs.Tenures.Laws.{sum-below, children-sum, Children-
 use Rattle.claims.proofs.tenures.Children.{children-law}
 use Rattle.claims.proofs.tenures.Law.{tenure-law}
 
--- behind steps from fresh counters
+-- after steps from fresh counters
 counters-from-fresh : (t : Tree) (xs : List Step) → Counters-hold t xs (counters-after t fresh-counters xs)
 unfolding Counter-law fresh-counters
 counters-from-fresh t xs =

@@ -1,4 +1,4 @@
--- A domain's tenure runs while its record is the first above it: what moves make it first, and that they tell so. Assumes nothing.
+-- A domain's tenure runs while its record is the first above it: what moves make it first, and that they tell so.
 use mathlib.Core.Path.{_≡_, sym, ap, _∙_}
 use mathlib.Core.List.{List, [], _∷_, _++_}
 use mathlib.Core.Logic.{_≢_}

@@ -1,4 +1,4 @@
--- What the places Idle and Grant say of a thread's stage. Assumes nothing.
+-- What the places Idle and Grant say of a thread's stage.
 use mathlib.Core.Path.{_≡_, refl, sym, _∙_}
 use mathlib.Core.Logic.{_⊎_, inl, inr}
 use Prim.Native.Nat.{ℕ, suc, _≤_}

@@ -1,4 +1,4 @@
--- TENURES: from fresh, what holds of each domain's entries, tenures and longest tenure. Assumes nothing.
+-- TENURES: from fresh, what holds of each domain's entries, tenures and longest tenure.
 use mathlib.Core.Path.{_≡_, refl}
 use mathlib.Core.Bool.{true, cond}
 use mathlib.Core.List.{List, [], _∷_}

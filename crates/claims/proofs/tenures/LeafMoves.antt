@@ -1,4 +1,4 @@
--- Every move keeps what holds of a leaf's entries and tenures. Assumes nothing.
+-- Every move keeps what holds of a leaf's entries and tenures.
 use mathlib.Core.Path.{_≡_, refl, sym, ap, _∙_}
 use mathlib.Core.Bool.{Bool, true, false, cond}
 use mathlib.Core.List.{List, [], _∷_, _++_}

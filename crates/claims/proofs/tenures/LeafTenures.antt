@@ -1,4 +1,4 @@
--- A leaf's entries and tenures, as its queue tells them: what holds between moves. Assumes nothing.
+-- A leaf's entries and tenures, as its queue tells them: what holds between moves.
 use mathlib.Core.Path.{_≡_, refl, sym, ap, _∙_}
 use mathlib.Core.Bool.{true, cond}
 use mathlib.Core.Logic.{_≢_}

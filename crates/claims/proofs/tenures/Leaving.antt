@@ -1,4 +1,4 @@
--- The rows from Inside to Idle, with the records that their moves make first. Assumes nothing.
+-- The rows from Inside to Idle, with the records that their moves make first.
 use mathlib.Core.Path.{_≡_, refl, _∙_}
 use mathlib.Core.Bool.{true, false}
 use mathlib.Core.List.{List, [], _∷_}

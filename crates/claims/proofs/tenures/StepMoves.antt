@@ -1,4 +1,4 @@
--- The moves of the queues that one step is, with the records that they make first. Assumes nothing.
+-- The moves of the queues that one step is, with the records that they make first.
 use mathlib.Core.Path.{_≡_, refl}
 use mathlib.Core.List.{List, [], _∷_}
 use Prim.Native.Nat.{ℕ, _<_}

@@ -1,4 +1,4 @@
--- Every step of the table, from a state that represents queues, with the records that its moves make first. Assumes nothing.
+-- Every step of the table, from a state that represents queues, with the records that its moves make first.
 use mathlib.Core.Path.{_≡_, refl, sym, ap, _∙_}
 use mathlib.Core.Bool.{Bool, true, false, cond}
 use Prim.Native.Nat.{ℕ, _<_}

@@ -1,4 +1,4 @@
--- What a row tells of a domain: which word a thread may hold to grant there after it, that only a Grant there ends a standing there, and the length that a Check tells. Assumes nothing.
+-- What a row tells of a domain: which word a thread may hold to grant there after it, that only a Grant there ends a standing there, and the length that a Check tells.
 use mathlib.Core.Path.{_≡_, refl, sym, ap, _∙_}
 use mathlib.Core.Bool.{Bool, true, false, cond}
 use mathlib.Core.List.{List, [], _∷_, _++_, nil≢cons, head-eq-of-cons-eq}

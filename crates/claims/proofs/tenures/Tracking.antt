@@ -1,4 +1,4 @@
--- From fresh, step by step: a domain's tenures, entries and longest tenure. Assumes nothing.
+-- From fresh, step by step: a domain's tenures, entries and longest tenure.
 use mathlib.Core.Path.{_≡_, refl, sym, ap, _∙_}
 use mathlib.Core.Bool.{Bool, true, false, cond, false≢true}
 use mathlib.Core.Logic.{_≢_, _⊎_, inl, inr}

@@ -1,4 +1,4 @@
--- COMPUTED CASES of entries, tenures and the longest tenure, at both kinds of root: where the laws' bounds are reached, and where nothing may be told. Assumes nothing: these are definitions.
+-- COMPUTED CASES of entries, tenures and the longest tenure, at both kinds of root: where the laws' bounds are reached, and where nothing may be told.
 use mathlib.Core.Path.{_≡_}
 use mathlib.Core.Bool.{Bool, true, _&&_}
 use mathlib.Core.List.{List, [], _∷_, _++_}

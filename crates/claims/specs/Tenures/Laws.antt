@@ -1,4 +1,4 @@
--- Document 02, (vii): what holds of a domain's entries, tenures and longest tenure, as the steps tell them, and of the counters in a lock's state. Assumes nothing: these are definitions.
+-- Document 02, (vii): what holds of a domain's entries, tenures and longest tenure, as the steps tell them, and of the counters in a lock's state.
 use mathlib.Core.Path.{_≡_}
 use mathlib.Core.Bool.{true, false, cond}
 use mathlib.Core.List.{List}

@@ -1,4 +1,4 @@
--- A listing's parts stored one after another in a buffer. Assumes nothing.
+-- A listing's parts stored one after another in a buffer.
 use mathlib.Core.Path.{_≡_, sym}
 use mathlib.Core.List.{List}
 use Prim.Native.Nat.{ℕ, suc, _+_, _/_, _%_, _≤_, _<_}
@@ -18,7 +18,7 @@ last-digit l at v k h e = rw (e, numeral-large v h) (sym (sets-last l at (numera
 pub only-digit : (l : List ℕ) (at v : ℕ) → v < 10 → set l at (digit v) ≡ sets l at (numeral v)
 only-digit l at v h = rw (numeral-small v h)
 
--- the next of some spaced numbers, and those behind it
+-- the next of some spaced numbers, and those after it
 pub spaced-written :
     (l : List ℕ) (at : ℕ) (ns : List ℕ) (k : ℕ) → k < length ns →
     sets l at (spaced (drop k ns))
@@ -27,7 +27,7 @@ spaced-written l at ns k h =
     let e : at + 1 ≡ suc at = omega arith in
     rw (spaced-next ns k h, e) (sets-append (set l at 32) (suc at) (numeral (getD ns k 0)) (spaced (drop (k + 1) ns)))
 
--- the next line of a trace, and those behind it
+-- the next line of a trace, and those after it
 pub trace-written :
     (l : List ℕ) (at : ℕ) (is : List ℕ) (k : ℕ) → k < length is →
     sets l at (trace-lines (drop k is))

@@ -1,4 +1,4 @@
--- The file call's run in buffers that are longer than it needs: the same answer, and its trace at the front. Assumes nothing.
+-- The file call's run in buffers that are longer than it needs: the same answer, and its trace at the front.
 use mathlib.Core.Path.{_≡_, refl, _∙_, ap}
 use mathlib.Core.Bool.{Bool, true, false}
 use mathlib.Core.List.{List}

@@ -1,4 +1,4 @@
--- The outcome of the file call, case by case. Assumes nothing.
+-- The outcome of the file call, case by case.
 use mathlib.Core.Path.{_≡_, refl}
 use mathlib.Core.Bool.{Bool, true, false}
 use mathlib.Core.List.{List}

@@ -1,4 +1,4 @@
--- A written file, one entry at a time: the next entry and those behind it, or none. Assumes nothing.
+-- A written file, one entry at a time: the next entry and those after it, or none.
 use mathlib.Core.Path.{_≡_}
 use mathlib.Core.List.{List, [], _++_}
 use Prim.Native.Nat.{ℕ, suc, _+_, _-_, _≤_, _<_}
@@ -38,7 +38,7 @@ pub schedule-over : (is : List ℕ) (k : ℕ) → length is ≤ k → written-sc
 unfolding written-schedule
 schedule-over is k h = rw (drop-of-length-le is h)
 
--- an entry stored, and those behind it
+-- an entry stored, and those after it
 pub thread-stored :
     (home : ℕ → ℕ) (n i b h : ℕ) → i < n → home i ≡ h → (l : List ℕ) (at : ℕ) →
     (length (written-threads home (n - i) i b) ≡ length (written-thread b h) + length (written-threads home (n - (i + 1)) (i + 1) h))

@@ -1,4 +1,4 @@
--- What the tests of a schedule in code say of the definition's. Assumes nothing.
+-- What the tests of a schedule in code say of the definition's.
 use mathlib.Core.Path.{_≡_, sym, ap, _∙_}
 use mathlib.Core.List.{List}
 use Prim.Native.Nat.{ℕ, _≤_}

@@ -1,4 +1,4 @@
--- A tree stored part by part is the written tree. Assumes nothing.
+-- A tree stored part by part is the written tree.
 use mathlib.Core.Path.{_≡_, sym, _∙_}
 use mathlib.Core.List.{List, [], _++_}
 use Prim.Native.Nat.{ℕ, _+_, _-_, _≤_}
@@ -47,7 +47,7 @@ tree-stored w l =
     (sets-append front 1 (domains-of w) (low-first-bytes (w .threads) ++ threads-of w)
     ∙ sets-append (sets front 1 (domains-of w)) (1 + length (domains-of w)) (low-first-bytes (w .threads)) (threads-of w))
 
--- the schedule behind it: the file at the front of the buffer
+-- the schedule after it: the file at the front of the buffer
 pub file-stored :
     (t : Tree) (is l : List ℕ) → length (written-file t is) ≤ length l →
     sets (sets l 0 (written-tree t)) (length (written-tree t)) (written-schedule is) ≡ written-file t is ++ drop (length (written-file t is)) l

@@ -12,7 +12,7 @@ use model::TreeWords;
 // What a threshold is that is absent.
 const ABSENT_THRESHOLD: u16 = 16;
 
-// A number in two bytes at a position, low byte first; returns the position behind them.
+// A number in two bytes at a position, low byte first; returns the position after them.
 fn put_two_bytes(buffer: &mut [u8], at: usize, value: u16) -> usize
     requires { ⌜ at + 2 ≤ length (now buffer) ⌝ }
     ensures { λ r. ⌜ r ≡ at + 2 ⌝ }
@@ -23,7 +23,7 @@ fn put_two_bytes(buffer: &mut [u8], at: usize, value: u16) -> usize
     at + 2
 }
 
-// A domain's entry at a position: a bit set only where a value differs from its default; returns the position behind it.
+// A domain's entry at a position: a bit set only where a value differs from its default; returns the position after it.
 fn put_domain(buffer: &mut [u8], at: usize, parent: u8, threshold: u16) -> usize
     requires { ⌜ at + length (written-domain parent threshold) ≤ length (now buffer) ⌝ }
     ensures { λ r. ⌜ r ≡ at + length (written-domain parent threshold) ⌝ }
@@ -47,7 +47,7 @@ fn put_domain(buffer: &mut [u8], at: usize, parent: u8, threshold: u16) -> usize
     put_two_bytes(buffer, at + 2, threshold)
 }
 
-// The entries of the domains 1 to D - 1 from a position on; returns the position behind them.
+// The entries of the domains 1 to D - 1 from a position on; returns the position after them.
 fn put_domains<'a>(
     buffer: &mut [u8],
     start: usize,
@@ -70,7 +70,7 @@ fn put_domains<'a>(
     at
 }
 
-// A thread's entry at a position: a home only where it is not that of the thread before; returns the position behind it.
+// A thread's entry at a position: a home only where it is not that of the thread before; returns the position after it.
 fn put_thread(buffer: &mut [u8], at: usize, before: u8, home: u8) -> usize
     requires { ⌜ at + length (written-thread before home) ≤ length (now buffer) ⌝ }
     ensures { λ r. ⌜ r ≡ at + length (written-thread before home) ⌝ }
@@ -85,7 +85,7 @@ fn put_thread(buffer: &mut [u8], at: usize, before: u8, home: u8) -> usize
     at + 2
 }
 
-// The entries of the threads 0 to T - 1 from a position on; returns the position behind them.
+// The entries of the threads 0 to T - 1 from a position on; returns the position after them.
 fn put_threads(buffer: &mut [u8], start: usize, homes: &[u8; 256], threads: usize) -> usize
     requires { ⌜ threads ≤ 256 ⌝ }
     requires { ⌜ start + length (written-threads (tree-in 0 threads [] [] (now homes) .home) threads 0 0) ≤ length (now buffer) ⌝ }

@@ -1,4 +1,4 @@
--- The printed front of the output is within it. Assumes nothing.
+-- `hmcs::print`. The printed front of the output is within it.
 use native.Mathlib.Omega.{arith}
 use lib.ListN.{length-take}
 use borrow.Author.Needs.{needs}

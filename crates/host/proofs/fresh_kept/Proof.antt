@@ -1,4 +1,4 @@
--- `host::fresh_kept` meets its contract: by the number of the fresh call's reply. Assumes nothing.
+-- `host::fresh_kept` meets its contract: by the number of the fresh call's reply.
 use borrow.Author.Needs.{needs}
 use borrow.Author.Tests.{eq-eqb, ne-eqb}
 use Rattle.host.specs.InPlace.{fresh-left}

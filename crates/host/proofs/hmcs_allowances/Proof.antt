@@ -1,4 +1,4 @@
--- `host::hmcs_allowances` meets its contract: what `allowances` ensures, with its refusal as the host gets it. Assumes nothing.
+-- `host::hmcs_allowances` meets its contract: what `allowances` ensures, with its refusal as the host gets it.
 use mathlib.Core.Path.{ap}
 use borrow.Author.Needs.{needs}
 use Rattle.host.proofs.Answered.{as-answer}

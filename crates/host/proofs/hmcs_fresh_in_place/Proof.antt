@@ -1,6 +1,6 @@
 -- `host::hmcs_fresh_in_place` meets its contract: the walk of the calls in place (`InPlaceWalk`, which also says what the toolchain's letters stand for), at `fresh_kept` as the function by value.
 -- All that the proof knows of `fresh_kept` is that it meets its contract, `r ≡ fresh-kept (fresh-answer ..) ..`.
--- Assumes nothing.
+--
 use mathlib.Core.Path.{refl}
 use types.Kit.{_$_, !, step}
 use types.Run.{and-then, no-more}

@@ -1,4 +1,4 @@
--- `host::hmcs_rate` meets its contract: the reply of the answer that `rate` gives. Assumes nothing.
+-- `host::hmcs_rate` meets its contract: the reply of the answer that `rate` gives.
 use mathlib.Core.Path.{ap, _∙_}
 use borrow.Author.Needs.{needs}
 use Rattle.rate.specs.Answers.{reply-of}

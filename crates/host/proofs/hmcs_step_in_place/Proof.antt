@@ -1,6 +1,6 @@
 -- `host::hmcs_step_in_place` meets its contract: the walk of the calls in place (`InPlaceWalk`, which also says what the toolchain's letters stand for), at `lock::step_lock` as the function by value.
 -- All that the proof knows of `step_lock` is that it meets its contract, `r ≡ step-answer ..`.
--- Assumes nothing.
+--
 use mathlib.Core.Path.{refl}
 use types.Kit.{_$_, !, step}
 use types.Run.{and-then, no-more}

@@ -1,4 +1,4 @@
--- The cases hold: each is computed. Assumes nothing.
+-- The cases hold: each is computed.
 use mathlib.Core.Path.{_≡_, refl, ap, _∙_}
 use mathlib.Core.Bool.{Bool, true, _&&_, cond}
 use mathlib.Core.List.{List, [], _∷_}

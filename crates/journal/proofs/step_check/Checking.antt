@@ -1,4 +1,4 @@
--- Named steps one after another: those that are right, and the first that is not. Assumes nothing.
+-- Named steps one after another: those that are right, and the first that is not.
 use mathlib.Core.Path.{_≡_, refl, sym, ap, _∙_}
 use mathlib.Core.Bool.{Bool, true, false, cond}
 use mathlib.Core.List.{List, [], _∷_, _++_}
@@ -81,7 +81,7 @@ number-at t s is ks ds j = step-number t (after-first t s is j) (getD is j 0) (g
 abbrev pub Right : Tree → LockState → (threads kinds domains : List ℕ) → (count : ℕ) → Type 0
 Right t s is ks ds m = (j : ℕ) → j < m → number-at t s is ks ds j ≡ 0
 
--- of the first step, and of those behind it
+-- of the first step, and of those after it
 pub first-number : (t : Tree) (s : LockState) (i k d : ℕ) (is ks ds : List ℕ) → number-at t s (i ∷ is) (k ∷ ks) (d ∷ ds) 0 ≡ step-number t s i k d
 first-number t s i k d is ks ds = ap (λ v. step-number t v i k d) (after-none t s (i ∷ is))
 

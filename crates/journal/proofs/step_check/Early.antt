@@ -1,4 +1,4 @@
--- Before the steps: the state's check decides, then 30. Assumes nothing.
+-- Before the steps: the state's check decides, then 30.
 use mathlib.Core.Path.{_≡_, refl, sym, ap, _∙_}
 use mathlib.Core.Bool.{Bool, true, false, _&&_, not}
 use mathlib.Core.List.{List, [], _∷_, _++_}

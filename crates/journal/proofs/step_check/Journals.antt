@@ -1,4 +1,4 @@
--- The journal's check agrees. Assumes nothing.
+-- The journal's check agrees.
 use mathlib.Core.Path.{_≡_, refl, sym, ap, _∙_, subst}
 use mathlib.Core.Bool.{true, false}
 use mathlib.Core.List.{List, [], _∷_}

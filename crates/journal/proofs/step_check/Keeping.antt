@@ -1,4 +1,4 @@
--- Named steps that are right keep a state well formed; and where none is wrong, all are counted. Assumes nothing.
+-- Named steps that are right keep a state well formed; and where none is wrong, all are counted.
 use mathlib.Core.Path.{_≡_, refl, sym, ap, _∙_}
 use mathlib.Core.Bool.{Bool, true, false, cond}
 use mathlib.Core.List.{List, [], _∷_}

@@ -1,4 +1,4 @@
--- The laws of the check of steps. Assumes nothing.
+-- The laws of the check of steps.
 use mathlib.Core.Path.{_≡_, refl, sym, ap, _∙_}
 use mathlib.Core.Bool.{true, cond}
 use mathlib.Core.List.{List, _++_}

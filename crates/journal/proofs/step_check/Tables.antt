@@ -1,4 +1,4 @@
--- Right steps are those of the step table, and back. Assumes nothing.
+-- Right steps are those of the step table, and back.
 use mathlib.Core.Path.{_≡_, refl, sym, ap, _∙_, subst}
 use mathlib.Core.Bool.{Bool, true, false, not, cond}
 use mathlib.Core.List.{List, [], _∷_}

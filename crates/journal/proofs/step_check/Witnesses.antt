@@ -1,4 +1,4 @@
--- The witnesses of the check of steps hold. Assumes nothing.
+-- The witnesses of the check of steps hold.
 use mathlib.Core.Path.{_≡_, refl, subst}
 use Prim.Native.Nat.{_≤_}
 use native.Mathlib.Omega.{arith}

@@ -1,4 +1,4 @@
--- The check of steps that a host names by thread, kind and domain, from a state that it hands in: what it answers, for every input. Assumes nothing: these are definitions.
+-- The check of steps that a host names by thread, kind and domain, from a state that it hands in: what it answers, for every input.
 use mathlib.Core.Bool.{Bool, _&&_, not, cond}
 use mathlib.Core.List.{List, [], _∷_, _++_}
 use Prim.Native.Nat.{ℕ, _+_}

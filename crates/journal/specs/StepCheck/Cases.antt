@@ -1,4 +1,4 @@
--- Cases of the check of steps, in one list: traces that are accepted, each number and its place, their order, and the state that is returned. Assumes nothing: these are definitions.
+-- Cases of the check of steps, in one list: traces that are accepted, each number and its place, their order, and the state that is returned.
 use mathlib.Core.Bool.{Bool, true, _&&_}
 use mathlib.Core.List.{List, [], _∷_, _++_}
 use Prim.Native.Nat.{ℕ}
@@ -28,7 +28,7 @@ pub record Case : Type 0 where
 abbrev pub answers : (number place right : ℕ) → TreeWords → LockState → (threads kinds domains : List ℕ) → Case
 answers n p r w s is ks ds = record { words = w; state = s; threads = is; kinds = ks; domains = ds; number = n; place = p; right = r }
 
--- thread 0 enters through its home and the root, thread 1 waits behind it at home, 0 passes the lock on, 1 enters
+-- thread 0 enters through its home and the root, thread 1 waits after it at home, 0 passes the lock on, 1 enters
 unfoldable pub passing : List ℕ
 passing = replicate 4 0 ++ replicate 4 1 ++ replicate 3 0 ++ 1 ∷ []
 
@@ -42,7 +42,7 @@ passing-domains = 1 ∷ 1 ∷ 0 ∷ 0 ∷ 1 ∷ 1 ∷ 1 ∷ 1 ∷ 1 ∷ 1 ∷ 1 
 unfoldable pub one-pass : TreeWords
 one-pass = tree 2 2 (0 ∷ 0 ∷ []) (0 ∷ 1 ∷ []) (1 ∷ 1 ∷ [])
 
--- 0 enters, 1 links itself behind it, 0 leaves, checks, and helps at the root
+-- 0 enters, 1 links itself after it, 0 leaves, checks, and helps at the root
 unfoldable pub releasing : List ℕ
 releasing = replicate 4 0 ++ replicate 3 1 ++ replicate 3 0
 

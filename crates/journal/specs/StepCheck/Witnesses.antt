@@ -1,4 +1,4 @@
--- WHO MEETS WHAT THE LAWS ASK: named steps in two pieces, as the laws of the check of steps have them; docs/WITNESSES.md is the list. Assumes nothing: these are definitions and statements.
+-- WHO MEETS WHAT THE LAWS ASK: named steps in two pieces, as the laws of the check of steps have them; docs/WITNESSES.md is the list.
 use mathlib.Core.Path.{_≡_}
 use mathlib.Core.List.{List}
 use Prim.Native.Nat.{ℕ, _≤_}

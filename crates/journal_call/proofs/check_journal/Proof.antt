@@ -1,4 +1,4 @@
--- `journal_call::check_journal` meets its contract: the tree's refusal, or the check of the entries. Assumes nothing.
+-- `journal_call::check_journal` meets its contract: the tree's refusal, or the check of the entries.
 use mathlib.Core.Path.{refl, _∙_}
 use native.Mathlib.Omega.{arith}
 use Rattle.refusals.proofs.Reading.{refusal-words-same}

@@ -1,4 +1,4 @@
--- Four entries with the same bit map behind each other, and what they leave in the room. Assumes nothing.
+-- Four entries with the same bit map one after another, and what they leave in the room.
 use mathlib.Core.Path.{_≡_, refl}
 use mathlib.Core.List.{List, [], _∷_}
 use Prim.Native.Nat.{ℕ, suc, _+_, _*_, _≤_, _<_}

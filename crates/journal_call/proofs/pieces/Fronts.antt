@@ -1,4 +1,4 @@
--- A piece: what is read from the front of the room on. Assumes nothing.
+-- A piece: what is read from the front of the room on.
 use mathlib.Core.Path.{_≡_, ap, _∙_}
 use mathlib.Core.List.{List}
 use Prim.Native.Nat.{ℕ, _+_, _≤_, _<_}

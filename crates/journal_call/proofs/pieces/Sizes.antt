@@ -1,4 +1,4 @@
--- The table of sizes, one byte more at a time; and an entry with bytes enough behind it. Assumes nothing.
+-- The table of sizes, one byte more at a time; and an entry with bytes enough after it.
 use mathlib.Core.Path.{_≡_, sym}
 use mathlib.Core.List.{List}
 use Prim.Native.Nat.{ℕ, _+_, _≤_, _<_}

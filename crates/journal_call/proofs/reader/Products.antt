@@ -1,4 +1,4 @@
--- A choice by a bit, as products. Assumes nothing.
+-- A choice by a bit, as products.
 use mathlib.Core.Path.{_≡_}
 use mathlib.Core.Bool.{cond}
 use Prim.Native.Nat.{ℕ, zero, suc, _+_, _-_, _*_, _≤_, _<_}

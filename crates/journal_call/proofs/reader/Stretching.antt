@@ -1,4 +1,4 @@
--- Entries of a journal read one behind another. Assumes nothing.
+-- Entries of a journal read one after another.
 use mathlib.Core.Path.{_≡_, refl, sym, ap, _∙_, subst}
 use mathlib.Core.List.{List, [], _∷_, _++_}
 use Prim.Native.Nat.{ℕ, zero, suc, _+_, _≤_, _<_}
@@ -10,7 +10,7 @@ use Rattle.journal.specs.Reading.{entry-at}
 use Rattle.journal_call.specs.Reader.Stretches.{position-by, position-after, Stretch, none-read, one-read, Stops, for-room, for-broken, for-thread, piece-of, Read-on, Stopped-before}
 use Rattle.journal.proofs.Facts.{at-end}
 
--- STRETCHES: one behind another
+-- STRETCHES: one after another
 stretch-join :
     {known p b e l e′ l′ : ℕ} {bs is ks js ms : List ℕ} → Stretch known bs p b is ks e l → Stretch known bs e l js ms e′ l′ →
     Stretch known bs p b (is ++ js) (ks ++ ms) e′ l′

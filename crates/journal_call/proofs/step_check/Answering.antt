@@ -1,4 +1,4 @@
--- From what the tests and the pieces come to, to the answer. Assumes nothing.
+-- From what the tests and the pieces come to, to the answer.
 use mathlib.Core.Path.{_≡_, refl, sym, ap, _∙_}
 use mathlib.Core.Bool.{cond}
 use mathlib.Core.List.{List}

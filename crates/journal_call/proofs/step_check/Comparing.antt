@@ -1,4 +1,4 @@
--- A named step against what the run's loop told of it. Assumes nothing.
+-- A named step against what the run's loop told of it.
 use mathlib.Core.Path.{_≡_, refl, sym, ap, _∙_}
 use mathlib.Core.Bool.{Bool, true, false, _&&_, not}
 use mathlib.Core.List.{List}

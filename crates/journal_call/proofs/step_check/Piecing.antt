@@ -1,4 +1,4 @@
--- A piece of named steps: what was told of its steps against what is named. Assumes nothing.
+-- A piece of named steps: what was told of its steps against what is named.
 use mathlib.Core.Path.{_≡_, refl, sym, ap, _∙_, subst}
 use mathlib.Core.Bool.{Bool, true, false, _&&_, not, cond}
 use mathlib.Core.List.{List, [], _∷_}

@@ -1,4 +1,4 @@
--- How many threads of a piece can be stepped, by the first that is unknown and by what 19 refuses. Assumes nothing.
+-- How many threads of a piece can be stepped, by the first that is unknown and by what 19 refuses.
 use mathlib.Core.Path.{_≡_, refl, sym, ap, _∙_, subst}
 use mathlib.Core.Bool.{Bool, true, false}
 use mathlib.Core.List.{List, [], _∷_}

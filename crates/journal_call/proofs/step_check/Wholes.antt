@@ -1,4 +1,4 @@
--- Named steps piece by piece. Assumes nothing.
+-- Named steps piece by piece.
 use mathlib.Core.Path.{_≡_, refl, sym, ap, _∙_}
 use mathlib.Core.List.{List, _++_}
 use mathlib.Core.Logic.{_≢_}

@@ -1,4 +1,4 @@
--- Pieces of a journal, and entries that are read many at a time: the definitions that their contracts cite. Assumes nothing: these are definitions.
+-- Pieces of a journal, and entries that are read many at a time: the definitions that their contracts cite.
 use mathlib.Core.Path.{_≡_}
 use mathlib.Core.List.{List}
 use Prim.Native.Nat.{ℕ, _+_, _*_, _≤_, _<_}

@@ -1,4 +1,4 @@
--- What is read of a journal, entries one behind another: the definitions that the contracts of the reader and of what stands on it cite. Assumes nothing: these are definitions.
+-- What is read of a journal, entries one after another: the definitions that the contracts of the reader and of what stands on it cite.
 use mathlib.Core.Path.{_≡_}
 use mathlib.Core.List.{List, [], _∷_}
 use Prim.Native.Nat.{ℕ, zero, suc, _+_, _≤_, _<_}
@@ -9,7 +9,7 @@ use Rattle.journal.specs.declared.Entry.the-variants.{Named, Broken, End}
 use Rattle.journal.specs.Reading.{entry-at}
 use Rattle.journal_call.specs.declared.reader.Piece.{Piece}
 
--- the position behind so many entries; where there are fewer, behind the last of them
+-- the position after so many entries; where there are fewer, after the last of them
 abbrev pub position-by : Entry → (position : ℕ) → (then : (behind thread : ℕ) → ℕ) → ℕ
 position-by (Named i k behind) p f = f behind i
 position-by Broken p f = p
@@ -19,7 +19,7 @@ unfoldable pub position-after : (count : ℕ) → (bytes : List ℕ) → (positi
 position-after zero bs p b = p
 position-after (suc n) bs p b = position-by (entry-at bs p b) p (λ behind i. position-after n bs behind i)
 
--- entries read one behind another, each of a known thread: their threads and kinds, the position behind them, the thread of the last
+-- entries read one after another, each of a known thread: their threads and kinds, the position after them, the thread of the last
 pub data Stretch (known : ℕ) (bytes : List ℕ) : (position before : ℕ) → (threads kinds : List ℕ) → (end last : ℕ) → Type 0 where
   none-read : {p b : ℕ} → Stretch known bytes p b [] [] p b
   one-read :
@@ -32,7 +32,7 @@ pub data Stops (known : ℕ) (bytes : List ℕ) (position before : ℕ) : (numbe
   for-broken : entry-at bytes position before ≡ Broken → Stops known bytes position before 25
   for-thread : {i k behind : ℕ} → entry-at bytes position before ≡ Named i k behind → known ≤ i → Stops known bytes position before 12
 
--- a stretch of entries read from a position on, its threads and kinds stored from an index of some room on, behind which they end
+-- a stretch of entries read from a position on, its threads and kinds stored from an index of some room on, after which they end
 pub record Read-on (known : ℕ) (bytes : List ℕ) (position before : ℕ) (threads₀ kinds₀ : List ℕ) (from : ℕ) (threads kinds : List ℕ) (count end last : ℕ) : Type 0 where
   pub new-threads : List ℕ
   pub new-kinds : List ℕ
@@ -46,7 +46,7 @@ pub record Read-on (known : ℕ) (bytes : List ℕ) (position before : ℕ) (thr
 abbrev pub piece-of : (count position before number : ℕ) → Piece
 piece-of n p b m = record { count = n; position = p; before = b; number = m }
 
--- reading stopped behind an entry, before an index unless a number says why or the journal is at its end
+-- reading stopped after an entry, before an index unless a number says why or the journal is at its end
 pub record Stopped-before (known : ℕ) (bytes : List ℕ) (index : ℕ) (piece : Piece) : Type 0 where
   pub stops : Stops known bytes (piece .position) (piece .before) (piece .number)
   pub full : piece .number ≡ 0 → piece .position < length bytes → index ≤ piece .count

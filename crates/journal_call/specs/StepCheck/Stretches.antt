@@ -1,4 +1,4 @@
--- Steps of a piece as the run's loop takes and tells them, against those that are named. Assumes nothing: these are definitions.
+-- Steps of a piece as the run's loop takes and tells them, against those that are named.
 use mathlib.Core.Path.{_≡_}
 use mathlib.Core.Bool.{Bool, true, false, _&&_, not}
 use mathlib.Core.List.{List}

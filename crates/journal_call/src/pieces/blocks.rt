@@ -1,4 +1,4 @@
-// Up to thirty-two entries one behind another, by a table of sizes: how many bytes an entry has that begins at one of 128 bytes is worked out for all of them beforehand, many at a time. The next position then waits for one look into the table, and not for a bit map and what is made of it.
+// Up to thirty-two entries one after another, by a table of sizes: how many bytes an entry has that begins at one of 128 bytes is worked out for all of them beforehand, many at a time. The next position then waits for one look into the table, and not for a bit map and what is made of it.
 ghost use mathlib.Core.Path.{_≡_};
 ghost use Prim.Native.Nat.{_+_, _≤_};
 ghost use lib.ListN.{length};

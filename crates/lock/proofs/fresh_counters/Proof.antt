@@ -1,4 +1,4 @@
--- `lock::fresh_counters` meets its contract: three arrays of 64 zeros are the definition. Assumes nothing.
+-- `lock::fresh_counters` meets its contract: three arrays of 64 zeros are the definition.
 use mathlib.Core.Path.{refl}
 use Rattle.model.specs.Counters.{fresh-counters}
 use borrow.Author.Needs.{needs}

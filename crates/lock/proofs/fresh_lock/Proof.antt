@@ -1,4 +1,4 @@
--- `lock::fresh_lock` meets its contract: a fresh state, whatever the tree's refusal. Assumes nothing.
+-- `lock::fresh_lock` meets its contract: a fresh state, whatever the tree's refusal.
 use mathlib.Core.Path.{_∙_}
 use native.Mathlib.Omega.{arith}
 use Rattle.model.specs.Answers.{fresh-answer}

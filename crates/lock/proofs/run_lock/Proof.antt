@@ -1,4 +1,4 @@
--- `lock::run_lock` meets its contract: the run on the state's arrays, which fit what its type fixes. Assumes nothing.
+-- `lock::run_lock` meets its contract: the run on the state's arrays, which fit what its type fixes.
 use Rattle.lock.proofs.steps.Typing.{typed}
 use Rattle.lock.specs.Lent.{run-told}
 use borrow.Author.Needs.{needs}

@@ -1,4 +1,4 @@
--- Counters within their limits, domain by domain. Assumes nothing.
+-- Counters within their limits, domain by domain.
 use mathlib.Core.Path.{_≡_, sym, ap, _∙_}
 use mathlib.Core.Bool.{true, false, _||_}
 use mathlib.Core.List.{List}

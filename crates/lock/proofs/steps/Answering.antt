@@ -1,4 +1,4 @@
--- From what the refusals and the run answer to the answers of the calls. Assumes nothing.
+-- From what the refusals and the run answer to the answers of the calls.
 use mathlib.Core.Path.{_≡_, refl, sym, ap, _∙_}
 use mathlib.Core.Bool.{Bool, true, false, cond}
 use mathlib.Core.List.{List, [], _∷_, _++_}

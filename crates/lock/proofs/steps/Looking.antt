@@ -1,4 +1,4 @@
--- What the counting of a step asks, and the marks of the threads that watch. Assumes nothing.
+-- What the counting of a step asks, and the marks of the threads that watch.
 use mathlib.Core.Path.{_≡_, refl, sym, ap, _∙_}
 use mathlib.Core.Bool.{Bool, true, false, _&&_, _||_, not, cond}
 use mathlib.Core.List.{List}

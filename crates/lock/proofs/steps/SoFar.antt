@@ -1,4 +1,4 @@
--- A run under way: what holds at each turn of its loop. Assumes nothing.
+-- A run under way: what holds at each turn of its loop.
 use mathlib.Core.Path.{_≡_, refl, sym, ap, _∙_}
 use mathlib.Core.Bool.{Bool, true, false, cond}
 use mathlib.Core.List.{List, [], _∷_, _++_, append-nil, append-assoc}

@@ -1,4 +1,4 @@
--- A fresh state by the number at which its counters start. Assumes nothing.
+-- A fresh state by the number at which its counters start.
 use mathlib.Core.Path.{_≡_, refl, sym, ap, _∙_}
 use mathlib.Core.Bool.{Bool, true, false, not, cond}
 use Prim.Native.Nat.{ℕ, _%_, _<_}

@@ -1,4 +1,4 @@
--- Kind and domain of a step, by what the run's loop tells of it. Assumes nothing.
+-- Kind and domain of a step, by what the run's loop tells of it.
 use mathlib.Core.Path.{_≡_, refl, sym, ap, _∙_}
 use mathlib.Core.Bool.{true, _&&_}
 use mathlib.Core.Logic.{_≢_}

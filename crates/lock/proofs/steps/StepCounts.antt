@@ -1,4 +1,4 @@
--- What one step counts by its words is what the model counts of it: by the place that it is from. Assumes nothing.
+-- What one step counts by its words is what the model counts of it: by the place that it is from.
 use mathlib.Core.Path.{_≡_, refl, sym, ap, _∙_}
 use mathlib.Core.Bool.{Bool, true, false, _&&_, _||_, not, cond, false≢true}
 use mathlib.Core.List.{List, [], _∷_}
@@ -47,7 +47,7 @@ use Rattle.lock.proofs.steps.Taken.{taken-child}
 use Rattle.lock.proofs.steps.StepEntries.{entries-counted}
 use Rattle.lock.proofs.steps.StepTenures.{Start-of, nobody, of-thread, of-domain, start-added, start-raised, check-added, check-raised, raise-added, raise-raised}
 
--- of the place behind a Swap: Link exactly where the tail was not none
+-- of the place after a Swap: Link exactly where the tail was not none
 swap-after :
     (t : Tree) (i l : ℕ) (s : State) → Has-room (s .places) i → {x : Row-result} → Branch t i s (Swap l) x →
     eqb (numbers-at (x .state .places) i .row) 3 ≡ not (eqb (tail s l) none)

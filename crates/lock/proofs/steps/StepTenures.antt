@@ -1,4 +1,4 @@
--- The tenures that one step starts, and the lengths that it tells, are those that the model counts of it. Assumes nothing.
+-- The tenures that one step starts, and the lengths that it tells, are those that the model counts of it.
 use mathlib.Core.Path.{_≡_, refl, sym, ap, _∙_}
 use mathlib.Core.Bool.{Bool, true, false, _&&_, cond, false≢true}
 use mathlib.Core.List.{List, [], _∷_}

@@ -1,4 +1,4 @@
--- A run under way: the counters of the domains at each turn of its loop. Assumes nothing.
+-- A run under way: the counters of the domains at each turn of its loop.
 use mathlib.Core.Path.{_≡_, refl, sym, ap, _∙_}
 use mathlib.Core.Bool.{Bool, true, false, cond}
 use mathlib.Core.List.{List, [], _∷_, _++_}
@@ -18,7 +18,7 @@ use Rattle.model.proofs.Counted.{counters-none, counters-join}
 use Rattle.lock.proofs.steps.SoFar.{next-step}
 
 module _ (t : Tree) (is : List ℕ) (s₀ : State) (c₀ : Counters) where
-  -- the counters behind the first k entries
+  -- the counters after the first k entries
   pub record Tallied (c : Counters) (k : ℕ) : Type 0 where
     pub counters-are : c ≡ counters-after t c₀ (steps t (take k is) s₀)
 

@@ -1,4 +1,4 @@
--- The run's loop tells what each step was, as long as there is room. Assumes nothing.
+-- The run's loop tells what each step was, as long as there is room.
 use mathlib.Core.Path.{_≡_, refl, sym, ap, _∙_}
 use mathlib.Core.Bool.{Bool, true, false, cond}
 use mathlib.Core.List.{List, [], _∷_, _++_}

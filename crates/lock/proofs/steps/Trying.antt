@@ -1,4 +1,4 @@
--- The steps of a schedule tried one by one for 19: what holds behind the first k of them. Assumes nothing.
+-- The steps of a schedule tried one by one for 19: what holds after the first k of them.
 use mathlib.Core.Path.{_≡_, refl, sym, ap, _∙_}
 use mathlib.Core.Bool.{Bool, true, false}
 use mathlib.Core.List.{List, [], _∷_, _++_}

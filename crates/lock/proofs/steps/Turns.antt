@@ -1,4 +1,4 @@
--- What each turn of the run's loop needs. Assumes nothing.
+-- What each turn of the run's loop needs.
 use mathlib.Core.List.{List}
 use Prim.Native.Nat.{ℕ, _<_}
 use native.Mathlib.Omega.{arith}

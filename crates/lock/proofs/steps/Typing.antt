@@ -1,4 +1,4 @@
--- What the type of a state fixes: the room of its arrays, that statuses and words are below 2^64, and the counters below 2^16. Assumes nothing.
+-- What the type of a state fixes: the room of its arrays, that statuses and words are below 2^64, and the counters below 2^16.
 use mathlib.Core.Path.{sym, _∙_}
 use mathlib.Core.List.{List, [], _∷_, map}
 use Prim.Native.Nat.{ℕ, zero, suc, _<_}

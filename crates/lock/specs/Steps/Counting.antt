@@ -1,4 +1,4 @@
--- What a run looks at before a raise, and whether its counters have room. Assumes nothing: these are definitions.
+-- What a run looks at before a raise, and whether its counters have room.
 use mathlib.Core.Path.{_≡_}
 use mathlib.Core.Bool.{Bool, true, false, _&&_}
 use mathlib.Core.List.{List}

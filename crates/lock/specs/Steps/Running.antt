@@ -1,4 +1,4 @@
--- A run by its steps: what is counted, traced and told. Assumes nothing: these are definitions.
+-- A run by its steps: what is counted, traced and told.
 use mathlib.Core.Bool.{cond}
 use mathlib.Core.List.{List, [], _∷_, _++_}
 use Prim.Native.Nat.{ℕ, _+_, _*_}

@@ -57,7 +57,7 @@ fn is_above<'c>(entries: &'c [u64; 64], tenures: &'c [u64; 64], longest: &'c [u6
     false
 }
 
-// The lowest position of a schedule behind whose step a counter is above 2^63, found by taking the steps one by one on a copy; the schedule's length where there is none.
+// The lowest position of a schedule after whose step a counter is above 2^63, found by taking the steps one by one on a copy; the schedule's length where there is none.
 fn lowest_above<'s, 'c>(
     tree: TreeWords,
     tails: &'s [u16; 64],
@@ -124,7 +124,7 @@ fn lowest_above<'s, 'c>(
     k
 }
 
-// 19 behind all other tests: the lowest position of a schedule behind whose step a counter is above 2^63.
+// 19 after all other tests: the lowest position of a schedule after whose step a counter is above 2^63.
 pub fn lent_counter_refusal_of<'s, 'c>(
     tree: TreeWords,
     tails: &'s [u16; 64],

@@ -1,4 +1,4 @@
--- The cases of the file call hold, by computation of what `Computing` shows to be the same. Assumes nothing.
+-- The cases of the file call hold, by computation of what `Computing` shows to be the same.
 use mathlib.Core.Path.{_≡_, refl}
 use mathlib.Core.Bool.{true}
 use Rattle.model.specs.Scans.{all, any-below, filter-below}

@@ -1,4 +1,4 @@
--- COMPUTED CASES, QUICKLY: the file call runs from a fresh lock, which passes 10, and 19 too with a schedule as short as a file's. So a case is computed without them. Assumes nothing.
+-- COMPUTED CASES, QUICKLY: the file call runs from a fresh lock, which passes 10, and 19 too with a schedule as short as a file's. So a case is computed without them.
 use mathlib.Core.Path.{_≡_, refl, ap, _∙_, fun-ext}
 use mathlib.Core.Bool.{Bool, true, false, cond}
 use mathlib.Core.List.{List, [], _∷_, _++_}

@@ -1,4 +1,4 @@
--- REFUSALS OF THE FILE CALL: 1 to 3, those of the tree, 12 and 14. Assumes nothing.
+-- REFUSALS OF THE FILE CALL: 1 to 3, those of the tree, 12 and 14.
 use mathlib.Core.Path.{_≡_, refl, sym}
 use mathlib.Core.Bool.{true, false, true≢false}
 use mathlib.Core.List.{List}

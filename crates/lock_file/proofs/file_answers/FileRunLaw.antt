@@ -1,4 +1,4 @@
--- REFUSALS OF THE FILE CALL'S RUN: a fresh lock is well formed, and schedule and trace buffer have the right length. Assumes nothing.
+-- REFUSALS OF THE FILE CALL'S RUN: a fresh lock is well formed, and schedule and trace buffer have the right length.
 use mathlib.Core.Path.{_≡_, refl, sym, _∙_}
 use mathlib.Core.Bool.{Bool, true, false, cond}
 use mathlib.Core.List.{List, [], _∷_, _++_}

@@ -1,4 +1,4 @@
--- THE LONGEST LISTING: with room for it 14 is never met. Assumes nothing.
+-- THE LONGEST LISTING: with room for it 14 is never met.
 use mathlib.Core.Path.{_≡_, sym, ap, _∙_}
 use mathlib.Core.Bool.{Bool, true, false, cond, true≢false}
 use mathlib.Core.List.{List, [], _∷_, _++_}

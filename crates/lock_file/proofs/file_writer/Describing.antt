@@ -1,4 +1,4 @@
--- A written file describes the tree and the schedule. Assumes nothing.
+-- A written file describes the tree and the schedule.
 use mathlib.Core.Path.{_≡_, refl, sym, ap, subst, fun-ext, _∙_}
 use mathlib.Core.Bool.{Bool, true, false, cond, not, _&&_}
 use mathlib.Core.List.{List, [], _∷_, _++_, append-assoc}

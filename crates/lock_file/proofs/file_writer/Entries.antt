@@ -1,4 +1,4 @@
--- The kinds of entries of a written file. Assumes nothing.
+-- The kinds of entries of a written file.
 use mathlib.Core.Path.{_≡_}
 use mathlib.Core.List.{[], _∷_}
 use Prim.Native.Nat.{ℕ}

@@ -1,4 +1,4 @@
--- How long the parts of a written file are. Assumes nothing.
+-- How long the parts of a written file are.
 use mathlib.Core.Path.{_≡_, refl}
 use mathlib.Core.Bool.{Bool, true, false, cond}
 use mathlib.Core.List.{List, [], _∷_, _++_}

@@ -1,4 +1,4 @@
--- What refuses the call, in plain numbers. Assumes nothing.
+-- What refuses the call, in plain numbers.
 use mathlib.Core.Path.{_≡_, refl, _∙_}
 use mathlib.Core.List.{List, [], _++_}
 use mathlib.Core.Logic.{_≢_}

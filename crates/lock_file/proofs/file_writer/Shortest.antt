@@ -1,4 +1,4 @@
--- No lock file for a tree and a schedule is shorter than the written one. Assumes nothing.
+-- No lock file for a tree and a schedule is shorter than the written one.
 use mathlib.Core.Path.{_≡_, refl, ap, _∙_}
 use mathlib.Core.List.{List, [], _∷_, _++_}
 use Prim.Native.Nat.{ℕ, _+_, _*_, _-_, _%_, _≤_, _<_}

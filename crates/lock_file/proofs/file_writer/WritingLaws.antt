@@ -1,4 +1,4 @@
--- THE LAWS of the written file: read back, shortest, the buffer, the circle. Assumes nothing.
+-- THE LAWS of the written file: read back, shortest, the buffer, the circle.
 use mathlib.Core.Path.{_≡_, refl, sym, ap, _∙_}
 use mathlib.Core.Bool.{Bool, true, false}
 use mathlib.Core.List.{List, _++_}

@@ -1,4 +1,4 @@
--- The cases hold, by computation. Assumes nothing.
+-- The cases hold, by computation.
 use mathlib.Core.Path.{_≡_, refl}
 use mathlib.Core.Bool.{true}
 use Rattle.model.specs.Scans.{all}

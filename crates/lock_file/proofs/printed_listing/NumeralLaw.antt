@@ -1,4 +1,4 @@
--- NUMERALS: they have digits only, read back, and have no leading zero. Assumes nothing.
+-- NUMERALS: they have digits only, read back, and have no leading zero.
 use mathlib.Core.Path.{_≡_, refl}
 use mathlib.Core.Bool.{Bool, true, false}
 use mathlib.Core.List.{List, [], _∷_, _++_}

@@ -1,4 +1,4 @@
--- Decimal numerals: one digit, or a last digit behind a numeral; how long they are. Assumes nothing.
+-- Decimal numerals: one digit, or a last digit after a numeral; how long they are.
 use mathlib.Core.Path.{_≡_, refl, _∙_}
 use mathlib.Core.Bool.{Bool, true, false, cond}
 use mathlib.Core.List.{List, [], _∷_, _++_}

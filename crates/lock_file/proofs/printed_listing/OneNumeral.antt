@@ -1,4 +1,4 @@
--- THE ONE NUMERAL of a value above 0: bytes that are decimal are its numeral. Assumes nothing.
+-- THE ONE NUMERAL of a value above 0: bytes that are decimal are its numeral.
 use mathlib.Core.Path.{_≡_, refl, sym, _∙_, ap}
 use mathlib.Core.List.{List, [], _∷_, _++_}
 use mathlib.Core.Logic.{_≢_}

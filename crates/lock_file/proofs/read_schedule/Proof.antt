@@ -1,4 +1,4 @@
--- `read_schedule` meets its contract: no entries, too little room for them, or all of them at the front. Assumes nothing.
+-- `lock_file::read_schedule` meets its contract: no entries, too little room for them, or all of them at the front.
 use mathlib.Core.Path.{sym, _∙_}
 use native.Mathlib.Omega.{arith}
 use borrow.Author.Needs.{needs}

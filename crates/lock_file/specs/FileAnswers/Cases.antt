@@ -1,4 +1,4 @@
--- Cases of the file call, in one list: the printed example, 1, 4 and 5, 9, 16, 12 and 14 at their places. Assumes nothing: these are definitions.
+-- Cases of the file call, in one list: the printed example, 1, 4 and 5, 9, 16, 12 and 14 at their places.
 use mathlib.Core.Path.{_≡_}
 use mathlib.Core.Bool.{Bool, true, false, _&&_}
 use mathlib.Core.List.{List, [], _∷_, _++_}
@@ -17,7 +17,7 @@ replies n p l r = eqb (r .number) n && eqb (r .place) p && eqb (r .length) l
 
 unfoldable pub cases : List Bool
 cases =
-    -- the printed example: listed, and the buffer behind the listing as it came
+    -- the printed example: listed, and the buffer after the listing as it came
     replies 0 0 22 (file-answer (example 2) (replicate 22 7))
     ∷ same-numbers (output-answer (example 2) (replicate 25 7)) (example-listing ++ (7 ∷ 7 ∷ 7 ∷ []))
     -- one byte too few for the listing

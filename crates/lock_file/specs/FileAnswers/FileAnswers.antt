@@ -1,4 +1,4 @@
--- What the file call answers and what it leaves in the output buffer, for every input. Assumes nothing: these are definitions.
+-- What the file call answers and what it leaves in the output buffer, for every input.
 use mathlib.Core.Bool.{cond}
 use mathlib.Core.List.{List, _++_}
 use Prim.Native.Nat.{ℕ}
@@ -54,7 +54,7 @@ unfoldable pub outcome-reply : Outcome → FileReply
 outcome-reply (refused-by r) = record { number = r .number; place = r .place; length = 0 }
 outcome-reply (lists ls) = record { number = 0; place = 0; length = length ls }
 
--- the listing at the front of the output buffer and nothing behind it changed; refused, as it came
+-- the listing at the front of the output buffer and nothing after it changed; refused, as it came
 unfoldable pub outcome-output : Outcome → (output : List ℕ) → List ℕ
 outcome-output (refused-by r) output = output
 outcome-output (lists ls) output = ls ++ drop (length ls) output

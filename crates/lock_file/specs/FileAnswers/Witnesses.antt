@@ -1,4 +1,4 @@
--- A file for each number that the file call meets. Assumes nothing: these are definitions and a statement.
+-- A file for each number that the file call meets.
 use mathlib.Core.Path.{_≡_}
 use mathlib.Core.List.{List, [], _∷_, _++_, map}
 use Prim.Native.Nat.{ℕ}

@@ -1,4 +1,4 @@
--- Document 02, (v): what the call answers, and the buffer after it, for every input. Assumes nothing: these are definitions.
+-- Document 02, (v): what the call answers, and the buffer after it, for every input.
 use mathlib.Core.Bool.{cond}
 use mathlib.Core.List.{List, _++_}
 use Prim.Native.Nat.{ℕ}
@@ -18,7 +18,7 @@ write-reply r n = record { number = r .number; place = r .place; length = cond (
 abbrev pub answered-length : Tree → (schedule : List ℕ) → ℕ
 answered-length t is = length (written-file t is)
 
--- the buffer by the call's refusal: the file at its front and nothing behind it; refused, as it came
+-- the buffer by the call's refusal: the file at its front and nothing after it; refused, as it came
 unfoldable pub file-buffer : Refusal → (buffer file : List ℕ) → List ℕ
 file-buffer r b bs = cond (eqb (r .number) 0) (bs ++ drop (length bs) b) b
 

@@ -1,4 +1,4 @@
--- Cases of writing the lock file, in one list: the printed example byte by byte, each default at its edge, both kinds of root, words that are not read, refusals in their order, buffers. Assumes nothing: these are definitions.
+-- Cases of writing the lock file, in one list: the printed example byte by byte, each default at its edge, both kinds of root, words that are not read, refusals in their order, buffers.
 use mathlib.Core.Path.{_≡_}
 use mathlib.Core.Bool.{Bool, true, false, _&&_}
 use mathlib.Core.List.{List, [], _∷_, _++_}
@@ -25,7 +25,7 @@ pub record Case : Type 0 where
   pub long : ℕ
   pub after : List ℕ
 
--- accepted, with this file at the front of a buffer of sevens, and so many bytes behind it
+-- accepted, with this file at the front of a buffer of sevens, and so many bytes after it
 unfoldable pub writes : TreeWords → (schedule file : List ℕ) → (behind : ℕ) → Case
 writes w is bs n =
     record {
@@ -65,7 +65,7 @@ empty-leaf = tree 3 1 (0 ∷ 0 ∷ 0 ∷ []) (0 ∷ 2 ∷ 16 ∷ []) (1 ∷ [])
 
 unfoldable pub cases : List Case
 cases =
-    -- the printed example, byte by byte; with two bytes behind it, and one byte too few
+    -- the printed example, byte by byte; with two bytes after it, and one byte too few
     writes two-homes (first-entries ++ (2 ∷ [])) (example 2) 0
     ∷ writes two-homes (first-entries ++ (2 ∷ [])) (example 2) 2
     ∷ refuses 17 0 two-homes (first-entries ++ (2 ∷ [])) 55

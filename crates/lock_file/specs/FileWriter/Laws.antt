@@ -1,4 +1,4 @@
--- THE LAWS OF WRITING THE LOCK FILE. Each is a statement; proofs/ has its proof. Assumes nothing.
+-- THE LAWS OF WRITING THE LOCK FILE. Each is a statement; proofs/ has its proof.
 use mathlib.Core.Path.{_≡_}
 use mathlib.Core.List.{List}
 use mathlib.Core.Logic.{_≢_}
@@ -88,7 +88,7 @@ Circle-law =
     (w : TreeWords) (schedule buffer : List ℕ) → write-answer w schedule buffer .number ≡ 0 →
     Runs-alike (file-left w schedule buffer) w schedule
 
--- 5. THE BUFFER keeps its length and what is behind the file; refused, all of it, and the length is 0
+-- 5. THE BUFFER keeps its length and what is after the file; refused, all of it, and the length is 0
 pub record Keeps-rest (w : TreeWords) (schedule buffer : List ℕ) : Type 0 where
   pub long : length (file-buffer-answer w schedule buffer) ≡ length buffer
   pub behind :

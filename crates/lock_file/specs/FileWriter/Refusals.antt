@@ -1,4 +1,4 @@
--- Document 02, (v): what refuses the call, 4 to 9 and 16, then 11 and 12, then 1, then 17. Assumes nothing: these are definitions.
+-- Document 02, (v): what refuses the call, 4 to 9 and 16, then 11 and 12, then 1, then 17.
 use mathlib.Core.Bool.{Bool}
 use mathlib.Core.List.{List, [], _∷_, _++_}
 use Prim.Native.Nat.{ℕ}

@@ -1,4 +1,4 @@
--- Document 02, (v): the lock file of a tree and a schedule, with a bit set only where the value differs from what an absent field means. Assumes nothing: these are definitions.
+-- Document 02, (v): the lock file of a tree and a schedule, with a bit set only where the value differs from what an absent field means.
 use mathlib.Core.Bool.{cond}
 use mathlib.Core.List.{List, [], _∷_, _++_}
 use Prim.Native.Nat.{ℕ, zero, suc, _+_, _-_, _/_, _%_}
@@ -34,7 +34,7 @@ written-domains parent threshold (suc k) d = written-domain (parent d) (threshol
 unfoldable pub written-thread : (before home : ℕ) → List ℕ
 written-thread b h = cond (eqb h (absent-home b)) (0 ∷ []) (1 ∷ h ∷ [])
 
--- the entries of the threads from one on, as many as are left, behind a thread with the home before
+-- the entries of the threads from one on, as many as are left, after a thread with the home before
 unfoldable pub written-threads : (home : ℕ → ℕ) → (left thread before : ℕ) → List ℕ
 written-threads home zero i b = []
 written-threads home (suc k) i b = written-thread b (home i) ++ written-threads home k (i + 1) (home i)

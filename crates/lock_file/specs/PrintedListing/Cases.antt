@@ -1,4 +1,4 @@
--- Cases of numerals, the listing and the line of a refusal, in one list. Assumes nothing: these are definitions.
+-- Cases of numerals, the listing and the line of a refusal, in one list.
 use mathlib.Core.Bool.{Bool}
 use mathlib.Core.List.{List, [], _∷_, _++_}
 use Prim.Native.Nat.{ℕ}
@@ -17,7 +17,7 @@ example-counts = record { steps = 22; entries = 3; stays = 1; root = 2; passed =
 
 unfoldable pub cases : List Bool
 cases =
-    -- the printed example; in a buffer with room behind it, and in one that is a byte too short
+    -- the printed example; in a buffer with room after it, and in one that is a byte too short
     same-numbers (listing example-counts (0 ∷ 1 ∷ 2 ∷ [])) example-listing
     ∷ same-numbers (printed example-listing (replicate 25 7)) (example-listing ++ (7 ∷ 7 ∷ 7 ∷ []))
     ∷ same-numbers (printed example-listing (replicate 21 7)) (replicate 21 7)

@@ -1,4 +1,4 @@
--- Document 01, "Program and host": decimal numerals, the listing and the line of a refusal. Assumes nothing: these are definitions.
+-- Document 01, "Program and host": decimal numerals, the listing and the line of a refusal.
 use mathlib.Core.Bool.{cond}
 use mathlib.Core.List.{List, [], _∷_, _++_}
 use Prim.Native.Nat.{ℕ, zero, suc, _+_, _/_, _%_}
@@ -10,7 +10,7 @@ use Rattle.model.specs.declared.Counts.{Counts}
 abbrev pub digit : ℕ → ℕ
 digit d = 48 + d
 
--- the last digit stands behind the numeral of what the others make; as much fuel as the value is enough
+-- the last digit stands after the numeral of what the others make; as much fuel as the value is enough
 unfoldable pub digits : (fuel value : ℕ) → List ℕ
 digits zero v = digit v ∷ []
 digits (suc k) v = let others = digits k (v / 10) in cond (ltb v 10) (digit v ∷ []) (others ++ (digit (v % 10) ∷ []))
@@ -24,7 +24,7 @@ space = 32
 abbrev pub line-feed : ℕ
 line-feed = 10
 
--- a numeral and the byte behind it
+-- a numeral and the byte after it
 unfoldable pub number-then : (value behind : ℕ) → List ℕ
 number-then v b = numeral v ++ (b ∷ [])
 
@@ -33,7 +33,7 @@ unfoldable pub trace-lines : (trace : List ℕ) → List ℕ
 trace-lines [] = []
 trace-lines (i ∷ is) = number-then i line-feed ++ trace-lines is
 
--- numbers, each behind a space, and a line feed behind the last
+-- numbers, each after a space, and a line feed after the last
 unfoldable pub spaced : (numbers : List ℕ) → List ℕ
 spaced [] = line-feed ∷ []
 spaced (n ∷ ns) = (space ∷ numeral n) ++ spaced ns
@@ -54,7 +54,7 @@ listing c trace = first-line c ++ trace-lines trace
 unfoldable pub refusal-line : (number place : ℕ) → List ℕ
 refusal-line n p = (114 ∷ 101 ∷ 102 ∷ 117 ∷ 115 ∷ 101 ∷ 100 ∷ []) ++ spaced (n ∷ p ∷ [])
 
--- a text at the front of a buffer and nothing behind it changed; a buffer that is shorter than the text, as it came
+-- a text at the front of a buffer and nothing after it changed; a buffer that is shorter than the text, as it came
 unfoldable pub printed : (text buffer : List ℕ) → List ℕ
 printed ls b = cond (ltb (length b) (length ls)) b (ls ++ drop (length ls) b)
 

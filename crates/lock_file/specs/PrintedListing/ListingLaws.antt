@@ -1,4 +1,4 @@
--- THE LAWS OF NUMERALS AND OF A LISTING'S LENGTH; proofs/ has their proofs. Assumes nothing.
+-- THE LAWS OF NUMERALS AND OF A LISTING'S LENGTH; proofs/ has their proofs.
 use mathlib.Core.Path.{_≡_}
 use mathlib.Core.List.{List, [], _∷_}
 use mathlib.Core.Logic.{_≢_}
@@ -7,7 +7,7 @@ use lib.ListN.{length, getD}
 use Rattle.model.specs.declared.Counts.{Counts}
 use Rattle.lock_file.specs.PrintedListing.Listing.{numeral, listing}
 
--- the value that decimal digits have, behind those that were read
+-- the value that decimal digits have, after those that were read
 unfoldable pub value-from : (value : ℕ) → (digits : List ℕ) → ℕ
 value-from v [] = v
 value-from v (b ∷ bs) = value-from (10 * v + (b - 48)) bs

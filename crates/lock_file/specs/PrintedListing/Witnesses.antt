@@ -1,4 +1,4 @@
--- WHO MEETS WHAT THE LAWS ASK: counts and a trace as the law of a listing's length has them; docs/WITNESSES.md is the list. Assumes nothing: these are definitions and statements.
+-- WHO MEETS WHAT THE LAWS ASK: counts and a trace as the law of a listing's length has them; docs/WITNESSES.md is the list.
 use mathlib.Core.List.{List, [], _∷_}
 use Prim.Native.Nat.{ℕ, _<_}
 use lib.ListN.{getD}

@@ -1,4 +1,4 @@
--- Accepted calls: what acceptance says of tree, state and schedule, and that this is all it asks. Assumes nothing.
+-- Accepted calls: what acceptance says of tree, state and schedule, and that this is all it asks.
 use mathlib.Core.Path.{_≡_, refl, sym, ap, _∙_}
 use mathlib.Core.Bool.{true, false}
 use mathlib.Core.List.{List, [], _∷_, _++_}

@@ -1,4 +1,4 @@
--- THE COUNTERS: they add up, change no step, keep their form, and have room. Assumes nothing.
+-- THE COUNTERS: they add up, change no step, keep their form, and have room.
 use mathlib.Core.Path.{_≡_, refl, sym, ap, _∙_}
 use mathlib.Core.Bool.{Bool, true, false, _&&_, _||_, not, cond, false≢true, true≢false}
 use mathlib.Core.List.{List, [], _∷_, _++_}
@@ -219,7 +219,7 @@ module _ (t : Tree) (valid : Accepted t) (i : ℕ) (b : i < t .threads) (s : Sta
       none-longest : {v : ℕ} (n : ℕ) → v ≡ 0 → (1 ≤ n → ⊥) → max v (max n 0) ≡ 0
       none-longest n z h = omega (arith, less-one n h)
 
--- the test of 19 behind the first entry
+-- the test of 19 after the first entry
 pub count-later :
     (t : Tree) (s : LockState) (i : ℕ) (is : List ℕ) (p : ℕ) →
     let x = step t i (s .words) in

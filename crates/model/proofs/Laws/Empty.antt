@@ -1,4 +1,4 @@
--- EMPTY DOMAINS: a tree is refused by 16 exactly if a domain has no thread under it and nothing else refuses. Assumes nothing.
+-- EMPTY DOMAINS: a tree is refused by 16 exactly if a domain has no thread under it and nothing else refuses.
 use mathlib.Core.Path.{_≡_, refl, sym, ap, _∙_}
 use mathlib.Core.Bool.{Bool, true, false, true≢false}
 use mathlib.Core.List.{List, [], _∷_, _++_}

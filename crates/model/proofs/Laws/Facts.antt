@@ -1,4 +1,4 @@
--- A well-formed state as facts, and what each store asks to keep them. Assumes nothing.
+-- A well-formed state as facts, and what each store asks to keep them.
 use mathlib.Core.Path.{_≡_, refl, sym, ap, _∙_}
 use mathlib.Core.Bool.{Bool, true, false, _&&_, _||_, not, false≢true}
 use mathlib.Core.List.{List, [], _∷_}

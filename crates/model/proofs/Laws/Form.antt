@@ -1,4 +1,4 @@
--- FORM. Fresh states are well formed, and steps and runs keep a state well formed. Assumes nothing.
+-- FORM. Fresh states are well formed, and steps and runs keep a state well formed.
 use mathlib.Core.Path.{_≡_, refl, sym, ap, _∙_}
 use mathlib.Core.Bool.{Bool, true, false, not, cond, false≢true}
 use mathlib.Core.Logic.{_≢_, _⊎_, inl, inr}

@@ -1,4 +1,4 @@
--- What a step gives: at most once to a record, and only to a member's; and the length that it tells. Assumes nothing.
+-- What a step gives: at most once to a record, and only to a member's; and the length that it tells.
 use mathlib.Core.Path.{_≡_, refl}
 use mathlib.Core.Bool.{Bool, true, false, _&&_, not, cond, false≢true}
 use mathlib.Core.List.{List, [], _∷_, _++_, append-nil}

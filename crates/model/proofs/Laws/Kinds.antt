@@ -1,4 +1,4 @@
--- KINDS. A stay changes nothing, and only a stay; an entry arrives Inside; where root entries, passed entries and crossed entries come from. Assumes nothing.
+-- KINDS. A stay changes nothing, and only a stay; an entry arrives Inside; where root entries, passed entries and crossed entries come from.
 use mathlib.Core.Path.{_≡_, refl, sym, ap, _∙_}
 use mathlib.Core.Bool.{Bool, true, false, _||_, not, false≢true, true≢false}
 use mathlib.Core.Logic.{_≢_, _⊎_, inl, inr}

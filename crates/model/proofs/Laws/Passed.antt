@@ -1,4 +1,4 @@
--- PASSED AND CROSSED entries together are the entries from Wait below the root. Assumes nothing.
+-- PASSED AND CROSSED entries together are the entries from Wait below the root.
 use mathlib.Core.Path.{_≡_, refl}
 use mathlib.Core.Bool.{_&&_, cond}
 use mathlib.Core.List.{List, [], _∷_}

@@ -1,4 +1,4 @@
--- REFUSALS. Number n at place p exactly if every earlier test passes, p is bad and none below p is. Assumes nothing.
+-- REFUSALS. Number n at place p exactly if every earlier test passes, p is bad and none below p is.
 use mathlib.Core.Path.{_≡_, refl, sym, ap, _∙_}
 use mathlib.Core.Bool.{Bool, true, false}
 use mathlib.Core.List.{List, [], _∷_}

@@ -1,4 +1,4 @@
--- No test of a tree reads its kind of root. Assumes nothing.
+-- No test of a tree reads its kind of root.
 use mathlib.Core.Path.{_≡_, refl, ap, fun-ext}
 use mathlib.Core.Bool.{Bool}
 use mathlib.Core.List.{[], _∷_, _++_}

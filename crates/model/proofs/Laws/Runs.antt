@@ -1,4 +1,4 @@
--- RUNS. A run equals its steps one after another, and its counts add up. Assumes nothing.
+-- RUNS. A run equals its steps one after another, and its counts add up.
 use mathlib.Core.Path.{_≡_, refl, ap, _∙_}
 use mathlib.Core.Bool.{Bool, true, false, cond}
 use mathlib.Core.List.{List, [], _∷_, _++_, append-assoc}
@@ -34,7 +34,7 @@ steps-drop t zero is s = refl
 steps-drop t (suc k) [] s = refl
 steps-drop t (suc k) (i ∷ is) s = steps-drop t k is (step t i s .state)
 
--- WHAT IS COUNTED of steps behind steps
+-- WHAT IS COUNTED of steps after steps
 pub state-after-join : (s : State) (xs ys : List Step) → state-after s (xs ++ ys) ≡ state-after (state-after s xs) ys
 unfolding state-after
 state-after-join s [] ys = refl

@@ -1,4 +1,4 @@
--- The search for a child on a path: what it finds, by index of the path, and its laws. Assumes nothing.
+-- The search for a child on a path: what it finds, by index of the path, and its laws.
 use mathlib.Core.Path.{_≡_, refl, sym, ap, _∙_}
 use mathlib.Core.Bool.{true, false, true≢false}
 use mathlib.Core.Logic.{_≢_, _⊎_, inl, inr}

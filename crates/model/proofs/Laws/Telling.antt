@@ -1,4 +1,4 @@
--- What a step says: the domain it was at, and kinds that make a run's counts. Assumes nothing.
+-- What a step says: the domain it was at, and kinds that make a run's counts.
 use mathlib.Core.Path.{_≡_, refl, sym, ap, _∙_}
 use mathlib.Core.Bool.{true, false, not, cond, false≢true}
 use mathlib.Core.List.{List, [], _∷_}

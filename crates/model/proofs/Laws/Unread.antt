@@ -1,4 +1,4 @@
--- Words that are not read tell no trees apart. Assumes nothing.
+-- Words that are not read tell no trees apart.
 use mathlib.Core.Path.{_≡_, refl, ap, fun-ext}
 use mathlib.Core.Bool.{Bool, true, false, _&&_, not, cond}
 use mathlib.Core.List.{List}

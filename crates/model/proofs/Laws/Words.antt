@@ -1,4 +1,4 @@
--- WORDS. In states reached from fresh: statuses of members of domains other than the root, and the words that Grant writes there. Assumes nothing.
+-- WORDS. In states reached from fresh: statuses of members of domains other than the root, and the words that Grant writes there.
 use mathlib.Core.Path.{_≡_, refl, sym, _∙_}
 use mathlib.Core.Bool.{true}
 use mathlib.Core.List.{List}

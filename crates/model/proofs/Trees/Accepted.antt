@@ -1,4 +1,4 @@
--- An accepted tree as facts. Assumes nothing.
+-- An accepted tree as facts.
 use mathlib.Core.Path.{_≡_, refl, sym, _∙_}
 use mathlib.Core.Bool.{Bool, true, false, _&&_, _||_, not, true≢false}
 use mathlib.Core.Logic.{_≢_}

@@ -1,4 +1,4 @@
--- A domain's allowance is its threshold times the largest allowance of its members. Assumes nothing.
+-- A domain's allowance is its threshold times the largest allowance of its members.
 use mathlib.Core.Path.{_≡_, refl, sym, ap, _∙_}
 use mathlib.Core.Bool.{Bool, true, false, cond}
 use Prim.Native.Nat.{ℕ, zero, suc, _+_, _*_, _-_, _≤_, _<_}

@@ -1,4 +1,4 @@
--- A thread's path by index: 0 is its home, its height the index of the root. Assumes nothing: these are definitions.
+-- A thread's path by index: 0 is its home, its height the index of the root.
 use mathlib.Core.Bool.{cond}
 use Prim.Native.Nat.{ℕ, zero, suc, _+_}
 use lib.Dec.{eqb}

@@ -1,4 +1,4 @@
--- A thread's path by index: it falls strictly from its home to the root, and its domains and indices correspond one to one. Assumes nothing.
+-- A thread's path by index: it falls strictly from its home to the root, and its domains and indices correspond one to one.
 use mathlib.Core.Path.{_≡_, refl, sym, ap, _∙_}
 use mathlib.Core.Bool.{true, not}
 use mathlib.Core.Logic.{inl, inr}

@@ -1,4 +1,4 @@
--- A tree's parents and homes: where a word is read, it is the array's. Assumes nothing.
+-- A tree's parents and homes: where a word is read, it is the array's.
 use mathlib.Core.Path.{_≡_, refl}
 use mathlib.Core.List.{List}
 use Prim.Native.Nat.{ℕ, _≤_, _<_}

@@ -1,4 +1,4 @@
--- A thread's records by index, and the members of a domain. Assumes nothing.
+-- A thread's records by index, and the members of a domain.
 use mathlib.Core.Path.{_≡_, refl, sym, ap, _∙_}
 use mathlib.Core.Bool.{true, false}
 use mathlib.Core.Logic.{_≢_}

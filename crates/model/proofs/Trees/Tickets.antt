@@ -1,4 +1,4 @@
--- Which domain is a ticket lock, as facts. Assumes nothing.
+-- Which domain is a ticket lock, as facts.
 use mathlib.Core.Path.{_≡_, refl, sym, _∙_}
 use mathlib.Core.Bool.{Bool, true, false, _&&_, not, false≢true}
 use mathlib.Core.Logic.{_≢_}

@@ -1,4 +1,4 @@
--- `rate::rate` meets its contract: each return is the answer by the outcomes of the tests that led there. Assumes nothing.
+-- `rate::rate` meets its contract: each return is the answer by the outcomes of the tests that led there.
 use mathlib.Core.Path.{_≡_, sym, ap}
 use mathlib.Core.Bool.{Bool, true, false, not}
 use borrow.Author.Needs.{needs}

@@ -1,4 +1,4 @@
--- `rate::rate_of` meets its contract: the two products fit 32 bits, and what it returns is the definition. Assumes nothing.
+-- `rate::rate_of` meets its contract: the two products fit 32 bits, and what it returns is the definition.
 use mathlib.Core.Path.{refl}
 use native.Mathlib.Omega.{arith}
 use borrow.Author.Needs.{needs}

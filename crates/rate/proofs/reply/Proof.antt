@@ -1,4 +1,4 @@
--- `rate::reply` meets its contract: each arm is the definition's case of the answer. Assumes nothing.
+-- `rate::reply` meets its contract: each arm is the definition's case of the answer.
 use mathlib.Core.Path.{_≡_, refl, sym, ap}
 use mathlib.Core.Bool.{false}
 use borrow.Author.Needs.{needs}

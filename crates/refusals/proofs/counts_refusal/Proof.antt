@@ -1,4 +1,4 @@
--- `refusals::counts_refusal` meets its contract: its four tests are 4 and 5, in order. Assumes nothing.
+-- `refusals::counts_refusal` meets its contract: its four tests are 4 and 5, in order.
 use mathlib.Core.List.{[]}
 use Prim.Native.Nat.{ℕ}
 use Rattle.model.specs.declared.TreeWords.{TreeWords}

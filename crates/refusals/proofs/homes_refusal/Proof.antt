@@ -1,4 +1,4 @@
--- `refusals::homes_refusal` meets its contract: the lowest bad home, then the lowest empty domain. Assumes nothing.
+-- `refusals::homes_refusal` meets its contract: the lowest bad home, then the lowest empty domain.
 use Rattle.model.specs.Refusals.{accepted}
 use Rattle.refusals.specs.Arrays.{words-in}
 use Rattle.refusals.proofs.TreeTests.{shape, home-refused, facts, empty-refused, tree-passes}

@@ -1,4 +1,4 @@
--- `refusals::lowest_bad_entry` meets its contract: all entries passed name threads. Assumes nothing.
+-- `refusals::lowest_bad_entry` meets its contract: all entries passed name threads.
 use mathlib.Core.Path.{_≡_}
 use mathlib.Core.Bool.{false}
 use Prim.Native.Nat.{ℕ, _≤_, _<_, _-_}

@@ -1,4 +1,4 @@
--- The counters' test by arrays is the model's. Assumes nothing.
+-- The counters' test by arrays is the model's.
 use mathlib.Core.Path.{_≡_, refl, sym, ap, _∙_}
 use mathlib.Core.Bool.{Bool, true, false, _&&_, not, cond, false≢true}
 use mathlib.Core.List.{List, []}

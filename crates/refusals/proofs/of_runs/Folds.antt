@@ -1,4 +1,4 @@
--- Folds over unused room: an OR of numbers is 0 exactly if all of them are. Assumes nothing.
+-- Folds over unused room: an OR of numbers is 0 exactly if all of them are.
 use mathlib.Core.Path.{_≡_, refl, sym, ap, _∙_}
 use mathlib.Core.Bool.{Bool, true, false, _&&_, cond}
 use mathlib.Core.List.{List}

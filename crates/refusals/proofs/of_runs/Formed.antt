@@ -1,4 +1,4 @@
--- The tests by the table of owners together: a state passes them exactly if it is well formed. Assumes nothing.
+-- The tests by the table of owners together: a state passes them exactly if it is well formed.
 use mathlib.Core.Path.{_≡_, refl, sym, ap, _∙_}
 use mathlib.Core.Bool.{Bool, true, false, _&&_, _||_, not, cond}
 use mathlib.Core.List.{List, []}

@@ -1,4 +1,4 @@
--- Members, tails and records by the table of owners: the tests are document 01's. Assumes nothing.
+-- Members, tails and records by the table of owners: the tests are document 01's.
 use mathlib.Core.Path.{_≡_, refl}
 use mathlib.Core.Bool.{Bool, true, false, _&&_, _||_, not, cond}
 use mathlib.Core.List.{List}

@@ -1,4 +1,4 @@
--- The table of the records' owners, filled in one pass over the homes and one over the parents. Assumes nothing.
+-- The table of the records' owners, filled in one pass over the homes and one over the parents.
 use mathlib.Core.Path.{_≡_, refl, sym, _∙_}
 use mathlib.Core.Bool.{Bool, true, false, _&&_, not, cond}
 use mathlib.Core.List.{List, []}

@@ -1,4 +1,4 @@
--- A state of an accepted tree: what each test that fails, and what all that pass, say. Assumes nothing.
+-- A state of an accepted tree: what each test that fails, and what all that pass, say.
 use mathlib.Core.Path.{_≡_, refl, sym, ap, _∙_}
 use mathlib.Core.Bool.{Bool, true, false, _&&_, false≢true}
 use mathlib.Core.Logic.{_≢_, _⊎_, inl, inr, ⊎-elim}

@@ -1,4 +1,4 @@
--- A place by its four numbers: the test is the model's. Assumes nothing.
+-- A place by its four numbers: the test is the model's.
 use mathlib.Core.Path.{_≡_, refl, sym, ap, _∙_}
 use mathlib.Core.Bool.{Bool, true, false, _&&_, _||_, not, cond}
 use mathlib.Core.List.{List}

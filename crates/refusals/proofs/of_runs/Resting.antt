@@ -1,4 +1,4 @@
--- A place that rests needs no further test. Assumes nothing.
+-- A place that rests needs no further test.
 use mathlib.Core.Path.{_≡_, refl, _∙_}
 use mathlib.Core.Bool.{Bool, true, false, _&&_, cond}
 use mathlib.Core.List.{List}

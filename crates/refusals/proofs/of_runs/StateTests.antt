@@ -1,4 +1,4 @@
--- A run's tests: the tree's, then the state's, then the schedule's. Assumes nothing.
+-- A run's tests: the tree's, then the state's, then the schedule's.
 use mathlib.Core.Path.{_≡_, refl, sym, ap, _∙_}
 use mathlib.Core.Bool.{Bool, true, false, _&&_, not}
 use mathlib.Core.List.{List, []}

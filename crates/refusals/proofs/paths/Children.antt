@@ -1,4 +1,4 @@
--- The search for the child on a path, one domain at a time. Assumes nothing.
+-- The search for the child on a path, one domain at a time.
 use mathlib.Core.Path.{_≡_, refl}
 use mathlib.Core.List.{List, []}
 use Prim.Native.Nat.{ℕ, zero, suc, _+_, _-_, _≤_, _<_}

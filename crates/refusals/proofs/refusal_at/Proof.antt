@@ -1,4 +1,4 @@
--- `refusals::refusal_at` meets its contract: the two numbers are the definition's fields. Assumes nothing.
+-- `refusals::refusal_at` meets its contract: the two numbers are the definition's fields.
 use Rattle.model.specs.Refusals.{refusal}
 use borrow.Author.Needs.{needs}
 use Rattle.refusals.proofs.refusal_at.Statement.{statement}

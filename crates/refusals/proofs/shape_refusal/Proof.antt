@@ -1,4 +1,4 @@
--- `refusals::shape_refusal` meets its contract: the counts, then the domains. Assumes nothing.
+-- `refusals::shape_refusal` meets its contract: the counts, then the domains.
 use mathlib.Core.List.{List, []}
 use Prim.Native.Nat.{ℕ}
 use Rattle.model.specs.declared.TreeWords.{TreeWords}

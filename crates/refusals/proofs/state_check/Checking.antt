@@ -1,4 +1,4 @@
--- The laws of the check of a state. Assumes nothing.
+-- The laws of the check of a state.
 use mathlib.Core.Path.{_≡_, refl, sym, ap, _∙_}
 use mathlib.Core.Bool.{true, false}
 use mathlib.Core.List.{List, [], _∷_, _++_}

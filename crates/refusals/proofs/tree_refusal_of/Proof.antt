@@ -1,4 +1,4 @@
--- `refusals::tree_refusal_of` meets its contract: counts and domains, then the homes. Assumes nothing.
+-- `refusals::tree_refusal_of` meets its contract: counts and domains, then the homes.
 use Rattle.model.specs.Refusals.{accepted}
 use Rattle.refusals.specs.Arrays.{words-in}
 use Rattle.refusals.proofs.TreeTests.{shape-refused, shape-passed, shape}

@@ -1,4 +1,4 @@
--- The counters of a state by their arrays. proofs/ shows that their test is the model's. Assumes nothing: these are definitions.
+-- The counters of a state by their arrays. proofs/ shows that their test is the model's.
 use mathlib.Core.Bool.{Bool, _&&_, not, cond}
 use mathlib.Core.List.{List}
 use Prim.Native.Nat.{ℕ}

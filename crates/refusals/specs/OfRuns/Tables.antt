@@ -1,4 +1,4 @@
--- The tests of a state by a table of the records' owners. proofs/ shows that they are those of the model. Assumes nothing: these are definitions.
+-- The tests of a state by a table of the records' owners. proofs/ shows that they are those of the model.
 use mathlib.Core.Path.{_≡_}
 use mathlib.Core.Bool.{Bool, false, _&&_, _||_, not, cond}
 use mathlib.Core.List.{List}

@@ -1,4 +1,4 @@
--- The record with which a thread works at a domain, by its home. Assumes nothing: this is a definition.
+-- The record with which a thread works at a domain, by its home.
 use mathlib.Core.Bool.{cond}
 use Prim.Native.Nat.{ℕ, _+_}
 use lib.Dec.{eqb}

@@ -1,4 +1,4 @@
--- The check of a state that a host kept: what refuses it, and its answer, for every input. Assumes nothing: these are definitions.
+-- The check of a state that a host kept: what refuses it, and its answer, for every input.
 use mathlib.Core.List.{List, _++_}
 use Rattle.model.specs.declared.TreeWords.{TreeWords}
 use Rattle.model.specs.declared.LockState.{LockState}

@@ -1,4 +1,4 @@
--- Cases of the check of a state, in one list: states that are taken up, 10 for words and for counters, and the tree before the state. Assumes nothing: these are definitions.
+-- Cases of the check of a state, in one list: states that are taken up, 10 for words and for counters, and the tree before the state.
 use mathlib.Core.Bool.{Bool, true, _&&_}
 use mathlib.Core.List.{List, [], _∷_}
 use Prim.Native.Nat.{ℕ}

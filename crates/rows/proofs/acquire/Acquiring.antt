@@ -1,4 +1,4 @@
--- What a row of the acquire leaves: the place where a domain is acquired. Assumes nothing.
+-- What a row of the acquire leaves: the place where a domain is acquired.
 use mathlib.Core.Path.{_≡_, refl, sym, ap, _∙_}
 use mathlib.Core.Bool.{Bool, true, false, _&&_, not, cond}
 use Prim.Native.Nat.{ℕ}

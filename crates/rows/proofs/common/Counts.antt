@@ -1,4 +1,4 @@
--- What the functions that count say of arrays of counters, index by index. Assumes nothing.
+-- What the functions that count say of arrays of counters, index by index.
 use mathlib.Core.Path.{_≡_, refl, sym, ap, _∙_}
 use mathlib.Core.Bool.{Bool, true, false, _&&_, not, cond, false≢true}
 use mathlib.Core.List.{List, [], _∷_}

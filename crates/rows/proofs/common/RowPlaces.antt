@@ -1,4 +1,4 @@
--- Four numbers that give a place: their row decides which, and where it is. Assumes nothing.
+-- Four numbers that give a place: their row decides which, and where it is.
 use mathlib.Core.Path.{_≡_, refl, sym, _∙_}
 use mathlib.Core.Logic.{_≢_}
 use Prim.Native.Nat.{ℕ}

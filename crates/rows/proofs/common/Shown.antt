@@ -1,4 +1,4 @@
--- The search for a ticket, what is counted where no domain from a number on is marked, and marks that are all cleared. Assumes nothing.
+-- The search for a ticket, what is counted where no domain from a number on is marked, and marks that are all cleared.
 use mathlib.Core.Path.{_≡_, refl, ap, _∙_}
 use mathlib.Core.Bool.{Bool, false, cond}
 use mathlib.Core.List.{List}

@@ -1,4 +1,4 @@
--- A row that stays leaves the state as it was. Assumes nothing.
+-- A row that stays leaves the state as it was.
 use mathlib.Core.Path.{_≡_}
 use Prim.Native.Nat.{ℕ}
 use Rattle.model.specs.declared.PlaceWords.{PlaceWords}

@@ -1,4 +1,4 @@
--- What a row of the release leaves: the place after a domain is done, and the place where one is released. Assumes nothing.
+-- What a row of the release leaves: the place after a domain is done, and the place where one is released.
 use mathlib.Core.Path.{_≡_, refl, ap, _∙_}
 use mathlib.Core.Bool.{Bool, true, false, _&&_, not, cond}
 use Prim.Native.Nat.{ℕ}

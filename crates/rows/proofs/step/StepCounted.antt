@@ -1,4 +1,4 @@
--- What one step counts, by the row of its place. Assumes nothing.
+-- What one step counts, by the row of its place.
 use mathlib.Core.Path.{_≡_, refl, ap, _∙_}
 use mathlib.Core.Bool.{Bool, cond}
 use mathlib.Core.List.{List}

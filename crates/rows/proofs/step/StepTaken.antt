@@ -1,4 +1,4 @@
--- From a row that is done to a step that is taken. Assumes nothing.
+-- From a row that is done to a step that is taken.
 use mathlib.Core.Path.{_≡_, refl, sym, ap, _∙_}
 use mathlib.Core.Bool.{Bool, true, false, not, cond, false≢true}
 use mathlib.Core.List.{List}

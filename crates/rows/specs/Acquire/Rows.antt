@@ -1,4 +1,4 @@
--- The row with which a thread starts. Assumes nothing: these are definitions.
+-- The row with which a thread starts.
 use mathlib.Core.Bool.{cond}
 use Prim.Native.Nat.{ℕ}
 use Rattle.model.specs.declared.State.{State}

@@ -1,4 +1,4 @@
--- What a row counts, by the words that it reads. Assumes nothing: these are definitions.
+-- What a row counts, by the words that it reads.
 use mathlib.Core.Path.{_≡_}
 use mathlib.Core.Bool.{Bool, true, false, _&&_, not, cond}
 use mathlib.Core.List.{List}

@@ -1,4 +1,4 @@
--- A row of the step table by the arrays that it writes into, and what it says of its step. Assumes nothing: these are definitions.
+-- A row of the step table by the arrays that it writes into, and what it says of its step.
 use mathlib.Core.Path.{_≡_}
 use mathlib.Core.Bool.{not}
 use mathlib.Core.List.{List}

@@ -1,4 +1,4 @@
--- Where a thread stands: the domain of its place, its record there, and the places before and after. Assumes nothing: these are definitions.
+-- Where a thread stands: the domain of its place, its record there, and the places before and after.
 use mathlib.Core.Path.{_≡_}
 use mathlib.Core.Bool.{Bool, _||_, cond}
 use mathlib.Core.List.{List}

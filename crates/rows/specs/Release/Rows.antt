@@ -1,4 +1,4 @@
--- What a row of the release reads. Assumes nothing: these are definitions.
+-- What a row of the release reads.
 use mathlib.Core.Path.{_≡_}
 use mathlib.Core.Logic.{_≢_}
 use Prim.Native.Nat.{ℕ, _%_}

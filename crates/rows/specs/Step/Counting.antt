@@ -1,4 +1,4 @@
--- What a step counts, by the words that it reads. `steps` shows that it is what the model counts. Assumes nothing: these are definitions.
+-- What a step counts, by the words that it reads. `steps` shows that it is what the model counts.
 use mathlib.Core.Path.{_≡_}
 use mathlib.Core.Bool.{Bool, cond}
 use mathlib.Core.List.{List}

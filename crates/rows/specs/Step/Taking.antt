@@ -1,4 +1,4 @@
--- One step of a thread by the arrays that are lent: what it asks for, and that the row of its place is done. Assumes nothing: these are definitions.
+-- One step of a thread by the arrays that are lent: what it asks for, and that the row of its place is done.
 use mathlib.Core.Path.{_≡_}
 use mathlib.Core.Bool.{true}
 use mathlib.Core.List.{List}

@@ -1,4 +1,4 @@
--- What lengths add up to, one length at a time. Assumes nothing.
+-- What lengths add up to, one length at a time.
 use mathlib.Core.Path.{_≡_, refl, sym, _∙_}
 use mathlib.Core.Bool.{false}
 use mathlib.Core.List.{List, [], _∷_}
@@ -12,7 +12,7 @@ use lib.Seq.{drop-cons}
 use borrow.Author.Tests.{eq-eqb, ne-eqb}
 use Rattle.schedules.specs.Rows.{total}
 
--- from a length on: it, and what is behind it
+-- from a length on: it, and what is after it
 pub total-next : (ns : List ℕ) (k : ℕ) → k < length ns → total (drop k ns) ≡ getD ns k 0 + total (drop (k + 1) ns)
 unfolding total
 total-next ns k h = rw (add-one, drop-cons ns k 0 h)

@@ -1,4 +1,4 @@
--- A row of many schedules: what the schedule's tests and the run from fresh words answer is the row of its run alone. Assumes nothing.
+-- A row of many schedules: what the schedule's tests and the run from fresh words answer is the row of its run alone.
 use mathlib.Core.Path.{_≡_, refl, sym, ap, _∙_}
 use mathlib.Core.List.{List, [], _∷_}
 use Prim.Native.Nat.{ℕ, suc, _+_, _≤_}
@@ -25,7 +25,7 @@ use Rattle.schedules.proofs.Alone.{schedule-decides}
 use Rattle.lock.specs.Steps.Running.{kinds-of, counts-by, trace-front}
 use Rattle.lock.proofs.steps.Answering.{run-refuses, run-passes, kinds-few, run-answered}
 
--- eight stores behind one another
+-- eight stores one after another
 pub eight-stored :
     (l : List ℕ) (at a b c d e f g h : ℕ) →
     set (set (set (set (set (set (set (set l at a) (at + 1) b) (at + 2) c) (at + 3) d) (at + 4) e) (at + 5) f) (at + 6) g) (at + 7) h

@@ -1,4 +1,4 @@
--- Rows stored one behind another, as the code stores them, are those that the call's buffer has at its front. Assumes nothing.
+-- Rows stored one after another, as the code stores them, are those that the call's buffer has at its front.
 use mathlib.Core.Path.{_≡_, refl, sym, ap, _∙_}
 use mathlib.Core.List.{List, [], _∷_, _++_}
 use Prim.Native.Nat.{ℕ, suc, _+_, _*_, _≤_, _<_}
@@ -24,7 +24,7 @@ row-first : (l : List ℕ) (at : ℕ) (r : RunReply) (xs : List ℕ) → sets l 
 unfolding row-of
 row-first l at r xs = let z : at + 8 ≡ suc (suc (suc (suc (suc (suc (suc (suc at))))))) = omega arith in rw z
 
--- the next row, and those behind it
+-- the next row, and those after it
 rows-next :
     (w : TreeWords) (ns es l : List ℕ) (k from at : ℕ) → k < length ns →
     sets l at (all-rows w (cut (drop k ns) (drop from es)))
@@ -33,7 +33,7 @@ unfolding rows-of behind-one-another cut
 rows-next w ns es l k from at h =
     rw (add-one, drop-cons ns k 0 h, drop-drop) (row-first l at (alone w (take (getD ns k 0) (drop from es))) _)
 
--- behind the last length there is none
+-- after the last length there is none
 rows-end : (w : TreeWords) (ns es : List ℕ) (k : ℕ) → length ns ≤ k → all-rows w (cut (drop k ns) es) ≡ []
 unfolding rows-of behind-one-another cut
 rows-end w ns es k h = rw (drop-of-length-le ns h)

@@ -1,4 +1,4 @@
--- From what the refusals, the run and the rows are to the answer of the call. Assumes nothing.
+-- From what the refusals, the run and the rows are to the answer of the call.
 use mathlib.Core.Path.{_≡_, refl, sym, ap, _∙_}
 use mathlib.Core.Bool.{Bool, true, false}
 use mathlib.Core.List.{List, [], _∷_, _++_}

@@ -1,4 +1,4 @@
--- One number for each step becomes two, from the last step down. Assumes nothing.
+-- One number for each step becomes two, from the last step down.
 use mathlib.Core.Path.{_≡_, refl, sym, ap, _∙_}
 use mathlib.Core.Bool.{Bool, true, false, cond}
 use mathlib.Core.List.{List, [], _∷_, _++_}

@@ -1,4 +1,4 @@
--- Counting attempts by what steps were told to be. Assumes nothing.
+-- Counting attempts by what steps were told to be.
 use mathlib.Core.Path.{_≡_, refl, sym, ap, subst, _∙_}
 use mathlib.Core.Bool.{Bool, true, false, _&&_, _||_, cond}
 use mathlib.Core.List.{List, [], _∷_, _++_, append-assoc, append-nil}
@@ -30,7 +30,7 @@ pub mark-fits : (b : Bool) (n m : ℕ) → m ≤ n + 1 → mark-with b n m ≤ n
 mark-fits true n m h = omega arith
 mark-fits false n m h = h
 
--- five stores behind one another
+-- five stores one after another
 pub five-stored :
     (l : List ℕ) (at a b c d e : ℕ) → set (set (set (set (set l at a) (at + 1) b) (at + 2) c) (at + 3) d) (at + 4) e ≡ sets l at (a ∷ b ∷ c ∷ d ∷ e ∷ [])
 five-stored l at a b c d e =

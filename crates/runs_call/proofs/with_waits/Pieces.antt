@@ -1,4 +1,4 @@
--- A run in pieces: what holds between two of them. Assumes nothing.
+-- A run in pieces: what holds between two of them.
 use mathlib.Core.Path.{_≡_, refl, sym, ap, subst, _∙_}
 use mathlib.Core.Bool.{true}
 use mathlib.Core.List.{List, [], _∷_, _++_, append-assoc, append-nil}
@@ -56,7 +56,7 @@ take-more l zero m = let z : 0 + m ≡ m = omega arith in rw z
 take-more [] (suc a) m = let z : suc a + m ≡ suc (a + m) = omega arith in rw z (none-taken m)
 take-more (x ∷ l) (suc a) m = let z : suc a + m ≡ suc (a + m) = omega arith in rw z (ap (λ (r : List ℕ). x ∷ r) (take-more l a m))
 
--- THE KINDS of two lists of steps behind one another
+-- THE KINDS of two lists of steps one after another
 kinds-join : (xs ys : List Step) → kinds-of (xs ++ ys) ≡ kinds-added (kinds-of xs) (kinds-of ys)
 unfolding kinds-of
 kinds-join xs ys =
@@ -73,7 +73,7 @@ all-counted : (xs : List Step) → counts-by (kinds-of xs) .steps ≡ length xs
 unfolding counts-of
 all-counted xs = ap (λ v. v .steps) (counts-kinds xs)
 
--- THE TRACE of a second run behind that of a first
+-- THE TRACE of a second run after that of a first
 trace-behind :
     (b₀ b T U ys : List ℕ) (n : ℕ) → b ≡ T ++ drop (length T) b₀ → n ≡ length T → n ≤ length b → ys ≡ U ++ drop (length U) (take (length b - n) (drop n b)) →
     take n b ++ (ys ++ drop (length b - n) (drop n b)) ≡ (T ++ U) ++ drop (length (T ++ U)) b₀
@@ -202,7 +202,7 @@ module _ (w : TreeWords) (us is b₀ : List ℕ) (s₀ : State) (c₀ : Counters
       piece-threads : All-threads t piece
       piece-threads = all-take t (drop from is) (end - from) (all-drop t is from (R .threads))
 
-      -- no counter is above 2^63 behind the pieces so far
+      -- no counter is above 2^63 after the pieces so far
       counts-good : good-counts t c ≡ true
       unfolding Counter-form-law counters-behind bad-counter
       counts-good =

@@ -1,4 +1,4 @@
--- The tables of all threads, one step after another, and the rows that they give. Assumes nothing.
+-- The tables of all threads, one step after another, and the rows that they give.
 use mathlib.Core.Path.{_≡_, refl, sym, ap, _∙_}
 use mathlib.Core.Bool.{Bool, true, false, cond}
 use mathlib.Core.List.{List, [], _∷_, _++_}

@@ -1,4 +1,4 @@
--- What is counted of a thread after some steps, one step after another: how the code keeps it. Assumes nothing.
+-- What is counted of a thread after some steps, one step after another: how the code keeps it.
 use mathlib.Core.Path.{_≡_, refl, sym, ap, _∙_}
 use mathlib.Core.Bool.{Bool, true, false, cond}
 use mathlib.Core.List.{List, [], _∷_, _++_, append-nil}

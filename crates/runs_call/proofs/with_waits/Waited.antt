@@ -1,4 +1,4 @@
--- From what the refusals and the run in pieces answer to the answers of a run with waits. Assumes nothing.
+-- From what the refusals and the run in pieces answer to the answers of a run with waits.
 use mathlib.Core.Path.{_≡_, sym, ap, _∙_}
 use mathlib.Core.List.{List, _++_}
 use Prim.Native.Nat.{ℕ, zero, suc, _+_, _-_, _*_, _≤_}

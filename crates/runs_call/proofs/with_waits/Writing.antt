@@ -1,4 +1,4 @@
--- The rows of waits, stored one after another from the tables. Assumes nothing.
+-- The rows of waits, stored one after another from the tables.
 use mathlib.Core.Path.{_≡_, refl, ap, _∙_}
 use mathlib.Core.List.{List, [], _∷_, _++_}
 use Prim.Native.Nat.{ℕ, zero, suc, _+_, _*_, _≤_, _<_, max}
@@ -11,7 +11,7 @@ use Rattle.waits.specs.Rows.{row-with, capped}
 use Rattle.runs_call.specs.WithWaits.Tallies.{table-rows, sum-below, rows-by, number-of, numbers-by}
 use Rattle.runs_call.specs.WithWaits.Waiting.{Small}
 
--- one run of stores behind another
+-- one run of stores after another
 sets-join : (l xs ys : List ℕ) (at : ℕ) → sets l at (xs ++ ys) ≡ sets (sets l at xs) (at + length xs) ys
 sets-join l [] ys at = let z : at + 0 ≡ at = omega arith in rw z
 sets-join l (x ∷ xs) ys at = let z : at + suc (length xs) ≡ suc at + length xs = omega arith in rw z (sets-join _ xs ys (suc at))

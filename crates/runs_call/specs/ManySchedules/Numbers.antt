@@ -1,4 +1,4 @@
--- The numbers that the code stores for a row. Assumes nothing: these are definitions.
+-- The numbers that the code stores for a row.
 use mathlib.Core.List.{List, [], _∷_}
 use Prim.Native.Nat.{ℕ}
 use Rattle.model.specs.declared.Counts.{Counts}

@@ -1,4 +1,4 @@
--- What the run's loop told of each step, one number each, and two numbers for each in its place. Assumes nothing: these are definitions.
+-- What the run's loop told of each step, one number each, and two numbers for each in its place.
 use mathlib.Core.Path.{_≡_}
 use mathlib.Core.List.{List}
 use Prim.Native.Nat.{ℕ, _+_, _*_, _/_, _%_, _≤_, _<_}

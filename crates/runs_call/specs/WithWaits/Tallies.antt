@@ -1,4 +1,4 @@
--- What the code keeps of each thread while it counts, and the rows that it writes from it. Assumes nothing: these are definitions that the contracts of the loop cite.
+-- What the code keeps of each thread while it counts, and the rows that it writes from it.
 use mathlib.Core.Path.{_≡_}
 use mathlib.Core.Bool.{Bool, false, not, cond, _||_}
 use mathlib.Core.List.{List, [], _∷_, _++_}

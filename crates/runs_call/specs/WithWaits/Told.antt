@@ -1,4 +1,4 @@
--- What a run with waits tells beside its state. Assumes nothing: this is a definition.
+-- What a run with waits tells beside its state.
 use Rattle.waits.specs.declared.WaitsReply.{WaitsReply}
 use Rattle.runs_call.specs.declared.with_waits.tested.Waited.{Waited}
 

@@ -1,4 +1,4 @@
--- Counting attempts after a piece of a run, by what its steps were told to be. Assumes nothing: these are definitions.
+-- Counting attempts after a piece of a run, by what its steps were told to be.
 use mathlib.Core.Path.{_≡_}
 use mathlib.Core.Bool.{Bool, not, _&&_, _||_}
 use mathlib.Core.List.{List, [], _∷_, _++_}

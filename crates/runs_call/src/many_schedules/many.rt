@@ -79,7 +79,7 @@ fn run_row(tree: TreeWords, schedule: &[u16], trace: &mut [u16], rows: &mut [u32
     put_row(rows, at, 0, 0, lock::steps::run::counts_of(&kinds));
 }
 
-// The rows of all schedules, one behind another, with one lent trace buffer for all of them.
+// The rows of all schedules, one after another, with one lent trace buffer for all of them.
 pub(crate) fn run_rows(
     tree: TreeWords,
     lengths: &[u32],

@@ -1,4 +1,4 @@
--- `read_text` meets its contract: how far reading came decides: stuck, behind the tree before the text's end, or at its end. Assumes nothing.
+-- `text_tree_call::read_text` meets its contract: how far reading came decides: stuck, after the tree before the text's end, or at its end.
 use mathlib.Core.Path.{_∙_}
 use Rattle.text_tree_call.proofs.Answering.{answer-stuck, answer-whole, answer-more}
 use borrow.Author.Needs.{needs}

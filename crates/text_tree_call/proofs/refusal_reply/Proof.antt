@@ -1,4 +1,4 @@
--- `refusal_reply` meets its contract: number and place as given, with the words of no tree. Assumes nothing.
+-- `text_tree_call::refusal_reply` meets its contract: number and place as given, with the words of no tree.
 use Rattle.text_tree.specs.Answers.{refused-by}
 use borrow.Author.Needs.{needs}
 use Rattle.text_tree_call.proofs.refusal_reply.Statement.{statement}

@@ -168,7 +168,7 @@ fn continuation(random: &mut Random, tree: &Tree, behind: u16, ahead: u16) -> Ve
     entries
 }
 
-/// While the thread ahead takes no step, the next step of the one behind is a stay: before, between and after the entries. How many of them moved, or none where it is not so.
+/// While the thread ahead takes no step, the next step of the one after it is a stay: before, between and after the entries. How many of them moved, or none where it is not so.
 fn only_stays(random: &mut Random, tree: &Tree, state: &State, behind: u16, ahead: u16) -> Option<u64> {
     let mut state = state.clone();
     let mut moved = 0;

@@ -121,7 +121,7 @@ fn main() {
         let case = random_case(&mut random);
         let answer = compare(library, &case);
         met.count(answer.number);
-        // An entry has at most four bytes, so these are behind the first piece.
+        // An entry has at most four bytes, so these are after the first piece.
         if case.journal.len() > 4 * PIECE && (answer.number == 0 || answer.place > 4 * PIECE) {
             met_behind.count(answer.number);
         }

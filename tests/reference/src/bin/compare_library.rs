@@ -65,7 +65,7 @@ fn results(library: RunFile, file: &[u8], room: Room, seed: u64) -> (Result, Res
     (result(lock_file::run_file, file, buffer.clone()), result(library, file, buffer))
 }
 
-/// What reading without a run returns, and the schedule's buffer with what stands behind it.
+/// What reading without a run returns, and the schedule's buffer with what stands after it.
 fn read_into(read_file: ReadFile, file: &[u8], room: usize) -> (ReadReply, Vec<u16>) {
     let mut buffer = vec![0x5A5A; room + CANARY];
     let reply = read_file(file, &mut buffer[..room]);

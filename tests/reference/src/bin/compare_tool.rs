@@ -40,7 +40,7 @@ impl Tool {
         Err(format!("{words:?} prints\n{printed}and by the step table it is\n{expected}"))
     }
 
-    /// The lines behind the first one, each beginning with a text.
+    /// The lines after the first one, each beginning with a text.
     fn compare_lines(&self, words: &[&str], expected: &[String]) -> Result<(), String> {
         let printed = self.printed(words)?;
         let lines: Vec<&str> = printed.lines().skip(1).collect();

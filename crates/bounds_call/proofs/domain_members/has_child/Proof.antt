@@ -1,4 +1,4 @@
--- `domain_members::has_child` meets its contract: no domain passed is a child. Assumes nothing.
+-- `bounds_call::domain_members::has_child` meets its contract: no domain passed is a child.
 use mathlib.Core.Path.{_≡_, sym, _∙_}
 use mathlib.Core.Bool.{false}
 use Prim.Native.Nat.{ℕ, _≤_, _<_, _-_}

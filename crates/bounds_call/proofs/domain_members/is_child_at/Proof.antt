@@ -1,4 +1,4 @@
--- `domain_members::is_child_at` meets its contract: the parent is the word that the tree reads. Assumes nothing.
+-- `bounds_call::domain_members::is_child_at` meets its contract: the parent is the word that the tree reads.
 use mathlib.Core.List.{[]}
 use native.Mathlib.Omega.{arith}
 use borrow.Author.Tests.{eq-eqb, ne-eqb}

@@ -1,4 +1,4 @@
--- `domain_members::largest_child` meets its contract: the largest word of the children passed. Assumes nothing.
+-- `bounds_call::domain_members::largest_child` meets its contract: the largest word of the children passed.
 use mathlib.Core.Path.{_≡_, refl}
 use mathlib.Core.Bool.{cond}
 use Prim.Native.Nat.{_≤_, _-_}

@@ -1,4 +1,4 @@
--- `domain_members::largest_member` meets its contract: a domain without a child is a leaf and has 1, any other the largest word of its children. Assumes nothing.
+-- `bounds_call::domain_members::largest_member` meets its contract: a domain without a child is a leaf and has 1, any other the largest word of its children.
 use mathlib.Core.Path.{sym, _∙_}
 use borrow.Author.Needs.{needs}
 use Rattle.model.specs.Trees.{tree-of, is-leaf}

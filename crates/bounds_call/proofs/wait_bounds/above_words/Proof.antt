@@ -1,4 +1,4 @@
--- `wait_bounds::above_words` meets its contract: what the domains passed add.
+-- `bounds_call::wait_bounds::above_words` meets its contract: what the domains passed add.
 use mathlib.Core.Path.{_≡_, refl, sym, ap, _∙_}
 use native.Mathlib.Omega.{arith}
 use Prim.Native.Nat.{_≤_, _-_}

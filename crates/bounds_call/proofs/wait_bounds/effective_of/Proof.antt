@@ -1,4 +1,4 @@
--- `wait_bounds::effective_of` meets its contract.
+-- `bounds_call::wait_bounds::effective_of` meets its contract.
 use borrow.Author.Tests.{lt-ltb, le-ltb}
 use native.Mathlib.Omega.{arith}
 use borrow.Author.Needs.{needs}

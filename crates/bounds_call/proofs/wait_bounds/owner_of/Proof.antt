@@ -1,4 +1,4 @@
--- `wait_bounds::owner_of` meets its contract: a thread is owned by its home, a domain by its parent.
+-- `bounds_call::wait_bounds::owner_of` meets its contract: a thread is owned by its home, a domain by its parent.
 use mathlib.Core.Path.{refl}
 use native.Mathlib.Omega.{arith}
 use Rattle.bounds_call.proofs.WaitWords.{owner-thread, owner-no-thread, owner-root, owner-domain, owner-no-domain}

@@ -1,4 +1,4 @@
--- `wait_bounds::passes_of` meets its contract: the words from domain d on are the passes.
+-- `bounds_call::wait_bounds::passes_of` meets its contract: the words from domain d on are the passes.
 use mathlib.Core.Path.{_≡_, refl, sym, ap, _∙_}
 use native.Mathlib.Omega.{arith}
 use Prim.Native.Nat.{_≤_}

@@ -1,4 +1,4 @@
--- `wait_bounds::sum_at` meets its contract: beyond the room of 64 there is 0.
+-- `bounds_call::wait_bounds::sum_at` meets its contract: beyond the room of 64 there is 0.
 use borrow.Author.Tests.{lt-ltb, le-ltb}
 use Rattle.bounds_call.specs.Waits.{sum-of}
 use borrow.Author.Needs.{needs}

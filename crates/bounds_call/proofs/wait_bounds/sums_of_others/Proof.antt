@@ -1,4 +1,4 @@
--- `wait_bounds::sums_of_others` meets its contract: from the last record down, the passes of the others in its domain.
+-- `bounds_call::wait_bounds::sums_of_others` meets its contract: from the last record down, the passes of the others in its domain.
 use mathlib.Core.Path.{_≡_, refl, sym, ap, _∙_}
 use native.Mathlib.Omega.{arith}
 use Prim.Native.Nat.{_≤_}

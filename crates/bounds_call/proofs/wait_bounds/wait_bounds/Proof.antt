@@ -1,4 +1,4 @@
--- `wait_bounds::wait_bounds` meets its contract: the tree's refusal, or W of every thread.
+-- `bounds_call::wait_bounds::wait_bounds` meets its contract: the tree's refusal, or W of every thread.
 use mathlib.Core.Path.{_≡_, _∙_}
 use borrow.Author.Needs.{needs}
 use Rattle.refusals.proofs.Reading.{refusal-words-same}

@@ -1,4 +1,4 @@
--- `wait_bounds::word_of` meets its contract.
+-- `bounds_call::wait_bounds::word_of` meets its contract.
 use borrow.Author.Tests.{lt-ltb, le-ltb}
 use Rattle.bounds_call.specs.Waits.{word-of}
 use borrow.Author.Needs.{needs}

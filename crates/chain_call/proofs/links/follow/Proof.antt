@@ -1,4 +1,4 @@
--- `chain::links::follow` meets its contract: the tables that `fill_tables` leaves are those that `follow_links` asks for. Assumes nothing.
+-- `chain_call::links::follow` meets its contract: the tables that `fill_tables` leaves are those that `follow_links` asks for.
 use Rattle.chain_call.proofs.links.follow.Statement.{statement}
 use Rattle.chain_call.proofs.links.follow.Tie as tie
 

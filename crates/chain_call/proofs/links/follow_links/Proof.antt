@@ -1,4 +1,4 @@
--- `chain::links::follow_links` meets its contract: the chain goes on from the last that is found. Assumes nothing.
+-- `chain_call::links::follow_links` meets its contract: the chain goes on from the last that is found.
 use Prim.Native.Nat.{_-_}
 use native.Mathlib.Omega.{arith}
 use Rattle.model.specs.Trees.{tree-of}

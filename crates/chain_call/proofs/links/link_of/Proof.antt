@@ -1,4 +1,4 @@
--- `chain::links::link_of` meets its contract: the own record is below 320, so what is read at its index are the definition's words. Assumes nothing.
+-- `chain_call::links::link_of` meets its contract: the own record is below 320, so what is read at its index are the definition's words.
 use Rattle.model.specs.Trees.{tree-of}
 use native.Mathlib.Omega.{arith}
 use Rattle.model.proofs.Trees.Reading.{few-threads}

@@ -1,4 +1,4 @@
--- `chain::links::only_with` meets its contract: the threads passed are counted. Assumes nothing.
+-- `chain_call::links::only_with` meets its contract: the threads passed are counted.
 use mathlib.Core.Path.{_≡_}
 use Prim.Native.Nat.{_≤_, _-_}
 use native.Mathlib.Omega.{arith}

@@ -1,4 +1,4 @@
--- `chain::links::watch_link_at` meets its contract: at the grant 400, else the one thread with the ticket before, which is one less modulo 65,536. Assumes nothing.
+-- `chain_call::links::watch_link_at` meets its contract: at the grant 400, else the one thread with the ticket before, which is one less modulo 65,536.
 use borrow.Author.Tests.{eq-eqb, ne-eqb}
 use native.Mathlib.Omega.{arith}
 use borrow.Author.Needs.{needs}

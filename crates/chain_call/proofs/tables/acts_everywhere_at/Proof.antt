@@ -1,4 +1,4 @@
--- `chain::tables::acts_everywhere_at` meets its contract: the row decides: Wait by its status, Grant by its word, any other by whether it is Check. Assumes nothing.
+-- `chain_call::tables::acts_everywhere_at` meets its contract: the row decides: Wait by its status, Grant by its word, any other by whether it is Check.
 use borrow.Author.Tests.{eq-eqb, ne-eqb}
 use borrow.Author.Needs.{needs}
 use Rattle.chain_call.proofs.tables.acts_everywhere_at.Statement.{statement}

@@ -1,4 +1,4 @@
--- `chain::tables::joins_at` meets its contract: the rows 1, 2 and 11, each by its own test. Assumes nothing.
+-- `chain_call::tables::joins_at` meets its contract: the rows 1, 2 and 11, each by its own test.
 use borrow.Author.Tests.{eq-eqb, ne-eqb}
 use Rattle.chain_call.proofs.tables.joins_at.Statement.{statement}
 use Rattle.chain_call.proofs.tables.joins_at.Tie as tie

@@ -1,4 +1,4 @@
--- `chain::tables::more_at` meets its contract: a count of 0 becomes one more than the thread, any other 300, by its test. Assumes nothing.
+-- `chain_call::tables::more_at` meets its contract: a count of 0 becomes one more than the thread, any other 300, by its test.
 use borrow.Author.Tests.{eq-eqb, ne-eqb}
 use borrow.Author.Needs.{needs}
 use Rattle.chain_call.proofs.tables.more_at.Statement.{statement}

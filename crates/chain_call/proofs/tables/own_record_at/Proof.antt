@@ -1,4 +1,4 @@
--- `chain::tables::own_record_at` meets its contract: the record by the thread's home. Assumes nothing.
+-- `chain_call::tables::own_record_at` meets its contract: the record by the thread's home.
 use mathlib.Core.Path.{refl, sym, _∙_}
 use native.Mathlib.Omega.{arith}
 use Rattle.model.specs.declared.TreeWords.{TreeWords}

@@ -1,4 +1,4 @@
--- `chain::tables::sends_inside_at` meets its contract: the definition's two cases, at the root and below it, by its test. Assumes nothing.
+-- `chain_call::tables::sends_inside_at` meets its contract: the definition's two cases, at the root and below it, by its test.
 use borrow.Author.Tests.{eq-eqb, ne-eqb}
 use Rattle.model.specs.Acts.{sends-inside}
 use Rattle.chain_call.proofs.tables.sends_inside_at.Statement.{statement}

@@ -1,4 +1,4 @@
--- `digit_count` meets its contract: a division by ten takes a digit off. Assumes nothing.
+-- `file_calls::printing::digit_count` meets its contract: a division by ten takes a digit off.
 use mathlib.Core.Path.{_≡_}
 use Prim.Native.Nat.{_+_, _≤_}
 use native.Mathlib.Omega.{arith}

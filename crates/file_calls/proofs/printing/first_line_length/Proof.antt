@@ -1,4 +1,4 @@
--- The word, and what the counts take. Assumes nothing.
+-- `file_calls::printing::first_line_length`. The word, and what the counts take.
 use mathlib.Core.Path.{ap}
 use native.Mathlib.Omega.{arith}
 use lib.ListN.{length}

@@ -1,4 +1,4 @@
--- The word, and the counts behind it. Assumes nothing.
+-- `file_calls::printing::put_first_line`. The word, and the counts after it.
 use mathlib.Core.Path.{sym, ap, _∙_}
 use mathlib.Core.List.{[], _∷_}
 use native.Mathlib.Omega.{arith}

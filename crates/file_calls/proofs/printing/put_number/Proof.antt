@@ -1,4 +1,4 @@
--- `put_number` meets its contract: to put the numeral and then the byte behind it is to put both as one list. Assumes nothing.
+-- `file_calls::printing::put_number` meets its contract: to put the numeral and then the byte after it is to put both as one list.
 use mathlib.Core.List.{[], _∷_}
 use mathlib.Core.Path.{sym}
 use native.Mathlib.Omega.{arith}

@@ -1,4 +1,4 @@
--- `put_numeral` meets its contract: what is left to write gives what the whole gives. Assumes nothing.
+-- `file_calls::printing::put_numeral` meets its contract: what is left to write gives what the whole gives.
 use mathlib.Core.Path.{_≡_, refl, _∙_}
 use Prim.Native.Nat.{_+_, _-_, _/_, _≤_}
 use native.Mathlib.Omega.{arith}

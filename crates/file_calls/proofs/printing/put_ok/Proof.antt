@@ -1,4 +1,4 @@
--- `put_ok` meets its contract: two stores, for which there is room. Assumes nothing.
+-- `file_calls::printing::put_ok` meets its contract: two stores, for which there is room.
 use native.Mathlib.Omega.{arith}
 use lib.ListN.{length-set}
 use borrow.Author.Needs.{needs}

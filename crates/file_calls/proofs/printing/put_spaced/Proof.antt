@@ -1,4 +1,4 @@
--- What is left to write gives what the whole gives. Assumes nothing.
+-- `file_calls::printing::put_spaced`. What is left to write gives what the whole gives.
 use mathlib.Core.Path.{ap, _≡_, refl, sym, _∙_}
 use Prim.Native.Nat.{_+_, _-_, _≤_}
 use native.Mathlib.Omega.{arith}

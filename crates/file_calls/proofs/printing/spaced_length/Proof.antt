@@ -1,4 +1,4 @@
--- What is measured and what is left make the whole. Assumes nothing.
+-- `file_calls::printing::spaced_length`. What is measured and what is left make the whole.
 use mathlib.Core.Path.{ap, _≡_}
 use Prim.Native.Nat.{_+_, _*_, _-_, _≤_}
 use native.Mathlib.Omega.{arith}

@@ -1,4 +1,4 @@
--- Measured first; then the first line, and the trace behind it. Assumes nothing.
+-- `file_calls::printing::write_listing`. Measured first; then the first line, and the trace after it.
 use mathlib.Core.Path.{sym, _∙_}
 use Prim.Native.Nat.{_-_, _≤_, _<_}
 use native.Mathlib.Omega.{arith}

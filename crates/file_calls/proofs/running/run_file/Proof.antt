@@ -1,4 +1,4 @@
--- `run_file` meets its contract: a file that is too long, or how far reading came: to the schedule, to the file's end or to a bad bit map. Assumes nothing.
+-- `file_calls::running::run_file` meets its contract: a file that is too long, or how far reading came: to the schedule, to the file's end or to a bad bit map.
 use Prim.Native.Nat.{_≤_}
 use native.Mathlib.Omega.{arith}
 use lib.ListN.{length}

@@ -1,4 +1,4 @@
--- `write_file` meets its contract: the tree's tests, the schedule's, the file's length, the buffer's; then the tree and the schedule behind it. Assumes nothing.
+-- `file_calls::writing::write_file` meets its contract: the tree's tests, the schedule's, the file's length, the buffer's; then the tree and the schedule after it.
 use mathlib.Core.Path.{ap, _∙_}
 use Prim.Native.Nat.{_≤_, _<_}
 use native.Mathlib.Omega.{arith}

@@ -1,4 +1,4 @@
--- `journal_call::journals::answer_at` meets its contract: the two numbers are the refusal's fields. Assumes nothing.
+-- `journal_call::journals::answer_at` meets its contract: the two numbers are the refusal's fields.
 use mathlib.Core.Path.{refl}
 use Rattle.model.specs.Refusals.{refusal}
 use Rattle.journal_call.proofs.journals.answer_at.Statement.{statement}

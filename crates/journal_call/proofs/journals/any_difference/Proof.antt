@@ -1,4 +1,4 @@
--- `journal_call::journals::any_difference` meets its contract: without a mark, all entries passed name the kinds that were told. Assumes nothing.
+-- `journal_call::journals::any_difference` meets its contract: without a mark, all entries passed name the kinds that were told.
 use mathlib.Core.Path.{_≡_, refl, sym, _∙_}
 use mathlib.Core.Bool.{Bool, true, false, cond}
 use mathlib.Core.List.{List}

@@ -1,4 +1,4 @@
--- `journal_call::journals::check_entries` meets its contract: what is still ahead decides the answer, piece by piece. Assumes nothing.
+-- `journal_call::journals::check_entries` meets its contract: what is still ahead decides the answer, piece by piece.
 use mathlib.Core.Path.{_≡_, refl, _∙_}
 use Prim.Native.Nat.{_-_, _≤_}
 use native.Mathlib.Omega.{arith}

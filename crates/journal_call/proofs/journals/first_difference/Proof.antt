@@ -1,4 +1,4 @@
--- `journal_call::journals::first_difference` meets its contract: all entries passed name the kinds that were told. Assumes nothing.
+-- `journal_call::journals::first_difference` meets its contract: all entries passed name the kinds that were told.
 use mathlib.Core.Path.{_≡_}
 use mathlib.Core.Bool.{false}
 use Prim.Native.Nat.{ℕ, _≤_, _<_, _-_}

@@ -1,4 +1,4 @@
--- `journal_call::journals::marked` meets its contract: the test is the definition's. Assumes nothing.
+-- `journal_call::journals::marked` meets its contract: the test is the definition's.
 use borrow.Author.Tests.{eq-eqb, ne-eqb}
 use Rattle.journal_call.proofs.journals.marked.Statement.{statement}
 use Rattle.journal_call.proofs.journals.marked.Tie as tie

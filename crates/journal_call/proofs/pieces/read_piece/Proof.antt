@@ -1,4 +1,4 @@
--- `journal_pieces::read_piece` meets its contract: four entries at once or up to thirty-two one by one, until the room is full or reading stops. Assumes nothing.
+-- `journal_call::pieces::read_piece` meets its contract: four entries at once or up to thirty-two one by one, until the room is full or reading stops.
 use mathlib.Core.Path.{_∙_}
 use Prim.Native.Nat.{_-_}
 use native.Mathlib.Omega.{arith}

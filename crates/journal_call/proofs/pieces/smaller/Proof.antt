@@ -1,4 +1,4 @@
--- `journal_pieces::smaller` meets its contract: each return is the smaller by the one test. Assumes nothing.
+-- `journal_call::pieces::smaller` meets its contract: each return is the smaller by the one test.
 use borrow.Author.Needs.{needs}
 use Rattle.journal_call.proofs.pieces.smaller.Statement.{statement}
 use Rattle.journal_call.proofs.pieces.smaller.Tie as tie

@@ -1,4 +1,4 @@
--- `journal_reader::entry_at` meets its contract: a walk of its MIR, by hand. A reader is made by `reader_at` and passed to `next_entry`; each is known by its contract alone. Assumes nothing.
+-- `journal_call::reader::entry_at` meets its contract: a walk of its MIR, by hand. A reader is made by `reader_at` and passed to `next_entry`; each is known by its contract alone.
 -- The toolchain's letters stand for what `reader_at`'s proof says.
 use mathlib.Core.Path.{_≡_, refl, ap, _∙_}
 use Prim.Native.Nat.{ℕ, _<_, _^_}

@@ -1,4 +1,4 @@
--- `journal_reader::kind_by` meets its contract: the product with 1 or 0. Assumes nothing.
+-- `journal_call::reader::kind_by` meets its contract: the product with 1 or 0.
 use native.Mathlib.Omega.{arith}
 use Rattle.journal_call.proofs.reader.Products.{by-factor, by-product-small}
 use Rattle.journal_call.proofs.reader.kind_by.Statement.{statement}

@@ -1,6 +1,6 @@
--- `journal_reader::next_entry` meets its contract: a walk of its MIR, by hand. The reader is taken apart, and `read_entry` is called on its slice and its position; it is known by its contract alone.
+-- `journal_call::reader::next_entry` meets its contract: a walk of its MIR, by hand. The reader is taken apart, and `read_entry` is called on its slice and its position; it is known by its contract alone.
 -- The toolchain's letters stand for what `reader_at`'s proof says.
--- A reader is Copy: what it owns is had twice. One half is kept whole for the exit; of the other, what the slice owns goes to the callee, beside the lifetime's token, which comes back. Assumes nothing.
+-- A reader is Copy: what it owns is had twice. One half is kept whole for the exit; of the other, what the slice owns goes to the callee, beside the lifetime's token, which comes back.
 use mathlib.Core.Path.{_≡_, refl}
 use Prim.Native.Nat.{ℕ, _<_, _^_}
 use mathlib.Core.List.{[], _∷_}

@@ -1,4 +1,4 @@
--- `journal_reader::read_entry` meets its contract: each return by the tests that led there, a whole entry by `whole-entry` at its bit map. Assumes nothing.
+-- `journal_call::reader::read_entry` meets its contract: each return by the tests that led there, a whole entry by `whole-entry` at its bit map.
 use Prim.Native.Nat.{ℕ, _+_, _≤_}
 use mathlib.Core.Path.{_≡_, sym, ap, _∙_}
 use native.Mathlib.Omega.{arith}

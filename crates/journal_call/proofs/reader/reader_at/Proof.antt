@@ -1,6 +1,6 @@
--- `journal_reader::reader_at` meets its contract: a walk of its MIR, by hand, because no function that makes a struct with a reference is covered.
+-- `journal_call::reader::reader_at` meets its contract: a walk of its MIR, by hand, because no function that makes a struct with a reference is covered.
 -- Of the toolchain's letters, 𝓤 is the algebra of resources, H the heap, A the atoms of ghost state, W what is given of both, 𝓜 the model of the heap, 𝓖 the rules of ghost state, 𝓡 what it is to run a routine, 𝓣 the tables of calls (C) and of loops (Λ).
--- The slice is Copy, so what it owns is had twice: once for the parameter at exit, once inside the reader, beside the facts of the position. Assumes nothing.
+-- The slice is Copy, so what it owns is had twice: once for the parameter at exit, once inside the reader, beside the facts of the position.
 use mathlib.Core.Path.{refl}
 use Prim.Native.Nat.{ℕ, _<_, _^_}
 use mathlib.Core.List.{List, [], _∷_}

@@ -1,4 +1,4 @@
--- `journal_reader::thread_at` meets its contract: the two bytes behind the bit map, where it gives them. Assumes nothing.
+-- `journal_call::reader::thread_at` meets its contract: the two bytes after the bit map, where it gives them.
 use mathlib.Core.Path.{_≡_, ap, _∙_}
 use mathlib.Core.Bool.{cond}
 use Prim.Native.Nat.{_%_}

@@ -1,4 +1,4 @@
--- `journal_reader::thread_by` meets its contract: one of the two products is 0. Assumes nothing.
+-- `journal_call::reader::thread_by` meets its contract: one of the two products is 0.
 use native.Mathlib.Omega.{arith}
 use Rattle.journal_call.proofs.reader.Products.{by-product, by-product-small}
 use borrow.Author.Needs.{needs}

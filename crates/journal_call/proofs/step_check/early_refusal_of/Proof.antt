@@ -1,4 +1,4 @@
--- `step_check_call::early_refusal_of` meets its contract: the state's check refuses, or 30 does, or nothing. Assumes nothing.
+-- `journal_call::step_check::early_refusal_of` meets its contract: the state's check refuses, or 30 does, or nothing.
 use Rattle.model.specs.Refusals.{refusal}
 use Rattle.journal_call.proofs.step_check.Answering.{state-answered, kinds-answered, domains-answered, lengths-answered}
 use borrow.Author.Needs.{needs}

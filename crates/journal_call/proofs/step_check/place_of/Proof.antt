@@ -1,4 +1,4 @@
--- `step_check_call::place_of` meets its contract: the number is compared. Assumes nothing.
+-- `journal_call::step_check::place_of` meets its contract: the number is compared.
 use borrow.Author.Tests.{eq-eqb, ne-eqb}
 use Rattle.journal_call.proofs.step_check.place_of.Statement.{statement}
 use Rattle.journal_call.proofs.step_check.place_of.Tie as tie

@@ -1,4 +1,4 @@
--- `lock::lent::first_told` meets its contract: of no entry nothing, else what the first one's number tells. Assumes nothing.
+-- `lock::lent::first_told` meets its contract: of no entry nothing, else what the first one's number tells.
 use native.Mathlib.Omega.{arith}
 use borrow.Author.Tests.{eq-eqb, ne-eqb}
 use borrow.Author.Needs.{needs}

@@ -1,4 +1,4 @@
--- `lock::lent::run_tested` meets its contract: refused, or run. Assumes nothing.
+-- `lock::lent::run_tested` meets its contract: refused, or run.
 use mathlib.Core.Path.{refl, ap}
 use Rattle.lock.proofs.steps.Answering.{run-refuses, run-passes, early-passes, first-small, kinds-few, run-answered, told-first}
 use Rattle.model.specs.Refusals.{refusal}

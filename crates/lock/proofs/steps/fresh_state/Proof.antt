@@ -1,4 +1,4 @@
--- `steps::fresh_state` meets its contract: its arrays are the definition's, and both counters are the number given. Assumes nothing.
+-- `lock::steps::fresh_state` meets its contract: its arrays are the definition's, and both counters are the number given.
 use Rattle.model.specs.States.{fresh-words}
 use borrow.Author.Needs.{needs}
 use Rattle.lock.proofs.steps.fresh_state.Statement.{statement}

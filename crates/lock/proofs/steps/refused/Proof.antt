@@ -1,4 +1,4 @@
--- `steps::refused` meets its contract: number, place and state as given, and every count 0. Assumes nothing.
+-- `lock::steps::refused` meets its contract: number, place and state as given, and every count 0.
 use Rattle.model.specs.Refusals.{refusal}
 use borrow.Author.Needs.{needs}
 use Rattle.lock.proofs.steps.refused.Statement.{statement}

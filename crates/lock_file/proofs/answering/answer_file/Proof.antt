@@ -1,4 +1,4 @@
--- `answering::answer_file` meets its contract, by how far reading came. Assumes nothing.
+-- `lock_file::answering::answer_file` meets its contract, by how far reading came.
 use Prim.Native.Nat.{_≤_}
 use native.Mathlib.Omega.{arith}
 use lib.ListN.{length}

@@ -1,4 +1,4 @@
--- `answering::described_at` meets its contract: as many turns as two bytes each leave room for. Assumes nothing.
+-- `lock_file::answering::described_at` meets its contract: as many turns as two bytes each leave room for.
 use borrow.Author.Needs.{needs}
 use Rattle.lock_file.specs.Reading.{entries-at}
 use Rattle.lock_file.specs.Answers.{reading-reply}

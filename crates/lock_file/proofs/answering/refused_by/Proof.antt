@@ -1,4 +1,4 @@
--- `answering::refused_by` meets its contract: every word is 0. Assumes nothing.
+-- `lock_file::answering::refused_by` meets its contract: every word is 0.
 use mathlib.Core.Path.{refl}
 use Rattle.model.specs.Refusals.{refusal}
 use Rattle.lock_file.specs.Answers.{no-tree, reading-reply}

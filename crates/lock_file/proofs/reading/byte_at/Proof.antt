@@ -1,4 +1,4 @@
--- `byte_at` meets its contract: behind the list stands the default. Assumes nothing.
+-- `lock_file::reading::byte_at` meets its contract: after the list stands the default.
 use mathlib.Core.Path.{sym}
 use lib.ListN.{List·getD-eq-default}
 use borrow.Author.Needs.{needs}

@@ -1,4 +1,4 @@
--- `domain_size_of` meets its contract: each bit is 0 or 1, so the sum fits. Assumes nothing.
+-- `lock_file::reading::domain_size_of` meets its contract: each bit is 0 or 1, so the sum fits.
 use borrow.Author.Needs.{needs}
 use Rattle.lock_file.specs.Reading.{domain-size}
 use Rattle.lock_file.proofs.reading.domain_size_of.Statement.{statement}

@@ -1,4 +1,4 @@
--- `entry_end_at` meets its contract: the file's end, a map above the largest, or the field's end, by its two tests. Assumes nothing.
+-- `lock_file::reading::entry_end_at` meets its contract: the file's end, a map above the largest, or the field's end, by its two tests.
 use borrow.Author.Tests.{lt-ltb, le-ltb, le-leb, lt-leb}
 use borrow.Author.Needs.{needs}
 use Rattle.lock_file.specs.Reading.{entry-end}

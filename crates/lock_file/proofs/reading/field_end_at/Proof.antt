@@ -1,4 +1,4 @@
--- `field_end_at` meets its contract: the size is not 0, so at the file's end and behind it too little is left; before it, what is left decides. Assumes nothing.
+-- `lock_file::reading::field_end_at` meets its contract: the size is not 0, so at the file's end and after it too little is left; before it, what is left decides.
 use Prim.Native.Nat.{_-_, _<_}
 use native.Mathlib.Omega.{arith}
 use lib.ListN.{length}

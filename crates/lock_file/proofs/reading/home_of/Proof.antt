@@ -1,4 +1,4 @@
--- `home_of` meets its contract: bit 0 of the map decides: the byte behind it, or the home before. Assumes nothing.
+-- `lock_file::reading::home_of` meets its contract: bit 0 of the map decides: the byte after it, or the home before.
 use borrow.Author.Tests.{eq-eqb, ne-eqb}
 use borrow.Author.Needs.{needs}
 use Rattle.lock_file.specs.Reading.{home-at}

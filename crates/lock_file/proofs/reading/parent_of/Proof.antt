@@ -1,4 +1,4 @@
--- `parent_of` meets its contract: bit 0 of the map decides: the byte behind it, or 0. Assumes nothing.
+-- `lock_file::reading::parent_of` meets its contract: bit 0 of the map decides: the byte after it, or 0.
 use borrow.Author.Tests.{eq-eqb, ne-eqb}
 use borrow.Author.Needs.{needs}
 use Rattle.lock_file.specs.Reading.{parent-at}

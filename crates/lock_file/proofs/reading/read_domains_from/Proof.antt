@@ -1,4 +1,4 @@
--- `read_domains_from` meets its contract: what is left to read gives what the whole gives. Assumes nothing.
+-- `lock_file::reading::read_domains_from` meets its contract: what is left to read gives what the whole gives.
 use mathlib.Core.Path.{_≡_, refl, sym, _∙_}
 use Prim.Native.Nat.{_≤_, _-_}
 use borrow.Author.Needs.{needs}

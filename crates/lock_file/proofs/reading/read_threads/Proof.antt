@@ -1,4 +1,4 @@
--- `read_threads` meets its contract: how far reading came decides: the threads from there, or stopped where it was. Assumes nothing.
+-- `lock_file::reading::read_threads` meets its contract: how far reading came decides: the threads from there, or stopped where it was.
 use borrow.Author.Needs.{needs}
 use Rattle.lock_file.specs.Reading.{threads-read}
 use Rattle.lock_file.proofs.reading.read_threads.Statement.{statement}

@@ -1,4 +1,4 @@
--- `read_threads_behind` meets its contract: where two bytes are left they tell how many threads are read; else stopped where the field ended. Assumes nothing.
+-- `lock_file::reading::read_threads_behind` meets its contract: where two bytes are left they tell how many threads are read; else stopped where the field ended.
 use mathlib.Core.Path.{sym, _∙_}
 use borrow.Author.Needs.{needs}
 use Rattle.lock_file.specs.Reading.{threads-behind}

@@ -1,4 +1,4 @@
--- `read_threads_from` meets its contract: what is left to read gives what the whole gives. Assumes nothing.
+-- `lock_file::reading::read_threads_from` meets its contract: what is left to read gives what the whole gives.
 use mathlib.Core.Path.{_≡_, sym, _∙_}
 use Prim.Native.Nat.{_-_}
 use native.Mathlib.Nat.{sub-zero}

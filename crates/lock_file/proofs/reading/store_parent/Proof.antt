@@ -1,4 +1,4 @@
--- `store_parent` meets its contract: one store below 64, else none. Assumes nothing.
+-- `lock_file::reading::store_parent` meets its contract: one store below 64, else none.
 use borrow.Author.Tests.{lt-ltb, le-ltb}
 use borrow.Author.Needs.{needs}
 use Rattle.lock_file.specs.Reading.{stored}

@@ -1,4 +1,4 @@
--- `threshold_of` meets its contract: bit 1 of the map decides: the two bytes behind the parent's, or 16. Assumes nothing.
+-- `lock_file::reading::threshold_of` meets its contract: bit 1 of the map decides: the two bytes after the parent's, or 16.
 use borrow.Author.Tests.{eq-eqb, ne-eqb}
 use borrow.Author.Needs.{needs}
 use Rattle.lock_file.specs.Reading.{threshold-at}

@@ -1,4 +1,4 @@
--- `tree_of` meets its contract: each word is what its own function reads, and the definition reads the same. Assumes nothing.
+-- `lock_file::reading::tree_of` meets its contract: each word is what its own function reads, and the definition reads the same.
 use borrow.Author.Needs.{needs}
 use Rattle.lock_file.specs.Reading.{domain-count, tree-read}
 use Rattle.lock_file.proofs.reading.tree_of.Statement.{statement}

@@ -1,4 +1,4 @@
--- `two_bytes_at` meets its contract: behind the list stands the default. Assumes nothing.
+-- `lock_file::reading::two_bytes_at` meets its contract: after the list stands the default.
 use Prim.Native.Nat.{_+_, _≤_}
 use native.Mathlib.Omega.{arith}
 use lib.ListN.{length, List·getD-eq-default}

@@ -1,4 +1,4 @@
--- `run_refusals::is_well_formed` meets its contract: the root, the room that the tree lacks, the domains and the threads are the state's parts. Assumes nothing.
+-- `refusals::of_runs::is_well_formed` meets its contract: the root, the room that the tree lacks, the domains and the threads are the state's parts.
 use mathlib.Core.Path.{_≡_, sym, _∙_}
 use mathlib.Core.Bool.{true, false}
 use borrow.Author.Tests.{not-true, not-false}

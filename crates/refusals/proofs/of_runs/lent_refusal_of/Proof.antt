@@ -1,4 +1,4 @@
--- `run_refusals::lent_refusal_of` meets its contract: the tests of the tree, of the state's counters and of its words, then the schedule's. Assumes nothing.
+-- `refusals::of_runs::lent_refusal_of` meets its contract: the tests of the tree, of the state's counters and of its words, then the schedule's.
 use mathlib.Core.Path.{_∙_}
 use mathlib.Core.Bool.{true, false}
 use native.Mathlib.Omega.{arith}

@@ -1,4 +1,4 @@
--- `state_check::check_state` meets its contract: the tests of a run of no entries. Assumes nothing.
+-- `refusals::state_check::check_state` meets its contract: the tests of a run of no entries.
 use mathlib.Core.Path.{_≡_, ap, _∙_}
 use borrow.Author.Needs.{needs}
 use Rattle.model.specs.Trees.{tree-of}

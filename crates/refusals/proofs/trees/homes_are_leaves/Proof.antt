@@ -1,4 +1,4 @@
--- `refusals::trees::homes_are_leaves` meets its contract: so far each byte is marked in exactly one of the two tables. Assumes nothing.
+-- `refusals::trees::homes_are_leaves` meets its contract: so far each byte is marked in exactly one of the two tables.
 use mathlib.Core.Path.{_≡_, refl}
 use Prim.Native.Nat.{_≤_, _-_}
 use native.Mathlib.Omega.{arith}

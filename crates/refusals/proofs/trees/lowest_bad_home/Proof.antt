@@ -1,4 +1,4 @@
--- `refusals::trees::lowest_bad_home` meets its contract: all threads passed have good homes. Assumes nothing.
+-- `refusals::trees::lowest_bad_home` meets its contract: all threads passed have good homes.
 use mathlib.Core.Path.{_≡_, sym, _∙_}
 use mathlib.Core.Bool.{false}
 use mathlib.Core.List.{[]}

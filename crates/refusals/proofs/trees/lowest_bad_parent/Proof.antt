@@ -1,4 +1,4 @@
--- `refusals::trees::lowest_bad_parent` meets its contract: all domains passed have good parents. Assumes nothing.
+-- `refusals::trees::lowest_bad_parent` meets its contract: all domains passed have good parents.
 use mathlib.Core.Path.{_≡_, sym, _∙_}
 use mathlib.Core.Bool.{false}
 use Prim.Native.Nat.{ℕ, _≤_, _<_, _-_}

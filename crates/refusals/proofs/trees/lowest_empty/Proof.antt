@@ -1,4 +1,4 @@
--- `refusals::trees::lowest_empty` meets its contract: all domains passed are marked. Assumes nothing.
+-- `refusals::trees::lowest_empty` meets its contract: all domains passed are marked.
 use mathlib.Core.Path.{_≡_}
 use mathlib.Core.Bool.{false, not}
 use Prim.Native.Nat.{ℕ, _≤_, _<_, _-_}

@@ -1,4 +1,4 @@
--- `refusals::trees::lowest_no_threshold` meets its contract: all domains passed have thresholds. Assumes nothing.
+-- `refusals::trees::lowest_no_threshold` meets its contract: all domains passed have thresholds.
 use mathlib.Core.Path.{_≡_, sym, _∙_}
 use mathlib.Core.Bool.{false}
 use mathlib.Core.List.{[]}

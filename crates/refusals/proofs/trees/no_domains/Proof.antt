@@ -1,4 +1,4 @@
--- `refusals::trees::no_domains` meets its contract: the domains passed are unmarked. Assumes nothing.
+-- `refusals::trees::no_domains` meets its contract: the domains passed are unmarked.
 use Prim.Native.Nat.{_≤_, _-_}
 use native.Mathlib.Omega.{arith}
 use Rattle.refusals.specs.Arrays.{No-domains}

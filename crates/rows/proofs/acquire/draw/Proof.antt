@@ -1,4 +1,4 @@
--- `acquire_rows::draw` draws a ticket, and starts a tenure where it is the one shown. Assumes nothing.
+-- `rows::acquire::draw` draws a ticket, and starts a tenure where it is the one shown.
 use mathlib.Core.Path.{refl}
 use borrow.Author.Tests.{eq-eqb, ne-eqb}
 use Rattle.model.specs.Steps.{draw-row}

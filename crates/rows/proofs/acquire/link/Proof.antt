@@ -1,4 +1,4 @@
--- `acquire_rows::link` does Link. Assumes nothing.
+-- `rows::acquire::link` does Link.
 use mathlib.Core.Path.{refl}
 use Rattle.model.specs.Steps.{link-row}
 use borrow.Author.Needs.{needs}

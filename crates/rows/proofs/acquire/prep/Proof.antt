@@ -1,4 +1,4 @@
--- `acquire_rows::prep` does Prep. Assumes nothing.
+-- `rows::acquire::prep` does Prep.
 use mathlib.Core.Path.{_≡_, refl}
 use mathlib.Core.Bool.{Bool, true, false, cond}
 use Prim.Native.Nat.{ℕ}

@@ -1,4 +1,4 @@
--- `acquire_rows::start` draws at a ticket root, and prepares elsewhere. Assumes nothing.
+-- `rows::acquire::start` draws at a ticket root, and prepares elsewhere.
 use mathlib.Core.Path.{refl, sym, _∙_}
 use denote.Ref.{now}
 use Rattle.model.specs.States.{with-ticket}

@@ -1,4 +1,4 @@
--- `acquire_rows::swap` does Swap, and starts a tenure where it finds none. Assumes nothing.
+-- `rows::acquire::swap` does Swap, and starts a tenure where it finds none.
 use mathlib.Core.Path.{refl}
 use borrow.Author.Tests.{eq-eqb, ne-eqb}
 use Rattle.model.specs.Steps.{swap-row}

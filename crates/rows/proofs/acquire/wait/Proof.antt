@@ -1,4 +1,4 @@
--- `acquire_rows::wait` does Wait. Assumes nothing.
+-- `rows::acquire::wait` does Wait.
 use mathlib.Core.Path.{refl}
 use borrow.Author.Tests.{eq-eqb, ne-eqb}
 use Rattle.model.specs.Steps.{wait-row}

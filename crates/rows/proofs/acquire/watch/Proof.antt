@@ -1,4 +1,4 @@
--- `acquire_rows::watch` does Watch. Assumes nothing.
+-- `rows::acquire::watch` does Watch.
 use mathlib.Core.Path.{_≡_, refl}
 use mathlib.Core.Bool.{false}
 use lib.Dec.{eqb}

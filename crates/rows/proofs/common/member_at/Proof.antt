@@ -1,4 +1,4 @@
--- `members::member_at` is the thread as a member of the domain. Assumes nothing.
+-- `rows::common::member_at` is the thread as a member of the domain.
 use mathlib.Core.Path.{refl, ap, _∙_}
 use native.Mathlib.Omega.{arith}
 use Rattle.model.specs.declared.Found.{Found}

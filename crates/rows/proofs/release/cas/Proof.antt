@@ -1,4 +1,4 @@
--- `release_rows::cas` does Cas. Assumes nothing.
+-- `rows::release::cas` does Cas.
 use mathlib.Core.Path.{refl}
 use borrow.Author.Tests.{eq-eqb, ne-eqb}
 use Rattle.model.specs.Steps.{cas-row}

@@ -1,4 +1,4 @@
--- `release_rows::check` does Check, and tells the length of a tenure that goes on. Assumes nothing.
+-- `rows::release::check` does Check, and tells the length of a tenure that goes on.
 use mathlib.Core.Path.{refl}
 use native.Mathlib.Nat.{mod-eq-of-lt}
 use borrow.Author.Tests.{eq-eqb, ne-eqb, lt-ltb, le-ltb}

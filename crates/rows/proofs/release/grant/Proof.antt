@@ -1,4 +1,4 @@
--- `release_rows::grant` does Grant. Assumes nothing.
+-- `rows::release::grant` does Grant.
 use mathlib.Core.Path.{refl}
 use Rattle.model.specs.Steps.{grant-row}
 use Rattle.rows.proofs.release.Leaving.{done-is}

@@ -1,4 +1,4 @@
--- `release_rows::help` does Help. Assumes nothing.
+-- `rows::release::help` does Help.
 use mathlib.Core.Path.{refl}
 use borrow.Author.Tests.{eq-eqb, ne-eqb}
 use Rattle.model.specs.Steps.{help-row}

@@ -1,4 +1,4 @@
--- `release_rows::leave` leaves. Assumes nothing.
+-- `rows::release::leave` leaves.
 use mathlib.Core.Path.{refl}
 use Rattle.model.specs.Steps.{leave-row}
 use Rattle.rows.proofs.release.Leaving.{release-is}

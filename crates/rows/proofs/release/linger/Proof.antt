@@ -1,4 +1,4 @@
--- `release_rows::linger` does Linger. Assumes nothing.
+-- `rows::release::linger` does Linger.
 use mathlib.Core.Path.{refl}
 use borrow.Author.Tests.{eq-eqb, ne-eqb}
 use Rattle.model.specs.Steps.{linger-row}

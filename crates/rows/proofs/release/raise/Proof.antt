@@ -1,4 +1,4 @@
--- `release_rows::raise` does Raise. Assumes nothing.
+-- `rows::release::raise` does Raise.
 use mathlib.Core.Path.{refl}
 use Rattle.model.specs.Steps.{raise-row}
 use Rattle.rows.proofs.release.Leaving.{root-done}

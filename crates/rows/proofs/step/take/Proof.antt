@@ -1,4 +1,4 @@
--- `taking::take` takes the row of the place: each arm is that row. Assumes nothing.
+-- `rows::step::take` takes the row of the place: each arm is that row.
 use mathlib.Core.Path.{refl, sym, ap, _∙_}
 use mathlib.Core.Bool.{cond}
 use native.Mathlib.Omega.{arith}

@@ -1,4 +1,4 @@
--- `schedules::adds_up` meets its contract: what is left of the entries, and the lengths still ahead. Assumes nothing.
+-- `runs_call::many_schedules::adds_up` meets its contract: what is left of the entries, and the lengths still ahead.
 use mathlib.Core.Path.{_≡_, sym}
 use Prim.Native.Nat.{_+_, _-_, _≤_}
 use native.Mathlib.Omega.{arith}

@@ -1,4 +1,4 @@
--- `schedules::many_refusal_of` meets its contract: the tree's tests, then the two of its own. Assumes nothing.
+-- `runs_call::many_schedules::many_refusal_of` meets its contract: the tree's tests, then the two of its own.
 use mathlib.Core.Path.{_≡_, sym, _∙_}
 use mathlib.Core.Bool.{true, false}
 use native.Mathlib.Omega.{arith}

@@ -1,4 +1,4 @@
--- `schedules::run_many` meets its contract: refused as a whole, or every row. Assumes nothing.
+-- `runs_call::many_schedules::run_many` meets its contract: refused as a whole, or every row.
 use native.Mathlib.Omega.{arith}
 use Rattle.runs_call.proofs.many_schedules.Storing.{call-refuses, call-good, call-answered}
 use borrow.Author.Needs.{needs}

@@ -1,4 +1,4 @@
--- `waits::greatest_divisor` meets its contract: each division keeps the greatest common divisor. Assumes nothing.
+-- `runs_call::with_waits::greatest_divisor` meets its contract: each division keeps the greatest common divisor.
 use mathlib.Core.Path.{_≡_, refl, _∙_}
 use native.Mathlib.Omega.{arith}
 use native.Mathlib.Nat.{mod-lt}

@@ -1,4 +1,4 @@
--- `waits::lowest_bad_number` meets its contract: all numbers passed can be. Assumes nothing.
+-- `runs_call::with_waits::lowest_bad_number` meets its contract: all numbers passed can be.
 use mathlib.Core.Path.{_≡_, sym, _∙_}
 use mathlib.Core.Bool.{true, false}
 use Prim.Native.Nat.{ℕ, _≤_, _<_, _-_}

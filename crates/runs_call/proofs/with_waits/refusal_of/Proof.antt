@@ -1,4 +1,4 @@
--- `waits::refusal_of` meets its contract: the tests before 27 refuse, or a number does, or 19 decides. Assumes nothing.
+-- `runs_call::with_waits::refusal_of` meets its contract: the tests before 27 refuse, or a number does, or 19 decides.
 use mathlib.Core.Path.{sym, ap, _∙_}
 use Rattle.model.specs.Refusals.{refusal}
 use Rattle.refusals.specs.Arrays.{refusal-words}

@@ -1,4 +1,4 @@
--- `waits::waits_refusal_of` meets its contract: the run's tests but 19, then the one of its own. Assumes nothing.
+-- `runs_call::with_waits::waits_refusal_of` meets its contract: the run's tests but 19, then the one of its own.
 use Rattle.model.specs.Trees.{tree-of}
 use Rattle.model.specs.Refusals.{refusal}
 use Rattle.runs_call.proofs.with_waits.Answering.{run-answered, room-answered, acceptance-answered}

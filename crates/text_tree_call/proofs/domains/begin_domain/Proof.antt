@@ -1,4 +1,4 @@
--- `begin_domain` meets its contract: stuck without a threshold or a parenthesis behind it, else one domain more, whose threshold fits 16 bits. Assumes nothing.
+-- `text_tree_call::domains::begin_domain` meets its contract: stuck without a threshold or a parenthesis after it, else one domain more, whose threshold fits 16 bits.
 use mathlib.Core.Path.{sym, _∙_}
 use native.Mathlib.Omega.{arith}
 use lib.Dec.{lit<}

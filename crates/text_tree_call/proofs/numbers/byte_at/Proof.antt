@@ -1,4 +1,4 @@
--- `byte_at` meets its contract: behind the text stands the default. Assumes nothing.
+-- `text_tree_call::numbers::byte_at` meets its contract: after the text stands the default.
 use mathlib.Core.Path.{sym}
 use lib.ListN.{List·getD-eq-default}
 use borrow.Author.Needs.{needs}

@@ -1,4 +1,4 @@
--- `is_digit_byte` meets its contract: its two tests are the bounds 48 and 57. Assumes nothing.
+-- `text_tree_call::numbers::is_digit_byte` meets its contract: its two tests are the bounds 48 and 57.
 use borrow.Author.Tests.{lt-leb, le-leb}
 use Rattle.text_tree_call.proofs.numbers.is_digit_byte.Statement.{statement}
 use Rattle.text_tree_call.proofs.numbers.is_digit_byte.Tie as tie

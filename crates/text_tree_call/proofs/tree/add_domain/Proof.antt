@@ -1,4 +1,4 @@
--- `add_domain` meets its contract: from 64 domains on no word is stored; below, the parent and the threshold are, at the new domain's index. Assumes nothing.
+-- `text_tree_call::tree::add_domain` meets its contract: from 64 domains on no word is stored; below, the parent and the threshold are, at the new domain's index.
 use borrow.Author.Tests.{le-leb, lt-leb}
 use Rattle.text_tree.specs.Words.{domain-added}
 use borrow.Author.Needs.{needs}

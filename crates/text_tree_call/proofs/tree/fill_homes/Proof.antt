@@ -1,4 +1,4 @@
--- `fill_homes` meets its contract: what is left to fill gives what the whole gives. Assumes nothing.
+-- `text_tree_call::tree::fill_homes` meets its contract: what is left to fill gives what the whole gives.
 use mathlib.Core.Path.{_≡_, refl, sym, _∙_}
 use Prim.Native.Nat.{_-_}
 use borrow.Author.Needs.{needs}

@@ -95,7 +95,7 @@ fn branches(text: &str, words: &[Word], at: usize, found: &mut Vec<Change>) -> O
     Some(())
 }
 
-/// The argument that begins at a word, and the word behind it: a word or what a pair of brackets holds, with the fields taken of it.
+/// The argument that begins at a word, and the word after it: a word or what a pair of brackets holds, with the fields taken of it.
 fn argument(text: &str, words: &[Word], at: usize) -> Option<(Word, usize)> {
     let name = |i: usize| words.get(i).map(|w| &text[w.start..w.end]);
     let mut end = at;

@@ -50,7 +50,7 @@ fn begun(code: &str) -> Item {
     }
 }
 
-/// From where on a line is changed: behind the equals sign of a definition or the colon of a field.
+/// From where on a line is changed: after the equals sign of a definition or the colon of a field.
 fn changed_from(item: Item, indented: bool, code: &str) -> Option<usize> {
     match item {
         Item::LeftAlone => None,

@@ -1,4 +1,4 @@
--- `put_domain` meets its contract: one of four kinds of entries. Assumes nothing.
+-- `file_calls::writing::writing::put_domain` meets its contract: one of four kinds of entries.
 use mathlib.Core.Path.{_≡_, ap, _∙_}
 use Prim.Native.Nat.{_+_, suc}
 use native.Mathlib.Omega.{arith}

@@ -1,4 +1,4 @@
--- `put_domains` meets its contract: what is left to write gives what the whole gives. Assumes nothing.
+-- `file_calls::writing::writing::put_domains` meets its contract: what is left to write gives what the whole gives.
 use mathlib.Core.Path.{_≡_, refl, sym, ap, _∙_}
 use mathlib.Core.List.{[]}
 use Prim.Native.Nat.{_+_, _-_, _≤_, _<_}

@@ -1,4 +1,4 @@
--- `put_schedule` meets its contract: what is left to write gives what the whole gives. Assumes nothing.
+-- `file_calls::writing::writing::put_schedule` meets its contract: what is left to write gives what the whole gives.
 use mathlib.Core.Path.{_≡_, refl, sym, _∙_}
 use Prim.Native.Nat.{_+_, _*_, _-_, _≤_}
 use native.Mathlib.Omega.{arith}

@@ -1,4 +1,4 @@
--- `put_tree` meets its contract: its four parts behind one another. Assumes nothing.
+-- `file_calls::writing::writing::put_tree` meets its contract: its four parts one after another.
 use mathlib.Core.Path.{ap, _∙_}
 use native.Mathlib.Omega.{arith}
 use lib.ListN.{length, length-set}

@@ -1,4 +1,4 @@
--- `put_two_bytes` meets its contract: remainder and quotient by 256 fit a byte each, and are stored behind one another. Assumes nothing.
+-- `file_calls::writing::writing::put_two_bytes` meets its contract: remainder and quotient by 256 fit a byte each, and are stored one after another.
 use native.Mathlib.Omega.{arith}
 use native.Mathlib.Numerals.{add-one}
 use lib.ListN.{length-set}

@@ -1,4 +1,4 @@
--- `journal_pieces::alike::fits` meets its contract: true is returned behind all six tests alone, and they bound the room. Assumes nothing.
+-- `journal_call::pieces::alike::fits` meets its contract: true is returned after all six tests alone, and they bound the room.
 use mathlib.Core.Bool.{false≢true}
 use Prim.Native.Nat.{_-_}
 use native.Mathlib.Omega.{arith}

@@ -1,4 +1,4 @@
--- `journal_pieces::alike::kinds_given` meets its contract: it goes on only behind the bit map that gives a kind alone. Assumes nothing.
+-- `journal_call::pieces::alike::kinds_given` meets its contract: it goes on only after the bit map that gives a kind alone.
 use mathlib.Core.Path.{_≡_}
 use mathlib.Core.Bool.{false≢true}
 use mathlib.Core.List.{List}

@@ -1,4 +1,4 @@
--- `journal_pieces::alike::put_threads` meets its contract: four stores behind one another. Assumes nothing.
+-- `journal_call::pieces::alike::put_threads` meets its contract: four stores one after another.
 use native.Mathlib.Omega.{arith}
 use lib.ListN.{length-set}
 use Rattle.journal_call.proofs.pieces.Fours.{four-stored}

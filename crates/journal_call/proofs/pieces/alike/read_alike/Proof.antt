@@ -1,4 +1,4 @@
--- `journal_pieces::alike::read_alike` meets its contract: sixteen entries, or what four are read as. Assumes nothing.
+-- `journal_call::pieces::alike::read_alike` meets its contract: sixteen entries, or what four are read as.
 use native.Mathlib.Omega.{arith}
 use Rattle.journal_call.proofs.reader.Stretching.{again}
 use borrow.Author.Needs.{needs}

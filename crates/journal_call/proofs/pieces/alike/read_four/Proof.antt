@@ -1,4 +1,4 @@
--- `journal_pieces::alike::read_four` meets its contract: four entries of one kind or the other, or none. Assumes nothing.
+-- `journal_call::pieces::alike::read_four` meets its contract: four entries of one kind or the other, or none.
 use native.Mathlib.Omega.{arith}
 use Rattle.journal_call.proofs.reader.Stretching.{nothing, again}
 use borrow.Author.Needs.{needs}

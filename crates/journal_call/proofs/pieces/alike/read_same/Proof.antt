@@ -1,4 +1,4 @@
--- `journal_pieces::alike::read_same` meets its contract: four entries of two bytes, four of one, or none. Assumes nothing.
+-- `journal_call::pieces::alike::read_same` meets its contract: four entries of two bytes, four of one, or none.
 use native.Mathlib.Omega.{arith}
 use Rattle.journal_call.proofs.reader.Stretching.{nothing}
 use Rattle.journal_call.proofs.pieces.Fours.{four-read, four-moves, four-stays}

@@ -1,4 +1,4 @@
--- `journal_pieces::alike::read_sixteen` meets its contract: each entry has the thread before and the kind behind its bit map. Assumes nothing.
+-- `journal_call::pieces::alike::read_sixteen` meets its contract: each entry has the thread before and the kind after its bit map.
 use mathlib.Core.Path.{_≡_, refl, sym, ap}
 use Prim.Native.Nat.{_+_, _*_, _-_, _≤_}
 use native.Mathlib.Omega.{arith}

@@ -1,4 +1,4 @@
--- `step_check_call::pieces::check_all` meets its contract: piece after piece, up to the first that has a wrong step, or the last. Assumes nothing.
+-- `journal_call::step_check::pieces::check_all` meets its contract: piece after piece, up to the first that has a wrong step, or the last.
 use mathlib.Core.Path.{_≡_, refl, sym, ap, _∙_}
 use Prim.Native.Nat.{_+_, _-_, _≤_}
 use native.Mathlib.Omega.{arith}

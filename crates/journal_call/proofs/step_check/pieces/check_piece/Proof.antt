@@ -1,4 +1,4 @@
--- `step_check_call::pieces::check_piece` meets its contract: what can be stepped is stepped and compared; where one step is wrong, those before it are taken again. Assumes nothing.
+-- `journal_call::step_check::pieces::check_piece` meets its contract: what can be stepped is stepped and compared; where one step is wrong, those before it are taken again.
 use mathlib.Core.Path.{_≡_, sym, ap, _∙_}
 use native.Mathlib.Omega.{arith}
 use lib.ListN.{length}

@@ -1,4 +1,4 @@
--- `step_check_call::pieces::number_of` meets its contract: the kinds are compared. Assumes nothing.
+-- `journal_call::step_check::pieces::number_of` meets its contract: the kinds are compared.
 use borrow.Author.Tests.{eq-eqb, ne-eqb}
 use Rattle.journal_call.proofs.step_check.pieces.number_of.Statement.{statement}
 use Rattle.journal_call.proofs.step_check.pieces.number_of.Tie as tie

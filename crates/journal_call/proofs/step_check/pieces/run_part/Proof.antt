@@ -1,4 +1,4 @@
--- `step_check_call::pieces::run_part` meets its contract: the threads are the first of those lent. Assumes nothing.
+-- `journal_call::step_check::pieces::run_part` meets its contract: the threads are the first of those lent.
 use mathlib.Core.Path.{_≡_, ap, _∙_}
 use Prim.Native.Nat.{_-_}
 use native.Mathlib.Omega.{arith}

@@ -1,4 +1,4 @@
--- `steps::limits::has_room` meets its contract: the counters passed leave room. Assumes nothing.
+-- `lock::steps::limits::has_room` meets its contract: the counters passed leave room.
 use mathlib.Core.Path.{_≡_, refl, sym, ap, _∙_}
 use mathlib.Core.Bool.{true, false, false≢true}
 use native.Mathlib.Omega.{arith}

@@ -1,4 +1,4 @@
--- `steps::limits::is_above` meets its contract: none of the counters passed is above. Assumes nothing.
+-- `lock::steps::limits::is_above` meets its contract: none of the counters passed is above.
 use mathlib.Core.Path.{_≡_, refl, sym, ap, _∙_}
 use mathlib.Core.Bool.{true, false, false≢true}
 use native.Mathlib.Omega.{arith}

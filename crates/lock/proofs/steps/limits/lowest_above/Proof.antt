@@ -1,4 +1,4 @@
--- `steps::limits::lowest_above` meets its contract: the entries tried so far left no counter above. Assumes nothing.
+-- `lock::steps::limits::lowest_above` meets its contract: the entries tried so far left no counter above.
 use mathlib.Core.Path.{_≡_, refl, sym, ap, _∙_}
 use mathlib.Core.Bool.{true, false}
 use Prim.Native.Nat.{_-_}

@@ -1,4 +1,4 @@
--- `steps::limits::refusal_of` meets its contract: the tests before 19 refuse, or 19 decides. Assumes nothing.
+-- `lock::steps::limits::refusal_of` meets its contract: the tests before 19 refuse, or 19 decides.
 use Rattle.lock.proofs.steps.CounterLimits.{before-decides, before-passes, counters-decide}
 use borrow.Author.Needs.{needs}
 use Rattle.lock.proofs.steps.limits.refusal_of.Statement.{statement}

@@ -1,4 +1,4 @@
--- A step is told where there is room. Assumes nothing.
+-- `lock::steps::run::put_code`. A step is told where there is room.
 use borrow.Author.Needs.{needs}
 use borrow.Author.Tests.{lt-ltb, le-ltb}
 use Rattle.lock.proofs.steps.run.put_code.Statement.{statement}

@@ -1,4 +1,4 @@
--- `steps::run::put_place` meets its contract: a stay stores nothing. Assumes nothing.
+-- `lock::steps::run::put_place` meets its contract: a stay stores nothing.
 use borrow.Author.Tests.{eq-eqb, ne-eqb}
 use Rattle.model.specs.States.{store-numbers}
 use borrow.Author.Needs.{needs}

@@ -1,4 +1,4 @@
--- An entry is written and counted, anything else is not. Assumes nothing.
+-- `lock::steps::run::trace_at`. An entry is written and counted, anything else is not.
 use mathlib.Core.Path.{sym, _∙_}
 use native.Mathlib.Nat.{add-zero}
 use borrow.Author.Needs.{needs}

@@ -1,4 +1,4 @@
--- `run_refusals::counters::good_counts` meets its contract: the counters of all domains passed are good. Assumes nothing.
+-- `refusals::of_runs::counters::good_counts` meets its contract: the counters of all domains passed are good.
 use mathlib.Core.Path.{_≡_, sym, ap, _∙_}
 use mathlib.Core.Bool.{true, false}
 use mathlib.Core.List.{[]}

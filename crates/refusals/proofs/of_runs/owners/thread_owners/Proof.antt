@@ -1,4 +1,4 @@
--- `run_refusals::owners::thread_owners` meets its contract: the homes of the threads passed are in the table. Assumes nothing.
+-- `refusals::of_runs::owners::thread_owners` meets its contract: the homes of the threads passed are in the table.
 use Prim.Native.Nat.{_≤_, _-_}
 use native.Mathlib.Omega.{arith}
 use Rattle.refusals.specs.OfRuns.Tables.{Thread-owners}

@@ -1,4 +1,4 @@
--- `run_refusals::places::place_at` meets its contract. Assumes nothing.
+-- `refusals::of_runs::places::place_at` meets its contract.
 use mathlib.Core.Path.{refl}
 use Rattle.model.specs.States.{numbers-at}
 use borrow.Author.Needs.{needs}

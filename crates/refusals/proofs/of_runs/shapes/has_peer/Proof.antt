@@ -1,4 +1,4 @@
--- `run_refusals::shapes::has_peer` meets its contract: by the table, Link and Grant have a record. Assumes nothing.
+-- `refusals::of_runs::shapes::has_peer` meets its contract: by the table, Link and Grant have a record.
 use borrow.Author.Tests.{eq-eqb, ne-eqb}
 use Rattle.refusals.proofs.of_runs.RowShapes.{peer-rows}
 use Rattle.refusals.proofs.of_runs.shapes.has_peer.Statement.{statement}

@@ -1,4 +1,4 @@
--- `run_refusals::shapes::has_spare_word` meets its contract: a word that is not 0, and then the row's own. Assumes nothing.
+-- `refusals::of_runs::shapes::has_spare_word` meets its contract: a word that is not 0, and then the row's own.
 use borrow.Author.Needs.{needs}
 use borrow.Author.Tests.{eq-eqb, ne-eqb}
 use Rattle.refusals.proofs.of_runs.shapes.has_spare_word.Statement.{statement}

@@ -1,4 +1,4 @@
--- `run_refusals::states::good_domain_words_at` meets its contract: the tail's test, then that of the record 256 + d, which is below 320. Assumes nothing.
+-- `refusals::of_runs::states::good_domain_words_at` meets its contract: the tail's test, then that of the record 256 + d, which is below 320.
 use mathlib.Core.Bool.{true, false}
 use borrow.Author.Tests.{not-true, not-false}
 use Rattle.refusals.proofs.Scanning.{by-answer}

@@ -1,4 +1,4 @@
--- `run_refusals::states::good_domains` meets its contract: the words of all domains passed are good. Assumes nothing.
+-- `refusals::of_runs::states::good_domains` meets its contract: the words of all domains passed are good.
 use mathlib.Core.Path.{_≡_, sym, _∙_}
 use mathlib.Core.Bool.{true, false}
 use Prim.Native.Nat.{ℕ, _+_, _≤_, _<_, _-_}

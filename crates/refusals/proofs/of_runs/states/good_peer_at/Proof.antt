@@ -1,4 +1,4 @@
--- `run_refusals::states::good_peer_at` meets its contract: the row decides: a member's record, or 0. Assumes nothing.
+-- `refusals::of_runs::states::good_peer_at` meets its contract: the row decides: a member's record, or 0.
 use mathlib.Core.Path.{sym, _∙_}
 use borrow.Author.Needs.{needs}
 use Rattle.refusals.proofs.of_runs.states.good_peer_at.Statement.{statement}

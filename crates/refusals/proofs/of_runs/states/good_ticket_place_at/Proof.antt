@@ -1,4 +1,4 @@
--- `run_refusals::states::good_ticket_place_at` meets its contract: each return by the tests before it; in Watch the status at the root's record decides. Assumes nothing.
+-- `refusals::of_runs::states::good_ticket_place_at` meets its contract: each return by the tests before it; in Watch the status at the root's record decides.
 use borrow.Author.Tests.{eq-eqb, ne-eqb, lt-ltb, le-ltb}
 use Rattle.refusals.specs.OfRuns.Tables.{ticket-place-in}
 use borrow.Author.Needs.{needs}

@@ -1,4 +1,4 @@
--- `run_refusals::states::is_member_at` meets its contract: no record from 320 on; below, the owner at its index decides. Assumes nothing.
+-- `refusals::of_runs::states::is_member_at` meets its contract: no record from 320 on; below, the owner at its index decides.
 use borrow.Author.Tests.{lt-ltb, le-ltb}
 use borrow.Author.Needs.{needs}
 use Rattle.refusals.proofs.of_runs.states.is_member_at.Statement.{statement}

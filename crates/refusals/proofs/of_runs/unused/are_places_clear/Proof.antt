@@ -1,4 +1,4 @@
--- `run_refusals::unused::are_places_clear` meets its contract: array by array. Assumes nothing.
+-- `refusals::of_runs::unused::are_places_clear` meets its contract: array by array.
 use mathlib.Core.Bool.{true, false}
 use borrow.Author.Tests.{eq-eqb, ne-eqb}
 use Rattle.refusals.proofs.Scanning.{by-answer}

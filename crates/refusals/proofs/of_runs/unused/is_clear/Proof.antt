@@ -1,4 +1,4 @@
--- `run_refusals::unused::is_clear` meets its contract: the places, then the records. Assumes nothing.
+-- `refusals::of_runs::unused::is_clear` meets its contract: the places, then the records.
 use mathlib.Core.Bool.{true, false}
 use borrow.Author.Tests.{not-true, not-false}
 use Rattle.refusals.proofs.Scanning.{by-answer}

@@ -1,4 +1,4 @@
--- `members::counting::count_entry` counts level by level up to the root. Assumes nothing.
+-- `rows::common::counting::count_entry` counts level by level up to the root.
 use native.Mathlib.Omega.{arith}
 use Rattle.rows.proofs.common.Counts.{Climbs, climbs-start, climbs-on, climbs-end}
 use borrow.Author.Needs.{needs}

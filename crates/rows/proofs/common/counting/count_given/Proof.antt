@@ -1,4 +1,4 @@
--- `members::counting::count_given` starts a tenure of a domain whose record it is. Assumes nothing.
+-- `rows::common::counting::count_given` starts a tenure of a domain whose record it is.
 use borrow.Author.Needs.{needs}
 use Rattle.rows.proofs.common.counting.count_given.Statement.{statement}
 use Rattle.rows.proofs.common.counting.count_given.Tie as tie

@@ -1,4 +1,4 @@
--- `members::counting::count_length` meets its contract: the larger of the two stands. Assumes nothing.
+-- `rows::common::counting::count_length` meets its contract: the larger of the two stands.
 use mathlib.Core.Path.{_≡_, refl, sym, ap, _∙_}
 use native.Mathlib.Omega.{arith}
 use borrow.Author.Tests.{eq-eqb, ne-eqb, lt-ltb, le-ltb, lt-leb, le-leb, not-true, not-false}

@@ -1,4 +1,4 @@
--- `members::counting::count_shown` meets its contract: the domains passed are counted where they are marked. Assumes nothing.
+-- `rows::common::counting::count_shown` meets its contract: the domains passed are counted where they are marked.
 use mathlib.Core.Path.{_≡_, refl}
 use native.Mathlib.Omega.{arith}
 use Prim.Native.Nat.{ℕ, _≤_, _-_}

@@ -1,4 +1,4 @@
--- `members::counting::count_start` meets its contract: of domain 0 nothing is stored, of any other one more, which fits. Assumes nothing.
+-- `rows::common::counting::count_start` meets its contract: of domain 0 nothing is stored, of any other one more, which fits.
 use mathlib.Core.Path.{_≡_, refl, sym, ap, _∙_}
 use native.Mathlib.Omega.{arith}
 use borrow.Author.Tests.{eq-eqb, ne-eqb, lt-ltb, le-ltb, lt-leb, le-leb, not-true, not-false}

@@ -1,4 +1,4 @@
--- `members::counting::holds_ticket` meets its contract: no record of a domain that was passed holds the ticket. Assumes nothing.
+-- `rows::common::counting::holds_ticket` meets its contract: no record of a domain that was passed holds the ticket.
 use mathlib.Core.Path.{sym}
 use mathlib.Core.Bool.{false≢true}
 use mathlib.Core.Logic.{_≢_}

@@ -1,4 +1,4 @@
--- `members::counting::is_watch_at` meets its contract: each return by the tests before it, of row, domain, record and word. Assumes nothing.
+-- `rows::common::counting::is_watch_at` meets its contract: each return by the tests before it, of row, domain, record and word.
 use borrow.Author.Tests.{eq-eqb, ne-eqb, lt-ltb, le-ltb, lt-leb, le-leb, not-true, not-false}
 use borrow.Author.Needs.{needs}
 use Rattle.rows.proofs.common.counting.is_watch_at.Statement.{statement}

@@ -1,4 +1,4 @@
--- `members::counting::mark_shown` meets its contract: one store where the thread watches and the record holds the ticket, else none, each return by its own test. Assumes nothing.
+-- `rows::common::counting::mark_shown` meets its contract: one store where the thread watches and the record holds the ticket, else none, each return by its own test.
 use mathlib.Core.Path.{_≡_, refl, sym, ap, _∙_}
 use native.Mathlib.Omega.{arith}
 use borrow.Author.Tests.{eq-eqb, ne-eqb, lt-ltb, le-ltb, lt-leb, le-leb, not-true, not-false}

@@ -1,4 +1,4 @@
--- `members::counting::record_domain` meets its contract: a thread's number is below 256, a domain's less 256 is below 64. Assumes nothing.
+-- `rows::common::counting::record_domain` meets its contract: a thread's number is below 256, a domain's less 256 is below 64.
 use native.Mathlib.Omega.{arith}
 use borrow.Author.Tests.{eq-eqb, ne-eqb, lt-ltb, le-ltb, lt-leb, le-leb, not-true, not-false}
 use borrow.Author.Needs.{needs}

@@ -1,4 +1,4 @@
--- `members::counting::taken_at` meets its contract: at home none, else what the search finds. Assumes nothing.
+-- `rows::common::counting::taken_at` meets its contract: at home none, else what the search finds.
 use mathlib.Core.Path.{_≡_, refl, sym, ap, _∙_}
 use native.Mathlib.Omega.{arith}
 use borrow.Author.Tests.{eq-eqb, ne-eqb, lt-ltb, le-ltb, lt-leb, le-leb, not-true, not-false}

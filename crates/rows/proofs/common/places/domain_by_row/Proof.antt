@@ -1,4 +1,4 @@
--- `members::places::domain_by_row` is the domain of a place by its row. Assumes nothing.
+-- `rows::common::places::domain_by_row` is the domain of a place by its row.
 use borrow.Author.Tests.{eq-eqb, ne-eqb}
 use borrow.Author.Needs.{needs}
 use Rattle.rows.proofs.common.places.domain_by_row.Statement.{statement}

@@ -1,4 +1,4 @@
--- `members::places::done_place_at` meets its contract: Idle at the home and Help elsewhere, by its test. Assumes nothing.
+-- `rows::common::places::done_place_at` meets its contract: Idle at the home and Help elsewhere, by its test.
 use borrow.Author.Tests.{eq-eqb, ne-eqb}
 use Rattle.rows.proofs.common.places.done_place_at.Statement.{statement}
 use Rattle.rows.proofs.common.places.done_place_at.Tie as tie

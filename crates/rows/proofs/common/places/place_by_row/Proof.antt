@@ -1,4 +1,4 @@
--- `members::places::place_by_row` meets its contract, row by row. Assumes nothing.
+-- `rows::common::places::place_by_row` meets its contract, row by row.
 use mathlib.Core.Path.{refl}
 use Rattle.model.specs.declared.Place.the-variants.{Idle, Prep, Swap, Link, Wait, Inside, Check, Help, Cas, Linger, Grant, Draw, Watch, Raise}
 use Rattle.rows.proofs.common.RowPlaces.{at-row, no-other-row}

@@ -1,4 +1,4 @@
--- `members::places::release_place_at` meets its contract: Check below the root; at it the kind of root decides, Help or Raise. Assumes nothing.
+-- `rows::common::places::release_place_at` meets its contract: Check below the root; at it the kind of root decides, Help or Raise.
 use borrow.Author.Tests.{eq-eqb, ne-eqb}
 use Rattle.rows.proofs.common.places.release_place_at.Statement.{statement}
 use Rattle.rows.proofs.common.places.release_place_at.Tie as tie

@@ -1,4 +1,4 @@
--- `members::places::words_at` meets its contract, place by place. Assumes nothing.
+-- `rows::common::places::words_at` meets its contract, place by place.
 use borrow.Author.Needs.{needs}
 use Rattle.rows.proofs.common.places.words_at.Statement.{statement}
 use Rattle.rows.proofs.common.places.words_at.Tie as tie

@@ -1,4 +1,4 @@
--- `members::rows::root_word_at` meets its contract: the definition's two cases, by its test. Assumes nothing.
+-- `rows::common::rows::root_word_at` meets its contract: the definition's two cases, by its test.
 use borrow.Author.Tests.{eq-eqb, ne-eqb}
 use Rattle.rows.proofs.common.rows.root_word_at.Statement.{statement}
 use Rattle.rows.proofs.common.rows.root_word_at.Tie as tie

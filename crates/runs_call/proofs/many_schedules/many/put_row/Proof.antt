@@ -1,4 +1,4 @@
--- `schedules::many::put_row` meets its contract: eight stores behind one another. Assumes nothing.
+-- `runs_call::many_schedules::many::put_row` meets its contract: eight stores one after another.
 use native.Mathlib.Omega.{arith}
 use lib.ListN.{length-set}
 use Rattle.runs_call.proofs.many_schedules.FreshRow.{eight-stored}

@@ -1,4 +1,4 @@
--- `schedules::many::run_row` runs one schedule from fresh arrays, and writes its row. Assumes nothing.
+-- `runs_call::many_schedules::many::run_row` runs one schedule from fresh arrays, and writes its row.
 use mathlib.Core.Path.{_≡_, ap, _∙_}
 use native.Mathlib.Omega.{arith}
 use lib.Seq.{sets}

@@ -1,4 +1,4 @@
--- `schedules::many::run_rows` meets its contract: the rows stored so far, and those still ahead. Assumes nothing.
+-- `runs_call::many_schedules::many::run_rows` meets its contract: the rows stored so far, and those still ahead.
 use mathlib.Core.Path.{_≡_, refl, sym, ap, _∙_}
 use Prim.Native.Nat.{_+_, _-_, _≤_}
 use native.Mathlib.Omega.{arith}

@@ -1,4 +1,4 @@
--- `kinds_call::telling::run_told` meets its contract: refused, or run, and what was told of each step as two numbers. Assumes nothing.
+-- `runs_call::with_kinds::telling::run_told` meets its contract: refused, or run, and what was told of each step as two numbers.
 use mathlib.Core.Path.{refl, ap}
 use native.Mathlib.Omega.{arith}
 use Rattle.lock.proofs.steps.Answering.{early-passes, kinds-few}

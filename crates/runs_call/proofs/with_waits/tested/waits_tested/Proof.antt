@@ -1,4 +1,4 @@
--- `waits::tested::waits_tested` meets its contract: refused, or run in pieces. Assumes nothing.
+-- `runs_call::with_waits::tested::waits_tested` meets its contract: refused, or run in pieces.
 use mathlib.Core.Path.{ap}
 use native.Mathlib.Omega.{arith}
 use Rattle.model.specs.Trees.{tree-of}

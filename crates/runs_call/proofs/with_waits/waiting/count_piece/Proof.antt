@@ -1,4 +1,4 @@
--- `waits::waiting::count_piece` meets its contract: the steps so far are counted. Assumes nothing.
+-- `runs_call::with_waits::waiting::count_piece` meets its contract: the steps so far are counted.
 use mathlib.Core.Path.{_≡_, refl, sym, ap, _∙_}
 use Prim.Native.Nat.{_-_}
 use native.Mathlib.Omega.{arith}

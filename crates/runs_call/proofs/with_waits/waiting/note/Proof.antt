@@ -1,4 +1,4 @@
--- `waits::waiting::note` meets its contract: a step that does not enter stores the mark, one that does clears it, and one that finishes an attempt counts it in the other three tables. Assumes nothing.
+-- `runs_call::with_waits::waiting::note` meets its contract: a step that does not enter stores the mark, one that does clears it, and one that finishes an attempt counts it in the other three tables.
 use mathlib.Core.Path.{sym, _∙_}
 use native.Mathlib.Omega.{arith}
 use borrow.Author.Tests.{eq-eqb, ne-eqb, not-true, not-false}

@@ -1,4 +1,4 @@
--- `waits::waiting::number_of` meets its contract: none for the mark 0, else one more than the entries since. Assumes nothing.
+-- `runs_call::with_waits::waiting::number_of` meets its contract: none for the mark 0, else one more than the entries since.
 use borrow.Author.Needs.{needs}
 use borrow.Author.Tests.{eq-eqb, ne-eqb}
 use Rattle.runs_call.specs.WithWaits.Tallies.{number-of}

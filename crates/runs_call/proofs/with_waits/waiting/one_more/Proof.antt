@@ -1,4 +1,4 @@
--- `waits::waiting::one_more` meets its contract: 1 or 0 more by its test, and one more fits. Assumes nothing.
+-- `runs_call::with_waits::waiting::one_more` meets its contract: 1 or 0 more by its test, and one more fits.
 use mathlib.Core.Path.{sym}
 use native.Mathlib.Nat.{add-zero}
 use borrow.Author.Needs.{needs}

@@ -1,4 +1,4 @@
--- `waits::waiting::put_numbers` meets its contract: the numbers stored so far. Assumes nothing.
+-- `runs_call::with_waits::waiting::put_numbers` meets its contract: the numbers stored so far.
 use Prim.Native.Nat.{_-_}
 use native.Mathlib.Omega.{arith}
 use borrow.Author.Needs.{needs}

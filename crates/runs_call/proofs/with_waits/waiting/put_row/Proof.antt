@@ -1,4 +1,4 @@
--- `waits::waiting::put_row` meets its contract: five stores behind one another. Assumes nothing.
+-- `runs_call::with_waits::waiting::put_row` meets its contract: five stores one after another.
 use native.Mathlib.Omega.{arith}
 use lib.ListN.{length-set}
 use Rattle.waits.specs.Rows.{row-with}

@@ -1,4 +1,4 @@
--- `waits::waiting::put_rows` meets its contract: the rows stored so far. Assumes nothing.
+-- `runs_call::with_waits::waiting::put_rows` meets its contract: the rows stored so far.
 use mathlib.Core.Path.{_≡_, refl, sym, _∙_}
 use Prim.Native.Nat.{_-_}
 use native.Mathlib.Omega.{arith}

@@ -1,4 +1,4 @@
--- `waits::waiting::run_counted` meets its contract: the pieces so far are run and counted. Assumes nothing.
+-- `runs_call::with_waits::waiting::run_counted` meets its contract: the pieces so far are run and counted.
 use Prim.Native.Nat.{_-_}
 use native.Mathlib.Omega.{arith}
 use lib.ListN.{length}

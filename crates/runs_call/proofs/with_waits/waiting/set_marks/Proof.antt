@@ -1,4 +1,4 @@
--- `waits::waiting::set_marks` meets its contract: the marks so far are those of their numbers. Assumes nothing.
+-- `runs_call::with_waits::waiting::set_marks` meets its contract: the marks so far are those of their numbers.
 use mathlib.Core.Path.{_≡_, sym, _∙_}
 use mathlib.Core.List.{List}
 use Prim.Native.Nat.{ℕ, _+_, _-_, _≤_, _<_}
