@@ -45,7 +45,7 @@ std::string choice_picture(const Choice &choice) {
                  : one->possible_wait > choice.limit ? "beyond"
                                                      : "dot") +
                 "\"/>";
-        label += (label.empty() ? "" : "; ") + std::string("longest wait ") + std::to_string(one->possible_wait) + ", " + fixed(cost_shown(one->trial), 4) +
+        label += (label.empty() ? "" : "; ") + std::string("longest possible wait ") + std::to_string(one->possible_wait) + ", " + fixed(cost_shown(one->trial), 4) +
                  (chosen ? ", chosen" : "");
     }
     const std::string limit_x = fixed(x(std::min(most_wait, static_cast<double>(choice.limit))), 1);

@@ -82,7 +82,7 @@ Table deciding_table(const Choice &choice) {
     add_choice_columns(choice, table);
     table.column("longest possible wait");
     if (choice.hold) {
-        table.column("longest wait in time");
+        table.column("longest possible wait in time");
     }
     if (choice.times) {
         table.column("time per entry");

@@ -54,6 +54,7 @@ std::string compare(const Words &words) {
     }
     add_trial_columns(table, shown);
     table.column("comparable", Side::left);
+    bool missing = false;
     for (const std::string &word : words.others()) {
         const hmcs::Tree tree = tree_named(word);
         for (const Schedule &schedule : schedules) {
@@ -62,8 +63,10 @@ std::string compare(const Words &words) {
                 refuse(word, trial.refusal);
             }
             add(table, word, schedule, trial, shown, schedules.size() > 1);
+            missing = missing || !trial.missing.comparable();
         }
     }
+    warn_how_to_compare(missing);
     return printed(words, table);
 }
 

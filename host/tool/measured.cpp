@@ -1,4 +1,5 @@
 #include "measured.hpp"
+#include "tool.hpp"
 
 #include <numeric>
 
@@ -12,6 +13,12 @@ std::string Missing::why_not() const {
         return "an attempt under way has waited for " + std::to_string(longest_under_way) + " entries, more than any that ended";
     }
     return "";
+}
+
+void warn_how_to_compare(bool missing) {
+    if (missing) {
+        warn("give it more turns, or a schedule in which no turn is lost, such as --schedule busy:65536:1");
+    }
 }
 
 Missing Missing::worst(const Missing &other) const {

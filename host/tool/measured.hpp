@@ -29,6 +29,9 @@ struct Missing {
     std::string why_not() const;
 };
 
+// Says on standard error, where somebody is missing, which schedule would do better.
+void warn_how_to_compare(bool missing);
+
 // The counts of a schedule of any length.
 struct Totals {
     std::uint64_t steps = 0, entries = 0, stays = 0, root = 0, passed = 0, crossed = 0;

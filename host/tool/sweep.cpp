@@ -161,9 +161,12 @@ std::string sweep(const Words &words) {
             refuse(name_of(sweep, row), row.trial.refusal);
         }
     }
+    bool missing = false;
     for (const SweepRow &row : sweep.rows) {
         warn_of(name_of(sweep, row), row.trial);
+        missing = missing || !row.trial.missing.comparable();
     }
+    warn_how_to_compare(missing);
     if (words.has("--page")) {
         std::vector<std::string> inputs = words.values("--schedule");
         inputs.push_back(words.others()[0]);

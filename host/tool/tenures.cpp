@@ -36,6 +36,7 @@ std::string tenures(const Words &words) {
     }
     if (const Missing missing = measured.missing(); !missing.comparable()) {
         warn(words.others()[0] + ": " + missing.why_not() + "; its entries cannot be compared");
+        warn_how_to_compare(true);
     }
     return printed(words, tenures_table(input.tree, measured));
 }

@@ -22,7 +22,7 @@ Command tree_command() {
             "the domains of a tree, indented",
             "usage: hmcs tree TREE [--ticket] [--csv | --json]\n"
             "Prints the domains of a tree, each indented below its parent: number, level (the root is at level\n"
-            "1), threshold, allowance, longest wait, and the threads that are at home in it. The longest wait is\n"
+            "1), threshold, allowance, longest possible wait, and the threads at home in it. That wait is\n"
             "how many entries of others a thread of the home waits for at most, whatever the schedule, as long as\n"
             "nobody stalls: a thread that could move and gets no turn lets others by without end. The allowance is how many entries\n"
             "the threads under a domain may make while another member of its parent waits: its threshold times\n"

@@ -85,7 +85,7 @@ Table tree_table(const hmcs::Tree &tree) {
     table.column("level");
     table.column("threshold");
     table.column("allowance");
-    table.column("longest wait");
+    table.column("longest possible wait");
     table.column("threads", Side::left);
     const std::vector<std::uint64_t> allowances = hmcs::allowances(tree).domains;
     const std::vector<std::uint64_t> waits = hmcs::wait_bounds(tree).threads;

@@ -196,7 +196,7 @@ void add_trial_columns(Table &table, const Shown &shown) {
         table.column("time by rate");
     }
     if (shown.held) {
-        table.column("longest wait in time");
+        table.column("longest possible wait in time");
     }
 }
 

@@ -24,6 +24,7 @@ std::string waits(const Words &words) {
     }
     if (const Missing missing = measured.missing(); !missing.comparable()) {
         warn(words.others()[0] + ": " + missing.why_not() + "; its waits cannot be compared");
+        warn_how_to_compare(true);
     }
     const hmcs::WaitBoundsResult bounds = hmcs::wait_bounds(input.tree);
     for (std::size_t thread = 0; thread < measured.threads.size(); ++thread) {
