@@ -8,7 +8,7 @@ use native.Mathlib.Omega.{arith}
 use lib.Dec.{eqb, ltb}
 use lib.ListN.{getD, length, set, replicate, length-set, length-append}
 use lib.Seq.{getD-set-same, getD-set-other}
-use borrow.Author.Tests.{eqb-true, eqb-false, eq-eqb, ne-eqb, lt-ltb, le-ltb}
+use borrow.Author.Tests.{eqb-true, eq-eqb, ne-eqb, lt-ltb, le-ltb}
 use Rattle.model.specs.Scans.{filter-below}
 use Rattle.model.specs.Trees.{Tree, is-member}
 use Rattle.model.proofs.Lists.{same-or, less-or}
@@ -18,7 +18,7 @@ use Rattle.bounds.specs.LongestWait.Bounds.{sum-below, passes, others-passes}
 use Rattle.bounds.specs.Answers.{capped}
 use Rattle.bounds_call.specs.Waits.{added, sum-of, weight, Owned, Counted, Before, Others}
 use Rattle.bounds_call.proofs.Filling.{capped-small}
-use Rattle.bounds_call.proofs.Capped.{capped-sum, capped-left}
+use Rattle.bounds_call.proofs.Capped.{capped-sum}
 
 -- ONE NUMBER MORE
 pub added-room : (ws : List ℕ) (at x : ℕ) → length (added ws at x) ≡ length ws

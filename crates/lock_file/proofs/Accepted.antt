@@ -12,7 +12,7 @@ use Rattle.model.specs.declared.TreeWords.{TreeWords}
 use Rattle.lock_file.specs.declared.Reached.{Reached}
 use Rattle.lock_file.specs.declared.Reached.the-variants.{At, Ended, BadMap}
 use Rattle.lock_file.specs.declared.ThreadsRead.{ThreadsRead}
-use Rattle.lock_file.specs.Reading.{domain-count, byte, two-bytes, field-end, domains-at, domains-from, domains-read, threads-from, threads-behind, threads-read, schedule-start, entries-at, described, reading-of}
+use Rattle.lock_file.specs.Reading.{domain-count, two-bytes, field-end, domains-at, domains-from, domains-read, threads-from, threads-behind, threads-read, schedule-start, entries-at, described, reading-of}
 use Rattle.lock_file.proofs.Positions.{field-within}
 
 -- an accepted reading

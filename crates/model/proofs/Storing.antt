@@ -1,5 +1,5 @@
 -- Stores one after another in a buffer: joined, and at its front.
-use mathlib.Core.Path.{_≡_, refl, sym, _∙_}
+use mathlib.Core.Path.{_≡_, refl, sym, ap, _∙_}
 use mathlib.Core.List.{List, [], _∷_, _++_}
 use mathlib.Core.Logic.{_≢_}
 use Prim.Native.Nat.{ℕ, suc, _+_, _≤_}
@@ -28,3 +28,17 @@ sets-last l i xs a = sets-append l i xs (a ∷ []) ∙ sym (sets-behind l i xs (
 -- stores at the front of a buffer
 pub sets-front : (l ws : List ℕ) → length ws ≤ length l → sets l 0 ws ≡ ws ++ drop (length ws) l
 sets-front l ws h = let e : 0 + length ws ≡ length ws = omega arith in rw (sets-eq ws l 0 (omega arith), e)
+
+-- some stores one after another, each one place further, are one store of them all
+abbrev pub stores : List ℕ → (at k : ℕ) → List ℕ → List ℕ
+stores l at k [] = l
+stores l at k (x ∷ xs) = stores (set l (at + k) x) at (k + 1) xs
+
+stores-from : (l : List ℕ) (at k : ℕ) (xs : List ℕ) → stores l at k xs ≡ sets l (at + k) xs
+stores-from l at k [] = refl
+stores-from l at k (x ∷ xs) =
+    let z : at + (k + 1) ≡ suc (at + k) = omega arith in
+    stores-from (set l (at + k) x) at (k + 1) xs ∙ ap (λ n. sets (set l (at + k) x) n xs) z
+
+pub stored : (l : List ℕ) (at x : ℕ) (xs : List ℕ) → stores (set l at x) at 1 xs ≡ sets l at (x ∷ xs)
+stored l at x xs = let z : at + 1 ≡ suc at = omega arith in stores-from (set l at x) at 1 xs ∙ ap (λ n. sets (set l at x) n xs) z

@@ -1,8 +1,7 @@
 -- The witnesses of the rate hold.
-use mathlib.Core.Path.{_≡_, refl}
-use Prim.Native.Nat.{_<_, _^_}
+use mathlib.Core.Path.{refl}
 use native.Mathlib.Omega.{arith}
-use lib.Ieee.{binary64, ofBits, fits}
+use lib.Ieee.{ofBits, fits}
 use Rattle.rate.specs.Rate.{is-time}
 use Rattle.rate.specs.Laws.{Time-law}
 use Rattle.rate.specs.Witnesses.{example-times, Witnesses}

@@ -15,6 +15,23 @@ use Rattle.refusals.specs.Lowest.{Lowest}
 pub one-more : (f : ℕ → Bool) (b : Bool) (d : ℕ) → ((j : ℕ) → j < d → f j ≡ b) → f d ≡ b → (j : ℕ) → j < d + 1 → f j ≡ b
 one-more f b d h e j l = elim (ℕ-discrete j d) [ yes p ↦ rw p e | no p ↦ h j (omega arith) ]
 
+-- a scan has come to place d of n and found none bad
+abbrev pub Scanned : (n : ℕ) (bad : ℕ → Bool) (d : ℕ) → Type 0
+Scanned n bad d = (d ≤ n) × ((j : ℕ) → j < d → bad j ≡ false)
+
+pub scan-begun : (n : ℕ) (bad : ℕ → Bool) → Scanned n bad 0
+scan-begun n bad = (omega arith, λ j l. absurd (omega arith))
+
+pub scan-goes-on : (n : ℕ) (bad : ℕ → Bool) (d : ℕ) → Scanned n bad d → d < n → bad d ≡ false → Scanned n bad (d + 1)
+scan-goes-on n bad d s l e = (omega arith, one-more bad false d (s .1) e)
+
+-- the lowest bad place is the first that the scan finds, and n where it finds none
+pub scan-found : (n : ℕ) (bad : ℕ → Bool) (d : ℕ) → Scanned n bad d → bad d ≡ true → Lowest n bad d
+scan-found n bad d s e = record { within = s .0; passed = s .1; fails = λ _. e }
+
+pub scan-ended : (n : ℕ) (bad : ℕ → Bool) (d : ℕ) → Scanned n bad d → n ≤ d → Lowest n bad d
+scan-ended n bad d s l = record { within = s .0; passed = s .1; fails = λ h. absurd (omega arith) }
+
 -- a place that fails
 pub all-fails : (n : ℕ) (f : ℕ → Bool) (j : ℕ) → j < n → f j ≡ false → all-below n f ≡ false
 unfolding all-below

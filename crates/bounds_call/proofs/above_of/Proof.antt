@@ -14,44 +14,32 @@ element-copy-out-byte-number c =
     let few = few-domains _ (c .before .pre .0) in
     search (needs, few)
 
-byte-number-requires : tie.Need-byte-number-requires
-byte-number-requires c κs = search needs
-
-cast-parent : tie.Need-cast-parent
-cast-parent c = search needs
-
-mul-acquire-of : tie.Need-mul-acquire-of
-mul-acquire-of c = search needs
-
 element-copy-out-acquire-of : tie.Need-element-copy-out-acquire-of
 element-copy-out-acquire-of c =
-    let s = c .before .before .before in
+    let s : tie.Start = search c in
     let few = few-domains _ (s .pre .0) in
     let low = parent-below _ (s .pre .0) _ _ (omega (arith, c .before .before .if1 .left)) (s .pre .1 .0) (c .byte-number .ensures) in
     omega (arith, s .pre .1 .0)
 
-add-acquire-of : tie.Need-add-acquire-of
-add-acquire-of c = search needs
-
-mul-acquire-of-2 : tie.Need-mul-acquire-of-2
-mul-acquire-of-2 c = search needs
-
 element-copy-out-acquire-of-2 : tie.Need-element-copy-out-acquire-of-2
 element-copy-out-acquire-of-2 c =
-    let s = c .before .before .before .before in
+    let s : tie.Start = search c in
     let few = few-domains _ (s .pre .0) in
     omega (arith, s .pre .1 .0)
 
 acquire-of-requires : tie.Need-acquire-of-requires
 acquire-of-requires c κs =
-    let s = c .before .before .before .before .before in
-    let low = parent-below _ (s .pre .0) _ _ (omega (arith, c .before .before .before .before .if1 .left)) (s .pre .1 .0) (c .before .before .byte-number .ensures) in
+    let else1 : tie.Else1 = search c in
+    let s : tie.Start = search c in
+    let low = parent-below _ (s .pre .0) _ _ (omega (arith, else1 .if1 .left)) (s .pre .1 .0) (c .before .before .byte-number .ensures) in
     (s .pre .0, (omega (arith, s .pre .1 .0), (s .pre .1 .1 .0, s .pre .1 .1 .1 .0)))
 
 returns-2 : tie.Need-returns-2
 returns-2 c =
-    let s = c .before .before .before .before .before .before in
-    above-inner _ (s .pre .0) _ _ _ _ _ (c .before .before .before .before .before .if1 .left) (s .pre .1 .0) (c .before .before .before .byte-number .ensures)
+    let after-byte-number : tie.After-byte-number = search c in
+    let else1 : tie.Else1 = search c in
+    let s : tie.Start = search c in
+    above-inner _ (s .pre .0) _ _ _ _ _ (else1 .if1 .left) (s .pre .1 .0) (after-byte-number .byte-number .ensures)
     (s .pre .1 .1 .1 .1 .0)
     (s .pre .1 .1 .1 .1 .1)
     (c .acquire-of .ensures)
@@ -62,12 +50,12 @@ above-of-spec =
     (tie.spec
     returns
     element-copy-out-byte-number
-    byte-number-requires
-    cast-parent
-    mul-acquire-of
+    (λ c κs. search needs)
+    (λ c. search needs)
+    (λ c. search needs)
     element-copy-out-acquire-of
-    add-acquire-of
-    mul-acquire-of-2
+    (λ c. search needs)
+    (λ c. search needs)
     element-copy-out-acquire-of-2
     acquire-of-requires
     returns-2)

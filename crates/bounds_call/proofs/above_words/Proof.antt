@@ -1,4 +1,5 @@
 -- `bounds_call::above_words` meets its contract: the words of the domains passed are the rounds above them.
+use borrow.Author.Needs.{needs}
 use mathlib.Core.Path.{_≡_, refl}
 use Prim.Native.Nat.{_≤_, _-_}
 use native.Mathlib.Omega.{arith}
@@ -33,29 +34,16 @@ loop-holds c =
       record { above = λ c h. absurd (omega arith); room = refl },
     )
 
-cast-at : tie.Need-cast-at Inv-loop μ-loop
-cast-at c = omega arith
-
 above-of-requires : tie.Need-above-of-requires Inv-loop μ-loop
 above-of-requires c κs =
-    let v = c .before .before .before .loop .inv in
+    let at-loop : tie.At-loop Inv-loop μ-loop = search c in
+    let v = at-loop .loop .inv in
     (v .0, (omega arith, ((v .3, v .4), (v .5, (v .6, v .7)))))
-
-mul-above : tie.Need-mul-above Inv-loop μ-loop
-mul-above c = omega arith
-
-array-write-above : tie.Need-array-write-above Inv-loop μ-loop
-array-write-above c = omega arith
-
-add-d : tie.Need-add-d Inv-loop μ-loop
-add-d c = omega arith
-
-loop-less : tie.Need-loop-less Inv-loop μ-loop
-loop-less c = omega arith
 
 loop-again : tie.Need-loop-again Inv-loop μ-loop
 loop-again c =
-    let v = c .before .before .before .before .loop .inv in (
+    let at-loop : tie.At-loop Inv-loop μ-loop = search c in
+    let v = at-loop .loop .inv in (
       v .0,
       v .1,
       omega arith,
@@ -76,11 +64,11 @@ above-words-spec =
     Inv-loop
     μ-loop
     loop-holds
-    cast-at
+    (λ c. search needs)
     above-of-requires
-    mul-above
-    array-write-above
-    add-d
-    loop-less
+    (λ c. search needs)
+    (λ c. search needs)
+    (λ c. search needs)
+    (λ c. search needs)
     loop-again
     returns)

@@ -20,12 +20,6 @@ acquired c = c .before .before .before .before .before
 abbrev all-counted : tie.After-capped-sum → tie.After-tenures-of2
 all-counted c = c .before .before .before
 
-level-of-requires : tie.Need-level-of-requires
-level-of-requires c κs = search needs
-
-tenure-length-requires : tie.Need-tenure-length-requires
-tenure-length-requires c κs = search needs
-
 members-of-requires : tie.Need-members-of-requires
 members-of-requires c κs = let p = c .before .before .pre in let few = few-domains _ (p .0) in omega (arith, p .1 .0)
 
@@ -45,38 +39,10 @@ tenures-of-requires-2 c κs =
     let p = s .before .before .pre in
     (counts-few _ (p .0) _ _ _ (p .1 .1 .1) (p .1 .0) (c .others-of .ensures), s .tenure-length .ensures .1)
 
-link-round-requires : tie.Need-link-round-requires
-link-round-requires c κs = search needs
-
-capped-product-requires : tie.Need-capped-product-requires
-capped-product-requires c κs = search needs
-
-capped-sum-requires : tie.Need-capped-sum-requires
-capped-sum-requires c κs = search needs
-
-mul-capped-product : tie.Need-mul-capped-product
-mul-capped-product c = search needs
-
-capped-product-requires-2 : tie.Need-capped-product-requires-2
-capped-product-requires-2 c κs = search needs
-
-capped-sum-requires-2 : tie.Need-capped-sum-requires-2
-capped-sum-requires-2 c κs = search needs
-
-add-capped-product : tie.Need-add-capped-product
-add-capped-product c = search needs
-
-capped-product-requires-3 : tie.Need-capped-product-requires-3
-capped-product-requires-3 c κs = search needs
-
-capped-sum-requires-3 : tie.Need-capped-sum-requires-3
-capped-sum-requires-3 c κs = search needs
-
-capped-sum-requires-4 : tie.Need-capped-sum-requires-4
-capped-sum-requires-4 c κs = search needs
-
 returns : tie.Need-returns
 returns c =
+    let after-capped-sum2 : tie.After-capped-sum2 = search c in
+    let after-capped-product2 : tie.After-capped-product2 = search c in
     let a = acquired c in
     let n = all-counted a in
     let m = counted n in
@@ -91,8 +57,8 @@ returns c =
     (a .before .before .link-round .ensures)
     (a .before .capped-product .ensures)
     (a .capped-sum .ensures)
-    (c .before .before .before .before .capped-product2 .ensures)
-    (c .before .before .before .capped-sum2 .ensures)
+    (after-capped-product2 .capped-product2 .ensures)
+    (after-capped-sum2 .capped-sum2 .ensures)
     (c .before .before .capped-product3 .ensures)
     (c .before .capped-sum3 .ensures)
     (c .capped-sum4 .ensures)
@@ -101,20 +67,20 @@ pub acquire-of-spec : {M : Type 1} → statement M
 acquire-of-spec =
     tie.close
     (tie.spec
-    level-of-requires
-    tenure-length-requires
+    (λ c κs. search needs)
+    (λ c κs. search needs)
     members-of-requires
     tenures-of-requires
     others-of-requires
     tenures-of-requires-2
-    link-round-requires
-    capped-product-requires
-    capped-sum-requires
-    mul-capped-product
-    capped-product-requires-2
-    capped-sum-requires-2
-    add-capped-product
-    capped-product-requires-3
-    capped-sum-requires-3
-    capped-sum-requires-4
+    (λ c κs. search needs)
+    (λ c κs. search needs)
+    (λ c κs. search needs)
+    (λ c. search needs)
+    (λ c κs. search needs)
+    (λ c κs. search needs)
+    (λ c. search needs)
+    (λ c κs. search needs)
+    (λ c κs. search needs)
+    (λ c κs. search needs)
     returns)

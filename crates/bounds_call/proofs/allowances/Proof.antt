@@ -21,54 +21,25 @@ Inv-loop buffer tree refusal words₀ d₀ words d =
 abbrev μ-loop : tie.MeasureT-loop
 μ-loop buffer tree refusal words₀ d₀ words d = d
 
-tree-refusal-of-requires : tie.Need-tree-refusal-of-requires Inv-loop μ-loop
-tree-refusal-of-requires c κs = search needs
-
 returns : tie.Need-returns Inv-loop μ-loop
 unfolding allowances-answer
 returns c =
-    let s = c .before .before .before .before .before .before .before in
+    let s : tie.Start Inv-loop μ-loop = search c in
     let e = c .before .before .tree-refusal-of .ensures ∙ refusal-words-same (s .args .t1) in
     (e, refused-left _ _ _ e (c .if1 .taken))
 
 loop-holds : tie.Need-loop-holds Inv-loop μ-loop
 unfolding allowances-answer tree-of
 loop-holds c =
-    let s = c .before .before .before .before .before .before .before in
+    let s : tie.Start Inv-loop μ-loop = search c in
     let ok = accepted-number (s .args .t1) _ (c .before .before .tree-refusal-of .ensures ∙ refusal-words-same (s .args .t1)) (c .if1 .left) in
     let valid = accepted (tree-of (s .args .t1)) ok in
     (ok, valid .some-domain, omega arith, valid .few-domains, refl, filled-none (tree-of (s .args .t1)) (valid .few-domains))
 
-sub-d : tie.Need-sub-d Inv-loop μ-loop
-sub-d c = omega arith
-
-cast-at : tie.Need-cast-at Inv-loop μ-loop
-cast-at c = omega arith
-
-largest-member-requires : tie.Need-largest-member-requires Inv-loop μ-loop
-largest-member-requires c κs = search needs
-
-mul-threshold-product : tie.Need-mul-threshold-product Inv-loop μ-loop
-mul-threshold-product c = omega arith
-
-element-copy-out-threshold-product : tie.Need-element-copy-out-threshold-product Inv-loop μ-loop
-element-copy-out-threshold-product c = omega arith
-
-threshold-product-requires : tie.Need-threshold-product-requires Inv-loop μ-loop
-threshold-product-requires c κs = search needs
-
-mul-words : tie.Need-mul-words Inv-loop μ-loop
-mul-words c = omega arith
-
-array-write-words : tie.Need-array-write-words Inv-loop μ-loop
-array-write-words c = omega arith
-
-loop-less : tie.Need-loop-less Inv-loop μ-loop
-loop-less c = omega arith
-
 loop-again : tie.Need-loop-again Inv-loop μ-loop
 loop-again c =
-    let l = c .before .before .before .before .before .before .before .loop in
+    let at-loop : tie.At-loop Inv-loop μ-loop = search c in
+    let l = at-loop .loop in
     let v = l .inv in (
       v .0,
       omega arith,
@@ -81,9 +52,10 @@ loop-again c =
 returns-2 : tie.Need-returns-2 Inv-loop μ-loop
 unfolding allowances-answer
 returns-2 c =
-    let s = c .before .before .before .before .before .before .before .before .before in
+    let after-tree-refusal-of : tie.After-tree-refusal-of Inv-loop μ-loop = search c in
+    let s : tie.Start Inv-loop μ-loop = search c in
     let v = c .before .loop .inv in
-    (c .before .before .before .before .tree-refusal-of .ensures ∙ refusal-words-same (s .args .t1), accepted-left _ _ _ _ (v .0) (omega arith) (v .5) (v .4))
+    (after-tree-refusal-of .tree-refusal-of .ensures ∙ refusal-words-same (s .args .t1), accepted-left _ _ _ _ (v .0) (omega arith) (v .5) (v .4))
 
 pub allowances-spec : {M : Type 1} → statement M
 allowances-spec =
@@ -91,17 +63,17 @@ allowances-spec =
     (tie.spec
     Inv-loop
     μ-loop
-    tree-refusal-of-requires
+    (λ c κs. search needs)
     returns
     loop-holds
-    sub-d
-    cast-at
-    largest-member-requires
-    mul-threshold-product
-    element-copy-out-threshold-product
-    threshold-product-requires
-    mul-words
-    array-write-words
-    loop-less
+    (λ c. search needs)
+    (λ c. search needs)
+    (λ c κs. search needs)
+    (λ c. search needs)
+    (λ c. search needs)
+    (λ c κs. search needs)
+    (λ c. search needs)
+    (λ c. search needs)
+    (λ c. search needs)
     loop-again
     returns-2)

@@ -10,9 +10,6 @@ use Rattle.bounds_call.proofs.capped_product.Tie as tie
 returns : tie.Need-returns
 returns c = product-none _ _ (c .if1 .taken)
 
-div-if2 : tie.Need-div-if2
-div-if2 c = search needs
-
 returns-2 : tie.Need-returns-2
 returns-2 c =
     let a = c .before .before .args in
@@ -35,4 +32,4 @@ returns-3 c =
     sym (capped-small _ within)
 
 pub capped-product-spec : {M : Type 1} → statement M
-capped-product-spec = tie.close (tie.spec returns div-if2 returns-2 mul-result returns-3)
+capped-product-spec = tie.close (tie.spec returns (λ c. search needs) returns-2 mul-result returns-3)

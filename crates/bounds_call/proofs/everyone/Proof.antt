@@ -34,18 +34,10 @@ thread-rounds-requires c κs =
     let v = c .before .before .loop .inv in
     (v .0, (omega arith, (v .1, (v .2, (v .3, v .4)))))
 
-larger-requires : tie.Need-larger-requires Inv-loop μ-loop
-larger-requires c κs = search needs
-
-add-i : tie.Need-add-i Inv-loop μ-loop
-add-i c = omega arith
-
-loop-less : tie.Need-loop-less Inv-loop μ-loop
-loop-less c = omega arith
-
 loop-again : tie.Need-loop-again Inv-loop μ-loop
 loop-again c =
-    let v = c .before .before .before .before .loop .inv in
+    let at-loop : tie.At-loop Inv-loop μ-loop = search c in
+    let v = at-loop .loop .inv in
     (v .0, v .1, v .2, v .3, v .4, v .5, omega arith, largest-next _ _ _ _ _ (v .7) (c .before .thread-rounds .ensures) (c .larger .ensures))
 
 returns : tie.Need-returns Inv-loop μ-loop
@@ -55,4 +47,4 @@ returns c =
 
 pub everyone-spec : {M : Type 1} → statement M
 everyone-spec =
-    tie.close (tie.spec Inv-loop μ-loop loop-holds thread-rounds-requires larger-requires add-i loop-less loop-again returns)
+    tie.close (tie.spec Inv-loop μ-loop loop-holds thread-rounds-requires (λ c κs. search needs) (λ c. search needs) (λ c. omega arith) loop-again returns)

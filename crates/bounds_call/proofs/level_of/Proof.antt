@@ -22,27 +22,16 @@ unfolding level
 loop-holds c =
     (c .pre .0, few-domains _ (c .pre .0), level-few _ (c .pre .0) _ (c .pre .1), c .pre .1, omega arith)
 
-cast-at : tie.Need-cast-at Inv-loop μ-loop
-cast-at c = omega arith
-
-element-copy-out-p : tie.Need-element-copy-out-p Inv-loop μ-loop
-element-copy-out-p c = omega arith
-
-byte-number-requires : tie.Need-byte-number-requires Inv-loop μ-loop
-byte-number-requires c κs = search needs
-
-add-n : tie.Need-add-n Inv-loop μ-loop
-add-n c = omega arith
-
 loop-less : tie.Need-loop-less Inv-loop μ-loop
 loop-less c =
-    let l = c .before .before .before in
+    let l : tie.At-loop Inv-loop μ-loop = search c in
     let v = l .loop .inv in
     parent-below _ (v .0) _ _ (omega (arith, c .before .before .loop-test .taken)) (v .3) (c .byte-number .ensures)
 
 loop-again : tie.Need-loop-again Inv-loop μ-loop
 loop-again c =
-    let v = c .before .before .before .loop .inv in
+    let at-loop : tie.At-loop Inv-loop μ-loop = search c in
+    let v = at-loop .loop .inv in
     let low = parent-below _ (v .0) _ _ (omega (arith, c .before .before .loop-test .taken)) (v .3) (c .byte-number .ensures) in
     (v .0, v .1, v .2, omega arith, level-up _ (v .0) _ _ _ _ (omega (arith, c .before .before .loop-test .taken)) (v .3) (c .byte-number .ensures) (v .4))
 
@@ -53,4 +42,4 @@ returns c =
 
 pub level-of-spec : {M : Type 1} → statement M
 level-of-spec =
-    tie.close (tie.spec Inv-loop μ-loop loop-holds cast-at element-copy-out-p byte-number-requires add-n loop-less loop-again returns)
+    tie.close (tie.spec Inv-loop μ-loop loop-holds (λ c. search needs) (λ c. omega arith) (λ c κs. search needs) (λ c. omega arith) loop-less loop-again returns)

@@ -23,21 +23,10 @@ loop-holds : tie.Need-loop-holds Inv-loop μ-loop
 unfolding largest-below
 loop-holds c = (c .pre, few-domains _ (c .pre), search needs, search needs, refl)
 
-level-of-requires : tie.Need-level-of-requires Inv-loop μ-loop
-level-of-requires c κs = search needs
-
-larger-requires : tie.Need-larger-requires Inv-loop μ-loop
-larger-requires c κs = search needs
-
-add-d : tie.Need-add-d Inv-loop μ-loop
-add-d c = omega arith
-
-loop-less : tie.Need-loop-less Inv-loop μ-loop
-loop-less c = omega arith
-
 loop-again : tie.Need-loop-again Inv-loop μ-loop
 loop-again c =
-    let v = c .before .before .before .before .loop .inv in
+    let at-loop : tie.At-loop Inv-loop μ-loop = search c in
+    let v = at-loop .loop .inv in
     let one = c .before .level-of .ensures in
     let more = c .larger .ensures in
     (v .0, v .1, omega arith, omega arith, largest-next _ _ _ _ _ (v .4) (one .0) more)
@@ -50,4 +39,4 @@ returns c =
 
 pub levels-of-spec : {M : Type 1} → statement M
 levels-of-spec =
-    tie.close (tie.spec Inv-loop μ-loop loop-holds level-of-requires larger-requires add-d loop-less loop-again returns)
+    tie.close (tie.spec Inv-loop μ-loop loop-holds (λ c κs. search needs) (λ c κs. search needs) (λ c. search needs) (λ c. omega arith) loop-again returns)

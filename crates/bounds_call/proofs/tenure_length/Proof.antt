@@ -10,24 +10,15 @@ use Rattle.bounds_call.proofs.tenure_length.Tie as tie
 returns : tie.Need-returns
 returns c = let p = c .before .pre in length-root _ (p .0) _ (p .1 .0) (c .if1 .taken)
 
-mul-effective-of : tie.Need-mul-effective-of
-mul-effective-of c = search needs
-
 element-copy-out-effective-of : tie.Need-element-copy-out-effective-of
 element-copy-out-effective-of c = let p = c .before .pre in let few = few-domains _ (p .0) in omega (arith, p .1 .0)
-
-mul-effective-of-2 : tie.Need-mul-effective-of-2
-mul-effective-of-2 c = search needs
 
 element-copy-out-effective-of-2 : tie.Need-element-copy-out-effective-of-2
 element-copy-out-effective-of-2 c = let p = c .before .before .pre in let few = few-domains _ (p .0) in omega (arith, p .1 .0)
 
-effective-of-requires : tie.Need-effective-of-requires
-effective-of-requires c κs = search needs
-
 returns-2 : tie.Need-returns-2
 returns-2 c =
-    let s = c .before .before .before in
+    let s : tie.Else1 = search c in
     let p = s .before .pre in
     length-inner _ (p .0) _ _ _ _ _ (p .1 .1) (s .if1 .left) (p .1 .0) refl refl (c .effective-of .ensures)
 
@@ -36,9 +27,9 @@ tenure-length-spec =
     tie.close
     (tie.spec
     returns
-    mul-effective-of
+    (λ c. search needs)
     element-copy-out-effective-of
-    mul-effective-of-2
+    (λ c. search needs)
     element-copy-out-effective-of-2
-    effective-of-requires
+    (λ c κs. search needs)
     returns-2)

@@ -9,68 +9,68 @@ use Rattle.chain_call.proofs.chain.Tie as tie
 abbrev start : tie.After-lent-refusal-of → tie.Start
 start told = told .before .before .before .before .before .before .before .before .before .before .before .before .before .before .before .before
 
-slice-aggregate-lent-refusal-of : tie.Need-slice-aggregate-lent-refusal-of
-slice-aggregate-lent-refusal-of c = search needs
-
-lent-refusal-of-requires : tie.Need-lent-refusal-of-requires
-lent-refusal-of-requires c κs = search needs
-
-refused-requires : tie.Need-refused-requires
-refused-requires c κs = search needs
-
 returns : tie.Need-returns
-returns c = early-answered _ _ _ _ _ (c .before .before .before .lent-refusal-of .ensures) (c .before .if1 .taken) _ (c .refused .ensures)
-
-cast-if2 : tie.Need-cast-if2
-cast-if2 c = search needs
-
-refused-requires-2 : tie.Need-refused-requires-2
-refused-requires-2 c κs = search needs
+returns c =
+    let after-lent-refusal-of : tie.After-lent-refusal-of = search c in
+    early-answered _ _ _ _ _ (after-lent-refusal-of .lent-refusal-of .ensures) (c .before .if1 .taken) _ (c .refused .ensures)
 
 returns-2 : tie.Need-returns-2
-returns-2 c = answered-20 _ _ _ _ _ (c .before .before .before .before .before .lent-refusal-of .ensures) (c .before .before .before .if1 .left) (c .before .if2 .taken) _ (c .refused2 .ensures)
+returns-2 c =
+    let else1 : tie.Else1 = search c in
+    let after-lent-refusal-of : tie.After-lent-refusal-of = search c in
+    answered-20 _ _ _ _ _ (after-lent-refusal-of .lent-refusal-of .ensures) (else1 .if1 .left) (c .before .if2 .taken) _ (c .refused2 .ensures)
 
 follow-requires : tie.Need-follow-requires
 follow-requires c κs =
-    let s = start (c .before .before .before .before .before .before) in
-    let e = c .before .before .before .before .before .before .lent-refusal-of .ensures in
-    let z = c .before .before .before .before .if1 .left in
+    let else1 : tie.Else1 = search c in
+    let after-lent-refusal-of : tie.After-lent-refusal-of = search c in
+    let s = start (after-lent-refusal-of) in
+    let e = after-lent-refusal-of .lent-refusal-of .ensures in
+    let z = else1 .if1 .left in
     (tree-good (s .args .tree) (s .args .t2) (s .args .thread) (s .args .buffer .now) _ e z, (form-good (s .args .tree) (s .args .t2) (s .args .thread) (s .args .buffer .now) _ e z, thread-good (s .args .tree) (s .args .t2) (s .args .thread) (s .args .buffer .now) _ e z))
 
-refused-requires-3 : tie.Need-refused-requires-3
-refused-requires-3 c κs = search needs
-
 returns-3 : tie.Need-returns-3
-returns-3 c = answered-21 _ _ _ _ _ (c .before .before .before .before .before .before .before .before .before .lent-refusal-of .ensures) (c .before .before .before .before .before .before .before .if1 .left) (c .before .before .before .before .before .if2 .left) _ _ (c .before .before .follow .ensures) (c .before .if3 .taken) _ (c .refused3 .ensures)
+returns-3 c =
+    let else2 : tie.Else2 = search c in
+    let else1 : tie.Else1 = search c in
+    let after-lent-refusal-of : tie.After-lent-refusal-of = search c in
+    answered-21 _ _ _ _ _ (after-lent-refusal-of .lent-refusal-of .ensures) (else1 .if1 .left) (else2 .if2 .left) _ _ (c .before .before .follow .ensures) (c .before .if3 .taken) _ (c .refused3 .ensures)
 
 copy-front-requires : tie.Need-copy-front-requires
 copy-front-requires c κs =
-    let s = start (c .before .before .before .before .before .before .before .before .before .before) in
-    let f = c .before .before .before .follow .ensures in
-    let b = c .before .before .before .before .before .before .if2 .left in
-    let m = few-threads (s .args .tree) (tree-good (s .args .tree) (s .args .t2) (s .args .thread) (s .args .buffer .now) _ (c .before .before .before .before .before .before .before .before .before .before .lent-refusal-of .ensures) (c .before .before .before .before .before .before .before .before .if1 .left)) in
+    let after-follow : tie.After-follow = search c in
+    let else2 : tie.Else2 = search c in
+    let else1 : tie.Else1 = search c in
+    let after-lent-refusal-of : tie.After-lent-refusal-of = search c in
+    let s = start (after-lent-refusal-of) in
+    let f = after-follow .follow .ensures in
+    let b = else2 .if2 .left in
+    let m = few-threads (s .args .tree) (tree-good (s .args .tree) (s .args .t2) (s .args .thread) (s .args .buffer .now) _ (after-lent-refusal-of .lent-refusal-of .ensures) (else1 .if1 .left)) in
     ((omega (arith, f .few), omega (arith, f .few)), f .room)
 
-same-length : tie.Need-same-length
-same-length c = search needs
-
 returns-4 : tie.Need-returns-4
-returns-4 c = answered _ _ _ _ _ (c .before .before .before .before .before .before .before .before .before .before .before .before .before .lent-refusal-of .ensures) (c .before .before .before .before .before .before .before .before .before .before .before .if1 .left) (c .before .before .before .before .before .before .before .before .before .if2 .left) _ _ (c .before .before .before .before .before .before .follow .ensures) (c .before .before .before .before .before .if3 .left) _ (c .before .before .copy-front .ensures)
+returns-4 c =
+    let else3 : tie.Else3 = search c in
+    let after-follow : tie.After-follow = search c in
+    let else2 : tie.Else2 = search c in
+    let else1 : tie.Else1 = search c in
+    let after-lent-refusal-of : tie.After-lent-refusal-of = search c in
+    answered _ _ _ _ _ (after-lent-refusal-of .lent-refusal-of .ensures) (else1 .if1 .left) (else2 .if2 .left) _ _ (after-follow .follow .ensures) (else3 .if3 .left) _ (c .before .before .copy-front .ensures)
 
 pub chain-spec : {M : Type 1} → statement M
 chain-spec =
     tie.close
     (tie.spec
-    slice-aggregate-lent-refusal-of
-    lent-refusal-of-requires
-    refused-requires
+    (λ c. search needs)
+    (λ c κs. search needs)
+    (λ c κs. search needs)
     returns
-    cast-if2
-    refused-requires-2
+    (λ c. search needs)
+    (λ c κs. search needs)
     returns-2
     follow-requires
-    refused-requires-3
+    (λ c κs. search needs)
     returns-3
     copy-front-requires
-    same-length
+    (λ c. search needs)
     returns-4)

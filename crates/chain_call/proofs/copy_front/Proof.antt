@@ -15,33 +15,15 @@ abbrev μ-loop : tie.MeasureT-loop
 loop-holds : tie.Need-loop-holds Inv-loop μ-loop
 loop-holds c = (search needs, copied-first (c .args .found .now) (c .args .buffer .now))
 
-cast-at : tie.Need-cast-at Inv-loop μ-loop
-cast-at c = omega arith
-
-mul-j : tie.Need-mul-j Inv-loop μ-loop
-mul-j c = omega arith
-
-element-copy-out-j : tie.Need-element-copy-out-j Inv-loop μ-loop
-element-copy-out-j c = omega arith
-
-mul-buffer : tie.Need-mul-buffer Inv-loop μ-loop
-mul-buffer c = omega arith
-
 slice-write-buffer : tie.Need-slice-write-buffer Inv-loop μ-loop
 slice-write-buffer c =
-    let s = c .before .before .before in
+    let s : tie.Start Inv-loop μ-loop = search c in
     let l = c .before .before .loop in
     omega (arith, s .pre .0 .1, s .pre .1, copied-length (s .args .found .now) (s .args .buffer .now) (l .buffer) (l .k) (omega (arith, s .pre .1, l .inv .0)) (omega (arith, l .inv .0)) (l .inv .1))
 
-add-k : tie.Need-add-k Inv-loop μ-loop
-add-k c = omega arith
-
-loop-less : tie.Need-loop-less Inv-loop μ-loop
-loop-less c = omega arith
-
 loop-again : tie.Need-loop-again Inv-loop μ-loop
 loop-again c =
-    let s = c .before .before .before in
+    let s : tie.Start Inv-loop μ-loop = search c in
     let l = c .before .before .loop in
     let b = c .before .loop-test .taken in
     (omega arith, copied-next (s .args .found .now) (s .args .buffer .now) (l .buffer) (l .k) (omega (arith, s .pre .1)) (omega (arith, s .pre .0 .1)) (l .inv .1))
@@ -64,13 +46,13 @@ copy-front-spec =
     Inv-loop
     μ-loop
     loop-holds
-    cast-at
-    mul-j
-    element-copy-out-j
-    mul-buffer
+    (λ c. search needs)
+    (λ c. search needs)
+    (λ c. search needs)
+    (λ c. search needs)
     slice-write-buffer
-    add-k
-    loop-less
+    (λ c. search needs)
+    (λ c. search needs)
     loop-again
     same-length
     returns)

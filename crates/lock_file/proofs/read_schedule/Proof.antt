@@ -9,21 +9,12 @@ use Rattle.lock_file.proofs.read_schedule.Tie as tie
 returns : tie.Need-returns
 returns c = sym (none-filled _ _ _ (c .if1 .taken))
 
-sub-entries : tie.Need-sub-entries
-sub-entries c = search needs
-
 returns-2 : tie.Need-returns-2
 returns-2 c = sym (short-filled _ _ _ (c .if2 .taken))
-
-read-entries-requires : tie.Need-read-entries-requires
-read-entries-requires c κs = search needs
-
-same-length : tie.Need-same-length
-same-length c = search needs
 
 returns-3 : tie.Need-returns-3
 returns-3 c = c .before .before .read-entries .ensures ∙ whole-filled _ _ _ (omega arith)
 
 pub read-schedule-spec : {M : Type 1} → statement M
 read-schedule-spec =
-    tie.close (tie.spec returns sub-entries returns-2 read-entries-requires same-length returns-3)
+    tie.close (tie.spec returns (λ c. search needs) returns-2 (λ c κs. search needs) (λ c. search needs) returns-3)

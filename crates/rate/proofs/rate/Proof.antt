@@ -26,20 +26,17 @@ returns c = rw (answer-tested, eq-eqb _ _ (c .if1 .taken))
 returns-2 : tie.Need-returns-2
 returns-2 c = rw (answer-tested, ne-eqb _ _ (c .before .if1 .left), eq-eqb _ _ (c .if2 .taken))
 
-in-range-requires : tie.Need-in-range-requires
-in-range-requires c κs = search needs
-
 returns-3 : tie.Need-returns-3
-returns-3 c = rw (answer-tested, ne-eqb _ _ (c .before .before .before .if1 .left), ne-eqb _ _ (c .before .before .if2 .left), ← c .before .in-range .ensures, was-false (c .before .in-range .result) (c .if3 .taken))
-
-in-range-requires-2 : tie.Need-in-range-requires-2
-in-range-requires-2 c κs = search needs
+returns-3 c =
+    let else1 : tie.Else1 = search c in
+    rw (answer-tested, ne-eqb _ _ (else1 .if1 .left), ne-eqb _ _ (c .before .before .if2 .left), ← c .before .in-range .ensures, was-false (c .before .in-range .result) (c .if3 .taken))
 
 returns-4 : tie.Need-returns-4
-returns-4 c = rw (answer-tested, ne-eqb _ _ (c .before .before .before .before .before .if1 .left), ne-eqb _ _ (c .before .before .before .before .if2 .left), ← c .before .before .before .in-range .ensures, was-true (c .before .before .before .in-range .result) (c .before .before .if3 .left), ← c .before .in-range2 .ensures, was-false (c .before .in-range2 .result) (c .if4 .taken))
-
-in-range-requires-3 : tie.Need-in-range-requires-3
-in-range-requires-3 c κs = search needs
+returns-4 c =
+    let after-in-range : tie.After-in-range = search c in
+    let else2 : tie.Else2 = search c in
+    let else1 : tie.Else1 = search c in
+    rw (answer-tested, ne-eqb _ _ (else1 .if1 .left), ne-eqb _ _ (else2 .if2 .left), ← after-in-range .in-range .ensures, was-true (after-in-range .in-range .result) (c .before .before .if3 .left), ← c .before .in-range2 .ensures, was-false (c .before .in-range2 .result) (c .if4 .taken))
 
 returns-5 : tie.Need-returns-5
 returns-5 c =
@@ -50,9 +47,6 @@ returns-5 c =
     let b = was-true (second .in-range2 .result) (third .before .if4 .left) in
     let d = was-false (third .in-range3 .result) (c .if5 .taken) in
     rw (answer-tested, ne-eqb _ _ (first .before .before .if1 .left), ne-eqb _ _ (first .before .if2 .left), ← first .in-range .ensures, a, ← second .in-range2 .ensures, b, ← third .in-range3 .ensures, d)
-
-rate-of-requires : tie.Need-rate-of-requires
-rate-of-requires c κs = search needs
 
 returns-6 : tie.Need-returns-6
 returns-6 c =
@@ -70,11 +64,11 @@ rate-spec =
     (tie.spec
     returns
     returns-2
-    in-range-requires
+    (λ c κs. search needs)
     returns-3
-    in-range-requires-2
+    (λ c κs. search needs)
     returns-4
-    in-range-requires-3
+    (λ c κs. search needs)
     returns-5
-    rate-of-requires
+    (λ c κs. search needs)
     returns-6)

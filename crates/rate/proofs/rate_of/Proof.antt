@@ -12,23 +12,8 @@ use Rattle.rate.proofs.rate_of.Lts as lts
 mul-entries : tie.Need-mul-entries
 mul-entries c = record { fits = product-fits _ _ (search needs) (search needs) }
 
-int-to-float-entries : tie.Need-int-to-float-entries
-int-to-float-entries c = search needs
-
-sub-p2-passes : tie.Need-sub-p2-passes
-sub-p2-passes c = search needs
-
-int-to-float-p2-passes : tie.Need-int-to-float-p2-passes
-int-to-float-p2-passes c = search needs
-
-sub-p1-passes : tie.Need-sub-p1-passes
-sub-p1-passes c = search needs
-
 mul-p1-passes : tie.Need-mul-p1-passes
 mul-p1-passes c = record { fits = product-fits _ _ (search needs) (omega arith) }
-
-int-to-float-p1-passes : tie.Need-int-to-float-p1-passes
-int-to-float-p1-passes c = search needs
 
 returns : tie.Need-returns
 unfolding p2-product p1-product outer-time cycle-time passing-rate
@@ -39,10 +24,10 @@ rate-of-spec =
     tie.close
     (tie.spec
     mul-entries
-    int-to-float-entries
-    sub-p2-passes
-    int-to-float-p2-passes
-    sub-p1-passes
+    (λ c. search needs)
+    (λ c. search needs)
+    (λ c. search needs)
+    (λ c. search needs)
     mul-p1-passes
-    int-to-float-p1-passes
+    (λ c. search needs)
     returns)

@@ -15,12 +15,6 @@ zero-is : ofBits binary64 0 ≡ fin false 0 (pos 0)
 unfolding ofBits
 zero-is = refl
 
-enum-known-answer : tie.Need-enum-known-answer
-enum-known-answer c = search needs
-
-enum-known-answer-2 : tie.Need-enum-known-answer-2
-enum-known-answer-2 c = search needs
-
 returns : tie.Need-returns
 returns c = sym (ap reply-of (c .before .answer .given .1))
 
@@ -28,4 +22,4 @@ returns-2 : tie.Need-returns-2
 returns-2 c = rw zero-is (sym (ap reply-of (c .before .answer2 .given .1)))
 
 pub reply-spec : {M : Type 1} → statement M
-reply-spec = tie.close (tie.spec enum-known-answer enum-known-answer-2 returns returns-2)
+reply-spec = tie.close (tie.spec (λ c. search needs) (λ c. search needs) returns returns-2)

@@ -20,54 +20,47 @@ lowest-bad-home-requires c κs =
     let k = shape (words-in (s .args .domains) (s .args .threads) (s .args .parents .now) (s .args .thresholds .now) (s .args .homes .now)) (s .pre) in
     ((k .few-domains, k .few-threads), table .mark-unfit-homes .ensures)
 
-refusal-at-requires : tie.Need-refusal-at-requires
-refusal-at-requires c κs = search needs
-
 returns : tie.Need-returns
 returns c =
     let nine = c .before .before in
-    let s = nine .before .before .before .before in
+    let s : tie.Start = search nine in
     rw (c .refusal-at .ensures, home-refused (words-in (s .args .domains) (s .args .threads) (s .args .parents .now) (s .args .thresholds .now) (s .args .homes .now)) (s .pre) _ (nine .lowest-bad-home .ensures) (c .before .if1 .taken))
 
 occupied-requires : tie.Need-occupied-requires
 occupied-requires c κs =
     let nine = c .before in
-    let s = nine .before .before .before .before in
+    let s : tie.Start = search nine in
     let w = words-in (s .args .domains) (s .args .threads) (s .args .parents .now) (s .args .thresholds .now) (s .args .homes .now) in
     let k = shape w (s .pre) in
     ((k .some-domain, k .few-domains, k .few-threads), (k .low, homes-real w (facts w (s .pre) _ (nine .lowest-bad-home .ensures) (c .if1 .left))))
 
 lowest-empty-requires : tie.Need-lowest-empty-requires
 lowest-empty-requires c κs =
-    let s = c .before .before .before .before .before .before .before in
+    let s : tie.Start = search c in
     shape (words-in (s .args .domains) (s .args .threads) (s .args .parents .now) (s .args .thresholds .now) (s .args .homes .now)) (s .pre) .few-domains
-
-refusal-at-requires-2 : tie.Need-refusal-at-requires-2
-refusal-at-requires-2 c κs = search needs
 
 returns-2 : tie.Need-returns-2
 returns-2 c =
+    let else1 : tie.Else1 = search c in
     let sixteen = c .before .before in
-    let nine = sixteen .before .before .before .before in
-    let s = nine .before .before .before .before in
+    let nine : tie.After-lowest-bad-home = search sixteen in
+    let s : tie.Start = search nine in
     let w = words-in (s .args .domains) (s .args .threads) (s .args .parents .now) (s .args .thresholds .now) (s .args .homes .now) in
     let l₉ = nine .lowest-bad-home .ensures in
-    let h₉ = sixteen .before .before .before .if1 .left in
+    let h₉ = else1 .if1 .left in
     let l₁₆ = occupied-lowest w (facts w (s .pre) _ l₉ h₉) _ (sixteen .before .before .occupied .ensures) _ (sixteen .lowest-empty .ensures) in
     rw (c .refusal-at2 .ensures, empty-refused w (s .pre) _ l₉ h₉ _ l₁₆ (c .before .if2 .taken))
-
-refusal-at-requires-3 : tie.Need-refusal-at-requires-3
-refusal-at-requires-3 c κs = search needs
 
 returns-3 : tie.Need-returns-3
 unfolding accepted
 returns-3 c =
+    let else1 : tie.Else1 = search c in
     let sixteen = c .before .before in
-    let nine = sixteen .before .before .before .before in
-    let s = nine .before .before .before .before in
+    let nine : tie.After-lowest-bad-home = search sixteen in
+    let s : tie.Start = search nine in
     let w = words-in (s .args .domains) (s .args .threads) (s .args .parents .now) (s .args .thresholds .now) (s .args .homes .now) in
     let l₉ = nine .lowest-bad-home .ensures in
-    let h₉ = sixteen .before .before .before .if1 .left in
+    let h₉ = else1 .if1 .left in
     let l₁₆ = occupied-lowest w (facts w (s .pre) _ l₉ h₉) _ (sixteen .before .before .occupied .ensures) _ (sixteen .lowest-empty .ensures) in
     rw (c .refusal-at3 .ensures, tree-passes w (s .pre) _ l₉ h₉ _ l₁₆ (c .before .if2 .left))
 
@@ -77,11 +70,11 @@ homes-refusal-spec =
     (tie.spec
     mark-unfit-homes-requires
     lowest-bad-home-requires
-    refusal-at-requires
+    (λ c κs. search needs)
     returns
     occupied-requires
     lowest-empty-requires
-    refusal-at-requires-2
+    (λ c κs. search needs)
     returns-2
-    refusal-at-requires-3
+    (λ c κs. search needs)
     returns-3)

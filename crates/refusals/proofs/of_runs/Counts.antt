@@ -5,10 +5,9 @@ use mathlib.Core.List.{List, []}
 use Prim.Native.Nat.{ℕ, _≤_, _<_, _%_}
 use native.Mathlib.Omega.{arith}
 use native.Mathlib.Nat.{mod-eq-of-lt}
-use native.Mathlib.Decide.{decLt}
 use lib.Dec.{eqb, ltb, leb}
 use lib.ListN.{getD}
-use borrow.Author.Tests.{eqb-true, eqb-false, lt-ltb, ltb-true, le-leb, leb-true, lt-leb, leb-false}
+use borrow.Author.Tests.{eqb-true, eqb-false, le-leb, leb-true}
 use Rattle.model.specs.Trees.{read-word, tree-of}
 use Rattle.model.specs.Counters.{most-counted, good-count}
 use Rattle.model.proofs.Tests.{and-both, and-false}

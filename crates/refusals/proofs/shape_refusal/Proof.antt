@@ -10,19 +10,23 @@ use Rattle.refusals.proofs.shape_refusal.Tie as tie
 abbrev words : (domains threads : ℕ) → (parents thresholds : List ℕ) → TreeWords
 words n m ps ts = record { domains = n; threads = m; parents = ps; thresholds = ts; homes = []; «ticket_root» = 0 }
 
-counts-refusal-requires : tie.Need-counts-refusal-requires
-counts-refusal-requires c κs = search needs
-
 returns : tie.Need-returns
-returns c = counts-refused (words (c .before .before .before .args .domains) (c .before .before .before .args .threads) (c .before .before .before .args .parents .now) (c .before .before .before .args .thresholds .now)) _ (c .before .before .counts-refusal .ensures) (c .if1 .taken)
+returns c =
+    let start : tie.Start = search c in
+    counts-refused (words (start .args .domains) (start .args .threads) (start .args .parents .now) (start .args .thresholds .now)) _ (c .before .before .counts-refusal .ensures) (c .if1 .taken)
 
 domains-refusal-requires : tie.Need-domains-refusal-requires
-domains-refusal-requires c κs = few-domains (words (c .before .before .before .args .domains) (c .before .before .before .args .threads) (c .before .before .before .args .parents .now) (c .before .before .before .args .thresholds .now)) _ (c .before .before .counts-refusal .ensures) (c .if1 .left)
+domains-refusal-requires c κs =
+    let start : tie.Start = search c in
+    few-domains (words (start .args .domains) (start .args .threads) (start .args .parents .now) (start .args .thresholds .now)) _ (c .before .before .counts-refusal .ensures) (c .if1 .left)
 
 returns-2 : tie.Need-returns-2
-returns-2 c = domains-decide (words (c .before .before .before .before .args .domains) (c .before .before .before .before .args .threads) (c .before .before .before .before .args .parents .now) (c .before .before .before .before .args .thresholds .now)) _ (c .before .before .before .counts-refusal .ensures) (c .before .if1 .left) _ (c .domains-refusal .ensures)
+returns-2 c =
+    let after-counts-refusal : tie.After-counts-refusal = search c in
+    let start : tie.Start = search c in
+    domains-decide (words (start .args .domains) (start .args .threads) (start .args .parents .now) (start .args .thresholds .now)) _ (after-counts-refusal .counts-refusal .ensures) (c .before .if1 .left) _ (c .domains-refusal .ensures)
 
 pub shape-refusal-spec : {M : Type 1} → statement M
 shape-refusal-spec =
     tie.close
-    (tie.spec counts-refusal-requires returns domains-refusal-requires returns-2)
+    (tie.spec (λ c κs. search needs) returns domains-refusal-requires returns-2)

@@ -1,8 +1,8 @@
 -- The laws of the check of a state.
 use mathlib.Core.Path.{_≡_, refl, sym, ap, _∙_}
-use mathlib.Core.Bool.{true, false}
+use mathlib.Core.Bool.{true}
 use mathlib.Core.List.{List, [], _∷_, _++_}
-use Prim.Native.Nat.{ℕ, _<_}
+use Prim.Native.Nat.{ℕ}
 use native.Mathlib.Omega.{arith}
 use native.Mathlib.Decide.{ℕ-discrete}
 use lib.ListN.{length}
@@ -19,7 +19,7 @@ use Rattle.model.specs.Runs.{steps, Run, run-of, run}
 use Rattle.model.specs.Refusals.{Refusal, refusal, accepted, Test, first-refusal, lowest-bad, has-number, state-tests, tree-tests, tree-refusal, bad-state, bad-length, bad-room, counter-tests, run-tests-before-19, run-tests, step-refusal, run-refusal}
 use Rattle.model.specs.Answers.{counters-behind, fresh-answer, step-reply, step-answer, run-reply, run-answer}
 use Rattle.model.specs.CounterLaws.{Counter-form-law}
-use Rattle.model.specs.Laws.{All-threads, Formed, Form-law, All-pass, Numbered, Refusal-law, Refuses-exactly}
+use Rattle.model.specs.Laws.{All-threads, Formed, Form-law, All-pass, Numbered, Refusal-law}
 use Rattle.model.proofs.Tests.{and-both, by-test}
 use Rattle.model.proofs.Refusing.{numbered}
 use Rattle.model.proofs.Laws.Refusals.{accepted-number, refusal-law, run-refuses-exactly, run-numbered-before-19}

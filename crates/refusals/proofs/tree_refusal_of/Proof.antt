@@ -7,9 +7,6 @@ use borrow.Author.Needs.{needs}
 use Rattle.refusals.proofs.tree_refusal_of.Statement.{statement}
 use Rattle.refusals.proofs.tree_refusal_of.Tie as tie
 
-shape-refusal-requires : tie.Need-shape-refusal-requires
-shape-refusal-requires c κs = search needs
-
 returns : tie.Need-returns
 returns c =
     let shaped = c .before .before in
@@ -24,14 +21,11 @@ homes-are-leaves-requires c κs =
     let k = shape w (shape-passed w _ (shaped .shape-refusal .ensures) (c .if1 .left)) in
     (k .some-domain, k .few-domains, k .few-threads)
 
-refusal-at-requires : tie.Need-refusal-at-requires
-refusal-at-requires c κs = search needs
-
 returns-2 : tie.Need-returns-2
 unfolding accepted
 returns-2 c =
     let leaves = c .before .before in
-    let shaped = leaves .before .before .before in
+    let shaped : tie.After-shape-refusal = search leaves in
     let s = shaped .before in
     let w = words-in (s .args .domains) (s .args .threads) (s .args .parents .now) (s .args .thresholds .now) (s .args .homes .now) in
     let passed = shape-passed w _ (shaped .shape-refusal .ensures) (leaves .before .if1 .left) in
@@ -39,7 +33,7 @@ returns-2 c =
 
 homes-refusal-requires : tie.Need-homes-refusal-requires
 homes-refusal-requires c κs =
-    let shaped = c .before .before .before .before in
+    let shaped : tie.After-shape-refusal = search c in
     let s = shaped .before in
     shape-passed (words-in (s .args .domains) (s .args .threads) (s .args .parents .now) (s .args .thresholds .now) (s .args .homes .now)) _ (shaped .shape-refusal .ensures) (c .before .before .if1 .left)
 
@@ -50,10 +44,10 @@ pub tree-refusal-of-spec : {M : Type 1} → statement M
 tree-refusal-of-spec =
     tie.close
     (tie.spec
-    shape-refusal-requires
+    (λ c κs. search needs)
     returns
     homes-are-leaves-requires
-    refusal-at-requires
+    (λ c κs. search needs)
     returns-2
     homes-refusal-requires
     returns-3)

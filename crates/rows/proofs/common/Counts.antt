@@ -2,13 +2,13 @@
 use mathlib.Core.Path.{_≡_, refl, sym, ap, _∙_}
 use mathlib.Core.Bool.{Bool, true, false, _&&_, not, cond, false≢true}
 use mathlib.Core.List.{List, [], _∷_}
-use mathlib.Core.Logic.{_≢_, _⊎_, inl, inr}
+use mathlib.Core.Logic.{_≢_}
 use Prim.Native.Nat.{ℕ, zero, suc, _+_, _≤_, _<_, max}
 use native.Mathlib.Omega.{arith}
 use native.Mathlib.Decide.{ℕ-discrete, decLt}
 use lib.Dec.{eqb, ltb}
 use lib.ListN.{length, getD, set, length-set}
-use lib.Seq.{getD-set-same, getD-set-other}
+use lib.Seq.{getD-set-other}
 use borrow.Author.Tests.{eqb-true, eqb-false, eq-eqb, ne-eqb, lt-ltb, le-ltb}
 use Rattle.model.specs.Counters.{each-with-index}
 use Rattle.model.proofs.Counted.{indexed-same, indexed-kept, indexed-twice}
@@ -16,7 +16,7 @@ use Rattle.model.proofs.Tests.{and-false}
 use Rattle.model.proofs.Trees.Reading.{read-in}
 use Rattle.model.specs.declared.PlaceWords.{PlaceWords}
 use Rattle.refusals.specs.Arrays.{Lower}
-use Rattle.rows.specs.Common.Counting.{parent-in, Room-above, added-at, raised-at, is-watch-in, taken-in, marked-in, Climbed, at-root, one-up, Started, record-domain-in, Entered, is-shown, Counted-shown}
+use Rattle.rows.specs.Common.Counting.{parent-in, added-at, raised-at, is-watch-in, taken-in, marked-in, Climbed, at-root, one-up, Started, record-domain-in, Entered, is-shown, Counted-shown}
 use Rattle.rows.specs.Common.Standing.{is-entry-number}
 
 -- a stored word that stood there already

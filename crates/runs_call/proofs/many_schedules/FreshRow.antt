@@ -1,10 +1,9 @@
 -- A row of many schedules: what the schedule's tests and the run from fresh words answer is the row of its run alone.
 use mathlib.Core.Path.{_≡_, refl, sym, ap, _∙_}
-use mathlib.Core.List.{List, [], _∷_}
-use Prim.Native.Nat.{ℕ, suc, _+_, _≤_}
+use mathlib.Core.List.{List}
+use Prim.Native.Nat.{ℕ, _≤_}
 use native.Mathlib.Omega.{arith}
-use lib.ListN.{length, set, replicate, length-replicate}
-use lib.Seq.{sets}
+use lib.ListN.{length, replicate, length-replicate}
 use Rattle.model.specs.declared.TreeWords.{TreeWords}
 use Rattle.model.specs.declared.State.{State}
 use Rattle.model.specs.declared.Counts.{Counts}
@@ -24,21 +23,6 @@ use Rattle.runs_call.specs.ManySchedules.Numbers.{row-numbers}
 use Rattle.schedules.proofs.Alone.{schedule-decides}
 use Rattle.lock.specs.Steps.Running.{kinds-of, counts-by, trace-front}
 use Rattle.lock.proofs.steps.Answering.{run-refuses, run-passes, kinds-few, run-answered}
-
--- eight stores one after another
-pub eight-stored :
-    (l : List ℕ) (at a b c d e f g h : ℕ) →
-    set (set (set (set (set (set (set (set l at a) (at + 1) b) (at + 2) c) (at + 3) d) (at + 4) e) (at + 5) f) (at + 6) g) (at + 7) h
-    ≡ sets l at (a ∷ b ∷ c ∷ d ∷ e ∷ f ∷ g ∷ h ∷ [])
-eight-stored l at a b c d e f g h =
-    let z1 : at + 1 ≡ suc at = omega arith in
-    let z2 : at + 2 ≡ suc (suc at) = omega arith in
-    let z3 : at + 3 ≡ suc (suc (suc at)) = omega arith in
-    let z4 : at + 4 ≡ suc (suc (suc (suc at))) = omega arith in
-    let z5 : at + 5 ≡ suc (suc (suc (suc (suc at)))) = omega arith in
-    let z6 : at + 6 ≡ suc (suc (suc (suc (suc (suc at))))) = omega arith in
-    let z7 : at + 7 ≡ suc (suc (suc (suc (suc (suc (suc at)))))) = omega arith in
-    rw (z1, z2, z3, z4, z5, z6, z7)
 
 module _ (w : TreeWords) (ok : tree-refusal (tree-of w) .number ≡ 0) (is : List ℕ) (r : Refusal) (e : r ≡ refusal-words (first-refusal (schedule-room-tests (threads-in (w .threads)) is (length is)))) where
   -- the trace buffer of the schedule's length, which a run alone has

@@ -1,13 +1,13 @@
 -- From what the refusals, the run and the rows are to the answer of the call.
 use mathlib.Core.Path.{_≡_, refl, sym, ap, _∙_}
 use mathlib.Core.Bool.{Bool, true, false}
-use mathlib.Core.List.{List, [], _∷_, _++_}
+use mathlib.Core.List.{List, [], _∷_}
 use Prim.Native.Nat.{ℕ, zero, suc, _+_, _-_, _*_, _/_, _%_, _≤_, _<_}
 use native.Mathlib.Omega.{arith}
 use native.Mathlib.Decide.{ℕ-discrete}
 use lib.Dec.{ltb}
 use lib.ListN.{length, take, drop, getD}
-use lib.Seq.{getD-take, getD-drop, ext-getD, length-take-le}
+use lib.Seq.{getD-take, getD-drop, ext-getD}
 use borrow.Author.Tests.{ne-eqb, ltb-true, ltb-false}
 use Rattle.model.specs.declared.TreeWords.{TreeWords}
 use Rattle.model.specs.declared.State.{State}
@@ -18,9 +18,9 @@ use Rattle.model.specs.Trees.{Tree, tree-of}
 use Rattle.model.specs.Steps.{kind-number, Step, step}
 use Rattle.model.specs.Runs.{steps, state-after, run-of, run}
 use Rattle.model.specs.Counters.{lock-state, counters-after}
-use Rattle.model.specs.Refusals.{refusal, first-refusal, run-tests-before-19, run-refusal}
+use Rattle.model.specs.Refusals.{refusal, run-refusal}
 use Rattle.model.specs.Answers.{run-refused, run-reply, run-buffer}
-use Rattle.model.specs.Laws.{All-threads, Typed, Formed, Form-law}
+use Rattle.model.specs.Laws.{Typed, Formed, Form-law}
 use Rattle.model.proofs.Laws.Calls.{Good-run, run-facts}
 use Rattle.model.proofs.Laws.Form.{form-law}
 use Rattle.model.proofs.Laws.Runs.{steps-length}

@@ -2,12 +2,12 @@
 use mathlib.Core.Path.{_≡_, refl, sym, ap, subst, _∙_}
 use mathlib.Core.Bool.{Bool, true, false, _&&_, _||_, cond}
 use mathlib.Core.List.{List, [], _∷_, _++_, append-assoc, append-nil}
-use Prim.Native.Nat.{ℕ, suc, _+_, _*_, _/_, _%_, _≤_, _<_, max}
+use Prim.Native.Nat.{ℕ, _+_, _*_, _/_, _%_, _≤_, _<_, max}
 use native.Mathlib.Omega.{arith}
 use native.Mathlib.Decide.{ℕ-discrete}
 use lib.Dec.{eqb}
 use lib.ListN.{getD, length, take, set}
-use lib.Seq.{sets, take-all}
+use lib.Seq.{take-all}
 use borrow.Author.Tests.{eq-eqb, ne-eqb, lt-ltb, le-leb}
 use Rattle.model.specs.declared.TreeWords.{TreeWords}
 use Rattle.model.specs.declared.State.{State}
@@ -15,30 +15,19 @@ use Rattle.model.specs.declared.Place.{Place}
 use Rattle.model.specs.declared.Place.the-variants.{Idle, Prep, Swap, Link, Wait, Inside, Check, Help, Cas, Linger, Grant, Draw, Watch, Raise, Invalid}
 use Rattle.model.specs.Places.{words-of}
 use Rattle.model.specs.Trees.{Tree, tree-of, is-ticket, read-word}
-use Rattle.model.specs.Steps.{Kind, stay, other, root-entry, passed-entry, crossed-entry, leaving, kind-number, is-entry, Step, step}
-use Rattle.model.specs.Runs.{steps, state-after, how-many}
-use Rattle.model.proofs.Trees.Accepted.{accepted}
+use Rattle.model.specs.Steps.{kind-number, is-entry, Step, step}
+use Rattle.model.specs.Runs.{steps, state-after}
 use Rattle.waits.specs.Attempts.{swaps-at, draws, begins-from}
 use Rattle.runs_call.specs.WithWaits.Tallies.{first, begins-number, mark-with, finishes, wait-of, noted, Tallies}
 use Rattle.runs_call.proofs.with_waits.Tables.{turn, mark-small, attempts-small, total-small}
 use Rattle.rows.specs.Common.Standing.{is-entry-number}
-use Rattle.lock.specs.Steps.Running.{code-of, step-code}
+use Rattle.lock.specs.Steps.Running.{step-code}
 use Rattle.runs_call.specs.WithWaits.Waiting.{ticket-home, mark-at, Fits, Counting, Countable, Counted}
 use Rattle.lock.proofs.steps.SoFar.{next-step, thread-at, below, kind-small, entry-number, at-most}
 
 pub mark-fits : (b : Bool) (n m : ℕ) → m ≤ n + 1 → mark-with b n m ≤ n + 1
 mark-fits true n m h = omega arith
 mark-fits false n m h = h
-
--- five stores one after another
-pub five-stored :
-    (l : List ℕ) (at a b c d e : ℕ) → set (set (set (set (set l at a) (at + 1) b) (at + 2) c) (at + 3) d) (at + 4) e ≡ sets l at (a ∷ b ∷ c ∷ d ∷ e ∷ [])
-five-stored l at a b c d e =
-    let z1 : at + 1 ≡ suc at = omega arith in
-    let z2 : at + 2 ≡ suc (suc at) = omega arith in
-    let z3 : at + 3 ≡ suc (suc (suc at)) = omega arith in
-    let z4 : at + 4 ≡ suc (suc (suc (suc at))) = omega arith in
-    rw (z1, z2, z3, z4)
 
 -- THE NUMBER OF A PLACE tells whether an attempt begins there
 abbrev number-of : Place → ℕ

@@ -4,12 +4,9 @@ use borrow.Author.Needs.{needs}
 use Rattle.text_tree_call.proofs.refusal_reply.Statement.{statement}
 use Rattle.text_tree_call.proofs.refusal_reply.Tie as tie
 
-no-tree-requires : tie.Need-no-tree-requires
-no-tree-requires c κs = search needs
-
 returns : tie.Need-returns
 unfolding refused-by
 returns c = rw (c .no-tree .ensures)
 
 pub refusal-reply-spec : {M : Type 1} → statement M
-refusal-reply-spec = tie.close (tie.spec no-tree-requires returns)
+refusal-reply-spec = tie.close (tie.spec (λ c κs. search needs) returns)

@@ -4,15 +4,6 @@ use borrow.Author.Needs.{needs}
 use Rattle.bounds_call.proofs.domain_members.child_word.Statement.{statement}
 use Rattle.bounds_call.proofs.domain_members.child_word.Tie as tie
 
-is-child-at-requires : tie.Need-is-child-at-requires
-is-child-at-requires c κs = search needs
-
-mul-result : tie.Need-mul-result
-mul-result c = search needs
-
-element-copy-out-result : tie.Need-element-copy-out-result
-element-copy-out-result c = search needs
-
 returns : tie.Need-returns
 returns c = rw (sym (c .before .before .is-child-at .ensures) ∙ c .before .if1 .taken)
 
@@ -20,4 +11,4 @@ returns-2 : tie.Need-returns-2
 returns-2 c = rw (sym (c .before .is-child-at .ensures) ∙ c .if1 .left)
 
 pub child-word-spec : {M : Type 1} → statement M
-child-word-spec = tie.close (tie.spec is-child-at-requires mul-result element-copy-out-result returns returns-2)
+child-word-spec = tie.close (tie.spec (λ c κs. search needs) (λ c. search needs) (λ c. search needs) returns returns-2)

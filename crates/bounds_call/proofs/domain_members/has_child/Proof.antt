@@ -20,24 +20,17 @@ abbrev μ-loop : tie.MeasureT-loop
 loop-holds : tie.Need-loop-holds Inv-loop μ-loop
 loop-holds c = (search needs, λ j l. absurd (omega arith))
 
-is-child-at-requires : tie.Need-is-child-at-requires Inv-loop μ-loop
-is-child-at-requires c κs = search needs
-
 returns : tie.Need-returns Inv-loop μ-loop
 returns c = sym (any-found _ _ _ (c .before .before .loop-test .taken) (sym (c .before .is-child-at .ensures) ∙ c .if1 .taken))
 
-add-c : tie.Need-add-c Inv-loop μ-loop
-add-c c = omega arith
-
-loop-less : tie.Need-loop-less Inv-loop μ-loop
-loop-less c = omega arith
-
 loop-again : tie.Need-loop-again Inv-loop μ-loop
-loop-again c = (omega arith, one-more _ false _ (c .before .before .before .loop .inv .1) (sym (c .before .is-child-at .ensures) ∙ c .if1 .left))
+loop-again c =
+    let at-loop : tie.At-loop Inv-loop μ-loop = search c in
+    (omega arith, one-more _ false _ (at-loop .loop .inv .1) (sym (c .before .is-child-at .ensures) ∙ c .if1 .left))
 
 returns-2 : tie.Need-returns-2 Inv-loop μ-loop
 returns-2 c = sym (any-nowhere _ _ (λ j l. c .before .loop .inv .1 j (omega arith)))
 
 pub has-child-spec : {M : Type 1} → statement M
 has-child-spec =
-    tie.close (tie.spec Inv-loop μ-loop loop-holds is-child-at-requires returns add-c loop-less loop-again returns-2)
+    tie.close (tie.spec Inv-loop μ-loop loop-holds (λ c κs. search needs) returns (λ c. search needs) (λ c. omega arith) loop-again returns-2)

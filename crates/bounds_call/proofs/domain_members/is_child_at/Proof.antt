@@ -12,18 +12,12 @@ returns : tie.Need-returns
 unfolding is-child
 returns c = rw (eq-eqb _ _ (c .if1 .taken))
 
-element-copy-out-p : tie.Need-element-copy-out-p
-element-copy-out-p c = search needs
-
-byte-number-requires : tie.Need-byte-number-requires
-byte-number-requires c κs = search needs
-
 returns-2 : tie.Need-returns-2
 unfolding is-child
 returns-2 c =
-    let s = c .before .before .before in
+    let s : tie.Start = search c in
     let h = c .before .before .if1 .left in
     rw (c .byte-number .ensures, ne-eqb _ _ h, parent-in (s .args .domains) 0 (s .args .parents .now) [] [] (s .args .c) (omega arith) (s .pre .1))
 
 pub is-child-at-spec : {M : Type 1} → statement M
-is-child-at-spec = tie.close (tie.spec returns element-copy-out-p byte-number-requires returns-2)
+is-child-at-spec = tie.close (tie.spec returns (λ c. search needs) (λ c κs. search needs) returns-2)

@@ -23,24 +23,14 @@ loop-holds : tie.Need-loop-holds Inv-loop μ-loop
 unfolding largest-below
 loop-holds c = (search needs, refl)
 
-child-word-requires : tie.Need-child-word-requires Inv-loop μ-loop
-child-word-requires c κs = search needs
-
-larger-requires : tie.Need-larger-requires Inv-loop μ-loop
-larger-requires c κs = search needs
-
-add-c : tie.Need-add-c Inv-loop μ-loop
-add-c c = omega arith
-
-loop-less : tie.Need-loop-less Inv-loop μ-loop
-loop-less c = omega arith
-
 loop-again : tie.Need-loop-again Inv-loop μ-loop
-loop-again c = (omega arith, largest-next _ _ _ _ _ (c .before .before .before .loop .inv .1) (c .before .child-word .ensures) (c .larger .ensures))
+loop-again c =
+    let at-loop : tie.At-loop Inv-loop μ-loop = search c in
+    (omega arith, largest-next _ _ _ _ _ (at-loop .loop .inv .1) (c .before .child-word .ensures) (c .larger .ensures))
 
 returns : tie.Need-returns Inv-loop μ-loop
 returns c = largest-all _ _ _ _ (omega arith) (c .before .loop .inv .1)
 
 pub largest-child-spec : {M : Type 1} → statement M
 largest-child-spec =
-    tie.close (tie.spec Inv-loop μ-loop loop-holds child-word-requires larger-requires add-c loop-less loop-again returns)
+    tie.close (tie.spec Inv-loop μ-loop loop-holds (λ c κs. search needs) (λ c κs. search needs) (λ c. search needs) (λ c. omega arith) loop-again returns)

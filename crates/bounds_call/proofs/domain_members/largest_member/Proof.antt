@@ -5,12 +5,6 @@ use Rattle.model.specs.Trees.{tree-of, is-leaf}
 use Rattle.bounds_call.proofs.domain_members.largest_member.Statement.{statement}
 use Rattle.bounds_call.proofs.domain_members.largest_member.Tie as tie
 
-has-child-requires : tie.Need-has-child-requires
-has-child-requires c κs = search needs
-
-largest-child-requires : tie.Need-largest-child-requires
-largest-child-requires c κs = search needs
-
 returns : tie.Need-returns
 unfolding is-leaf tree-of
 returns c = rw (sym (c .before .before .has-child .ensures) ∙ c .before .if1 .taken) (c .largest-child .ensures)
@@ -20,4 +14,4 @@ unfolding is-leaf tree-of
 returns-2 c = rw (sym (c .before .has-child .ensures) ∙ c .if1 .left)
 
 pub largest-member-spec : {M : Type 1} → statement M
-largest-member-spec = tie.close (tie.spec has-child-requires largest-child-requires returns returns-2)
+largest-member-spec = tie.close (tie.spec (λ c κs. search needs) (λ c κs. search needs) returns returns-2)

@@ -13,60 +13,42 @@ returns c = above-none _ (c .before .pre .0) _ (c .if1 .taken)
 element-copy-out-byte-index : tie.Need-element-copy-out-byte-index
 element-copy-out-byte-index c = let few = few-domains _ (c .before .pre .0) in search (needs, few)
 
-byte-index-requires : tie.Need-byte-index-requires
-byte-index-requires c κs = search needs
-
-add-capped-sum : tie.Need-add-capped-sum
-add-capped-sum c = search needs
-
-mul-capped-sum : tie.Need-mul-capped-sum
-mul-capped-sum c = search needs
-
 element-copy-out-capped-sum : tie.Need-element-copy-out-capped-sum
-element-copy-out-capped-sum c = let s = c .before .before .before in let few = few-domains _ (s .pre .0) in omega arith
-
-mul-capped-sum-2 : tie.Need-mul-capped-sum-2
-mul-capped-sum-2 c = search needs
+element-copy-out-capped-sum c = let s : tie.Start = search c in let few = few-domains _ (s .pre .0) in omega arith
 
 element-copy-out-capped-sum-2 : tie.Need-element-copy-out-capped-sum-2
-element-copy-out-capped-sum-2 c = let s = c .before .before .before .before in let few = few-domains _ (s .pre .0) in let up = parent-small _ (s .pre .0) _ _ (omega (arith, c .before .before .before .if1 .left)) (s .pre .1 .0) (c .before .byte-index .ensures .0) in omega (arith, up .0)
-
-capped-sum-requires : tie.Need-capped-sum-requires
-capped-sum-requires c κs = search needs
-
-mul-tenures-of : tie.Need-mul-tenures-of
-mul-tenures-of c = search needs
+element-copy-out-capped-sum-2 c =
+    let else1 : tie.Else1 = search c in
+    let s : tie.Start = search c in let few = few-domains _ (s .pre .0) in let up = parent-small _ (s .pre .0) _ _ (omega (arith, else1 .if1 .left)) (s .pre .1 .0) (c .before .byte-index .ensures .0) in omega (arith, up .0)
 
 element-copy-out-tenures-of : tie.Need-element-copy-out-tenures-of
 element-copy-out-tenures-of c =
-    let s = c .before .before .before .before .before .before in
+    let s : tie.Start = search c in
     let few = few-domains _ (s .pre .0) in
     omega (arith, s .pre .1 .0)
 
-mul-tenures-of-2 : tie.Need-mul-tenures-of-2
-mul-tenures-of-2 c = search needs
-
 element-copy-out-tenures-of-2 : tie.Need-element-copy-out-tenures-of-2
 element-copy-out-tenures-of-2 c =
-    let s = c .before .before .before .before .before .before .before in
+    let s : tie.Start = search c in
     let few = few-domains _ (s .pre .0) in
     omega (arith, s .pre .1 .0)
 
 tenures-of-requires : tie.Need-tenures-of-requires
 tenures-of-requires c κs =
-    let s = c .before .before .before .before .before .before .before .before in
+    let else1 : tie.Else1 = search c in
+    let s : tie.Start = search c in
     let few = few-domains _ (s .pre .0) in
-    let inner = c .before .before .before .before .before .before .before .if1 .left in
+    let inner = else1 .if1 .left in
     (count-few _ (s .pre .0) _ _ _ (omega (arith, s .pre .1 .0)) (s .pre .1 .1 .0) refl, threshold-positive _ (s .pre .0) _ (omega (arith, inner)) (s .pre .1 .0))
-
-capped-product-requires : tie.Need-capped-product-requires
-capped-product-requires c κs = search needs
 
 returns-2 : tie.Need-returns-2
 returns-2 c =
-    let s = c .before .before .before .before .before .before .before .before .before .before in
-    above-some _ (s .pre .0) _ _ _ _ _ _ _ _ _ _ (c .before .before .before .before .before .before .before .before .before .if1 .left) (s .pre .1 .0) (c .before .before .before .before .before .before .before .byte-index .ensures .0) (s .pre .1 .1 .0) (s .pre .1 .1 .1 .0) (s .pre .1 .1 .1 .1)
-    (c .before .before .before .before .capped-sum .ensures) refl refl (c .before .tenures-of .ensures) (c .capped-product .ensures)
+    let after-capped-sum : tie.After-capped-sum = search c in
+    let after-byte-index : tie.After-byte-index = search c in
+    let else1 : tie.Else1 = search c in
+    let s : tie.Start = search c in
+    above-some _ (s .pre .0) _ _ _ _ _ _ _ _ _ _ (else1 .if1 .left) (s .pre .1 .0) (after-byte-index .byte-index .ensures .0) (s .pre .1 .1 .0) (s .pre .1 .1 .1 .0) (s .pre .1 .1 .1 .1)
+    (after-capped-sum .capped-sum .ensures) refl refl (c .before .tenures-of .ensures) (c .capped-product .ensures)
 
 pub above-of-spec : {M : Type 1} → statement M
 above-of-spec =
@@ -74,17 +56,17 @@ above-of-spec =
     (tie.spec
     returns
     element-copy-out-byte-index
-    byte-index-requires
-    add-capped-sum
-    mul-capped-sum
+    (λ c κs. search needs)
+    (λ c. search needs)
+    (λ c. search needs)
     element-copy-out-capped-sum
-    mul-capped-sum-2
+    (λ c. search needs)
     element-copy-out-capped-sum-2
-    capped-sum-requires
-    mul-tenures-of
+    (λ c κs. search needs)
+    (λ c. search needs)
     element-copy-out-tenures-of
-    mul-tenures-of-2
+    (λ c. search needs)
     element-copy-out-tenures-of-2
     tenures-of-requires
-    capped-product-requires
+    (λ c κs. search needs)
     returns-2)

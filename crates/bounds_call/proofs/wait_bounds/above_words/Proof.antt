@@ -1,5 +1,5 @@
 -- `bounds_call::wait_bounds::above_words` meets its contract: what the domains passed add.
-use mathlib.Core.Path.{_≡_, refl, sym, ap, _∙_}
+use mathlib.Core.Path.{_≡_, refl}
 use native.Mathlib.Omega.{arith}
 use Prim.Native.Nat.{_≤_, _-_}
 use Rattle.model.specs.Trees.{tree-of}
@@ -21,26 +21,15 @@ abbrev μ-loop : tie.MeasureT-loop
 loop-holds : tie.Need-loop-holds Inv-loop μ-loop
 loop-holds c = (c .pre .0, few-domains _ (c .pre .0), omega arith, c .pre .1 .0, c .pre .1 .1, record { above = λ d h. absurd (omega arith); room = refl })
 
-cast-at : tie.Need-cast-at Inv-loop μ-loop
-cast-at c = omega arith
-
 above-of-requires : tie.Need-above-of-requires Inv-loop μ-loop
-above-of-requires c κs = let v = c .before .before .before .loop .inv in (v .0, (omega arith, (v .3, (v .4, v .5))))
-
-mul-above : tie.Need-mul-above Inv-loop μ-loop
-mul-above c = omega arith
-
-array-write-above : tie.Need-array-write-above Inv-loop μ-loop
-array-write-above c = omega arith
-
-add-d : tie.Need-add-d Inv-loop μ-loop
-add-d c = omega arith
-
-loop-less : tie.Need-loop-less Inv-loop μ-loop
-loop-less c = omega arith
+above-of-requires c κs =
+    let at-loop : tie.At-loop Inv-loop μ-loop = search c in
+    let v = at-loop .loop .inv in (v .0, (omega arith, (v .3, (v .4, v .5))))
 
 loop-again : tie.Need-loop-again Inv-loop μ-loop
-loop-again c = let v = c .before .before .before .before .loop .inv in (v .0, v .1, omega arith, v .3, v .4, above-next _ (v .0) _ _ _ _ (omega arith) (omega arith) (v .5) (c .above-of .ensures))
+loop-again c =
+    let at-loop : tie.At-loop Inv-loop μ-loop = search c in
+    let v = at-loop .loop .inv in (v .0, v .1, omega arith, v .3, v .4, above-next _ (v .0) _ _ _ _ (omega arith) (omega arith) (v .5) (c .above-of .ensures))
 
 returns : tie.Need-returns Inv-loop μ-loop
 returns c = let v = c .before .before .loop .inv in above-all _ (v .0) _ _ (omega arith) (v .5)
@@ -52,11 +41,11 @@ above-words-spec =
     Inv-loop
     μ-loop
     loop-holds
-    cast-at
+    (λ c. search needs)
     above-of-requires
-    mul-above
-    array-write-above
-    add-d
-    loop-less
+    (λ c. search needs)
+    (λ c. search needs)
+    (λ c. search needs)
+    (λ c. search needs)
     loop-again
     returns)

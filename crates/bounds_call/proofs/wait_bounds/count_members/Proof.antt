@@ -1,5 +1,5 @@
 -- `bounds_call::wait_bounds::count_members` meets its contract: the members among the records passed.
-use mathlib.Core.Path.{_≡_, refl, sym, ap, _∙_}
+use mathlib.Core.Path.{_≡_, sym}
 use native.Mathlib.Omega.{arith}
 use Prim.Native.Nat.{_≤_, _-_}
 use Rattle.model.specs.Trees.{tree-of}
@@ -20,20 +20,10 @@ abbrev μ-loop : tie.MeasureT-loop
 loop-holds : tie.Need-loop-holds Inv-loop μ-loop
 loop-holds c = (c .pre, omega arith, summed-none _ _)
 
-owner-of-requires : tie.Need-owner-of-requires Inv-loop μ-loop
-owner-of-requires c κs = search needs
-
-add-at-requires : tie.Need-add-at-requires Inv-loop μ-loop
-add-at-requires c κs = search needs
-
-add-m : tie.Need-add-m Inv-loop μ-loop
-add-m c = omega arith
-
-loop-less : tie.Need-loop-less Inv-loop μ-loop
-loop-less c = omega arith
-
 loop-again : tie.Need-loop-again Inv-loop μ-loop
-loop-again c = let v = c .before .before .before .before .loop .inv in (v .0, omega arith, summed-next _ _ _ _ _ _ _ _ (omega arith) (v .2) (c .before .before .owner-of .ensures) (λ d h e. sym (capped-small 1 (omega arith))) (c .add-at .ensures))
+loop-again c =
+    let at-loop : tie.At-loop Inv-loop μ-loop = search c in
+    let v = at-loop .loop .inv in (v .0, omega arith, summed-next _ _ _ _ _ _ _ _ (omega arith) (v .2) (c .before .before .owner-of .ensures) (λ d h e. sym (capped-small 1 (omega arith))) (c .add-at .ensures))
 
 returns : tie.Need-returns Inv-loop μ-loop
 returns c = counted-all _ _ _ (omega arith) (c .before .loop .inv .2)
@@ -45,9 +35,9 @@ count-members-spec =
     Inv-loop
     μ-loop
     loop-holds
-    owner-of-requires
-    add-at-requires
-    add-m
-    loop-less
+    (λ c κs. search needs)
+    (λ c κs. search needs)
+    (λ c. search needs)
+    (λ c. search needs)
     loop-again
     returns)

@@ -1,6 +1,5 @@
 -- `bounds_call::wait_bounds::effective_of` meets its contract.
 use borrow.Author.Tests.{lt-ltb, le-ltb}
-use native.Mathlib.Omega.{arith}
 use borrow.Author.Needs.{needs}
 use Rattle.bounds_call.proofs.wait_bounds.effective_of.Statement.{statement}
 use Rattle.bounds_call.proofs.wait_bounds.effective_of.Tie as tie

@@ -1,5 +1,5 @@
 -- `bounds_call::wait_bounds::passes_of` meets its contract: the words from domain d on are the passes.
-use mathlib.Core.Path.{_≡_, refl, sym, ap, _∙_}
+use mathlib.Core.Path.{_≡_, refl, _∙_}
 use native.Mathlib.Omega.{arith}
 use Prim.Native.Nat.{_≤_}
 use lib.ListN.{length, length-set}
@@ -26,52 +26,18 @@ loop-holds : tie.Need-loop-holds Inv-loop μ-loop
 unfolding tree-of
 loop-holds c = let ok = c .pre .0 in (ok, accepted (tree-of (c .args .t1)) ok .some-domain, omega arith, few-domains (c .args .t1) ok, refl, passes-none (c .args .t1) ok, c .pre .1)
 
-sub-d : tie.Need-sub-d Inv-loop μ-loop
-sub-d c = omega arith
-
-cast-at : tie.Need-cast-at Inv-loop μ-loop
-cast-at c = omega arith
-
-largest-member-requires : tie.Need-largest-member-requires Inv-loop μ-loop
-largest-member-requires c κs = search needs
-
-mul-effective-of : tie.Need-mul-effective-of Inv-loop μ-loop
-mul-effective-of c = omega arith
-
-element-copy-out-effective-of : tie.Need-element-copy-out-effective-of Inv-loop μ-loop
-element-copy-out-effective-of c = omega arith
-
-mul-effective-of-2 : tie.Need-mul-effective-of-2 Inv-loop μ-loop
-mul-effective-of-2 c = omega arith
-
-element-copy-out-effective-of-2 : tie.Need-element-copy-out-effective-of-2 Inv-loop μ-loop
-element-copy-out-effective-of-2 c = omega arith
-
-effective-of-requires : tie.Need-effective-of-requires Inv-loop μ-loop
-effective-of-requires c κs = search needs
-
-threshold-product-requires : tie.Need-threshold-product-requires Inv-loop μ-loop
-threshold-product-requires c κs = search needs
-
-mul-words : tie.Need-mul-words Inv-loop μ-loop
-mul-words c = omega arith
-
-array-write-words : tie.Need-array-write-words Inv-loop μ-loop
-array-write-words c = omega arith
-
-loop-less : tie.Need-loop-less Inv-loop μ-loop
-loop-less c = omega arith
-
 loop-again : tie.Need-loop-again Inv-loop μ-loop
 loop-again c =
-    let l = c .before .before .before .before .before .before .before .before .before .loop in
+    let after-largest-member : tie.After-largest-member Inv-loop μ-loop = search c in
+    let at-loop : tie.At-loop Inv-loop μ-loop = search c in
+    let l = at-loop .loop in
     let v = l .inv in (
       v .0,
       omega arith,
       omega arith,
       v .3,
       length-set (l .words) _ _ ∙ v .4,
-      passes-more _ (v .0) _ _ _ _ _ _ (omega arith) (omega arith) (v .2) (v .4) (v .5) (c .before .before .before .before .largest-member .ensures) _ (v .6) (c .before .effective-of .ensures) (c .threshold-product .ensures .0),
+      passes-more _ (v .0) _ _ _ _ _ _ (omega arith) (omega arith) (v .2) (v .4) (v .5) (after-largest-member .largest-member .ensures) _ (v .6) (c .before .effective-of .ensures) (c .threshold-product .ensures .0),
       v .6,
     )
 
@@ -85,17 +51,17 @@ passes-of-spec =
     Inv-loop
     μ-loop
     loop-holds
-    sub-d
-    cast-at
-    largest-member-requires
-    mul-effective-of
-    element-copy-out-effective-of
-    mul-effective-of-2
-    element-copy-out-effective-of-2
-    effective-of-requires
-    threshold-product-requires
-    mul-words
-    array-write-words
-    loop-less
+    (λ c. search needs)
+    (λ c. search needs)
+    (λ c κs. search needs)
+    (λ c. search needs)
+    (λ c. search needs)
+    (λ c. search needs)
+    (λ c. search needs)
+    (λ c κs. search needs)
+    (λ c κs. search needs)
+    (λ c. search needs)
+    (λ c. search needs)
+    (λ c. search needs)
     loop-again
     returns)

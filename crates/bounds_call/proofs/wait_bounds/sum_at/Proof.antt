@@ -5,12 +5,6 @@ use borrow.Author.Needs.{needs}
 use Rattle.bounds_call.proofs.wait_bounds.sum_at.Statement.{statement}
 use Rattle.bounds_call.proofs.wait_bounds.sum_at.Tie as tie
 
-mul-result : tie.Need-mul-result
-mul-result c = search needs
-
-element-copy-out-result : tie.Need-element-copy-out-result
-element-copy-out-result c = search needs
-
 returns : tie.Need-returns
 unfolding sum-of
 returns c = rw (lt-ltb _ _ (c .before .if1 .taken))
@@ -20,4 +14,4 @@ unfolding sum-of
 returns-2 c = rw (le-ltb _ _ (c .if1 .left))
 
 pub sum-at-spec : {M : Type 1} → statement M
-sum-at-spec = tie.close (tie.spec mul-result element-copy-out-result returns returns-2)
+sum-at-spec = tie.close (tie.spec (λ c. search needs) (λ c. search needs) returns returns-2)

@@ -1,5 +1,5 @@
 -- `bounds_call::wait_bounds::sums_before` meets its contract: for the records passed, the passes of those before each in its domain.
-use mathlib.Core.Path.{_≡_, refl, sym, ap, _∙_}
+use mathlib.Core.Path.{_≡_}
 use native.Mathlib.Omega.{arith}
 use Prim.Native.Nat.{_≤_, _-_}
 use Rattle.model.specs.Trees.{tree-of}
@@ -22,42 +22,18 @@ abbrev μ-loop : tie.MeasureT-loop
 loop-holds : tie.Need-loop-holds Inv-loop μ-loop
 loop-holds c = (c .pre .0, omega arith, c .pre .1, summed-none _ _, before-none _)
 
-owner-of-requires : tie.Need-owner-of-requires Inv-loop μ-loop
-owner-of-requires c κs = search needs
-
-cast-at : tie.Need-cast-at Inv-loop μ-loop
-cast-at c = omega arith
-
-sum-at-requires : tie.Need-sum-at-requires Inv-loop μ-loop
-sum-at-requires c κs = search needs
-
-mul-before : tie.Need-mul-before Inv-loop μ-loop
-mul-before c = omega arith
-
-array-write-before : tie.Need-array-write-before Inv-loop μ-loop
-array-write-before c = omega arith
-
-word-of-requires : tie.Need-word-of-requires Inv-loop μ-loop
-word-of-requires c κs = search needs
-
-add-at-requires : tie.Need-add-at-requires Inv-loop μ-loop
-add-at-requires c κs = search needs
-
-add-m : tie.Need-add-m Inv-loop μ-loop
-add-m c = omega arith
-
-loop-less : tie.Need-loop-less Inv-loop μ-loop
-loop-less c = omega arith
-
 loop-again : tie.Need-loop-again Inv-loop μ-loop
 loop-again c =
-    let v = c .before .before .before .before .before .before .before .loop .inv in
-    let owned = c .before .before .before .before .before .owner-of .ensures in (
+    let after-sum-at : tie.After-sum-at Inv-loop μ-loop = search c in
+    let after-owner-of : tie.After-owner-of Inv-loop μ-loop = search c in
+    let at-loop : tie.At-loop Inv-loop μ-loop = search c in
+    let v = at-loop .loop .inv in
+    let owned = after-owner-of .owner-of .ensures in (
       v .0,
       omega arith,
       v .2,
       summed-next _ _ _ _ _ _ _ _ (omega arith) (v .3) owned (passes-word _ (v .0) _ (v .2) _ _ (c .before .word-of .ensures)) (c .add-at .ensures),
-      before-next _ _ _ _ _ _ _ (omega arith) (omega arith) (v .4) (v .3) owned (c .before .before .before .sum-at .ensures),
+      before-next _ _ _ _ _ _ _ (omega arith) (omega arith) (v .4) (v .3) owned (after-sum-at .sum-at .ensures),
     )
 
 returns : tie.Need-returns Inv-loop μ-loop
@@ -70,14 +46,14 @@ sums-before-spec =
     Inv-loop
     μ-loop
     loop-holds
-    owner-of-requires
-    cast-at
-    sum-at-requires
-    mul-before
-    array-write-before
-    word-of-requires
-    add-at-requires
-    add-m
-    loop-less
+    (λ c κs. search needs)
+    (λ c. search needs)
+    (λ c κs. search needs)
+    (λ c. search needs)
+    (λ c. search needs)
+    (λ c κs. search needs)
+    (λ c κs. search needs)
+    (λ c. search needs)
+    (λ c. search needs)
     loop-again
     returns)

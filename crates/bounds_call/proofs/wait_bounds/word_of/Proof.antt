@@ -9,18 +9,9 @@ returns : tie.Need-returns
 unfolding word-of
 returns c = rw (lt-ltb _ _ (c .if1 .taken))
 
-cast-c : tie.Need-cast-c
-cast-c c = search needs
-
-mul-result : tie.Need-mul-result
-mul-result c = search needs
-
-element-copy-out-result : tie.Need-element-copy-out-result
-element-copy-out-result c = search needs
-
 returns-2 : tie.Need-returns-2
 unfolding word-of
 returns-2 c = rw (le-ltb _ _ (c .before .if1 .left))
 
 pub word-of-spec : {M : Type 1} → statement M
-word-of-spec = tie.close (tie.spec returns cast-c mul-result element-copy-out-result returns-2)
+word-of-spec = tie.close (tie.spec returns (λ c. search needs) (λ c. search needs) (λ c. search needs) returns-2)

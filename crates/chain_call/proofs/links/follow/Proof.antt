@@ -3,10 +3,12 @@ use Rattle.chain_call.proofs.links.follow.Statement.{statement}
 use Rattle.chain_call.proofs.links.follow.Tie as tie
 
 fill-tables-requires : tie.Need-fill-tables-requires
-fill-tables-requires c κs = let s = c .before .before .before in (s .pre .0, s .pre .1 .0)
+fill-tables-requires c κs = let s : tie.Start = search c in (s .pre .0, s .pre .1 .0)
 
 follow-links-requires : tie.Need-follow-links-requires
-follow-links-requires c κs = let s = c .before .before .before .before .before .before .before .before in (s .pre .0, (s .pre .1 .0, (s .pre .1 .1, c .before .before .before .before .fill-tables .ensures)))
+follow-links-requires c κs =
+    let after-fill-tables : tie.After-fill-tables = search c in
+    let s : tie.Start = search c in (s .pre .0, (s .pre .1 .0, (s .pre .1 .1, after-fill-tables .fill-tables .ensures)))
 
 returns : tie.Need-returns
 returns c = c .follow-links .ensures

@@ -31,13 +31,15 @@ element-copy-out-count c = let r = c .before .before .own-record-at .ensures .1 
 
 link-at-requires : tie.Need-link-at-requires
 link-at-requires c κs =
-    let o = c .before .before .before in
+    let o : tie.After-own-record-at = search c in
     let p = o .before .pre in
     ((o .own-record-at .ensures .1, few-threads _ (p .0)), λ e. rw (o .own-record-at .ensures .0) (p .1 .1 .ticket e))
 
 returns : tie.Need-returns
 unfolding tree-of
-returns c = rw (← c .before .before .before .before .own-record-at .ensures .0) (c .link-at .ensures)
+returns c =
+    let after-own-record-at : tie.After-own-record-at = search c in
+    rw (← after-own-record-at .own-record-at .ensures .0) (c .link-at .ensures)
 
 pub link-of-spec : {M : Type 1} → statement M
 link-of-spec =

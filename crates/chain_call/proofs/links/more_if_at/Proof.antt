@@ -3,9 +3,6 @@ use borrow.Author.Needs.{needs}
 use Rattle.chain_call.proofs.links.more_if_at.Statement.{statement}
 use Rattle.chain_call.proofs.links.more_if_at.Tie as tie
 
-more-at-requires : tie.Need-more-at-requires
-more-at-requires c κs = search needs
-
 returns : tie.Need-returns
 returns c = rw (c .before .if1 .taken) (c .more-at .ensures)
 
@@ -16,6 +13,6 @@ pub more-if-at-spec : {M : Type 1} → statement M
 more-if-at-spec =
     tie.close
     (tie.spec
-    more-at-requires
+    (λ c κs. search needs)
     returns
     returns-2)

@@ -4,9 +4,6 @@ use borrow.Author.Needs.{needs}
 use Rattle.chain_call.proofs.tables.acts_everywhere_at.Statement.{statement}
 use Rattle.chain_call.proofs.tables.acts_everywhere_at.Tie as tie
 
-sends-inside-at-requires : tie.Need-sends-inside-at-requires
-sends-inside-at-requires c κs = search needs
-
 returns : tie.Need-returns
 returns c = rw (eq-eqb _ _ (c .before .if1 .taken)) (c .sends-inside-at .ensures)
 
@@ -20,7 +17,7 @@ pub acts-everywhere-at-spec : {M : Type 1} → statement M
 acts-everywhere-at-spec =
     tie.close
     (tie.spec
-    sends-inside-at-requires
+    (λ c κs. search needs)
     returns
     returns-2
     returns-3)

@@ -23,128 +23,157 @@ loop-holds : tie.Need-loop-holds Inv-loop μ-loop
 loop-holds c = (search needs, fill-first _ _)
 
 cast-loop : tie.Need-cast-loop Inv-loop μ-loop
-cast-loop c = let s = c .before .before .before .before in omega (arith, few-threads (s .args .t1) (s .pre .0), c .loop .inv .0)
+cast-loop c = let s : tie.Start Inv-loop μ-loop = search c in omega (arith, few-threads (s .args .t1) (s .pre .0), c .loop .inv .0)
 
 cast-at : tie.Need-cast-at Inv-loop μ-loop
 cast-at c =
-    let s = c .before .before .before .before .before in
+    let s : tie.Start Inv-loop μ-loop = search c in
     let l = c .before .loop .inv in
     omega (arith, few-threads (s .args .t1) (s .pre .0), c .loop-test .taken)
 
 place-at-requires : tie.Need-place-at-requires Inv-loop μ-loop
 place-at-requires c κs =
-    let s = c .before .before .before .before .before .before .before .before .before .before in
-    let l = c .before .before .before .before .before .before .loop .inv in
-    omega (arith, few-threads (s .args .t1) (s .pre .0), c .before .before .before .before .before .loop-test .taken)
+    let in-loop : tie.In-loop Inv-loop μ-loop = search c in
+    let at-loop : tie.At-loop Inv-loop μ-loop = search c in
+    let s : tie.Start Inv-loop μ-loop = search c in
+    let l = at-loop .loop .inv in
+    omega (arith, few-threads (s .args .t1) (s .pre .0), in-loop .loop-test .taken)
 
 own-record-at-requires : tie.Need-own-record-at-requires Inv-loop μ-loop
 own-record-at-requires c κs =
-    let s = c .before .before .before .before .before .before .before .before .before .before .before .before .before .before .before in
-    (s .pre .0, c .before .before .before .before .before .before .before .before .before .before .loop-test .taken)
+    let in-loop : tie.In-loop Inv-loop μ-loop = search c in
+    let s : tie.Start Inv-loop μ-loop = search c in
+    (s .pre .0, in-loop .loop-test .taken)
 
 cast-there : tie.Need-cast-there Inv-loop μ-loop
 cast-there c =
-    let s = c .before .before .before .before .before .before .before .before .before .before .before .before .before .before .before .before in
-    let l = c .before .before .before .before .before .before .before .before .before .before .before .before .loop .inv in
-    omega (arith, c .own-record-at .ensures .1, few-threads (s .args .t1) (s .pre .0), c .before .before .before .before .before .before .before .before .before .before .before .loop-test .taken)
+    let in-loop : tie.In-loop Inv-loop μ-loop = search c in
+    let at-loop : tie.At-loop Inv-loop μ-loop = search c in
+    let s : tie.Start Inv-loop μ-loop = search c in
+    let l = at-loop .loop .inv in
+    omega (arith, c .own-record-at .ensures .1, few-threads (s .args .t1) (s .pre .0), in-loop .loop-test .taken)
 
 mul-v : tie.Need-mul-v Inv-loop μ-loop
 mul-v c =
-    let s = c .before .before .before .before .before .before .before .before .before .before .before .before .before .before .before .before in
-    let l = c .before .before .before .before .before .before .before .before .before .before .before .before .loop .inv in
-    omega (arith, c .own-record-at .ensures .1, few-threads (s .args .t1) (s .pre .0), c .before .before .before .before .before .before .before .before .before .before .before .loop-test .taken)
+    let in-loop : tie.In-loop Inv-loop μ-loop = search c in
+    let at-loop : tie.At-loop Inv-loop μ-loop = search c in
+    let s : tie.Start Inv-loop μ-loop = search c in
+    let l = at-loop .loop .inv in
+    omega (arith, c .own-record-at .ensures .1, few-threads (s .args .t1) (s .pre .0), in-loop .loop-test .taken)
 
 element-copy-out-v : tie.Need-element-copy-out-v Inv-loop μ-loop
 element-copy-out-v c =
-    let s = c .before .before .before .before .before .before .before .before .before .before .before .before .before .before .before .before in
-    let l = c .before .before .before .before .before .before .before .before .before .before .before .before .loop .inv in
-    omega (arith, c .own-record-at .ensures .1, few-threads (s .args .t1) (s .pre .0), c .before .before .before .before .before .before .before .before .before .before .before .loop-test .taken)
-
-acts-from-at-requires : tie.Need-acts-from-at-requires Inv-loop μ-loop
-acts-from-at-requires c κs = search needs
-
-link-key-at-requires : tie.Need-link-key-at-requires Inv-loop μ-loop
-link-key-at-requires c κs = search needs
+    let in-loop : tie.In-loop Inv-loop μ-loop = search c in
+    let at-loop : tie.At-loop Inv-loop μ-loop = search c in
+    let s : tie.Start Inv-loop μ-loop = search c in
+    let l = at-loop .loop .inv in
+    omega (arith, c .own-record-at .ensures .1, few-threads (s .args .t1) (s .pre .0), in-loop .loop-test .taken)
 
 mul-linking : tie.Need-mul-linking Inv-loop μ-loop
 mul-linking c =
-    let s = c .before .before .before .before .before .before .before .before .before .before .before .before .before .before .before .before .before .before .before in
-    let l = c .before .before .before .before .before .before .before .before .before .before .before .before .before .before .before .loop .inv in
-    omega (arith, few-threads (s .args .t1) (s .pre .0), c .before .before .before .before .before .before .before .before .before .before .before .before .before .before .loop-test .taken)
+    let in-loop : tie.In-loop Inv-loop μ-loop = search c in
+    let at-loop : tie.At-loop Inv-loop μ-loop = search c in
+    let s : tie.Start Inv-loop μ-loop = search c in
+    let l = at-loop .loop .inv in
+    omega (arith, few-threads (s .args .t1) (s .pre .0), in-loop .loop-test .taken)
 
 element-write-linking : tie.Need-element-write-linking Inv-loop μ-loop
 element-write-linking c =
-    let s = c .before .before .before .before .before .before .before .before .before .before .before .before .before .before .before .before .before .before .before in
-    let l = c .before .before .before .before .before .before .before .before .before .before .before .before .before .before .before .loop .inv in
-    omega (arith, few-threads (s .args .t1) (s .pre .0), c .before .before .before .before .before .before .before .before .before .before .before .before .before .before .loop-test .taken)
+    let in-loop : tie.In-loop Inv-loop μ-loop = search c in
+    let at-loop : tie.At-loop Inv-loop μ-loop = search c in
+    let s : tie.Start Inv-loop μ-loop = search c in
+    let l = at-loop .loop .inv in
+    omega (arith, few-threads (s .args .t1) (s .pre .0), in-loop .loop-test .taken)
 
 own-record-at-requires-2 : tie.Need-own-record-at-requires-2 Inv-loop μ-loop
 own-record-at-requires-2 c κs =
-    let s = c .before .before .before .before .before .before .before .before .before .before .before .before .before .before .before .before .before .before .before .before .before .before .before in
-    (s .pre .0, c .before .before .before .before .before .before .before .before .before .before .before .before .before .before .before .before .before .before .loop-test .taken)
+    let in-loop : tie.In-loop Inv-loop μ-loop = search c in
+    let s : tie.Start Inv-loop μ-loop = search c in
+    (s .pre .0, in-loop .loop-test .taken)
 
 cast-root : tie.Need-cast-root Inv-loop μ-loop
 cast-root c =
-    let s = c .before .before .before .before .before .before .before .before .before .before .before .before .before .before .before .before .before .before .before .before .before .before .before .before in
-    let l = c .before .before .before .before .before .before .before .before .before .before .before .before .before .before .before .before .before .before .before .before .loop .inv in
-    omega (arith, c .own-record-at2 .ensures .1, few-threads (s .args .t1) (s .pre .0), c .before .before .before .before .before .before .before .before .before .before .before .before .before .before .before .before .before .before .before .loop-test .taken)
+    let in-loop : tie.In-loop Inv-loop μ-loop = search c in
+    let at-loop : tie.At-loop Inv-loop μ-loop = search c in
+    let s : tie.Start Inv-loop μ-loop = search c in
+    let l = at-loop .loop .inv in
+    omega (arith, c .own-record-at2 .ensures .1, few-threads (s .args .t1) (s .pre .0), in-loop .loop-test .taken)
 
 mul-ticket : tie.Need-mul-ticket Inv-loop μ-loop
 mul-ticket c =
-    let s = c .before .before .before .before .before .before .before .before .before .before .before .before .before .before .before .before .before .before .before .before .before .before .before .before in
-    let l = c .before .before .before .before .before .before .before .before .before .before .before .before .before .before .before .before .before .before .before .before .loop .inv in
-    omega (arith, c .own-record-at2 .ensures .1, few-threads (s .args .t1) (s .pre .0), c .before .before .before .before .before .before .before .before .before .before .before .before .before .before .before .before .before .before .before .loop-test .taken)
+    let in-loop : tie.In-loop Inv-loop μ-loop = search c in
+    let at-loop : tie.At-loop Inv-loop μ-loop = search c in
+    let s : tie.Start Inv-loop μ-loop = search c in
+    let l = at-loop .loop .inv in
+    omega (arith, c .own-record-at2 .ensures .1, few-threads (s .args .t1) (s .pre .0), in-loop .loop-test .taken)
 
 element-copy-out-ticket : tie.Need-element-copy-out-ticket Inv-loop μ-loop
 element-copy-out-ticket c =
-    let s = c .before .before .before .before .before .before .before .before .before .before .before .before .before .before .before .before .before .before .before .before .before .before .before .before in
-    let l = c .before .before .before .before .before .before .before .before .before .before .before .before .before .before .before .before .before .before .before .before .loop .inv in
-    omega (arith, c .own-record-at2 .ensures .1, few-threads (s .args .t1) (s .pre .0), c .before .before .before .before .before .before .before .before .before .before .before .before .before .before .before .before .before .before .before .loop-test .taken)
-
-ticket-key-at-requires : tie.Need-ticket-key-at-requires Inv-loop μ-loop
-ticket-key-at-requires c κs = search needs
+    let in-loop : tie.In-loop Inv-loop μ-loop = search c in
+    let at-loop : tie.At-loop Inv-loop μ-loop = search c in
+    let s : tie.Start Inv-loop μ-loop = search c in
+    let l = at-loop .loop .inv in
+    omega (arith, c .own-record-at2 .ensures .1, few-threads (s .args .t1) (s .pre .0), in-loop .loop-test .taken)
 
 mul-tickets : tie.Need-mul-tickets Inv-loop μ-loop
 mul-tickets c =
-    let s = c .before .before .before .before .before .before .before .before .before .before .before .before .before .before .before .before .before .before .before .before .before .before .before .before .before .before in
-    let l = c .before .before .before .before .before .before .before .before .before .before .before .before .before .before .before .before .before .before .before .before .before .before .loop .inv in
-    omega (arith, few-threads (s .args .t1) (s .pre .0), c .before .before .before .before .before .before .before .before .before .before .before .before .before .before .before .before .before .before .before .before .before .loop-test .taken)
+    let in-loop : tie.In-loop Inv-loop μ-loop = search c in
+    let at-loop : tie.At-loop Inv-loop μ-loop = search c in
+    let s : tie.Start Inv-loop μ-loop = search c in
+    let l = at-loop .loop .inv in
+    omega (arith, few-threads (s .args .t1) (s .pre .0), in-loop .loop-test .taken)
 
 element-write-tickets : tie.Need-element-write-tickets Inv-loop μ-loop
 element-write-tickets c =
-    let s = c .before .before .before .before .before .before .before .before .before .before .before .before .before .before .before .before .before .before .before .before .before .before .before .before .before .before in
-    let l = c .before .before .before .before .before .before .before .before .before .before .before .before .before .before .before .before .before .before .before .before .before .before .loop .inv in
-    omega (arith, few-threads (s .args .t1) (s .pre .0), c .before .before .before .before .before .before .before .before .before .before .before .before .before .before .before .before .before .before .before .before .before .loop-test .taken)
+    let in-loop : tie.In-loop Inv-loop μ-loop = search c in
+    let at-loop : tie.At-loop Inv-loop μ-loop = search c in
+    let s : tie.Start Inv-loop μ-loop = search c in
+    let l = at-loop .loop .inv in
+    omega (arith, few-threads (s .args .t1) (s .pre .0), in-loop .loop-test .taken)
 
 note-path-requires : tie.Need-note-path-requires Inv-loop μ-loop
 note-path-requires c κs =
-    let s = c .before .before .before .before .before .before .before .before .before .before .before .before .before .before .before .before .before .before .before .before .before .before .before .before .before .before .before .before .before .before .before .before .before in
-    let l = c .before .before .before .before .before .before .before .before .before .before .before .before .before .before .before .before .before .before .before .before .before .before .before .before .before .before .before .before .before .loop .inv in
-    (s .pre .0, (c .before .before .before .before .before .before .before .before .before .before .before .before .before .before .before .before .before .before .before .before .before .before .before .before .before .before .before .before .loop-test .taken, (l .1 .ahead-room, owned-nexts _ (accepted _ (s .pre .0)) (s .args .t2) (s .pre .1))))
+    let in-loop : tie.In-loop Inv-loop μ-loop = search c in
+    let at-loop : tie.At-loop Inv-loop μ-loop = search c in
+    let s : tie.Start Inv-loop μ-loop = search c in
+    let l = at-loop .loop .inv in
+    (s .pre .0, (in-loop .loop-test .taken, (l .1 .ahead-room, owned-nexts _ (accepted _ (s .pre .0)) (s .args .t2) (s .pre .1))))
 
 add-j : tie.Need-add-j Inv-loop μ-loop
 add-j c =
-    let s = c .before .before .before .before .before .before .before .before .before .before .before .before .before .before .before .before .before .before .before .before .before .before .before .before .before .before .before .before .before .before .before .before .before .before in
-    let l = c .before .before .before .before .before .before .before .before .before .before .before .before .before .before .before .before .before .before .before .before .before .before .before .before .before .before .before .before .before .before .loop .inv in
-    omega (arith, few-threads (s .args .t1) (s .pre .0), c .before .before .before .before .before .before .before .before .before .before .before .before .before .before .before .before .before .before .before .before .before .before .before .before .before .before .before .before .before .loop-test .taken)
+    let after-tree2 : tie.After-tree2 Inv-loop μ-loop = search c in
+    let after-tree : tie.After-tree Inv-loop μ-loop = search c in
+    let in-loop : tie.In-loop Inv-loop μ-loop = search c in
+    let at-loop : tie.At-loop Inv-loop μ-loop = search c in
+    let s : tie.Start Inv-loop μ-loop = search c in
+    let l = at-loop .loop .inv in
+    omega (arith, few-threads (s .args .t1) (s .pre .0), in-loop .loop-test .taken)
 
 loop-less : tie.Need-loop-less Inv-loop μ-loop
 loop-less c =
-    let s = c .before .before .before .before .before .before .before .before .before .before .before .before .before .before .before .before .before .before .before .before .before .before .before .before .before .before .before .before .before .before .before .before .before .before in
-    let l = c .before .before .before .before .before .before .before .before .before .before .before .before .before .before .before .before .before .before .before .before .before .before .before .before .before .before .before .before .before .before .loop .inv in
-    omega (arith, few-threads (s .args .t1) (s .pre .0), c .before .before .before .before .before .before .before .before .before .before .before .before .before .before .before .before .before .before .before .before .before .before .before .before .before .before .before .before .before .loop-test .taken)
+    let after-tree2 : tie.After-tree2 Inv-loop μ-loop = search c in
+    let after-tree : tie.After-tree Inv-loop μ-loop = search c in
+    let in-loop : tie.In-loop Inv-loop μ-loop = search c in
+    let at-loop : tie.At-loop Inv-loop μ-loop = search c in
+    let s : tie.Start Inv-loop μ-loop = search c in
+    let l = at-loop .loop .inv in
+    omega (arith, few-threads (s .args .t1) (s .pre .0), in-loop .loop-test .taken)
 
 loop-again : tie.Need-loop-again Inv-loop μ-loop
 loop-again c =
-    let s = c .before .before .before .before .before .before .before .before .before .before .before .before .before .before .before .before .before .before .before .before .before .before .before .before .before .before .before .before .before .before .before .before .before .before in
-    let l = c .before .before .before .before .before .before .before .before .before .before .before .before .before .before .before .before .before .before .before .before .before .before .before .before .before .before .before .before .before .before .loop .inv in
-    let b = c .before .before .before .before .before .before .before .before .before .before .before .before .before .before .before .before .before .before .before .before .before .before .before .before .before .before .before .before .before .loop-test .taken in
-    let key = c .before .before .before .before .before .before .before .before in
-    let top = c .before .before .before .before .before .before .before .before .before .before in
-    let link = c .before .before .before .before .before .before .before .before .before .before .before .before .before .before .before in
-    let acting = c .before .before .before .before .before .before .before .before .before .before .before .before .before .before .before .before in
-    let own = c .before .before .before .before .before .before .before .before .before .before .before .before .before .before .before .before .before .before in
-    let stands = own .before .before .before .before .before .place-at .ensures in (
+    let key : tie.After-ticket-key-at Inv-loop μ-loop = search c in
+    let top : tie.After-own-record-at2 Inv-loop μ-loop = search c in
+    let link : tie.After-link-key-at Inv-loop μ-loop = search c in
+    let acting : tie.After-acts-from-at Inv-loop μ-loop = search c in
+    let own : tie.After-own-record-at Inv-loop μ-loop = search c in
+    let after-place-at : tie.After-place-at Inv-loop μ-loop = search c in
+    let after-state : tie.After-state Inv-loop μ-loop = search c in
+    let in-loop : tie.In-loop Inv-loop μ-loop = search c in
+    let at-loop : tie.At-loop Inv-loop μ-loop = search c in
+    let s : tie.Start Inv-loop μ-loop = search c in
+    let l = at-loop .loop .inv in
+    let b = in-loop .loop-test .taken in
+    let stands = after-place-at .place-at .ensures in (
       omega arith,
       fill-turn (s .args .t1) (s .pre .0) (s .args .t2) (s .pre .1) _ b _ _ _ _ _ (rw stands at (own .own-record-at .ensures .0)) (rw stands at (acting .acts-from-at .ensures))
           (top .own-record-at2 .ensures .0) (rw stands at (link .link-key-at .ensures)) (key .ticket-key-at .ensures) _ _ _ _ (l .1) (c .note-path .ensures .0) (c .note-path .ensures .1),
@@ -152,7 +181,7 @@ loop-again c =
 
 returns : tie.Need-returns Inv-loop μ-loop
 returns c =
-    let s = c .before .before .before .before .before in
+    let s : tie.Start Inv-loop μ-loop = search c in
     let l = c .before .loop .inv in
     let e : c .before .loop .j ≡ s .args .t1 .threads = omega (arith, l .0, c .loop-test .left) in
     rw e at (l .1)
@@ -171,15 +200,15 @@ fill-tables-spec =
     cast-there
     mul-v
     element-copy-out-v
-    acts-from-at-requires
-    link-key-at-requires
+    (λ c κs. search needs)
+    (λ c κs. search needs)
     mul-linking
     element-write-linking
     own-record-at-requires-2
     cast-root
     mul-ticket
     element-copy-out-ticket
-    ticket-key-at-requires
+    (λ c κs. search needs)
     mul-tickets
     element-write-tickets
     note-path-requires

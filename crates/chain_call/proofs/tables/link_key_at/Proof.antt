@@ -4,12 +4,6 @@ use borrow.Author.Needs.{needs}
 use Rattle.chain_call.proofs.tables.link_key_at.Statement.{statement}
 use Rattle.chain_call.proofs.tables.link_key_at.Tie as tie
 
-cast-result : tie.Need-cast-result
-cast-result c = search needs
-
-add-result : tie.Need-add-result
-add-result c = search needs
-
 returns : tie.Need-returns
 returns c = rw (eq-eqb _ _ (c .before .if1 .taken))
 
@@ -20,7 +14,7 @@ pub link-key-at-spec : {M : Type 1} → statement M
 link-key-at-spec =
     tie.close
     (tie.spec
-    cast-result
-    add-result
+    (λ c. search needs)
+    (λ c. search needs)
     returns
     returns-2)

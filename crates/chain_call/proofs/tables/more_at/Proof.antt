@@ -4,9 +4,6 @@ use borrow.Author.Needs.{needs}
 use Rattle.chain_call.proofs.tables.more_at.Statement.{statement}
 use Rattle.chain_call.proofs.tables.more_at.Tie as tie
 
-add-result : tie.Need-add-result
-add-result c = search needs
-
 returns : tie.Need-returns
 returns c = rw (eq-eqb _ _ (c .if1 .taken))
 
@@ -17,6 +14,6 @@ pub more-at-spec : {M : Type 1} → statement M
 more-at-spec =
     tie.close
     (tie.spec
-    add-result
+    (λ c. search needs)
     returns
     returns-2)

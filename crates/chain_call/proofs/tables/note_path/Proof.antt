@@ -28,74 +28,96 @@ cast-loop c =
 
 cast-own : tie.Need-cast-own Inv-loop μ-loop
 cast-own c =
-    let p = c .before .before .before .pre in
+    let start : tie.Start Inv-loop μ-loop = search c in
+    let p = start .pre in
     let l = c .before .loop .inv in
     omega (arith, few-threads _ (p .0), few-domains _ (p .0), at-real _ (p .0) _ (p .1 .0) _ _ (l .at), at-record _ (p .0) _ (p .1 .0) _ _ (l .at))
 
 mul-next : tie.Need-mul-next Inv-loop μ-loop
 mul-next c =
-    let p = c .before .before .before .pre in
+    let start : tie.Start Inv-loop μ-loop = search c in
+    let p = start .pre in
     let l = c .before .loop .inv in
     omega (arith, few-threads _ (p .0), few-domains _ (p .0), at-real _ (p .0) _ (p .1 .0) _ _ (l .at), at-record _ (p .0) _ (p .1 .0) _ _ (l .at))
 
 element-copy-out-next : tie.Need-element-copy-out-next Inv-loop μ-loop
 element-copy-out-next c =
-    let p = c .before .before .before .pre in
+    let start : tie.Start Inv-loop μ-loop = search c in
+    let p = start .pre in
     let l = c .before .loop .inv in
     omega (arith, few-threads _ (p .0), few-domains _ (p .0), at-real _ (p .0) _ (p .1 .0) _ _ (l .at), at-record _ (p .0) _ (p .1 .0) _ _ (l .at))
 
 note-next-requires : tie.Need-note-next-requires Inv-loop μ-loop
 note-next-requires c κs =
-    let p = c .before .before .before .before .before .pre in
-    let l = c .before .before .before .loop .inv in
+    let at-loop : tie.At-loop Inv-loop μ-loop = search c in
+    let start : tie.Start Inv-loop μ-loop = search c in
+    let p = start .pre in
+    let l = at-loop .loop .inv in
     (next-small _ (p .0) _ (p .1 .1 .1) _ _ (p .1 .0) _ _ _ _ l, omega (arith, few-threads _ (p .0), p .1 .0))
 
 returns : tie.Need-returns Inv-loop μ-loop
 returns c =
-    let p = c .before .before .before .before .before .before .before .pre in
-    let l = c .before .before .before .before .before .loop .inv in
-    let b = c .before .before .before .before .loop-test .taken in
+    let in-loop : tie.In-loop Inv-loop μ-loop = search c in
+    let at-loop : tie.At-loop Inv-loop μ-loop = search c in
+    let start : tie.Start Inv-loop μ-loop = search c in
+    let p = start .pre in
+    let l = at-loop .loop .inv in
+    let b = in-loop .loop-test .taken in
     rw (c .before .note-next .ensures) (noting-root _ (p .0) _ (p .1 .1 .1) _ _ (p .1 .0) _ _ _ _ l b (c .if1 .taken), noting-room _ (p .0) _ (p .1 .1 .1) _ _ (p .1 .0) _ _ _ _ l b)
 
 cast-r : tie.Need-cast-r Inv-loop μ-loop
 cast-r c =
-    let p = c .before .before .before .before .before .before .before .pre in
-    let l = c .before .before .before .before .before .loop .inv in
+    let at-loop : tie.At-loop Inv-loop μ-loop = search c in
+    let start : tie.Start Inv-loop μ-loop = search c in
+    let p = start .pre in
+    let l = at-loop .loop .inv in
     omega (arith, few-threads _ (p .0), few-domains _ (p .0), at-real _ (p .0) _ (p .1 .0) _ _ (l .at), at-record _ (p .0) _ (p .1 .0) _ _ (l .at))
 
 add-r : tie.Need-add-r Inv-loop μ-loop
 add-r c =
-    let p = c .before .before .before .before .before .before .before .pre in
-    let l = c .before .before .before .before .before .loop .inv in
+    let at-loop : tie.At-loop Inv-loop μ-loop = search c in
+    let start : tie.Start Inv-loop μ-loop = search c in
+    let p = start .pre in
+    let l = at-loop .loop .inv in
     omega (arith, few-threads _ (p .0), few-domains _ (p .0), at-real _ (p .0) _ (p .1 .0) _ _ (l .at), at-record _ (p .0) _ (p .1 .0) _ _ (l .at))
 
 cast-at : tie.Need-cast-at Inv-loop μ-loop
 cast-at c =
-    let p = c .before .before .before .before .before .before .before .pre in
-    let l = c .before .before .before .before .before .loop .inv in
+    let at-loop : tie.At-loop Inv-loop μ-loop = search c in
+    let start : tie.Start Inv-loop μ-loop = search c in
+    let p = start .pre in
+    let l = at-loop .loop .inv in
     omega (arith, few-threads _ (p .0), few-domains _ (p .0), at-real _ (p .0) _ (p .1 .0) _ _ (l .at), at-record _ (p .0) _ (p .1 .0) _ _ (l .at))
 
 element-copy-out-c-2 : tie.Need-element-copy-out-c-2 Inv-loop μ-loop
 element-copy-out-c-2 c =
-    let p = c .before .before .before .before .before .before .before .pre in
-    let l = c .before .before .before .before .before .loop .inv in
+    let at-loop : tie.At-loop Inv-loop μ-loop = search c in
+    let start : tie.Start Inv-loop μ-loop = search c in
+    let p = start .pre in
+    let l = at-loop .loop .inv in
     omega (arith, few-threads _ (p .0), few-domains _ (p .0), at-real _ (p .0) _ (p .1 .0) _ _ (l .at), at-record _ (p .0) _ (p .1 .0) _ _ (l .at))
 
 loop-less : tie.Need-loop-less Inv-loop μ-loop
 loop-less c =
-    let p = c .before .before .before .before .before .before .before .before .pre in
-    let l = c .before .before .before .before .before .before .loop .inv in
+    let at-loop : tie.At-loop Inv-loop μ-loop = search c in
+    let start : tie.Start Inv-loop μ-loop = search c in
+    let p = start .pre in
+    let l = at-loop .loop .inv in
     at-falls _ (p .0) _ (p .1 .0) _ _ (l .at) (omega (arith, c .before .if1 .left))
 
 loop-again : tie.Need-loop-again Inv-loop μ-loop
 loop-again c =
-    let p = c .before .before .before .before .before .before .before .before .pre in
-    let l = c .before .before .before .before .before .before .loop .inv in
-    rw (c .before .before .note-next .ensures) (noting-up _ (p .0) _ (p .1 .1 .1) _ _ (p .1 .0) _ _ _ _ l (c .before .before .before .before .before .loop-test .taken) (c .before .if1 .left))
+    let in-loop : tie.In-loop Inv-loop μ-loop = search c in
+    let at-loop : tie.At-loop Inv-loop μ-loop = search c in
+    let start : tie.Start Inv-loop μ-loop = search c in
+    let p = start .pre in
+    let l = at-loop .loop .inv in
+    rw (c .before .before .note-next .ensures) (noting-up _ (p .0) _ (p .1 .1 .1) _ _ (p .1 .0) _ _ _ _ l (in-loop .loop-test .taken) (c .before .if1 .left))
 
 returns-2 : tie.Need-returns-2 Inv-loop μ-loop
 returns-2 c =
-    let p = c .before .before .before .pre in
+    let start : tie.Start Inv-loop μ-loop = search c in
+    let p = start .pre in
     let l = c .before .loop .inv in
     (noting-rest _ (p .0) _ (p .1 .1 .1) _ _ (p .1 .0) _ _ _ _ l (omega (arith, c .loop-test .left)), l .room)
 

@@ -7,12 +7,6 @@ use Rattle.chain_call.proofs.tables.ticket_key_at.Tie as tie
 returns : tie.Need-returns
 returns c = rw (ne-eqb _ _ (c .if1 .taken))
 
-cast-result : tie.Need-cast-result
-cast-result c = search needs
-
-add-result : tie.Need-add-result
-add-result c = search needs
-
 returns-2 : tie.Need-returns-2
 returns-2 c = rw (eq-eqb _ _ (c .before .if1 .left), lt-ltb _ _ (c .if2 .taken))
 
@@ -24,7 +18,7 @@ ticket-key-at-spec =
     tie.close
     (tie.spec
     returns
-    cast-result
-    add-result
+    (λ c. search needs)
+    (λ c. search needs)
     returns-2
     returns-3)

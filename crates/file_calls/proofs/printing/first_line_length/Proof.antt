@@ -8,24 +8,13 @@ use Rattle.lock_file.proofs.printed_listing.Numerals.{length-first-line}
 use Rattle.file_calls.proofs.printing.first_line_length.Statement.{statement}
 use Rattle.file_calls.proofs.printing.first_line_length.Tie as tie
 
-numbers-of-requires : tie.Need-numbers-of-requires
-numbers-of-requires c κs = search needs
-
-slice-aggregate-spaced-length : tie.Need-slice-aggregate-spaced-length
-slice-aggregate-spaced-length c = search needs
-
-spaced-length-requires : tie.Need-spaced-length-requires
-spaced-length-requires c κs = search needs
-
-add-result : tie.Need-add-result
-add-result c = search needs
-
 returns : tie.Need-returns
 returns c =
-    let whole = length-first-line (c .before .before .before .args .counts) in
+    let start : tie.Start = search c in
+    let whole = length-first-line (start .args .counts) in
     let n = ap (λ v. length (spaced v)) (c .before .before .numbers-of .ensures) in
     (omega arith, omega arith)
 
 pub first-line-length-spec : {M : Type 1} → statement M
 first-line-length-spec =
-    tie.close (tie.spec numbers-of-requires slice-aggregate-spaced-length spaced-length-requires add-result returns)
+    tie.close (tie.spec (λ c κs. search needs) (λ c. search needs) (λ c κs. search needs) (λ c. search needs) returns)

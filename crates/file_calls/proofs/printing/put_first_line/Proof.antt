@@ -10,34 +10,32 @@ use Rattle.lock_file.proofs.printed_listing.Numerals.{length-first-line}
 use Rattle.file_calls.proofs.printing.put_first_line.Statement.{statement}
 use Rattle.file_calls.proofs.printing.put_first_line.Tie as tie
 
-numbers-of-requires : tie.Need-numbers-of-requires
-numbers-of-requires c κs = search needs
-
 put-ok-requires : tie.Need-put-ok-requires
-put-ok-requires c κs = omega (arith, length-first-line (c .before .before .before .args .counts))
-
-slice-aggregate-put-spaced : tie.Need-slice-aggregate-put-spaced
-slice-aggregate-put-spaced c = search needs
+put-ok-requires c κs =
+    let start : tie.Start = search c in
+    omega (arith, length-first-line (start .args .counts))
 
 put-spaced-requires : tie.Need-put-spaced-requires
 put-spaced-requires c κs =
-    let n = c .before .before .before .before .before .before .numbers-of .ensures in
-    omega (arith, length-first-line (c .before .before .before .before .before .before .before .before .args .counts), ap (λ v. length (spaced v)) n)
-
-same-length : tie.Need-same-length
-same-length c = search needs
+    let after-numbers-of : tie.After-numbers-of = search c in
+    let start : tie.Start = search c in
+    let n = after-numbers-of .numbers-of .ensures in
+    omega (arith, length-first-line (start .args .counts), ap (λ v. length (spaced v)) n)
 
 returns : tie.Need-returns
 unfolding first-line
 returns c =
-    let a = c .before .before .before .before .before .before .before .before .before .before .before .args in
+    let after-put-ok : tie.After-put-ok = search c in
+    let after-numbers-of : tie.After-numbers-of = search c in
+    let start : tie.Start = search c in
+    let a = start .args in
     let x = a .counts in
-    let n = c .before .before .before .before .before .before .before .before .before .numbers-of .ensures in
+    let n = after-numbers-of .numbers-of .ensures in
     let w = c .before .before .put-spaced .ensures in (
       omega (arith, w .0, length-first-line x, ap (λ v. length (spaced v)) n),
-      w .1 ∙ rw (c .before .before .before .before .before .before .before .put-ok .ensures, n) (sym (sets-append (a .output .now) 0 (111 ∷ 107 ∷ []) (spaced (count-numbers x)))),
+      w .1 ∙ rw (after-put-ok .put-ok .ensures, n) (sym (sets-append (a .output .now) 0 (111 ∷ 107 ∷ []) (spaced (count-numbers x)))),
     )
 
 pub put-first-line-spec : {M : Type 1} → statement M
 put-first-line-spec =
-    tie.close (tie.spec numbers-of-requires put-ok-requires slice-aggregate-put-spaced put-spaced-requires same-length returns)
+    tie.close (tie.spec (λ c κs. search needs) put-ok-requires (λ c. search needs) put-spaced-requires (λ c. search needs) returns)

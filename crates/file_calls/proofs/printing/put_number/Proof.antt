@@ -13,18 +13,20 @@ put-numeral-requires : tie.Need-put-numeral-requires
 put-numeral-requires c κs = let a = c .before .before .args in omega (arith, length-number (a .value) (a .behind))
 
 slice-write-output : tie.Need-slice-write-output
-slice-write-output c = let a = c .before .before .before .before .before .args in omega (arith, length-number (a .value) (a .behind))
+slice-write-output c =
+    let start : tie.Start = search c in
+    let a = start .args in omega (arith, length-number (a .value) (a .behind))
 
 add-result : tie.Need-add-result
-add-result c = let a = c .before .before .before .before .before .args in search (needs, length-number (a .value) (a .behind))
-
-same-length : tie.Need-same-length
-same-length c = search needs
+add-result c =
+    let start : tie.Start = search c in
+    let a = start .args in search (needs, length-number (a .value) (a .behind))
 
 returns : tie.Need-returns
 unfolding number-then
 returns c =
-    let a = c .before .before .before .before .before .args in
+    let start : tie.Start = search c in
+    let a = start .args in
     let n = c .before .before .put-numeral .ensures in (
       omega (arith, length-number (a .value) (a .behind)),
       rw (n .1, n .0) (sym (sets-append (a .output .now) (a .at) (numeral (a .value)) (a .behind ∷ []))),
@@ -32,4 +34,4 @@ returns c =
 
 pub put-number-spec : {M : Type 1} → statement M
 put-number-spec =
-    tie.close (tie.spec put-numeral-requires slice-write-output add-result same-length returns)
+    tie.close (tie.spec put-numeral-requires slice-write-output add-result (λ c. search needs) returns)

@@ -19,26 +19,14 @@ Inv-loop output₀ at value count rest₀ left₀ output rest left =
 abbrev μ-loop : tie.MeasureT-loop
 μ-loop output₀ at value count rest₀ left₀ output rest left = rest
 
-digit-count-requires : tie.Need-digit-count-requires Inv-loop μ-loop
-digit-count-requires c κs = search needs
-
 loop-holds : tie.Need-loop-holds Inv-loop μ-loop
 loop-holds c = (c .digit-count .ensures .0, refl, refl, omega (arith, c .digit-count .ensures .0))
 
 sub-left : tie.Need-sub-left Inv-loop μ-loop
 sub-left c = omega (arith, length-positive (c .before .loop .rest))
 
-digit-of-requires : tie.Need-digit-of-requires Inv-loop μ-loop
-digit-of-requires c κs = omega arith
-
-add-output : tie.Need-add-output Inv-loop μ-loop
-add-output c = search needs
-
 slice-write-output : tie.Need-slice-write-output Inv-loop μ-loop
 slice-write-output c = omega (arith, length-positive (c .before .before .loop .rest))
-
-loop-less : tie.Need-loop-less Inv-loop μ-loop
-loop-less c = omega arith
 
 loop-again : tie.Need-loop-again Inv-loop μ-loop
 loop-again c =
@@ -51,23 +39,19 @@ loop-again c =
       omega arith,
     )
 
-digit-of-requires-2 : tie.Need-digit-of-requires-2 Inv-loop μ-loop
-digit-of-requires-2 c κs = omega arith
-
 slice-write-output-2 : tie.Need-slice-write-output-2 Inv-loop μ-loop
 slice-write-output-2 c = omega (arith, length-positive (c .before .before .loop .rest))
-
-add-result : tie.Need-add-result Inv-loop μ-loop
-add-result c = search needs
 
 same-length : tie.Need-same-length Inv-loop μ-loop
 same-length c = simp length-set (c .before .before .loop .inv .1)
 
 returns : tie.Need-returns Inv-loop μ-loop
-returns c = let h = c .before .before .loop in (
-  omega (arith, c .before .before .before .digit-count .ensures .0),
-  rw (c .digit-of2 .ensures) (only-digit (h .output) _ (h .rest) (c .before .loop-test .left) ∙ h .inv .2),
-)
+returns c =
+    let after-digit-count : tie.After-digit-count Inv-loop μ-loop = search c in
+    let h = c .before .before .loop in (
+      omega (arith, after-digit-count .digit-count .ensures .0),
+      rw (c .digit-of2 .ensures) (only-digit (h .output) _ (h .rest) (c .before .loop-test .left) ∙ h .inv .2),
+    )
 
 pub put-numeral-spec : {M : Type 1} → statement M
 put-numeral-spec =
@@ -75,16 +59,16 @@ put-numeral-spec =
     (tie.spec
     Inv-loop
     μ-loop
-    digit-count-requires
+    (λ c κs. search needs)
     loop-holds
     sub-left
-    digit-of-requires
-    add-output
+    (λ c κs. search needs)
+    (λ c. search needs)
     slice-write-output
-    loop-less
+    (λ c. search needs)
     loop-again
-    digit-of-requires-2
+    (λ c κs. search needs)
     slice-write-output-2
-    add-result
+    (λ c. search needs)
     same-length
     returns)

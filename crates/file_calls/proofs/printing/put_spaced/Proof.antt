@@ -24,32 +24,27 @@ loop-holds : tie.Need-loop-holds Inv-loop μ-loop
 loop-holds c = (search needs, refl, refl, refl)
 
 slice-write-output : tie.Need-slice-write-output Inv-loop μ-loop
-slice-write-output c = let next = spaced-length-next (c .before .before .before .before .args .numbers .now) (c .before .loop .k) (c .loop-test .taken) in omega arith
+slice-write-output c =
+    let start-point : tie.Start Inv-loop μ-loop = search c in
+    let next = spaced-length-next (start-point .args .numbers .now) (c .before .loop .k) (c .loop-test .taken) in omega arith
 
 add-put-numeral : tie.Need-add-put-numeral Inv-loop μ-loop
-add-put-numeral c = let test = c .before in let next = spaced-length-next (test .before .before .before .before .args .numbers .now) (test .before .loop .k) (test .loop-test .taken) in omega arith
-
-mul-put-numeral : tie.Need-mul-put-numeral Inv-loop μ-loop
-mul-put-numeral c = search needs
-
-shared-slice-read-put-numeral : tie.Need-shared-slice-read-put-numeral Inv-loop μ-loop
-shared-slice-read-put-numeral c = search needs
+add-put-numeral c =
+    let start-point : tie.Start Inv-loop μ-loop = search c in
+    let test = c .before in let next = spaced-length-next (start-point .args .numbers .now) (test .before .loop .k) (test .loop-test .taken) in omega arith
 
 put-numeral-requires : tie.Need-put-numeral-requires Inv-loop μ-loop
-put-numeral-requires c κs = let test = c .before .before in let next = spaced-length-next (test .before .before .before .before .args .numbers .now) (test .before .loop .k) (test .loop-test .taken) in simp length-set (omega arith)
-
-add-k : tie.Need-add-k Inv-loop μ-loop
-add-k c = search needs
-
-loop-less : tie.Need-loop-less Inv-loop μ-loop
-loop-less c = omega arith
+put-numeral-requires c κs =
+    let start-point : tie.Start Inv-loop μ-loop = search c in
+    let test = c .before .before in let next = spaced-length-next (start-point .args .numbers .now) (test .before .loop .k) (test .loop-test .taken) in simp length-set (omega arith)
 
 loop-again : tie.Need-loop-again Inv-loop μ-loop
 loop-again c =
+    let test : tie.In-loop Inv-loop μ-loop = search c in
+    let start-point : tie.Start Inv-loop μ-loop = search c in
     let n = c .before .before .put-numeral in
-    let test = c .before .before .before .before .before in
     let h = test .before .loop in
-    let ns = test .before .before .before .before .args .numbers .now in
+    let ns = start-point .args .numbers .now in
     let next = spaced-length-next ns (h .k) (test .loop-test .taken) in (
       search needs,
       n .kept .0 ∙ length-set (h .output) (h .at) 32 ∙ h .inv .1,
@@ -58,18 +53,23 @@ loop-again c =
     )
 
 slice-write-output-2 : tie.Need-slice-write-output-2 Inv-loop μ-loop
-slice-write-output-2 c = let over = ap length (spaced-over (c .before .before .before .before .args .numbers .now) (c .before .loop .k) (c .loop-test .left)) in omega arith
+slice-write-output-2 c =
+    let start-point : tie.Start Inv-loop μ-loop = search c in
+    let over = ap length (spaced-over (start-point .args .numbers .now) (c .before .loop .k) (c .loop-test .left)) in omega arith
 
 add-result : tie.Need-add-result Inv-loop μ-loop
-add-result c = let over = ap length (spaced-over (c .before .before .before .before .args .numbers .now) (c .before .loop .k) (c .loop-test .left)) in omega arith
+add-result c =
+    let start-point : tie.Start Inv-loop μ-loop = search c in
+    let over = ap length (spaced-over (start-point .args .numbers .now) (c .before .loop .k) (c .loop-test .left)) in omega arith
 
 same-length : tie.Need-same-length Inv-loop μ-loop
 same-length c = length-set (c .before .loop .output) (c .before .loop .at) 10 ∙ c .before .loop .inv .1
 
 returns : tie.Need-returns Inv-loop μ-loop
 returns c =
+    let start-point : tie.Start Inv-loop μ-loop = search c in
     let h = c .before .loop in
-    let over = spaced-over (c .before .before .before .before .args .numbers .now) (h .k) (c .loop-test .left) in
+    let over = spaced-over (start-point .args .numbers .now) (h .k) (c .loop-test .left) in
     (omega (arith, ap length over), rw over at (h .inv .3))
 
 pub put-spaced-spec : {M : Type 1} → statement M
@@ -81,11 +81,11 @@ put-spaced-spec =
     loop-holds
     slice-write-output
     add-put-numeral
-    mul-put-numeral
-    shared-slice-read-put-numeral
+    (λ c. search needs)
+    (λ c. search needs)
     put-numeral-requires
-    add-k
-    loop-less
+    (λ c. search needs)
+    (λ c. search needs)
     loop-again
     slice-write-output-2
     add-result

@@ -23,35 +23,27 @@ abbrev μ-loop : tie.MeasureT-loop
 loop-holds : tie.Need-loop-holds Inv-loop μ-loop
 loop-holds c = (search needs, refl, refl, refl, omega arith)
 
-mul-word-number : tie.Need-mul-word-number Inv-loop μ-loop
-mul-word-number c = search needs
-
-shared-slice-read-word-number : tie.Need-shared-slice-read-word-number Inv-loop μ-loop
-shared-slice-read-word-number c = search needs
-
-word-number-requires : tie.Need-word-number-requires Inv-loop μ-loop
-word-number-requires c κs = search needs
-
 put-number-requires : tie.Need-put-number-requires Inv-loop μ-loop
 put-number-requires c κs =
-    let h = c .before .before .before .before .loop in
+    let in-loop : tie.In-loop Inv-loop μ-loop = search c in
+    let at-loop : tie.At-loop Inv-loop μ-loop = search c in
+    let start-point : tie.Start Inv-loop μ-loop = search c in
+    let h = at-loop .loop in
     let element = c .before .word-number in
-    let next = trace-length-next (c .before .before .before .before .before .before .before .args .trace .now) (h .k) (c .before .before .before .loop-test .taken) in
+    let next = trace-length-next (start-point .args .trace .now) (h .k) (in-loop .loop-test .taken) in
     omega (arith, length-number (element .result) 10, ap (λ v. length (numeral v)) (element .ensures))
-
-add-k : tie.Need-add-k Inv-loop μ-loop
-add-k c = search needs
-
-loop-less : tie.Need-loop-less Inv-loop μ-loop
-loop-less c = omega arith
 
 loop-again : tie.Need-loop-again Inv-loop μ-loop
 loop-again c =
-    let h = c .before .before .before .before .before .before .before .loop in
-    let a = c .before .before .before .before .before .before .before .before .before .before .args in
-    let element = c .before .before .before .before .word-number in
+    let after-word-number : tie.After-word-number Inv-loop μ-loop = search c in
+    let in-loop : tie.In-loop Inv-loop μ-loop = search c in
+    let at-loop : tie.At-loop Inv-loop μ-loop = search c in
+    let start-point : tie.Start Inv-loop μ-loop = search c in
+    let h = at-loop .loop in
+    let a = start-point .args in
+    let element = after-word-number .word-number in
     let n = c .before .before .put-number in
-    let t = c .before .before .before .before .before .before .loop-test .taken in
+    let t = in-loop .loop-test .taken in
     let next = trace-length-next (a .trace .now) (h .k) t in (
       search needs,
       n .kept .0 ∙ h .inv .1,
@@ -65,8 +57,9 @@ same-length c = c .before .loop .inv .1
 
 returns : tie.Need-returns Inv-loop μ-loop
 returns c =
+    let start-point : tie.Start Inv-loop μ-loop = search c in
     let h = c .before .loop in
-    let over = trace-lines-over (c .before .before .before .before .args .trace .now) (h .k) (c .loop-test .left) in
+    let over = trace-lines-over (start-point .args .trace .now) (h .k) (c .loop-test .left) in
     (omega (arith, ap length over), (omega arith, rw over at (h .inv .3)))
 
 pub put-trace-spec : {M : Type 1} → statement M
@@ -76,12 +69,12 @@ put-trace-spec =
     Inv-loop
     μ-loop
     loop-holds
-    mul-word-number
-    shared-slice-read-word-number
-    word-number-requires
+    (λ c. search needs)
+    (λ c. search needs)
+    (λ c κs. search needs)
     put-number-requires
-    add-k
-    loop-less
+    (λ c. search needs)
+    (λ c. search needs)
     loop-again
     same-length
     returns)

@@ -19,33 +19,17 @@ abbrev μ-loop : tie.MeasureT-loop
 loop-holds : tie.Need-loop-holds Inv-loop μ-loop
 loop-holds c = (search needs, omega arith, omega arith)
 
-mul-number-length : tie.Need-mul-number-length Inv-loop μ-loop
-mul-number-length c = search needs
-
-shared-slice-read-number-length : tie.Need-shared-slice-read-number-length Inv-loop μ-loop
-shared-slice-read-number-length c = search needs
-
-number-length-requires : tie.Need-number-length-requires Inv-loop μ-loop
-number-length-requires c κs = search needs
-
-add-total : tie.Need-add-total Inv-loop μ-loop
-add-total c = search needs
-
-add-k : tie.Need-add-k Inv-loop μ-loop
-add-k c = search needs
-
-loop-less : tie.Need-loop-less Inv-loop μ-loop
-loop-less c = omega arith
-
 loop-again : tie.Need-loop-again Inv-loop μ-loop
 loop-again c =
+    let start : tie.Start Inv-loop μ-loop = search c in
     let test = c .before .before in
-    let next = spaced-length-next (test .before .before .before .args .numbers .now) (test .before .loop .k) (test .loop-test .taken) in
+    let next = spaced-length-next (start .args .numbers .now) (test .before .loop .k) (test .loop-test .taken) in
     (search needs, omega arith, omega arith)
 
 returns : tie.Need-returns Inv-loop μ-loop
 returns c =
-    let over = ap length (spaced-over (c .before .before .before .args .numbers .now) (c .before .loop .k) (c .loop-test .left)) in
+    let start : tie.Start Inv-loop μ-loop = search c in
+    let over = ap length (spaced-over (start .args .numbers .now) (c .before .loop .k) (c .loop-test .left)) in
     (omega arith, omega arith)
 
 pub spaced-length-spec : {M : Type 1} → statement M
@@ -55,11 +39,11 @@ spaced-length-spec =
     Inv-loop
     μ-loop
     loop-holds
-    mul-number-length
-    shared-slice-read-number-length
-    number-length-requires
-    add-total
-    add-k
-    loop-less
+    (λ c. search needs)
+    (λ c. search needs)
+    (λ c κs. search needs)
+    (λ c. search needs)
+    (λ c. search needs)
+    (λ c. search needs)
     loop-again
     returns)

@@ -11,55 +11,53 @@ use Rattle.file_calls.proofs.printing.Printing.{length-short, length-fi
 use Rattle.file_calls.proofs.printing.write_listing.Statement.{statement}
 use Rattle.file_calls.proofs.printing.write_listing.Tie as tie
 
-first-line-length-requires : tie.Need-first-line-length-requires
-first-line-length-requires c κs = search needs
-
 returns : tie.Need-returns
 returns c =
-    let a = c .before .before .before .before .args in
+    let start : tie.Start = search c in
+    let a = start .args in
     let ls = listing (a .counts) (a .trace .now) in
     let long = length-listing (a .counts) (a .trace .now) in
     let short : length (a .output .now) < length ls = omega arith in
     (sym (length-short ls _ short), (omega arith, sym (printed-short ls _ short)))
 
-sub-trace-fits : tie.Need-sub-trace-fits
-sub-trace-fits c = search needs
-
-trace-fits-requires : tie.Need-trace-fits-requires
-trace-fits-requires c κs = search needs
-
 returns-2 : tie.Need-returns-2
 returns-2 c =
-    let a = c .before .before .before .before .before .before .args in
+    let after-first-line-length : tie.After-first-line-length = search c in
+    let start : tie.Start = search c in
+    let a = start .args in
     let ls = listing (a .counts) (a .trace .now) in
     let long = length-listing (a .counts) (a .trace .now) in
-    let line = c .before .before .before .first-line-length .result in
+    let line = after-first-line-length .first-line-length .result in
     let more = leb-false (length (trace-lines (a .trace .now))) (length (a .output .now) - line) (sym (c .before .trace-fits .ensures) ∙ not-true _ (c .if2 .taken)) in
     let short : length (a .output .now) < length ls = omega arith in
     (sym (length-short ls _ short), (omega arith, sym (printed-short ls _ short)))
 
-put-first-line-requires : tie.Need-put-first-line-requires
-put-first-line-requires c κs = search needs
-
 put-trace-requires : tie.Need-put-trace-requires
 put-trace-requires c κs =
-    let a = c .before .before .before .before .before .before .before .before .before .before .before .args in
-    let line = c .before .before .before .before .before .before .before .before .first-line-length .result in
-    let fits = leb-true (length (trace-lines (a .trace .now))) (length (a .output .now) - line) (sym (c .before .before .before .before .before .before .trace-fits .ensures) ∙ not-false _ (c .before .before .before .before .before .if2 .left)) in
-    omega (arith, c .before .before .before .put-first-line .ensures .0, c .before .before .before .put-first-line .kept .0)
-
-same-length : tie.Need-same-length
-same-length c = search needs
+    let after-put-first-line : tie.After-put-first-line = search c in
+    let else2 : tie.Else2 = search c in
+    let after-trace-fits : tie.After-trace-fits = search c in
+    let after-first-line-length : tie.After-first-line-length = search c in
+    let start : tie.Start = search c in
+    let a = start .args in
+    let line = after-first-line-length .first-line-length .result in
+    let fits = leb-true (length (trace-lines (a .trace .now))) (length (a .output .now) - line) (sym (after-trace-fits .trace-fits .ensures) ∙ not-false _ (else2 .if2 .left)) in
+    omega (arith, after-put-first-line .put-first-line .ensures .0, after-put-first-line .put-first-line .kept .0)
 
 returns-3 : tie.Need-returns-3
 returns-3 c =
-    let a = c .before .before .before .before .before .before .before .before .before .before .before .before .before .before .args in
+    let after-put-first-line : tie.After-put-first-line = search c in
+    let else2 : tie.Else2 = search c in
+    let after-trace-fits : tie.After-trace-fits = search c in
+    let after-first-line-length : tie.After-first-line-length = search c in
+    let start : tie.Start = search c in
+    let a = start .args in
     let ls = listing (a .counts) (a .trace .now) in
     let long = length-listing (a .counts) (a .trace .now) in
-    let measured = c .before .before .before .before .before .before .before .before .before .before .before .first-line-length in
-    let room = leb-true (length (trace-lines (a .trace .now))) (length (a .output .now) - measured .result) (sym (c .before .before .before .before .before .before .before .before .before .trace-fits .ensures) ∙ not-false _ (c .before .before .before .before .before .before .before .before .if2 .left)) in
+    let measured = after-first-line-length .first-line-length in
+    let room = leb-true (length (trace-lines (a .trace .now))) (length (a .output .now) - measured .result) (sym (after-trace-fits .trace-fits .ensures) ∙ not-false _ (else2 .if2 .left)) in
     let fits : length ls ≤ length (a .output .now) = omega arith in
-    let line = c .before .before .before .before .before .before .put-first-line .ensures in
+    let line = after-put-first-line .put-first-line .ensures in
     let lines = c .before .before .put-trace .ensures in (
       rw (length-fits ls _ fits) (omega (arith, lines .0, line .0)),
       (
@@ -72,12 +70,12 @@ pub write-listing-spec : {M : Type 1} → statement M
 write-listing-spec =
     tie.close
     (tie.spec
-    first-line-length-requires
+    (λ c κs. search needs)
     returns
-    sub-trace-fits
-    trace-fits-requires
+    (λ c. search needs)
+    (λ c κs. search needs)
     returns-2
-    put-first-line-requires
+    (λ c κs. search needs)
     put-trace-requires
-    same-length
+    (λ c. search needs)
     returns-3)

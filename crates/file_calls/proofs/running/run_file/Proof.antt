@@ -14,55 +14,47 @@ returns : tie.Need-returns
 unfolding file-answer output-answer outcome-reply outcome-output refusal
 returns c = let long = c .if1 .taken in (rw (file-long _ _ long), rw (file-long _ _ long))
 
-read-tree-requires : tie.Need-read-tree-requires
-read-tree-requires c κs = search needs
-
-enum-known-reached : tie.Need-enum-known-reached
-enum-known-reached c = search needs
-
 run-tree-requires : tie.Need-run-tree-requires
-run-tree-requires c κs = (start-within _ (omega arith) _ (c .before .before .before .before .before .read-tree .ensures) _ (c .before .before .reached .given .1), omega arith)
-
-enum-told : tie.Need-enum-told
-enum-told c = search needs
-
-index-number-requires : tie.Need-index-number-requires
-index-number-requires c κs = search needs
-
-enum-known-reached-2 : tie.Need-enum-known-reached-2
-enum-known-reached-2 c = search needs
+run-tree-requires c κs =
+    let after-read-tree : tie.After-read-tree = search c in
+    (start-within _ (omega arith) _ (after-read-tree .read-tree .ensures) _ (c .before .before .reached .given .1), omega arith)
 
 index-number-requires-2 : tie.Need-index-number-requires-2
 index-number-requires-2 c κs =
-    let h = place-within _ (omega arith) _ (c .before .before .before .before .read-tree .ensures) _ (c .before .reached2 .given .1) in
+    let after-read-tree : tie.After-read-tree = search c in
+    let h = place-within _ (omega arith) _ (after-read-tree .read-tree .ensures) _ (c .before .reached2 .given .1) in
     omega arith
-
-same-length : tie.Need-same-length
-same-length c = search needs
 
 returns-2 : tie.Need-returns-2
 unfolding file-answer output-answer
 returns-2 c =
-    let a = c .before .before .before .before .before .before .before .before .before .before .before .before .args in
+    let after-reached : tie.After-reached = search c in
+    let after-read-tree : tie.After-read-tree = search c in
+    let start : tie.Start = search c in
+    let a = start .args in
     let short : length (a .file .now) ≤ 65536 = omega arith in
-    let e = file-at (a .file .now) (length (a .output .now)) short _ (c .before .before .before .before .before .before .before .before .read-tree .ensures) _ (c .before .before .before .before .before .reached .given .1) in
+    let e = file-at (a .file .now) (length (a .output .now)) short _ (after-read-tree .read-tree .ensures) _ (after-reached .reached .given .1) in
     let r = c .before .before .run-tree .ensures in
     (rw (e, r .0), rw (e, r .1))
 
 returns-3 : tie.Need-returns-3
 unfolding file-answer output-answer outcome-reply outcome-output refusal
 returns-3 c =
-    let a = c .before .before .before .before .before .before .before .before .args in
+    let after-read-tree : tie.After-read-tree = search c in
+    let start : tie.Start = search c in
+    let a = start .args in
     let short : length (a .file .now) ≤ 65536 = omega arith in
-    let e = file-ended (a .file .now) (length (a .output .now)) short _ (c .before .before .before .before .read-tree .ensures) (c .before .enum-told .given .1) in
+    let e = file-ended (a .file .now) (length (a .output .now)) short _ (after-read-tree .read-tree .ensures) (c .before .enum-told .given .1) in
     (rw (e, c .index-number .ensures), rw e)
 
 returns-4 : tie.Need-returns-4
 unfolding file-answer output-answer outcome-reply outcome-output refusal
 returns-4 c =
-    let a = c .before .before .before .before .before .before .before .before .before .args in
+    let after-read-tree : tie.After-read-tree = search c in
+    let start : tie.Start = search c in
+    let a = start .args in
     let short : length (a .file .now) ≤ 65536 = omega arith in
-    let e = file-bad (a .file .now) (length (a .output .now)) short _ (c .before .before .before .before .before .read-tree .ensures) _ (c .before .before .reached2 .given .1) in
+    let e = file-bad (a .file .now) (length (a .output .now)) short _ (after-read-tree .read-tree .ensures) _ (c .before .before .reached2 .given .1) in
     (rw (e, c .index-number2 .ensures), rw e)
 
 pub run-file-spec : {M : Type 1} → statement M
@@ -70,14 +62,14 @@ run-file-spec =
     tie.close
     (tie.spec
     returns
-    read-tree-requires
-    enum-known-reached
+    (λ c κs. search needs)
+    (λ c. search needs)
     run-tree-requires
-    enum-told
-    index-number-requires
-    enum-known-reached-2
+    (λ c. search needs)
+    (λ c κs. search needs)
+    (λ c. search needs)
     index-number-requires-2
-    same-length
+    (λ c. search needs)
     returns-2
     returns-3
     returns-4)

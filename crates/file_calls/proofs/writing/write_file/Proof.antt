@@ -4,7 +4,7 @@ use Prim.Native.Nat.{_≤_, _<_}
 use native.Mathlib.Omega.{arith}
 use lib.ListN.{length}
 use Rattle.model.specs.Trees.{tree-of}
-use Rattle.model.specs.Refusals.{refusal, accepted, first-refusal, schedule-tests, tree-refusal}
+use Rattle.model.specs.Refusals.{refusal, first-refusal, schedule-tests, tree-refusal}
 use Rattle.model.proofs.Trees.Accepted as trees
 use Rattle.refusals.specs.declared.Refusal.{Refusal}
 use Rattle.refusals.proofs.Reading.{refusal-words-same}
@@ -19,115 +19,121 @@ use borrow.Author.Needs.{needs}
 use Rattle.file_calls.proofs.writing.write_file.Statement.{statement}
 use Rattle.file_calls.proofs.writing.write_file.Tie as tie
 
-tree-refusal-of-requires : tie.Need-tree-refusal-of-requires
-tree-refusal-of-requires c κs = search needs
-
-refused-by-requires : tie.Need-refused-by-requires
-refused-by-requires c κs = search needs
-
 returns : tie.Need-returns
 returns c =
-    let a = c .before .before .before .before .before .before .before .before .before .before .args in
+    let after-tree-refusal-of : tie.After-tree-refusal-of = search c in
+    let start : tie.Start = search c in
+    let a = start .args in
     let w = a .t1 in
     let is = a .schedule .now in
     let b = a .file .now in
-    let r = c .before .before .before .tree-refusal-of in
+    let r = after-tree-refusal-of .tree-refusal-of in
     let tree = r .ensures ∙ refusal-words-same w in
     let n = refusal-words-not (r .result) _ tree (c .before .if1 .taken) in
     let answered = answer-refused w is b (tree-refusal (tree-of w)) (tree-refused (tree-of w) is (length b) n) n in
     (c .refused-by .ensures ∙ ap (λ (q : Refusal). replied (q .number) (q .place) 0) tree ∙ answered .0, answered .1)
 
-schedule-refusal-of-requires : tie.Need-schedule-refusal-of-requires
-schedule-refusal-of-requires c κs = search needs
-
-refused-by-requires-2 : tie.Need-refused-by-requires-2
-refused-by-requires-2 c κs = search needs
-
 returns-2 : tie.Need-returns-2
 returns-2 c =
-    let a = c .before .before .before .before .before .before .before .before .before .before .before .before .before .args in
+    let after-schedule-refusal-of : tie.After-schedule-refusal-of = search c in
+    let else1 : tie.Else1 = search c in
+    let after-tree-refusal-of : tie.After-tree-refusal-of = search c in
+    let after-tree : tie.After-tree = search c in
+    let start : tie.Start = search c in
+    let a = start .args in
     let w = a .t1 in
     let is = a .schedule .now in
     let b = a .file .now in
-    let r = c .before .before .before .before .before .before .tree-refusal-of in
+    let r = after-tree-refusal-of .tree-refusal-of in
     let tree = r .ensures ∙ refusal-words-same w in
-    let tree-passes = refusal-words-zero (r .result) _ tree (c .before .before .before .before .if1 .left) in
-    let s = c .before .before .before .schedule-refusal-of in
+    let tree-passes = refusal-words-zero (r .result) _ tree (else1 .if1 .left) in
+    let s = after-schedule-refusal-of .schedule-refusal-of in
     let schedule = schedule-refusal-words w is (s .result) tree-passes (s .ensures) in
     let n = refusal-words-not (s .result) _ schedule (c .before .if2 .taken) in
     let answered = answer-refused w is b (first-refusal (schedule-tests (tree-of w) is)) (schedule-refused (tree-of w) is (length b) tree-passes n) n in
     (c .refused-by2 .ensures ∙ ap (λ (q : Refusal). replied (q .number) (q .place) 0) schedule ∙ answered .0, answered .1)
 
-slice-aggregate-put-tree : tie.Need-slice-aggregate-put-tree
-slice-aggregate-put-tree c = search needs
-
 put-tree-requires : tie.Need-put-tree-requires
 unfolding tree-of
 put-tree-requires c κs =
-    let a = c .before .before .before .before .before .before .before .before .before .before .before .before .before .args in
+    let else1 : tie.Else1 = search c in
+    let after-tree-refusal-of : tie.After-tree-refusal-of = search c in
+    let start : tie.Start = search c in
+    let a = start .args in
     let w = a .t1 in
     let is = a .schedule .now in
     let b = a .file .now in
-    let r = c .before .before .before .before .before .before .tree-refusal-of in
+    let r = after-tree-refusal-of .tree-refusal-of in
     let tree = r .ensures ∙ refusal-words-same w in
-    let tree-passes = refusal-words-zero (r .result) _ tree (c .before .before .before .before .if1 .left) in
+    let tree-passes = refusal-words-zero (r .result) _ tree (else1 .if1 .left) in
     let t = trees.accepted (tree-of w) tree-passes in
     ((t .some-domain, t .few-domains), (t .few-threads, tree-short (tree-of w) (t .few-domains) (t .few-threads)))
-
-mul-length : tie.Need-mul-length
-mul-length c = search needs
 
 add-length : tie.Need-add-length
 unfolding tree-of
 add-length c =
-    let w = c .before .before .before .before .before .before .before .before .before .before .before .before .before .before .before .args .t1 in
-    let is = c .before .before .before .before .before .before .before .before .before .before .before .before .before .before .before .args .schedule .now in
-    let r = c .before .before .before .before .before .before .before .before .tree-refusal-of in
-    let tree-passes = refusal-words-zero (r .result) _ (r .ensures ∙ refusal-words-same w) (c .before .before .before .before .before .before .if1 .left) in
-    let s = c .before .before .before .before .before .schedule-refusal-of in
-    let short = short-schedule (tree-of w) is (refusal-words-zero (s .result) _ (schedule-refusal-words w is (s .result) tree-passes (s .ensures)) (c .before .before .before .if2 .left)) in
+    let else2 : tie.Else2 = search c in
+    let after-schedule-refusal-of : tie.After-schedule-refusal-of = search c in
+    let else1 : tie.Else1 = search c in
+    let after-tree-refusal-of : tie.After-tree-refusal-of = search c in
+    let after-tree : tie.After-tree = search c in
+    let start : tie.Start = search c in
+    let w = start .args .t1 in
+    let is = start .args .schedule .now in
+    let r = after-tree-refusal-of .tree-refusal-of in
+    let tree-passes = refusal-words-zero (r .result) _ (r .ensures ∙ refusal-words-same w) (else1 .if1 .left) in
+    let s = after-schedule-refusal-of .schedule-refusal-of in
+    let short = short-schedule (tree-of w) is (refusal-words-zero (s .result) _ (schedule-refusal-words w is (s .result) tree-passes (s .ensures)) (else2 .if2 .left)) in
     let t = trees.accepted (tree-of w) tree-passes in
     search (needs, c .before .put-tree .ensures .0, short, tree-short (tree-of w) (t .few-domains) (t .few-threads))
-
-refused-by-requires-3 : tie.Need-refused-by-requires-3
-refused-by-requires-3 c κs = search needs
 
 returns-3 : tie.Need-returns-3
 unfolding refusal
 returns-3 c =
-    let a = c .before .before .before .before .before .before .before .before .before .before .before .before .before .before .before .before .before .args in
+    let after-put-tree : tie.After-put-tree = search c in
+    let else2 : tie.Else2 = search c in
+    let after-schedule-refusal-of : tie.After-schedule-refusal-of = search c in
+    let else1 : tie.Else1 = search c in
+    let after-tree-refusal-of : tie.After-tree-refusal-of = search c in
+    let after-tree : tie.After-tree = search c in
+    let start : tie.Start = search c in
+    let a = start .args in
     let w = a .t1 in
     let is = a .schedule .now in
     let b = a .file .now in
-    let r = c .before .before .before .before .before .before .before .before .before .before .tree-refusal-of in
+    let r = after-tree-refusal-of .tree-refusal-of in
     let tree = r .ensures ∙ refusal-words-same w in
-    let tree-passes = refusal-words-zero (r .result) _ tree (c .before .before .before .before .before .before .before .before .if1 .left) in
-    let s = c .before .before .before .before .before .before .before .schedule-refusal-of in
+    let tree-passes = refusal-words-zero (r .result) _ tree (else1 .if1 .left) in
+    let s = after-schedule-refusal-of .schedule-refusal-of in
     let schedule = schedule-refusal-words w is (s .result) tree-passes (s .ensures) in
-    let schedule-passes = refusal-words-zero (s .result) _ schedule (c .before .before .before .before .before .if2 .left) in
+    let schedule-passes = refusal-words-zero (s .result) _ schedule (else2 .if2 .left) in
     let long = file-length (tree-of w) is in
-    let more : 65536 < length (written-file (tree-of w) is) = omega (arith, long, c .before .before .before .put-tree .ensures .0, c .before .if3 .taken) in
+    let more : 65536 < length (written-file (tree-of w) is) = omega (arith, long, after-put-tree .put-tree .ensures .0, c .before .if3 .taken) in
     let answered = answer-refused w is b (refusal 1 0) (length-refused (tree-of w) is (length b) tree-passes schedule-passes more) (λ e. omega arith) in
     (c .refused-by3 .ensures ∙ answered .0, answered .1)
-
-refused-by-requires-4 : tie.Need-refused-by-requires-4
-refused-by-requires-4 c κs = search needs
 
 returns-4 : tie.Need-returns-4
 unfolding refusal
 returns-4 c =
-    let a = c .before .before .before .before .before .before .before .before .before .before .before .before .before .before .before .before .before .before .args in
+    let after-put-tree : tie.After-put-tree = search c in
+    let else2 : tie.Else2 = search c in
+    let after-schedule-refusal-of : tie.After-schedule-refusal-of = search c in
+    let else1 : tie.Else1 = search c in
+    let after-tree-refusal-of : tie.After-tree-refusal-of = search c in
+    let after-tree : tie.After-tree = search c in
+    let start : tie.Start = search c in
+    let a = start .args in
     let w = a .t1 in
     let is = a .schedule .now in
     let b = a .file .now in
-    let r = c .before .before .before .before .before .before .before .before .before .before .before .tree-refusal-of in
+    let r = after-tree-refusal-of .tree-refusal-of in
     let tree = r .ensures ∙ refusal-words-same w in
-    let tree-passes = refusal-words-zero (r .result) _ tree (c .before .before .before .before .before .before .before .before .before .if1 .left) in
-    let s = c .before .before .before .before .before .before .before .before .schedule-refusal-of in
+    let tree-passes = refusal-words-zero (r .result) _ tree (else1 .if1 .left) in
+    let s = after-schedule-refusal-of .schedule-refusal-of in
     let schedule = schedule-refusal-words w is (s .result) tree-passes (s .ensures) in
-    let schedule-passes = refusal-words-zero (s .result) _ schedule (c .before .before .before .before .before .before .if2 .left) in
+    let schedule-passes = refusal-words-zero (s .result) _ schedule (else2 .if2 .left) in
     let long = file-length (tree-of w) is in
-    let measured = c .before .before .before .before .put-tree .ensures .0 in
+    let measured = after-put-tree .put-tree .ensures .0 in
     let short : length (written-file (tree-of w) is) ≤ 65536 = omega (arith, long, measured, c .before .before .if3 .left) in
     let more : length b < length (written-file (tree-of w) is) = omega (arith, long, measured, c .before .if4 .taken) in
     let answered = answer-refused w is b (refusal 17 0) (room-refused (tree-of w) is (length b) tree-passes schedule-passes short more) (λ e. omega arith) in
@@ -136,45 +142,56 @@ returns-4 c =
 put-tree-requires-2 : tie.Need-put-tree-requires-2
 unfolding tree-of
 put-tree-requires-2 c κs =
-    let a = c .before .before .before .before .before .before .before .before .before .before .before .before .before .before .before .before .before .before .args in
+    let after-put-tree : tie.After-put-tree = search c in
+    let else1 : tie.Else1 = search c in
+    let after-tree-refusal-of : tie.After-tree-refusal-of = search c in
+    let start : tie.Start = search c in
+    let a = start .args in
     let w = a .t1 in
     let is = a .schedule .now in
     let b = a .file .now in
-    let r = c .before .before .before .before .before .before .before .before .before .before .before .tree-refusal-of in
+    let r = after-tree-refusal-of .tree-refusal-of in
     let tree = r .ensures ∙ refusal-words-same w in
-    let tree-passes = refusal-words-zero (r .result) _ tree (c .before .before .before .before .before .before .before .before .before .if1 .left) in
+    let tree-passes = refusal-words-zero (r .result) _ tree (else1 .if1 .left) in
     let t = trees.accepted (tree-of w) tree-passes in
-    ((t .some-domain, t .few-domains), (t .few-threads, omega (arith, c .before .before .before .before .put-tree .ensures .0, c .before .if4 .left)))
+    ((t .some-domain, t .few-domains), (t .few-threads, omega (arith, after-put-tree .put-tree .ensures .0, c .before .if4 .left)))
 
 put-schedule-requires : tie.Need-put-schedule-requires
 put-schedule-requires c κs =
-    let first = c .before .before .before .before .before .before .before .before .put-tree .ensures .0 in
-    let second = c .before .before .before .put-tree2 in
-    omega (arith, first, second .ensures .0, second .kept .0, c .before .before .before .before .before .if4 .left)
-
-cast-t14 : tie.Need-cast-t14
-cast-t14 c = search needs
-
-same-length : tie.Need-same-length
-same-length c = search needs
+    let after-put-tree2 : tie.After-put-tree2 = search c in
+    let else4 : tie.Else4 = search c in
+    let after-put-tree : tie.After-put-tree = search c in
+    let first = after-put-tree .put-tree .ensures .0 in
+    let second = after-put-tree2 .put-tree2 in
+    omega (arith, first, second .ensures .0, second .kept .0, else4 .if4 .left)
 
 returns-5 : tie.Need-returns-5
 returns-5 c =
-    let a = c .before .before .before .before .before .before .before .before .before .before .before .before .before .before .before .before .before .before .before .before .before .before .before .before .before .args in
+    let after-put-tree2 : tie.After-put-tree2 = search c in
+    let else4 : tie.Else4 = search c in
+    let else3 : tie.Else3 = search c in
+    let after-put-tree : tie.After-put-tree = search c in
+    let else2 : tie.Else2 = search c in
+    let after-schedule-refusal-of : tie.After-schedule-refusal-of = search c in
+    let else1 : tie.Else1 = search c in
+    let after-tree-refusal-of : tie.After-tree-refusal-of = search c in
+    let after-tree : tie.After-tree = search c in
+    let start : tie.Start = search c in
+    let a = start .args in
     let w = a .t1 in
     let is = a .schedule .now in
     let b = a .file .now in
-    let r = c .before .before .before .before .before .before .before .before .before .before .before .before .before .before .before .before .before .before .tree-refusal-of in
+    let r = after-tree-refusal-of .tree-refusal-of in
     let tree = r .ensures ∙ refusal-words-same w in
-    let tree-passes = refusal-words-zero (r .result) _ tree (c .before .before .before .before .before .before .before .before .before .before .before .before .before .before .before .before .if1 .left) in
-    let s = c .before .before .before .before .before .before .before .before .before .before .before .before .before .before .before .schedule-refusal-of in
+    let tree-passes = refusal-words-zero (r .result) _ tree (else1 .if1 .left) in
+    let s = after-schedule-refusal-of .schedule-refusal-of in
     let schedule = schedule-refusal-words w is (s .result) tree-passes (s .ensures) in
-    let schedule-passes = refusal-words-zero (s .result) _ schedule (c .before .before .before .before .before .before .before .before .before .before .before .before .before .if2 .left) in
+    let schedule-passes = refusal-words-zero (s .result) _ schedule (else2 .if2 .left) in
     let long = file-length (tree-of w) is in
-    let measured = c .before .before .before .before .before .before .before .before .before .before .before .put-tree .ensures .0 in
-    let tree-put = c .before .before .before .before .before .before .put-tree2 .ensures in
-    let short : length (written-file (tree-of w) is) ≤ 65536 = omega (arith, long, measured, c .before .before .before .before .before .before .before .before .before .if3 .left) in
-    let fits : length (written-file (tree-of w) is) ≤ length b = omega (arith, long, measured, c .before .before .before .before .before .before .before .before .if4 .left) in
+    let measured = after-put-tree .put-tree .ensures .0 in
+    let tree-put = after-put-tree2 .put-tree2 .ensures in
+    let short : length (written-file (tree-of w) is) ≤ 65536 = omega (arith, long, measured, else3 .if3 .left) in
+    let fits : length (written-file (tree-of w) is) ≤ length b = omega (arith, long, measured, else4 .if4 .left) in
     let answered = answer-accepted w is b (accepts (tree-of w) is (length b) tree-passes schedule-passes short fits) in (
       ap (replied 0 0) (omega (arith, long, measured, tree-put .0)) ∙ answered .0,
       c .before .before .put-schedule .ensures ∙ rw (tree-put .1, tree-put .0) (file-stored (tree-of w) is b fits) ∙ answered .1,
@@ -184,22 +201,22 @@ pub write-file-spec : {M : Type 1} → statement M
 write-file-spec =
     tie.close
     (tie.spec
-    tree-refusal-of-requires
-    refused-by-requires
+    (λ c κs. search needs)
+    (λ c κs. search needs)
     returns
-    schedule-refusal-of-requires
-    refused-by-requires-2
+    (λ c κs. search needs)
+    (λ c κs. search needs)
     returns-2
-    slice-aggregate-put-tree
+    (λ c. search needs)
     put-tree-requires
-    mul-length
+    (λ c. search needs)
     add-length
-    refused-by-requires-3
+    (λ c κs. search needs)
     returns-3
-    refused-by-requires-4
+    (λ c κs. search needs)
     returns-4
     put-tree-requires-2
     put-schedule-requires
-    cast-t14
-    same-length
+    (λ c. search needs)
+    (λ c. search needs)
     returns-5)

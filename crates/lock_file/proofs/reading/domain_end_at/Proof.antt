@@ -5,12 +5,6 @@ use Rattle.lock_file.specs.Reading.{domain-size, domain-end}
 use Rattle.lock_file.proofs.reading.domain_end_at.Statement.{statement}
 use Rattle.lock_file.proofs.reading.domain_end_at.Tie as tie
 
-byte-at-requires : tie.Need-byte-at-requires
-byte-at-requires c κs = search needs
-
-domain-size-of-requires : tie.Need-domain-size-of-requires
-domain-size-of-requires c κs = search needs
-
 entry-end-at-requires : tie.Need-entry-end-at-requires
 unfolding domain-size
 entry-end-at-requires c κs = rw (c .domain-size-of .ensures) (omega arith)
@@ -21,4 +15,4 @@ returns c = rw (c .entry-end-at .ensures, c .before .domain-size-of .ensures, c 
 
 pub domain-end-at-spec : {M : Type 1} → statement M
 domain-end-at-spec =
-    tie.close (tie.spec byte-at-requires domain-size-of-requires entry-end-at-requires returns)
+    tie.close (tie.spec (λ c κs. search needs) (λ c κs. search needs) entry-end-at-requires returns)

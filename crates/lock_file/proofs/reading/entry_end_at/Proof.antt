@@ -9,20 +9,16 @@ returns : tie.Need-returns
 unfolding entry-end
 returns c = rw (le-leb _ _ (c .if1 .taken))
 
-byte-at-requires : tie.Need-byte-at-requires
-byte-at-requires c κs = search needs
-
 returns-2 : tie.Need-returns-2
 unfolding entry-end
 returns-2 c = rw (lt-leb _ _ (c .before .before .if1 .left), ← c .before .byte-at .ensures, lt-ltb _ _ (c .if2 .taken))
 
-field-end-at-requires : tie.Need-field-end-at-requires
-field-end-at-requires c κs = search needs
-
 returns-3 : tie.Need-returns-3
 unfolding entry-end
-returns-3 c = rw (lt-leb _ _ (c .before .before .before .if1 .left), ← c .before .before .byte-at .ensures, le-ltb _ _ (c .before .if2 .left), c .field-end-at .ensures)
+returns-3 c =
+    let else1 : tie.Else1 = search c in
+    rw (lt-leb _ _ (else1 .if1 .left), ← c .before .before .byte-at .ensures, le-ltb _ _ (c .before .if2 .left), c .field-end-at .ensures)
 
 pub entry-end-at-spec : {M : Type 1} → statement M
 entry-end-at-spec =
-    tie.close (tie.spec returns byte-at-requires returns-2 field-end-at-requires returns-3)
+    tie.close (tie.spec returns (λ c κs. search needs) returns-2 (λ c κs. search needs) returns-3)

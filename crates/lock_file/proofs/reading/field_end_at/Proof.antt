@@ -12,19 +12,13 @@ returns : tie.Need-returns
 unfolding field-end
 returns c = let h : length (c .before .args .file .now) - c .before .args .at < c .before .args .size = omega arith in rw (lt-ltb _ _ h)
 
-sub-if2 : tie.Need-sub-if2
-sub-if2 c = search needs
-
 returns-2 : tie.Need-returns-2
 unfolding field-end
 returns-2 c = rw (lt-ltb _ _ (c .if2 .taken))
-
-add-t4 : tie.Need-add-t4
-add-t4 c = search needs
 
 returns-3 : tie.Need-returns-3
 unfolding field-end
 returns-3 c = rw (le-ltb _ _ (c .if2 .left))
 
 pub field-end-at-spec : {M : Type 1} → statement M
-field-end-at-spec = tie.close (tie.spec returns sub-if2 returns-2 add-t4 returns-3)
+field-end-at-spec = tie.close (tie.spec returns (λ c. search needs) returns-2 (λ c. search needs) returns-3)

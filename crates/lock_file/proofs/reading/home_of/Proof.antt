@@ -5,15 +5,6 @@ use Rattle.lock_file.specs.Reading.{home-at}
 use Rattle.lock_file.proofs.reading.home_of.Statement.{statement}
 use Rattle.lock_file.proofs.reading.home_of.Tie as tie
 
-byte-at-requires : tie.Need-byte-at-requires
-byte-at-requires c κs = search needs
-
-add-byte-at : tie.Need-add-byte-at
-add-byte-at c = search needs
-
-byte-at-requires-2 : tie.Need-byte-at-requires-2
-byte-at-requires-2 c κs = search needs
-
 returns : tie.Need-returns
 unfolding home-at
 returns c = rw (c .byte-at2 .ensures, ← c .before .before .byte-at .ensures, eq-eqb _ _ (c .before .if1 .taken))
@@ -24,4 +15,4 @@ returns-2 c = rw (← c .before .byte-at .ensures, ne-eqb _ _ (c .if1 .left))
 
 pub home-of-spec : {M : Type 1} → statement M
 home-of-spec =
-    tie.close (tie.spec byte-at-requires add-byte-at byte-at-requires-2 returns returns-2)
+    tie.close (tie.spec (λ c κs. search needs) (λ c. search needs) (λ c κs. search needs) returns returns-2)

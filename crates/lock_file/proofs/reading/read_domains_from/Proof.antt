@@ -17,48 +17,43 @@ abbrev μ-loop : tie.MeasureT-loop
 loop-holds : tie.Need-loop-holds Inv-loop μ-loop
 loop-holds c = (search needs, refl)
 
-domain-end-at-requires : tie.Need-domain-end-at-requires Inv-loop μ-loop
-domain-end-at-requires c κs = search needs
-
-enum-known-next : tie.Need-enum-known-next Inv-loop μ-loop
-enum-known-next c = search needs
-
 parent-of-requires : tie.Need-parent-of-requires Inv-loop μ-loop
-parent-of-requires c κs = domain-within _ _ _ (sym (c .before .before .before .before .domain-end-at .ensures) ∙ c .before .before .next .given .1) .inside
-
-store-parent-requires : tie.Need-store-parent-requires Inv-loop μ-loop
-store-parent-requires c κs = search needs
+parent-of-requires c κs =
+    let after-domain-end-at : tie.After-domain-end-at Inv-loop μ-loop = search c in
+    domain-within _ _ _ (sym (after-domain-end-at .domain-end-at .ensures) ∙ c .before .before .next .given .1) .inside
 
 threshold-of-requires : tie.Need-threshold-of-requires Inv-loop μ-loop
-threshold-of-requires c κs = domain-within _ _ _ (sym (c .before .before .before .before .before .before .before .domain-end-at .ensures) ∙ c .before .before .before .before .before .next .given .1) .inside
-
-store-threshold-requires : tie.Need-store-threshold-requires Inv-loop μ-loop
-store-threshold-requires c κs = search needs
-
-enum-told : tie.Need-enum-told Inv-loop μ-loop
-enum-told c = search needs
+threshold-of-requires c κs =
+    let after-next : tie.After-next Inv-loop μ-loop = search c in
+    let after-domain-end-at : tie.After-domain-end-at Inv-loop μ-loop = search c in
+    domain-within _ _ _ (sym (after-domain-end-at .domain-end-at .ensures) ∙ after-next .next .given .1) .inside
 
 returns : tie.Need-returns Inv-loop μ-loop
-returns c = sym (domains-ended _ _ _ _ _ _ (c .before .before .before .loop-test .taken) (sym (c .before .before .domain-end-at .ensures) ∙ c .enum-told .given .1)) ∙ c .before .before .before .before .loop .inv .1
-
-enum-known-p : tie.Need-enum-known-p Inv-loop μ-loop
-enum-known-p c = search needs
+returns c =
+    let in-loop : tie.In-loop Inv-loop μ-loop = search c in
+    let at-loop : tie.At-loop Inv-loop μ-loop = search c in
+    sym (domains-ended _ _ _ _ _ _ (in-loop .loop-test .taken) (sym (c .before .before .domain-end-at .ensures) ∙ c .enum-told .given .1)) ∙ at-loop .loop .inv .1
 
 returns-2 : tie.Need-returns-2 Inv-loop μ-loop
-returns-2 c = sym (domains-bad _ _ _ _ _ _ _ (c .before .before .before .before .loop-test .taken) (sym (c .before .before .before .domain-end-at .ensures) ∙ c .before .p .given .1)) ∙ c .before .before .before .before .before .loop .inv .1
-
-add-d : tie.Need-add-d Inv-loop μ-loop
-add-d c = search needs
-
-loop-less : tie.Need-loop-less Inv-loop μ-loop
-loop-less c = search needs
+returns-2 c =
+    let after-domain-end-at : tie.After-domain-end-at Inv-loop μ-loop = search c in
+    let in-loop : tie.In-loop Inv-loop μ-loop = search c in
+    let at-loop : tie.At-loop Inv-loop μ-loop = search c in
+    sym (domains-bad _ _ _ _ _ _ _ (in-loop .loop-test .taken) (sym (after-domain-end-at .domain-end-at .ensures) ∙ c .before .p .given .1)) ∙ at-loop .loop .inv .1
 
 loop-again : tie.Need-loop-again Inv-loop μ-loop
-loop-again c = let came = sym (c .before .before .before .before .before .before .before .before .before .domain-end-at .ensures) ∙ c .before .before .before .before .before .before .before .next .given .1 in (
-  search needs,
-  rw (c .store-threshold .ensures, c .before .threshold-of .ensures, c .before .before .before .store-parent .ensures, c .before .before .before .before .parent-of .ensures)
-      (sym (domains-next _ _ _ _ _ _ _ (c .before .before .before .before .before .before .before .before .before .before .loop-test .taken) came) ∙ c .before .before .before .before .before .before .before .before .before .before .before .loop .inv .1),
-)
+loop-again c =
+    let after-store-parent : tie.After-store-parent Inv-loop μ-loop = search c in
+    let after-parent-of : tie.After-parent-of Inv-loop μ-loop = search c in
+    let after-next : tie.After-next Inv-loop μ-loop = search c in
+    let after-domain-end-at : tie.After-domain-end-at Inv-loop μ-loop = search c in
+    let in-loop : tie.In-loop Inv-loop μ-loop = search c in
+    let at-loop : tie.At-loop Inv-loop μ-loop = search c in
+    let came = sym (after-domain-end-at .domain-end-at .ensures) ∙ after-next .next .given .1 in (
+      search needs,
+      rw (c .store-threshold .ensures, c .before .threshold-of .ensures, after-store-parent .store-parent .ensures, after-parent-of .parent-of .ensures)
+          (sym (domains-next _ _ _ _ _ _ _ (in-loop .loop-test .taken) came) ∙ at-loop .loop .inv .1),
+    )
 
 returns-3 : tie.Need-returns-3 Inv-loop μ-loop
 returns-3 c = sym (domains-over _ _ _ _ _ _ (c .loop-test .left)) ∙ c .before .loop .inv .1
@@ -70,17 +65,17 @@ read-domains-from-spec =
     Inv-loop
     μ-loop
     loop-holds
-    domain-end-at-requires
-    enum-known-next
+    (λ c κs. search needs)
+    (λ c. search needs)
     parent-of-requires
-    store-parent-requires
+    (λ c κs. search needs)
     threshold-of-requires
-    store-threshold-requires
-    enum-told
+    (λ c κs. search needs)
+    (λ c. search needs)
     returns
-    enum-known-p
+    (λ c. search needs)
     returns-2
-    add-d
-    loop-less
+    (λ c. search needs)
+    (λ c. search needs)
     loop-again
     returns-3)

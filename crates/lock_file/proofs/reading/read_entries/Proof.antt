@@ -22,24 +22,6 @@ abbrev μ-loop : tie.MeasureT-loop
 loop-holds : tie.Need-loop-holds Inv-loop μ-loop
 loop-holds c = (omega arith, refl, omega arith, rw sub-zero)
 
-two-bytes-at-requires : tie.Need-two-bytes-at-requires Inv-loop μ-loop
-two-bytes-at-requires c κs = search needs
-
-mul-schedule : tie.Need-mul-schedule Inv-loop μ-loop
-mul-schedule c = search needs
-
-slice-write-schedule : tie.Need-slice-write-schedule Inv-loop μ-loop
-slice-write-schedule c = omega arith
-
-add-at : tie.Need-add-at Inv-loop μ-loop
-add-at c = search needs
-
-add-k : tie.Need-add-k Inv-loop μ-loop
-add-k c = search needs
-
-loop-less : tie.Need-loop-less Inv-loop μ-loop
-loop-less c = omega arith
-
 loop-again : tie.Need-loop-again Inv-loop μ-loop
 loop-again c =
     let h = c .before .before .loop in
@@ -63,12 +45,12 @@ read-entries-spec =
     Inv-loop
     μ-loop
     loop-holds
-    two-bytes-at-requires
-    mul-schedule
-    slice-write-schedule
-    add-at
-    add-k
-    loop-less
+    (λ c κs. search needs)
+    (λ c. search needs)
+    (λ c. search needs)
+    (λ c. search needs)
+    (λ c. search needs)
+    (λ c. search needs)
     loop-again
     same-length
     returns)

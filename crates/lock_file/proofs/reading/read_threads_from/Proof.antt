@@ -18,40 +18,32 @@ abbrev μ-loop : tie.MeasureT-loop
 loop-holds : tie.Need-loop-holds Inv-loop μ-loop
 loop-holds c = rw sub-zero
 
-thread-end-at-requires : tie.Need-thread-end-at-requires Inv-loop μ-loop
-thread-end-at-requires c κs = search needs
-
-enum-known-next : tie.Need-enum-known-next Inv-loop μ-loop
-enum-known-next c = search needs
-
 home-of-requires : tie.Need-home-of-requires Inv-loop μ-loop
-home-of-requires c κs = thread-within _ _ _ (sym (c .before .before .before .thread-end-at .ensures) ∙ c .before .next .given .1) .inside
-
-store-home-requires : tie.Need-store-home-requires Inv-loop μ-loop
-store-home-requires c κs = search needs
-
-enum-told : tie.Need-enum-told Inv-loop μ-loop
-enum-told c = search needs
+home-of-requires c κs =
+    let after-thread-end-at : tie.After-thread-end-at Inv-loop μ-loop = search c in
+    thread-within _ _ _ (sym (after-thread-end-at .thread-end-at .ensures) ∙ c .before .next .given .1) .inside
 
 returns : tie.Need-returns Inv-loop μ-loop
-returns c = sym (threads-ended _ _ _ _ _ _ (c .before .before .before .loop-test .taken) (sym (c .before .before .thread-end-at .ensures) ∙ c .enum-told .given .1)) ∙ c .before .before .before .before .loop .inv
-
-enum-known-p : tie.Need-enum-known-p Inv-loop μ-loop
-enum-known-p c = search needs
+returns c =
+    let in-loop : tie.In-loop Inv-loop μ-loop = search c in
+    let at-loop : tie.At-loop Inv-loop μ-loop = search c in
+    sym (threads-ended _ _ _ _ _ _ (in-loop .loop-test .taken) (sym (c .before .before .thread-end-at .ensures) ∙ c .enum-told .given .1)) ∙ at-loop .loop .inv
 
 returns-2 : tie.Need-returns-2 Inv-loop μ-loop
-returns-2 c = sym (threads-bad _ _ _ _ _ _ _ (c .before .before .before .before .loop-test .taken) (sym (c .before .before .before .thread-end-at .ensures) ∙ c .before .p .given .1)) ∙ c .before .before .before .before .before .loop .inv
-
-add-i : tie.Need-add-i Inv-loop μ-loop
-add-i c = search needs
-
-loop-less : tie.Need-loop-less Inv-loop μ-loop
-loop-less c = search needs
+returns-2 c =
+    let after-thread-end-at : tie.After-thread-end-at Inv-loop μ-loop = search c in
+    let in-loop : tie.In-loop Inv-loop μ-loop = search c in
+    let at-loop : tie.At-loop Inv-loop μ-loop = search c in
+    sym (threads-bad _ _ _ _ _ _ _ (in-loop .loop-test .taken) (sym (after-thread-end-at .thread-end-at .ensures) ∙ c .before .p .given .1)) ∙ at-loop .loop .inv
 
 loop-again : tie.Need-loop-again Inv-loop μ-loop
 loop-again c =
-    let came = sym (c .before .before .before .before .before .before .thread-end-at .ensures) ∙ c .before .before .before .before .next .given .1 in
-    rw (c .store-home .ensures, c .before .before .home-of .ensures) (sym (threads-next _ _ _ _ _ _ _ (c .before .before .before .before .before .before .before .loop-test .taken) came) ∙ c .before .before .before .before .before .before .before .before .loop .inv)
+    let after-next : tie.After-next Inv-loop μ-loop = search c in
+    let after-thread-end-at : tie.After-thread-end-at Inv-loop μ-loop = search c in
+    let in-loop : tie.In-loop Inv-loop μ-loop = search c in
+    let at-loop : tie.At-loop Inv-loop μ-loop = search c in
+    let came = sym (after-thread-end-at .thread-end-at .ensures) ∙ after-next .next .given .1 in
+    rw (c .store-home .ensures, c .before .before .home-of .ensures) (sym (threads-next _ _ _ _ _ _ _ (in-loop .loop-test .taken) came) ∙ at-loop .loop .inv)
 
 returns-3 : tie.Need-returns-3 Inv-loop μ-loop
 returns-3 c = sym (threads-over _ _ _ _ _ _ (c .loop-test .left)) ∙ c .before .loop .inv
@@ -63,15 +55,15 @@ read-threads-from-spec =
     Inv-loop
     μ-loop
     loop-holds
-    thread-end-at-requires
-    enum-known-next
+    (λ c κs. search needs)
+    (λ c. search needs)
     home-of-requires
-    store-home-requires
-    enum-told
+    (λ c κs. search needs)
+    (λ c. search needs)
     returns
-    enum-known-p
+    (λ c. search needs)
     returns-2
-    add-i
-    loop-less
+    (λ c. search needs)
+    (λ c. search needs)
     loop-again
     returns-3)

@@ -13,9 +13,6 @@ returns : tie.Need-returns
 unfolding schedule-start
 returns c = let h : length (c .before .args .file .now) - c .before .args .at ≡ 0 = omega arith in rw h
 
-sub-if2 : tie.Need-sub-if2
-sub-if2 c = search needs
-
 returns-2 : tie.Need-returns-2
 unfolding schedule-start
 returns-2 c = rw (eq-eqb _ _ (c .if2 .taken))
@@ -25,4 +22,4 @@ unfolding schedule-start
 returns-3 c = rw (ne-eqb _ _ (c .if2 .left))
 
 pub schedule-start-at-spec : {M : Type 1} → statement M
-schedule-start-at-spec = tie.close (tie.spec returns sub-if2 returns-2 returns-3)
+schedule-start-at-spec = tie.close (tie.spec returns (λ c. search needs) returns-2 returns-3)

@@ -4,18 +4,6 @@ use Rattle.lock_file.specs.Reading.{schedule-start}
 use Rattle.lock_file.proofs.reading.schedule_start_of.Statement.{statement}
 use Rattle.lock_file.proofs.reading.schedule_start_of.Tie as tie
 
-enum-known-reached : tie.Need-enum-known-reached
-enum-known-reached c = search needs
-
-schedule-start-at-requires : tie.Need-schedule-start-at-requires
-schedule-start-at-requires c κs = search needs
-
-enum-told : tie.Need-enum-told
-enum-told c = search needs
-
-enum-known-reached-2 : tie.Need-enum-known-reached-2
-enum-known-reached-2 c = search needs
-
 returns : tie.Need-returns
 unfolding schedule-start
 returns c = rw (c .before .before .reached .given .1, c .schedule-start-at .ensures)
@@ -32,10 +20,10 @@ pub schedule-start-of-spec : {M : Type 1} → statement M
 schedule-start-of-spec =
     tie.close
     (tie.spec
-    enum-known-reached
-    schedule-start-at-requires
-    enum-told
-    enum-known-reached-2
+    (λ c. search needs)
+    (λ c κs. search needs)
+    (λ c. search needs)
+    (λ c. search needs)
     returns
     returns-2
     returns-3)

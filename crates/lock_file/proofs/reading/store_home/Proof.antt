@@ -5,9 +5,6 @@ use Rattle.lock_file.specs.Reading.{stored}
 use Rattle.lock_file.proofs.reading.store_home.Statement.{statement}
 use Rattle.lock_file.proofs.reading.store_home.Tie as tie
 
-element-write-homes : tie.Need-element-write-homes
-element-write-homes c = search needs
-
 returns : tie.Need-returns
 unfolding stored
 returns c = rw (lt-ltb _ _ (c .if1 .taken))
@@ -17,4 +14,4 @@ unfolding stored
 returns-2 c = rw (le-ltb _ _ (c .if1 .left))
 
 pub store-home-spec : {M : Type 1} → statement M
-store-home-spec = tie.close (tie.spec element-write-homes returns returns-2)
+store-home-spec = tie.close (tie.spec (λ c. search needs) returns returns-2)

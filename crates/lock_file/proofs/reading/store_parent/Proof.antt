@@ -5,9 +5,6 @@ use Rattle.lock_file.specs.Reading.{stored}
 use Rattle.lock_file.proofs.reading.store_parent.Statement.{statement}
 use Rattle.lock_file.proofs.reading.store_parent.Tie as tie
 
-element-write-parents : tie.Need-element-write-parents
-element-write-parents c = search needs
-
 returns : tie.Need-returns
 unfolding stored
 returns c = rw (lt-ltb _ _ (c .if1 .taken))
@@ -17,4 +14,4 @@ unfolding stored
 returns-2 c = rw (le-ltb _ _ (c .if1 .left))
 
 pub store-parent-spec : {M : Type 1} → statement M
-store-parent-spec = tie.close (tie.spec element-write-parents returns returns-2)
+store-parent-spec = tie.close (tie.spec (λ c. search needs) returns returns-2)

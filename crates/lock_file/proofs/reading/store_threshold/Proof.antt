@@ -5,12 +5,6 @@ use Rattle.lock_file.specs.Reading.{stored}
 use Rattle.lock_file.proofs.reading.store_threshold.Statement.{statement}
 use Rattle.lock_file.proofs.reading.store_threshold.Tie as tie
 
-mul-thresholds : tie.Need-mul-thresholds
-mul-thresholds c = search needs
-
-element-write-thresholds : tie.Need-element-write-thresholds
-element-write-thresholds c = search needs
-
 returns : tie.Need-returns
 unfolding stored
 returns c = rw (lt-ltb _ _ (c .if1 .taken))
@@ -21,4 +15,4 @@ returns-2 c = rw (le-ltb _ _ (c .if1 .left))
 
 pub store-threshold-spec : {M : Type 1} → statement M
 store-threshold-spec =
-    tie.close (tie.spec mul-thresholds element-write-thresholds returns returns-2)
+    tie.close (tie.spec (λ c. search needs) (λ c. search needs) returns returns-2)

@@ -5,24 +5,11 @@ use Rattle.lock_file.specs.Reading.{threshold-at}
 use Rattle.lock_file.proofs.reading.threshold_of.Statement.{statement}
 use Rattle.lock_file.proofs.reading.threshold_of.Tie as tie
 
-byte-at-requires : tie.Need-byte-at-requires
-byte-at-requires c κs = search needs
-
-add-two-bytes-at : tie.Need-add-two-bytes-at
-add-two-bytes-at c = search needs
-
-byte-index-requires : tie.Need-byte-index-requires
-byte-index-requires c κs = search needs
-
-add-two-bytes-at-2 : tie.Need-add-two-bytes-at-2
-add-two-bytes-at-2 c = search needs
-
-two-bytes-at-requires : tie.Need-two-bytes-at-requires
-two-bytes-at-requires c κs = search needs
-
 returns : tie.Need-returns
 unfolding threshold-at
-returns c = rw (c .two-bytes-at .ensures, c .before .byte-index .ensures .0, ← c .before .before .before .byte-at .ensures, eq-eqb _ _ (c .before .before .if1 .taken))
+returns c =
+    let after-byte-at : tie.After-byte-at = search c in
+    rw (c .two-bytes-at .ensures, c .before .byte-index .ensures .0, ← after-byte-at .byte-at .ensures, eq-eqb _ _ (c .before .before .if1 .taken))
 
 returns-2 : tie.Need-returns-2
 unfolding threshold-at
@@ -32,10 +19,10 @@ pub threshold-of-spec : {M : Type 1} → statement M
 threshold-of-spec =
     tie.close
     (tie.spec
-    byte-at-requires
-    add-two-bytes-at
-    byte-index-requires
-    add-two-bytes-at-2
-    two-bytes-at-requires
+    (λ c κs. search needs)
+    (λ c. search needs)
+    (λ c κs. search needs)
+    (λ c. search needs)
+    (λ c κs. search needs)
     returns
     returns-2)

@@ -1,5 +1,5 @@
 -- `refusals::of_runs::is_well_formed` meets its contract: the root, the room that the tree lacks, the domains and the threads are the state's parts.
-use mathlib.Core.Path.{_≡_, sym, _∙_}
+use mathlib.Core.Path.{sym, _∙_}
 use mathlib.Core.Bool.{true, false}
 use borrow.Author.Tests.{not-true, not-false}
 use Rattle.refusals.proofs.Scanning.{by-answer}
@@ -8,61 +8,70 @@ use borrow.Author.Needs.{needs}
 use Rattle.refusals.proofs.of_runs.is_well_formed.Statement.{statement}
 use Rattle.refusals.proofs.of_runs.is_well_formed.Tie as tie
 
-element-copy-out-good-root-at : tie.Need-element-copy-out-good-root-at
-element-copy-out-good-root-at c = search needs
-
-good-root-at-requires : tie.Need-good-root-at-requires
-good-root-at-requires c κs = search needs
-
 returns : tie.Need-returns
 returns c =
-    let s = c .before .before .before in
+    let s : tie.Start = search c in
     root-fails (s .args .t1) (s .pre) _ (by-answer _ false (c .before .good-root-at .ensures) (not-true _ (c .if1 .taken)))
 
 owners-of-requires : tie.Need-owners-of-requires
-owners-of-requires c κs = let s = c .before .before .before .before .before .before .before in let k = shape-of (s .args .t1) (s .pre) in (k .some-domain, k .few-domains, k .few-threads)
+owners-of-requires c κs = let s : tie.Start = search c in let k = shape-of (s .args .t1) (s .pre) in (k .some-domain, k .few-domains, k .few-threads)
 
 is-clear-requires : tie.Need-is-clear-requires
-is-clear-requires c κs = let s = c .before .before .before .before .before .before .before .before in let k = shape-of (s .args .t1) (s .pre) in (k .few-threads, k .few-domains)
+is-clear-requires c κs = let s : tie.Start = search c in let k = shape-of (s .args .t1) (s .pre) in (k .few-threads, k .few-domains)
 
 returns-2 : tie.Need-returns-2
 returns-2 c =
-    let s = c .before .before .before .before .before .before .before .before .before .before in
-    let r = by-answer _ true (c .before .before .before .before .before .before .before .before .good-root-at .ensures) (not-false _ (c .before .before .before .before .before .before .before .if1 .left)) in
+    let else1 : tie.Else1 = search c in
+    let after-good-root-at : tie.After-good-root-at = search c in
+    let s : tie.Start = search c in
+    let r = by-answer _ true (after-good-root-at .good-root-at .ensures) (not-false _ (else1 .if1 .left)) in
     let k = by-answer _ false (c .before .is-clear .ensures) (not-true _ (c .if2 .taken)) in
     sym (parts-are (s .args .t1) (s .pre) _ (c .before .before .owners-of .ensures) _ ∙ rw (r, k))
 
 good-domains-requires : tie.Need-good-domains-requires
-good-domains-requires c κs = let s = c .before .before .before .before .before .before .before .before .before .before .before in shape-of (s .args .t1) (s .pre) .few-domains
+good-domains-requires c κs = let s : tie.Start = search c in shape-of (s .args .t1) (s .pre) .few-domains
 
 returns-3 : tie.Need-returns-3
 returns-3 c =
-    let s = c .before .before .before .before .before .before .before .before .before .before .before .before .before in
-    let r = by-answer _ true (c .before .before .before .before .before .before .before .before .before .before .before .good-root-at .ensures) (not-false _ (c .before .before .before .before .before .before .before .before .before .before .if1 .left)) in
-    let k = by-answer _ true (c .before .before .before .before .is-clear .ensures) (not-false _ (c .before .before .before .if2 .left)) in
+    let else2 : tie.Else2 = search c in
+    let after-is-clear : tie.After-is-clear = search c in
+    let after-owners-of : tie.After-owners-of = search c in
+    let else1 : tie.Else1 = search c in
+    let after-good-root-at : tie.After-good-root-at = search c in
+    let s : tie.Start = search c in
+    let r = by-answer _ true (after-good-root-at .good-root-at .ensures) (not-false _ (else1 .if1 .left)) in
+    let k = by-answer _ true (after-is-clear .is-clear .ensures) (not-false _ (else2 .if2 .left)) in
     let l = by-answer _ false (c .before .good-domains .ensures) (not-true _ (c .if3 .taken)) in
-    sym (parts-are (s .args .t1) (s .pre) _ (c .before .before .before .before .before .owners-of .ensures) _ ∙ rw (r, k, l))
+    sym (parts-are (s .args .t1) (s .pre) _ (after-owners-of .owners-of .ensures) _ ∙ rw (r, k, l))
 
 good-threads-requires : tie.Need-good-threads-requires
 good-threads-requires c κs =
-    let s = c .before .before .before .before .before .before .before .before .before .before .before .before .before .before .before .before in
+    let after-owners-of : tie.After-owners-of = search c in
+    let s : tie.Start = search c in
     let k = shape-of (s .args .t1) (s .pre) in
-    ((k .few-domains, k .few-threads), (k .low, homes-there (s .args .t1) (s .pre) _ (c .before .before .before .before .before .before .before .before .owners-of .ensures)))
+    ((k .few-domains, k .few-threads), (k .low, homes-there (s .args .t1) (s .pre) _ (after-owners-of .owners-of .ensures)))
 
 returns-4 : tie.Need-returns-4
 returns-4 c =
-    let s = c .before .before .before .before .before .before .before .before .before .before .before .before .before .before .before .before .before in
-    let r = by-answer _ true (c .before .before .before .before .before .before .before .before .before .before .before .before .before .before .before .good-root-at .ensures) (not-false _ (c .before .before .before .before .before .before .before .before .before .before .before .before .before .before .if1 .left)) in
-    let k = by-answer _ true (c .before .before .before .before .before .before .before .before .is-clear .ensures) (not-false _ (c .before .before .before .before .before .before .before .if2 .left)) in
-    let l = by-answer _ true (c .before .before .before .before .before .good-domains .ensures) (not-false _ (c .before .before .before .before .if3 .left)) in
-    c .good-threads .ensures ∙ sym (parts-are (s .args .t1) (s .pre) _ (c .before .before .before .before .before .before .before .before .before .owners-of .ensures) _ ∙ rw (r, k, l))
+    let else3 : tie.Else3 = search c in
+    let after-good-domains : tie.After-good-domains = search c in
+    let else2 : tie.Else2 = search c in
+    let after-is-clear : tie.After-is-clear = search c in
+    let after-owners-of : tie.After-owners-of = search c in
+    let else1 : tie.Else1 = search c in
+    let after-good-root-at : tie.After-good-root-at = search c in
+    let s : tie.Start = search c in
+    let r = by-answer _ true (after-good-root-at .good-root-at .ensures) (not-false _ (else1 .if1 .left)) in
+    let k = by-answer _ true (after-is-clear .is-clear .ensures) (not-false _ (else2 .if2 .left)) in
+    let l = by-answer _ true (after-good-domains .good-domains .ensures) (not-false _ (else3 .if3 .left)) in
+    c .good-threads .ensures ∙ sym (parts-are (s .args .t1) (s .pre) _ (after-owners-of .owners-of .ensures) _ ∙ rw (r, k, l))
 
 pub is-well-formed-spec : {M : Type 1} → statement M
 is-well-formed-spec =
     tie.close
     (tie.spec
-    element-copy-out-good-root-at
-    good-root-at-requires
+    (λ c. search needs)
+    (λ c κs. search needs)
     returns
     owners-of-requires
     is-clear-requires

@@ -11,19 +11,10 @@ use Rattle.refusals.proofs.paths.record_at.Tie as tie
 returns : tie.Need-returns
 returns c = (rw (eq-eqb _ _ (c .if1 .taken)), omega arith)
 
-search-at-requires : tie.Need-search-at-requires
-search-at-requires c κs = search needs
-
-cast-result : tie.Need-cast-result
-cast-result c = search needs
-
-add-result : tie.Need-add-result
-add-result c = search needs
-
 returns-2 : tie.Need-returns-2
 returns-2 c =
     let found = c .before .search-at .ensures in
     (rw (ap (λ (r : Found). r .child) (found .0) ∙ same-child-from 6 _ _ _ 0, ne-eqb _ _ (c .before .before .if1 .left)), omega (arith, found .1))
 
 pub record-at-spec : {M : Type 1} → statement M
-record-at-spec = tie.close (tie.spec returns search-at-requires cast-result add-result returns-2)
+record-at-spec = tie.close (tie.spec returns (λ c κs. search needs) (λ c. search needs) (λ c. search needs) returns-2)

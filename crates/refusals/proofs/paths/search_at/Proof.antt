@@ -19,22 +19,12 @@ abbrev μ-loop : tie.MeasureT-loop
 loop-holds : tie.Need-loop-holds Inv-loop μ-loop
 loop-holds c = (search needs, search needs, refl)
 
-add-looked : tie.Need-add-looked Inv-loop μ-loop
-add-looked c = omega arith
-
-cast-at : tie.Need-cast-at Inv-loop μ-loop
-cast-at c = omega arith
-
-element-copy-out-p : tie.Need-element-copy-out-p Inv-loop μ-loop
-element-copy-out-p c = omega arith
-
-loop-less : tie.Need-loop-less Inv-loop μ-loop
-loop-less c = omega arith
-
 loop-again : tie.Need-loop-again Inv-loop μ-loop
 loop-again c =
-    let h = c .before .before .before .before .loop in
-    let low = c .before .before .before .before .before .pre .1 .0 .lower (h .c) (omega arith) (h .inv .1) in
+    let at-loop : tie.At-loop Inv-loop μ-loop = search c in
+    let start : tie.Start Inv-loop μ-loop = search c in
+    let h = at-loop .loop in
+    let low = start .pre .1 .0 .lower (h .c) (omega arith) (h .inv .1) in
     let z : 0 < 6 - h .looked = omega arith in
     let m : 6 - h .looked - 1 ≡ 6 - (h .looked + 1) = omega arith in
     (omega arith, omega arith, rw (← m) (sym (search-up _ _ _ _ _ _ z (c .before .before .if2 .left) (h .inv .1) (c .if3 .left)) ∙ h .inv .2))
@@ -53,7 +43,8 @@ returns-2 c =
 
 returns-3 : tie.Need-returns-3 Inv-loop μ-loop
 returns-3 c =
-    let h = c .before .before .before .before .loop in
+    let at-loop : tie.At-loop Inv-loop μ-loop = search c in
+    let h = at-loop .loop in
     let z : 0 < 6 - h .looked = omega arith in
     (sym (search-hit _ _ _ _ _ _ z (c .before .before .if2 .left) (h .inv .1) (c .if3 .taken)) ∙ h .inv .2, omega arith)
 
@@ -64,10 +55,10 @@ search-at-spec =
     Inv-loop
     μ-loop
     loop-holds
-    add-looked
-    cast-at
-    element-copy-out-p
-    loop-less
+    (λ c. search needs)
+    (λ c. search needs)
+    (λ c. search needs)
+    (λ c. search needs)
     loop-again
     returns
     returns-2

@@ -18,62 +18,33 @@ abbrev μ-loop : tie.MeasureT-loop
 loop-holds : tie.Need-loop-holds Inv-loop μ-loop
 loop-holds c = (search needs, search needs, passed-first _ _ _)
 
-cast-at : tie.Need-cast-at Inv-loop μ-loop
-cast-at c = omega arith
-
-element-copy-out-q : tie.Need-element-copy-out-q Inv-loop μ-loop
-element-copy-out-q c = omega arith
-
-byte-number-requires : tie.Need-byte-number-requires Inv-loop μ-loop
-byte-number-requires c κs = search needs
-
 returns : tie.Need-returns Inv-loop μ-loop
 returns c = record { sound = λ e. absurd (false≢true e) }
 
-cast-p : tie.Need-cast-p Inv-loop μ-loop
-cast-p c = omega arith
-
-array-read-level : tie.Need-array-read-level Inv-loop μ-loop
-array-read-level c = omega arith
-
 add-level : tie.Need-add-level Inv-loop μ-loop
 add-level c =
-    let l = c .before .before .before .before .loop in
-    let s = c .before .before .before .before .before in
+    let at-loop : tie.At-loop Inv-loop μ-loop = search c in
+    let s : tie.Start Inv-loop μ-loop = search c in
+    let l = at-loop .loop in
     let p = getD (s .args .parents .now) (l .d) 0 in
     omega (arith, l .inv .2 .levels .few p (omega (arith, c .before .byte-number .ensures)))
 
 returns-2 : tie.Need-returns-2 Inv-loop μ-loop
 returns-2 c = record { sound = λ e. absurd (false≢true e) }
 
-mul-of-16-bits : tie.Need-mul-of-16-bits Inv-loop μ-loop
-mul-of-16-bits c = omega arith
-
-element-copy-out-of-16-bits : tie.Need-element-copy-out-of-16-bits Inv-loop μ-loop
-element-copy-out-of-16-bits c = omega arith
-
-of-16-bits-requires : tie.Need-of-16-bits-requires Inv-loop μ-loop
-of-16-bits-requires c κs = search needs
-
 returns-3 : tie.Need-returns-3 Inv-loop μ-loop
 returns-3 c = record { sound = λ e. absurd (false≢true e) }
 
-array-write-levels : tie.Need-array-write-levels Inv-loop μ-loop
-array-write-levels c = omega arith
-
-add-d : tie.Need-add-d Inv-loop μ-loop
-add-d c = omega arith
-
-loop-less : tie.Need-loop-less Inv-loop μ-loop
-loop-less c = omega arith
-
 loop-again : tie.Need-loop-again Inv-loop μ-loop
 loop-again c =
+    let else2 : tie.Else2 Inv-loop μ-loop = search c in
+    let e : tie.Else1 Inv-loop μ-loop = search c in
+    let in-loop : tie.In-loop Inv-loop μ-loop = search c in
+    let at-loop : tie.At-loop Inv-loop μ-loop = search c in
     let fits = c .before .«of-16-bits» .ensures in
-    let e = c .before .before .before .before in
-    let l = e .before .before .before .before .loop in
-    let s = e .before .before .before .before .before in
-    (omega arith, omega arith, passed-next _ _ _ _ _ (s .pre .1) (l .inv .2) (l .inv .0) (e .before .before .before .loop-test .taken) (omega (arith, e .before .byte-number .ensures)) (c .before .before .before .if2 .left) (fits .1) (λ z. c .if3 .left (fits .0 ∙ z)))
+    let l = at-loop .loop in
+    let s : tie.Start Inv-loop μ-loop = search e in
+    (omega arith, omega arith, passed-next _ _ _ _ _ (s .pre .1) (l .inv .2) (l .inv .0) (in-loop .loop-test .taken) (omega (arith, e .before .byte-number .ensures)) (else2 .if2 .left) (fits .1) (λ z. c .if3 .left (fits .0 ∙ z)))
 
 returns-4 : tie.Need-returns-4 Inv-loop μ-loop
 returns-4 c = record { sound = λ _. passed-all _ _ _ _ _ (c .before .loop .inv .2) (omega arith) }
@@ -85,20 +56,20 @@ domains-pass-spec =
     Inv-loop
     μ-loop
     loop-holds
-    cast-at
-    element-copy-out-q
-    byte-number-requires
+    (λ c. search needs)
+    (λ c. search needs)
+    (λ c κs. search needs)
     returns
-    cast-p
-    array-read-level
+    (λ c. search needs)
+    (λ c. search needs)
     add-level
     returns-2
-    mul-of-16-bits
-    element-copy-out-of-16-bits
-    of-16-bits-requires
+    (λ c. search needs)
+    (λ c. search needs)
+    (λ c κs. search needs)
     returns-3
-    array-write-levels
-    add-d
-    loop-less
+    (λ c. search needs)
+    (λ c. search needs)
+    (λ c. search needs)
     loop-again
     returns-4)

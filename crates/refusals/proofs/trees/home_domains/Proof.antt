@@ -16,30 +16,17 @@ abbrev μ-loop : tie.MeasureT-loop
 loop-holds : tie.Need-loop-holds Inv-loop μ-loop
 loop-holds c = (search needs, marked-none _ 64)
 
-cast-at : tie.Need-cast-at Inv-loop μ-loop
-cast-at c = omega arith
-
-element-copy-out-byte-index : tie.Need-element-copy-out-byte-index Inv-loop μ-loop
-element-copy-out-byte-index c = omega arith
-
-byte-index-requires : tie.Need-byte-index-requires Inv-loop μ-loop
-byte-index-requires c κs = search needs
-
 array-write-occupied : tie.Need-array-write-occupied Inv-loop μ-loop
 array-write-occupied c =
-    let s = c .before .before .before .before in
-    omega (arith, c .byte-index .ensures .0, s .pre .1 .real (c .before .before .before .loop .i) (c .before .before .loop-test .taken), s .pre .0 .0)
-
-add-i : tie.Need-add-i Inv-loop μ-loop
-add-i c = omega arith
-
-loop-less : tie.Need-loop-less Inv-loop μ-loop
-loop-less c = omega arith
+    let at-loop : tie.At-loop Inv-loop μ-loop = search c in
+    let s : tie.Start Inv-loop μ-loop = search c in
+    omega (arith, c .byte-index .ensures .0, s .pre .1 .real (at-loop .loop .i) (c .before .before .loop-test .taken), s .pre .0 .0)
 
 loop-again : tie.Need-loop-again Inv-loop μ-loop
 loop-again c =
-    let s = c .before .before .before .before in
-    let l = c .before .before .before .loop in
+    let at-loop : tie.At-loop Inv-loop μ-loop = search c in
+    let s : tie.Start Inv-loop μ-loop = search c in
+    let l = at-loop .loop in
     let e = c .byte-index .ensures in
     let r = s .pre .1 .real (l .i) (c .before .before .loop-test .taken) in
     (omega arith, rw (e .0) (marked-more _ 64 _ _ (l .inv .1) (omega (arith, s .pre .0 .0))))
@@ -57,11 +44,11 @@ home-domains-spec =
     Inv-loop
     μ-loop
     loop-holds
-    cast-at
-    element-copy-out-byte-index
-    byte-index-requires
+    (λ c. search needs)
+    (λ c. search needs)
+    (λ c κs. search needs)
     array-write-occupied
-    add-i
-    loop-less
+    (λ c. search needs)
+    (λ c. search needs)
     loop-again
     returns)

@@ -15,45 +15,22 @@ Inv-loop parents homes domains threads marked bad same₀ x₀ same x = (x ≤ 2
 abbrev μ-loop : tie.MeasureT-loop
 μ-loop parents homes domains threads marked bad same₀ x₀ same x = 256 - x
 
-marked-homes-requires : tie.Need-marked-homes-requires Inv-loop μ-loop
-marked-homes-requires c κs = search needs
-
-mark-unfit-homes-requires : tie.Need-mark-unfit-homes-requires Inv-loop μ-loop
-mark-unfit-homes-requires c κs = search needs
-
 loop-holds : tie.Need-loop-holds Inv-loop μ-loop
 unfolding all-below
 loop-holds c = (search needs, refl)
 
-array-read-differs : tie.Need-array-read-differs Inv-loop μ-loop
-array-read-differs c = omega arith
-
-array-read-differs-2 : tie.Need-array-read-differs-2 Inv-loop μ-loop
-array-read-differs-2 c = omega arith
-
-differs-requires : tie.Need-differs-requires Inv-loop μ-loop
-differs-requires c κs = search needs
-
-both-requires : tie.Need-both-requires Inv-loop μ-loop
-both-requires c κs = search needs
-
-add-x : tie.Need-add-x Inv-loop μ-loop
-add-x c = omega arith
-
-loop-less : tie.Need-loop-less Inv-loop μ-loop
-loop-less c = omega arith
-
 loop-again : tie.Need-loop-again Inv-loop μ-loop
 unfolding all-below
 loop-again c =
-    let l = c .before .before .before .loop in
+    let at-loop : tie.At-loop Inv-loop μ-loop = search c in
+    let l = at-loop .loop in
     (omega arith, rw (c .both .ensures, c .before .differs .ensures, l .inv .1, add-one (l .x)))
 
 returns : tie.Need-returns Inv-loop μ-loop
 returns c =
     let l = c .before in
     let bad = l .before in
-    let s = bad .before .before .before .before in
+    let s : tie.Start Inv-loop μ-loop = search bad in
     let done : l .loop .x ≡ 256 = omega arith in
     tables-differ _ _ _ _ _ _ _ (s .pre .1) (bad .before .before .marked-homes .ensures) (bad .mark-unfit-homes .ensures) (rw done at (l .loop .inv .1))
 
@@ -63,14 +40,14 @@ homes-are-leaves-spec =
     (tie.spec
     Inv-loop
     μ-loop
-    marked-homes-requires
-    mark-unfit-homes-requires
+    (λ c κs. search needs)
+    (λ c κs. search needs)
     loop-holds
-    array-read-differs
-    array-read-differs-2
-    differs-requires
-    both-requires
-    add-x
-    loop-less
+    (λ c. search needs)
+    (λ c. search needs)
+    (λ c κs. search needs)
+    (λ c κs. search needs)
+    (λ c. search needs)
+    (λ c. search needs)
     loop-again
     returns)

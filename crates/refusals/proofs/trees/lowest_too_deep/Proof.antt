@@ -15,51 +15,41 @@ abbrev μ-loop : tie.MeasureT-loop
 loop-holds : tie.Need-loop-holds Inv-loop μ-loop
 loop-holds c = (search needs, search needs, levels-first _ _)
 
-cast-at : tie.Need-cast-at Inv-loop μ-loop
-cast-at c = omega arith
-
-element-copy-out-p : tie.Need-element-copy-out-p Inv-loop μ-loop
-element-copy-out-p c = omega arith
-
 cast-p : tie.Need-cast-p Inv-loop μ-loop
 cast-p c =
+    let start : tie.Start Inv-loop μ-loop = search c in
     let l = c .before .before .loop in
-    omega (arith, c .before .before .before .pre .1 .lower (l .d) (l .inv .0) (c .before .loop-test .taken))
+    omega (arith, start .pre .1 .lower (l .d) (l .inv .0) (c .before .loop-test .taken))
 
 array-read-level : tie.Need-array-read-level Inv-loop μ-loop
 array-read-level c =
+    let start : tie.Start Inv-loop μ-loop = search c in
     let l = c .before .before .loop in
-    omega (arith, c .before .before .before .pre .1 .lower (l .d) (l .inv .0) (c .before .loop-test .taken))
+    omega (arith, start .pre .1 .lower (l .d) (l .inv .0) (c .before .loop-test .taken))
 
 add-level : tie.Need-add-level Inv-loop μ-loop
 add-level c =
+    let start : tie.Start Inv-loop μ-loop = search c in
     let l = c .before .before .loop in
-    let low = c .before .before .before .pre .1 in
+    let low = start .pre .1 in
     omega (arith, l .inv .2 .few _ (low .lower (l .d) (l .inv .0) (c .before .loop-test .taken)))
 
 returns : tie.Need-returns Inv-loop μ-loop
 returns c =
-    let l = c .before .before .before .loop in
-    let s = c .before .before .before .before in
+    let at-loop : tie.At-loop Inv-loop μ-loop = search c in
+    let s : tie.Start Inv-loop μ-loop = search c in
+    let l = at-loop .loop in
     record {
       within = omega arith;
       passed = level-passes _ _ _ _ (l .inv .2) (s .pre .1);
       fails = λ h. level-fails _ _ _ _ (l .inv .2) (s .pre .1) (l .inv .0) h (c .if1 .taken);
     }
 
-array-write-levels : tie.Need-array-write-levels Inv-loop μ-loop
-array-write-levels c = omega arith
-
-add-d : tie.Need-add-d Inv-loop μ-loop
-add-d c = omega arith
-
-loop-less : tie.Need-loop-less Inv-loop μ-loop
-loop-less c = omega arith
-
 loop-again : tie.Need-loop-again Inv-loop μ-loop
 loop-again c =
-    let l = c .before .before .before .loop in
-    let s = c .before .before .before .before in
+    let at-loop : tie.At-loop Inv-loop μ-loop = search c in
+    let s : tie.Start Inv-loop μ-loop = search c in
+    let l = at-loop .loop in
     (omega arith, omega arith, levels-next _ _ _ _ (s .pre .0 .1) (l .inv .2) (l .inv .0) (c .before .before .loop-test .taken) (c .if1 .left))
 
 returns-2 : tie.Need-returns-2 Inv-loop μ-loop
@@ -75,14 +65,14 @@ lowest-too-deep-spec =
     Inv-loop
     μ-loop
     loop-holds
-    cast-at
-    element-copy-out-p
+    (λ c. search needs)
+    (λ c. search needs)
     cast-p
     array-read-level
     add-level
     returns
-    array-write-levels
-    add-d
-    loop-less
+    (λ c. search needs)
+    (λ c. search needs)
+    (λ c. search needs)
     loop-again
     returns-2)

@@ -12,33 +12,16 @@ Inv-loop bad₀ parents domains d₀ bad d = (0 < d) × (d ≤ domains) × Marke
 abbrev μ-loop : tie.MeasureT-loop
 μ-loop bad₀ parents domains d₀ bad d = domains - d
 
-no-domains-requires : tie.Need-no-domains-requires Inv-loop μ-loop
-no-domains-requires c κs = search needs
-
 loop-holds : tie.Need-loop-holds Inv-loop μ-loop
 loop-holds c = (search needs, search needs, marked-first _ _ _ (c .no-domains .ensures))
-
-cast-at : tie.Need-cast-at Inv-loop μ-loop
-cast-at c = omega arith
-
-element-copy-out-byte-index : tie.Need-element-copy-out-byte-index Inv-loop μ-loop
-element-copy-out-byte-index c = omega arith
-
-byte-index-requires : tie.Need-byte-index-requires Inv-loop μ-loop
-byte-index-requires c κs = search needs
 
 element-write-bad : tie.Need-element-write-bad Inv-loop μ-loop
 element-write-bad c = omega (arith, c .byte-index .ensures .1)
 
-add-d : tie.Need-add-d Inv-loop μ-loop
-add-d c = omega arith
-
-loop-less : tie.Need-loop-less Inv-loop μ-loop
-loop-less c = omega arith
-
 loop-again : tie.Need-loop-again Inv-loop μ-loop
 loop-again c =
-    let l = c .before .before .before .loop in
+    let at-loop : tie.At-loop Inv-loop μ-loop = search c in
+    let l = at-loop .loop in
     let e = c .byte-index .ensures in
     (omega arith, omega arith, rw (e .0) (marked-next _ _ _ _ (l .inv .2) (l .inv .0) (c .before .before .loop-test .taken) (rw (e .0) at (e .1))))
 
@@ -51,13 +34,13 @@ mark-unfit-homes-spec =
     (tie.spec
     Inv-loop
     μ-loop
-    no-domains-requires
+    (λ c κs. search needs)
     loop-holds
-    cast-at
-    element-copy-out-byte-index
-    byte-index-requires
+    (λ c. search needs)
+    (λ c. search needs)
+    (λ c κs. search needs)
     element-write-bad
-    add-d
-    loop-less
+    (λ c. search needs)
+    (λ c. search needs)
     loop-again
     returns)

@@ -18,27 +18,13 @@ abbrev μ-loop : tie.MeasureT-loop
 loop-holds : tie.Need-loop-holds Inv-loop μ-loop
 loop-holds c = (search needs, marked-none _ 256, λ j l. absurd (omega arith))
 
-cast-at : tie.Need-cast-at Inv-loop μ-loop
-cast-at c = omega arith
-
-element-copy-out-byte-index : tie.Need-element-copy-out-byte-index Inv-loop μ-loop
-element-copy-out-byte-index c = omega arith
-
-byte-index-requires : tie.Need-byte-index-requires Inv-loop μ-loop
-byte-index-requires c κs = search needs
-
 element-write-marked : tie.Need-element-write-marked Inv-loop μ-loop
 element-write-marked c = omega (arith, c .byte-index .ensures .1)
 
-add-i : tie.Need-add-i Inv-loop μ-loop
-add-i c = omega arith
-
-loop-less : tie.Need-loop-less Inv-loop μ-loop
-loop-less c = omega arith
-
 loop-again : tie.Need-loop-again Inv-loop μ-loop
 loop-again c =
-    let l = c .before .before .before .loop in
+    let at-loop : tie.At-loop Inv-loop μ-loop = search c in
+    let l = at-loop .loop in
     let e = c .byte-index .ensures in
     let small = rw (e .0) at (e .1) in (
       omega arith,
@@ -48,8 +34,9 @@ loop-again c =
 
 returns : tie.Need-returns Inv-loop μ-loop
 returns c =
+    let start : tie.Start Inv-loop μ-loop = search c in
     let l = c .before .loop in
-    let done : l .i ≡ c .before .before .before .args .threads = omega arith in
+    let done : l .i ≡ start .args .threads = omega arith in
     record { byte = λ j h. l .inv .2 j (omega arith); home = rw done at (l .inv .1 .marks) }
 
 pub marked-homes-spec : {M : Type 1} → statement M
@@ -59,11 +46,11 @@ marked-homes-spec =
     Inv-loop
     μ-loop
     loop-holds
-    cast-at
-    element-copy-out-byte-index
-    byte-index-requires
+    (λ c. search needs)
+    (λ c. search needs)
+    (λ c κs. search needs)
     element-write-marked
-    add-i
-    loop-less
+    (λ c. search needs)
+    (λ c. search needs)
     loop-again
     returns)

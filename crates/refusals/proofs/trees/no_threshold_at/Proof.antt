@@ -12,23 +12,14 @@ returns : tie.Need-returns
 unfolding no-threshold
 returns c = rw (eq-eqb _ _ (c .if1 .taken))
 
-mul-of-16-bits : tie.Need-mul-of-16-bits
-mul-of-16-bits c = search needs
-
-element-copy-out-of-16-bits : tie.Need-element-copy-out-of-16-bits
-element-copy-out-of-16-bits c = search needs
-
-of-16-bits-requires : tie.Need-of-16-bits-requires
-of-16-bits-requires c κs = search needs
-
 returns-2 : tie.Need-returns-2
 unfolding no-threshold
 returns-2 c =
-    let s = c .before .before .before in
+    let s : tie.Start = search c in
     let fits = c .«of-16-bits» .ensures in
     rw (fits .0, ne-eqb _ _ (c .before .before .if1 .left), threshold-in (s .args .domains) 0 [] (s .args .thresholds .now) [] (s .args .d) (omega arith) (s .pre .1) (fits .1))
 
 pub no-threshold-at-spec : {M : Type 1} → statement M
 no-threshold-at-spec =
     tie.close
-    (tie.spec returns mul-of-16-bits element-copy-out-of-16-bits of-16-bits-requires returns-2)
+    (tie.spec returns (λ c. search needs) (λ c. search needs) (λ c κs. search needs) returns-2)

@@ -27,35 +27,29 @@ loop-holds c =
     let p = c .before .pre .0 .0 in
     (omega arith, λ few some low real. down-first _ _ _ _ few some low real _ _ (omega arith) (c .home-domains .ensures))
 
-cast-at : tie.Need-cast-at Inv-loop μ-loop
-cast-at c = omega arith
-
 element-copy-out-byte-index : tie.Need-element-copy-out-byte-index Inv-loop μ-loop
-element-copy-out-byte-index c = omega (arith, c .before .before .before .pre .0 .1)
-
-byte-index-requires : tie.Need-byte-index-requires Inv-loop μ-loop
-byte-index-requires c κs = search needs
+element-copy-out-byte-index c =
+    let start : tie.Start Inv-loop μ-loop = search c in
+    omega (arith, start .pre .0 .1)
 
 array-read-if1 : tie.Need-array-read-if1 Inv-loop μ-loop
-array-read-if1 c = omega (arith, c .before .before .before .before .before .pre .0 .1)
+array-read-if1 c =
+    let start : tie.Start Inv-loop μ-loop = search c in
+    omega (arith, start .pre .0 .1)
 
 array-write-occupied : tie.Need-array-write-occupied Inv-loop μ-loop
 array-write-occupied c =
+    let at-loop : tie.At-loop Inv-loop μ-loop = search c in
     let index = c .before in
-    let s = index .before .before .before .before .before in
-    let low = s .pre .1 .0 .lower (index .before .before .before .loop .d) (index .before .before .loop-test .taken) (index .before .before .before .loop .inv .0) in
+    let s : tie.Start Inv-loop μ-loop = search index in
+    let low = s .pre .1 .0 .lower (at-loop .loop .d) (index .before .before .loop-test .taken) (at-loop .loop .inv .0) in
     omega (arith, index .byte-index .ensures .0, s .pre .0 .1)
-
-sub-d-2 : tie.Need-sub-d-2 Inv-loop μ-loop
-sub-d-2 c = omega arith
-
-loop-less : tie.Need-loop-less Inv-loop μ-loop
-loop-less c = omega arith
 
 loop-again : tie.Need-loop-again Inv-loop μ-loop
 loop-again c =
+    let at-loop : tie.At-loop Inv-loop μ-loop = search c in
     let index = c .before in
-    let l = index .before .before .before .loop in
+    let l = at-loop .loop in
     let some = index .before .before .loop-test .taken in
     let e = index .byte-index .ensures .0 in (
       omega arith,
@@ -81,12 +75,12 @@ occupied-spec =
     home-domains-requires
     sub-d
     loop-holds
-    cast-at
+    (λ c. search needs)
     element-copy-out-byte-index
-    byte-index-requires
+    (λ c κs. search needs)
     array-read-if1
     array-write-occupied
-    sub-d-2
-    loop-less
+    (λ c. search needs)
+    (λ c. search needs)
     loop-again
     returns)

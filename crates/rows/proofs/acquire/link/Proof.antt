@@ -5,21 +5,9 @@ use borrow.Author.Needs.{needs}
 use Rattle.rows.proofs.acquire.link.Statement.{statement}
 use Rattle.rows.proofs.acquire.link.Tie as tie
 
-add-nexts : tie.Need-add-nexts
-add-nexts c = search needs
-
-mul-nexts : tie.Need-mul-nexts
-mul-nexts c = search needs
-
-element-write-nexts : tie.Need-element-write-nexts
-element-write-nexts c = search needs
-
-moves-requires : tie.Need-moves-requires
-moves-requires c κs = search needs
-
 returns : tie.Need-returns
 unfolding link-row
 returns c = (record { does = λ t i s S. rw (c .moves .ensures, ← S .own-is) (record { kind-is = refl; state-left = refl }) }, rw (c .moves .ensures) refl)
 
 pub link-spec : {M : Type 1} → statement M
-link-spec = tie.close (tie.spec add-nexts mul-nexts element-write-nexts moves-requires returns)
+link-spec = tie.close (tie.spec (λ c. search needs) (λ c. search needs) (λ c. search needs) (λ c κs. search needs) returns)

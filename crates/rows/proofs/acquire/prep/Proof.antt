@@ -20,27 +20,6 @@ chosen t i l s = by (eqb l 0)
     by true = refl
     by false = refl
 
-cast-r : tie.Need-cast-r
-cast-r c = search needs
-
-mul-nexts : tie.Need-mul-nexts
-mul-nexts c = search needs
-
-element-write-nexts : tie.Need-element-write-nexts
-element-write-nexts c = search needs
-
-root-word-at-requires : tie.Need-root-word-at-requires
-root-word-at-requires c κs = search needs
-
-mul-statuses : tie.Need-mul-statuses
-mul-statuses c = search needs
-
-element-write-statuses : tie.Need-element-write-statuses
-element-write-statuses c = search needs
-
-moves-requires : tie.Need-moves-requires
-moves-requires c κs = search needs
-
 returns : tie.Need-returns
 returns c = (record { does = λ t i s S. rw (chosen t i _ _, c .moves .ensures, c .before .root-word-at .ensures, ← S .own-is) (record { kind-is = refl; state-left = refl }) }, rw (c .moves .ensures) refl)
 
@@ -48,11 +27,11 @@ pub prep-spec : {M : Type 1} → statement M
 prep-spec =
     tie.close
     (tie.spec
-    cast-r
-    mul-nexts
-    element-write-nexts
-    root-word-at-requires
-    mul-statuses
-    element-write-statuses
-    moves-requires
+    (λ c. search needs)
+    (λ c. search needs)
+    (λ c. search needs)
+    (λ c κs. search needs)
+    (λ c. search needs)
+    (λ c. search needs)
+    (λ c κs. search needs)
     returns)

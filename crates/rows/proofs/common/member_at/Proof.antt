@@ -10,17 +10,8 @@ use Rattle.rows.proofs.common.member_at.Tie as tie
 returns : tie.Need-returns
 returns c = record { home-is = refl; domain-is = refl; within = record { domain-fits = omega arith; own-fits = omega arith }; at-home = λ e. refl; above-home = λ n. absurd (n (c .if1 .taken)) }
 
-search-at-requires : tie.Need-search-at-requires
-search-at-requires c κs = search needs
-
-cast-t9 : tie.Need-cast-t9
-cast-t9 c = search needs
-
-add-t10 : tie.Need-add-t10
-add-t10 c = search needs
-
 returns-2 : tie.Need-returns-2
 returns-2 c = record { home-is = refl; domain-is = refl; within = record { domain-fits = omega arith; own-fits = omega (arith, c .search-at .ensures .1) }; at-home = λ e. absurd (c .before .if1 .left e); above-home = λ n. (ap (λ (r : Found). r .child) (c .search-at .ensures .0) ∙ same-child-from 6 _ _ _ 0, refl) }
 
 pub member-at-spec : {M : Type 1} → statement M
-member-at-spec = tie.close (tie.spec returns search-at-requires cast-t9 add-t10 returns-2)
+member-at-spec = tie.close (tie.spec returns (λ c κs. search needs) (λ c. search needs) (λ c. search needs) returns-2)

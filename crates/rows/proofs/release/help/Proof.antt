@@ -6,21 +6,9 @@ use borrow.Author.Needs.{needs}
 use Rattle.rows.proofs.release.help.Statement.{statement}
 use Rattle.rows.proofs.release.help.Tie as tie
 
-moves-requires : tie.Need-moves-requires
-moves-requires c κs = search needs
-
 returns : tie.Need-returns
 unfolding help-row
 returns c = (record { does = λ t i s S. rw (c .moves .ensures, ← S .0 .own-is, ← S .1, eq-eqb _ _ (c .before .if1 .taken)) (record { kind-is = refl; state-left = refl }) }, rw (c .moves .ensures) refl)
-
-root-word-at-requires : tie.Need-root-word-at-requires
-root-word-at-requires c κs = search needs
-
-sub-t7 : tie.Need-sub-t7
-sub-t7 c = search needs
-
-moves-requires-2 : tie.Need-moves-requires-2
-moves-requires-2 c κs = search needs
 
 returns-2 : tie.Need-returns-2
 unfolding help-row
@@ -30,9 +18,9 @@ pub help-spec : {M : Type 1} → statement M
 help-spec =
     tie.close
     (tie.spec
-    moves-requires
+    (λ c κs. search needs)
     returns
-    root-word-at-requires
-    sub-t7
-    moves-requires-2
+    (λ c κs. search needs)
+    (λ c. search needs)
+    (λ c κs. search needs)
     returns-2)

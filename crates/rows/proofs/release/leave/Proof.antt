@@ -6,15 +6,9 @@ use borrow.Author.Needs.{needs}
 use Rattle.rows.proofs.release.leave.Statement.{statement}
 use Rattle.rows.proofs.release.leave.Tie as tie
 
-release-place-at-requires : tie.Need-release-place-at-requires
-release-place-at-requires c κs = search needs
-
-moves-requires : tie.Need-moves-requires
-moves-requires c κs = search needs
-
 returns : tie.Need-returns
 unfolding leave-row
 returns c = (record { does = λ t i s S. rw (c .moves .ensures, c .before .release-place-at .ensures, release-is t _ (S .1) _, ← S .0) (record { kind-is = refl; state-left = refl }) }, rw (c .moves .ensures) refl)
 
 pub leave-spec : {M : Type 1} → statement M
-leave-spec = tie.close (tie.spec release-place-at-requires moves-requires returns)
+leave-spec = tie.close (tie.spec (λ c κs. search needs) (λ c κs. search needs) returns)

@@ -7,21 +7,9 @@ use borrow.Author.Needs.{needs}
 use Rattle.rows.proofs.release.linger.Statement.{statement}
 use Rattle.rows.proofs.release.linger.Tie as tie
 
-at-place-requires : tie.Need-at-place-requires
-at-place-requires c κs = search needs
-
 returns : tie.Need-returns
 unfolding linger-row
 returns c = (record { does = λ t i s S. rw (c .at-place .ensures, ← S .0 .own-is, ← S .1 .0, eq-eqb _ _ (c .before .if1 .taken)) (record { kind-is = refl; state-left = unmoved s i _ (S .1 .1) }) }, rw (c .at-place .ensures) refl)
-
-root-word-at-requires : tie.Need-root-word-at-requires
-root-word-at-requires c κs = search needs
-
-sub-t7 : tie.Need-sub-t7
-sub-t7 c = search needs
-
-moves-requires : tie.Need-moves-requires
-moves-requires c κs = search needs
 
 returns-2 : tie.Need-returns-2
 unfolding linger-row
@@ -31,9 +19,9 @@ pub linger-spec : {M : Type 1} → statement M
 linger-spec =
     tie.close
     (tie.spec
-    at-place-requires
+    (λ c κs. search needs)
     returns
-    root-word-at-requires
-    sub-t7
-    moves-requires
+    (λ c κs. search needs)
+    (λ c. search needs)
+    (λ c κs. search needs)
     returns-2)

@@ -22,222 +22,193 @@ element-copy-out-home c = let r = turn-of _ _ _ _ _ _ _ _ (c .pre .0) in omega (
 place-by-row-requires : tie.Need-place-by-row-requires
 place-by-row-requires c κs = let r = turn-of _ _ _ _ _ _ _ _ (c .before .pre .0) in not-invalid r
 
-domain-by-row-requires : tie.Need-domain-by-row-requires
-domain-by-row-requires c κs = search needs
-
 member-at-requires : tie.Need-member-at-requires
-member-at-requires c κs = let r = turn-of _ _ _ _ _ _ _ _ (c .before .before .before .pre .0) in let a = c .before .place-by-row .ensures in let b = c .domain-by-row .ensures in let f = fits r in (f .few-domains, (f .low, (omega (arith, f .real, f .few-threads), (f .home-real, real r a b))))
-
-cast-d : tie.Need-cast-d
-cast-d c = search needs
-
-cast-r : tie.Need-cast-r
-cast-r c = search needs
-
-enum-told : tie.Need-enum-told
-enum-told c = search needs
+member-at-requires c κs =
+    let start : tie.Start = search c in
+    let r = turn-of _ _ _ _ _ _ _ _ (start .pre .0) in let a = c .before .place-by-row .ensures in let b = c .domain-by-row .ensures in let f = fits r in (f .few-domains, (f .low, (omega (arith, f .real, f .few-threads), (f .home-real, real r a b))))
 
 start-requires : tie.Need-start-requires
 start-requires c κs =
-    let m = c .before .before .before .before .before .before .before .before .before .before in
+    let after-enum-told : tie.After-enum-told = search c in
+    let m : tie.After-member-at = search c in
+    let start : tie.Start = search c in
     let M = m .member-at .ensures in let b = m .before .domain-by-row .ensures in let a = m .before .before .place-by-row .ensures in
-    let p = m .before .before .before .before .pre in let r = turn-of _ _ _ _ _ _ _ _ (p .0) in let f = fits r in
-    (f .few-domains, (f .low, ((rw (M .home-is) (f .home-real), (M .within, own-small r a b M (c .before .before .before .before .before .before .before .enum-told .given .1))), p .1 .0)))
-
-enum-told-2 : tie.Need-enum-told-2
-enum-told-2 c = search needs
+    let p = start .pre in let r = turn-of _ _ _ _ _ _ _ _ (p .0) in let f = fits r in
+    (f .few-domains, (f .low, ((rw (M .home-is) (f .home-real), (M .within, own-small r a b M (after-enum-told .enum-told .given .1))), p .1 .0)))
 
 prep-requires : tie.Need-prep-requires
-prep-requires c κs = (c .before .before .before .before .before .member-at .ensures) .within
-
-enum-told-3 : tie.Need-enum-told-3
-enum-told-3 c = search needs
+prep-requires c κs =
+    let after-member-at : tie.After-member-at = search c in
+    (after-member-at .member-at .ensures) .within
 
 swap-requires : tie.Need-swap-requires
 swap-requires c κs =
-    let m = c .before .before .before .before .before .before .before .before in
+    let m : tie.After-member-at = search c in
+    let start : tie.Start = search c in
     let M = m .member-at .ensures in
-    let p = m .before .before .before .before .pre in let r = turn-of _ _ _ _ _ _ _ _ (p .0) in let f = fits r in
+    let p = start .pre in let r = turn-of _ _ _ _ _ _ _ _ (p .0) in let f = fits r in
     (f .few-domains, (f .low, ((rw (M .home-is) (f .home-real), M .within), p .1 .0)))
 
-enum-known-p : tie.Need-enum-known-p
-enum-known-p c = search needs
-
 link-requires : tie.Need-link-requires
-link-requires c κs = let r = turn-of _ _ _ _ _ _ _ _ (c .before .before .before .before .before .before .before .before .before .pre .0) in let a = c .before .before .before .before .before .before .before .place-by-row .ensures in ((c .before .before .before .before .before .member-at .ensures) .within, link-fits r a _ _ (c .before .before .p .given .1))
-
-enum-told-4 : tie.Need-enum-told-4
-enum-told-4 c = search needs
+link-requires c κs =
+    let after-member-at : tie.After-member-at = search c in
+    let after-place-by-row : tie.After-place-by-row = search c in
+    let start : tie.Start = search c in
+    let r = turn-of _ _ _ _ _ _ _ _ (start .pre .0) in let a = after-place-by-row .place-by-row .ensures in ((after-member-at .member-at .ensures) .within, link-fits r a _ _ (c .before .before .p .given .1))
 
 wait-requires : tie.Need-wait-requires
-wait-requires c κs = let m = c .before .before .before .before .before in let M = m .member-at .ensures in let p = m .before .before .before .before .pre in let f = fits (turn-of _ _ _ _ _ _ _ _ (p .0)) in (f .few-domains, (f .low, ((rw (M .home-is) (f .home-real), M .within), p .1 .0 .0)))
-
-enum-told-5 : tie.Need-enum-told-5
-enum-told-5 c = search needs
-
-leave-requires : tie.Need-leave-requires
-leave-requires c κs = search needs
-
-enum-told-6 : tie.Need-enum-told-6
-enum-told-6 c = search needs
+wait-requires c κs =
+    let start : tie.Start = search c in
+    let m : tie.After-member-at = search c in let M = m .member-at .ensures in let p = start .pre in let f = fits (turn-of _ _ _ _ _ _ _ _ (p .0)) in (f .few-domains, (f .low, ((rw (M .home-is) (f .home-real), M .within), p .1 .0 .0)))
 
 element-copy-out-check : tie.Need-element-copy-out-check
-element-copy-out-check c = let r = turn-of _ _ _ _ _ _ _ _ (c .before .before .before .before .before .before .before .pre .0) in let a = c .before .before .before .before .before .place-by-row .ensures in let b = c .before .before .before .before .domain-by-row .ensures in omega (arith, small r a b)
-
-mul-check : tie.Need-mul-check
-mul-check c = search needs
+element-copy-out-check c =
+    let after-domain-by-row : tie.After-domain-by-row = search c in
+    let after-place-by-row : tie.After-place-by-row = search c in
+    let start : tie.Start = search c in
+    let r = turn-of _ _ _ _ _ _ _ _ (start .pre .0) in let a = after-place-by-row .place-by-row .ensures in let b = after-domain-by-row .domain-by-row .ensures in omega (arith, small r a b)
 
 element-copy-out-check-2 : tie.Need-element-copy-out-check-2
-element-copy-out-check-2 c = let r = turn-of _ _ _ _ _ _ _ _ (c .before .before .before .before .before .before .before .before .pre .0) in let a = c .before .before .before .before .before .before .place-by-row .ensures in let b = c .before .before .before .before .before .domain-by-row .ensures in omega (arith, small r a b)
-
-mul-check-2 : tie.Need-mul-check-2
-mul-check-2 c = search needs
+element-copy-out-check-2 c =
+    let after-domain-by-row : tie.After-domain-by-row = search c in
+    let after-place-by-row : tie.After-place-by-row = search c in
+    let start : tie.Start = search c in
+    let r = turn-of _ _ _ _ _ _ _ _ (start .pre .0) in let a = after-place-by-row .place-by-row .ensures in let b = after-domain-by-row .domain-by-row .ensures in omega (arith, small r a b)
 
 element-copy-out-check-3 : tie.Need-element-copy-out-check-3
-element-copy-out-check-3 c = omega (arith, (c .before .before .before .before .before .member-at .ensures) .within .own-fits)
-
-mul-check-3 : tie.Need-mul-check-3
-mul-check-3 c = search needs
+element-copy-out-check-3 c =
+    let after-member-at : tie.After-member-at = search c in
+    omega (arith, (after-member-at .member-at .ensures) .within .own-fits)
 
 element-copy-out-check-4 : tie.Need-element-copy-out-check-4
-element-copy-out-check-4 c = omega (arith, (c .before .before .before .before .before .before .member-at .ensures) .within .own-fits)
+element-copy-out-check-4 c =
+    let after-member-at : tie.After-member-at = search c in
+    omega (arith, (after-member-at .member-at .ensures) .within .own-fits)
 
 check-requires : tie.Need-check-requires
-check-requires c κs = (c .before .before .before .before .before .before .before .before .member-at .ensures) .within
-
-enum-told-7 : tie.Need-enum-told-7
-enum-told-7 c = search needs
-
-mul-help : tie.Need-mul-help
-mul-help c = search needs
+check-requires c κs =
+    let after-member-at : tie.After-member-at = search c in
+    (after-member-at .member-at .ensures) .within
 
 element-copy-out-help : tie.Need-element-copy-out-help
-element-copy-out-help c = omega (arith, (c .before .before .before .member-at .ensures) .within .own-fits)
-
-help-requires : tie.Need-help-requires
-help-requires c κs = search needs
-
-enum-told-8 : tie.Need-enum-told-8
-enum-told-8 c = search needs
+element-copy-out-help c =
+    let after-member-at : tie.After-member-at = search c in
+    omega (arith, (after-member-at .member-at .ensures) .within .own-fits)
 
 cas-requires : tie.Need-cas-requires
-cas-requires c κs = (c .before .before .before .before .member-at .ensures) .within
-
-enum-told-9 : tie.Need-enum-told-9
-enum-told-9 c = search needs
-
-mul-linger : tie.Need-mul-linger
-mul-linger c = search needs
+cas-requires c κs =
+    let after-member-at : tie.After-member-at = search c in
+    (after-member-at .member-at .ensures) .within
 
 element-copy-out-linger : tie.Need-element-copy-out-linger
-element-copy-out-linger c = omega (arith, (c .before .before .before .member-at .ensures) .within .own-fits)
-
-linger-requires : tie.Need-linger-requires
-linger-requires c κs = search needs
-
-enum-known-p-2 : tie.Need-enum-known-p-2
-enum-known-p-2 c = search needs
+element-copy-out-linger c =
+    let after-member-at : tie.After-member-at = search c in
+    omega (arith, (after-member-at .member-at .ensures) .within .own-fits)
 
 grant-requires : tie.Need-grant-requires
-grant-requires c κs = let r = turn-of _ _ _ _ _ _ _ _ (c .before .before .before .before .before .before .before .before .before .before .before .pre .0) in let a = c .before .before .before .before .before .before .before .before .before .place-by-row .ensures in (grant-fits r a _ _ _ (c .before .before .before .before .p2 .given .1), c .before .before .before .before .before .before .before .before .before .before .before .pre .1 .0 .1)
-
-enum-told-10 : tie.Need-enum-told-10
-enum-told-10 c = search needs
+grant-requires c κs =
+    let after-p2 : tie.After-p2 = search c in
+    let after-place-by-row : tie.After-place-by-row = search c in
+    let start : tie.Start = search c in
+    let r = turn-of _ _ _ _ _ _ _ _ (start .pre .0) in let a = after-place-by-row .place-by-row .ensures in (grant-fits r a _ _ _ (after-p2 .p2 .given .1), start .pre .1 .0 .1)
 
 draw-requires : tie.Need-draw-requires
 draw-requires c κs =
-    let m = c .before .before .before .before .before .before .before .before .before in
+    let after-enum-told10 : tie.After-enum-told10 = search c in
+    let m : tie.After-member-at = search c in
+    let start : tie.Start = search c in
     let M = m .member-at .ensures in let b = m .before .domain-by-row .ensures in let a = m .before .before .place-by-row .ensures in
-    let p = m .before .before .before .before .pre in let r = turn-of _ _ _ _ _ _ _ _ (p .0) in let f = fits r in
-    (f .few-domains, (f .low, ((rw (M .home-is) (f .home-real), (M .within, at-root r a b M Draw (c .before .before .before .before .before .before .enum-told10 .given .1) refl)), p .1 .0)))
-
-enum-told-11 : tie.Need-enum-told-11
-enum-told-11 c = search needs
-
-mul-watch : tie.Need-mul-watch
-mul-watch c = search needs
+    let p = start .pre in let r = turn-of _ _ _ _ _ _ _ _ (p .0) in let f = fits r in
+    (f .few-domains, (f .low, ((rw (M .home-is) (f .home-real), (M .within, at-root r a b M Draw (after-enum-told10 .enum-told10 .given .1) refl)), p .1 .0)))
 
 element-copy-out-watch : tie.Need-element-copy-out-watch
-element-copy-out-watch c = omega (arith, (c .before .before .before .member-at .ensures) .within .own-fits)
+element-copy-out-watch c =
+    let after-member-at : tie.After-member-at = search c in
+    omega (arith, (after-member-at .member-at .ensures) .within .own-fits)
 
 watch-requires : tie.Need-watch-requires
-watch-requires c κs = let m = c .before .before .before .before .before .before in let M = m .member-at .ensures in let b = m .before .domain-by-row .ensures in let a = m .before .before .place-by-row .ensures in let p = m .before .before .before .before .pre in let r = turn-of _ _ _ _ _ _ _ _ (p .0) in let f = fits r in (f .few-domains, (f .low, ((rw (M .home-is) (f .home-real), at-root r a b M Watch (c .before .before .before .enum-told11 .given .1) refl), p .1 .0 .0)))
-
-enum-told-12 : tie.Need-enum-told-12
-enum-told-12 c = search needs
+watch-requires c κs =
+    let after-enum-told11 : tie.After-enum-told11 = search c in
+    let start : tie.Start = search c in
+    let m : tie.After-member-at = search c in let M = m .member-at .ensures in let b = m .before .domain-by-row .ensures in let a = m .before .before .place-by-row .ensures in let p = start .pre in let r = turn-of _ _ _ _ _ _ _ _ (p .0) in let f = fits r in (f .few-domains, (f .low, ((rw (M .home-is) (f .home-real), at-root r a b M Watch (after-enum-told11 .enum-told11 .given .1) refl), p .1 .0 .0)))
 
 count-shown-requires : tie.Need-count-shown-requires
-count-shown-requires c κs = let r = turn-of _ _ _ _ _ _ _ _ (c .before .before .before .before .before .before .before .before .before .before .pre .0) in (fits r .few-domains, (c .before .before .before .before .before .before .before .before .before .before .pre .1 .1, c .before .before .before .before .before .before .before .before .before .before .pre .1 .0 .1))
+count-shown-requires c κs =
+    let start : tie.Start = search c in
+    let r = turn-of _ _ _ _ _ _ _ _ (start .pre .0) in (fits r .few-domains, (start .pre .1 .1, start .pre .1 .0 .1))
 
 raise-requires : tie.Need-raise-requires
-raise-requires c κs = let m = c .before .before .before .before .before .before .before .before in let b = m .before .domain-by-row .ensures in let a = m .before .before .place-by-row .ensures in at-root (turn-of _ _ _ _ _ _ _ _ (m .before .before .before .before .pre .0)) a b (m .member-at .ensures) Raise (c .before .before .before .before .before .enum-told12 .given .1) refl
-
-enum-told-13 : tie.Need-enum-told-13
-enum-told-13 c = search needs
-
-at-place-requires : tie.Need-at-place-requires
-at-place-requires c κs = search needs
+raise-requires c κs =
+    let after-enum-told12 : tie.After-enum-told12 = search c in
+    let start : tie.Start = search c in
+    let m : tie.After-member-at = search c in let b = m .before .domain-by-row .ensures in let a = m .before .before .place-by-row .ensures in at-root (turn-of _ _ _ _ _ _ _ _ (start .pre .0)) a b (m .member-at .ensures) Raise (after-enum-told12 .enum-told12 .given .1) refl
 
 returns : tie.Need-returns
 unfolding started-in
 returns c =
-    let m = c .before .before .before .before .before .before .before .before .before .before .before in
+    let after-enum-told : tie.After-enum-told = search c in
+    let m : tie.After-member-at = search c in
     let M = m .member-at .ensures in let b = m .before .domain-by-row .ensures in let a = m .before .before .place-by-row .ensures in
-    let g = m .before .before .before .before in let r = turn-of _ _ _ _ _ _ _ _ (g .pre .0) in let x = g .args in
-    let same = c .before .before .before .before .before .before .before .before .enum-told .given .1 in
+    let g : tie.Start = search m in let r = turn-of _ _ _ _ _ _ _ _ (g .pre .0) in let x = g .args in
+    let same = after-enum-told .enum-told .given .1 in
     (taken r a b M (Idle) _ _ _ _ _ _ _ _ _ _ _ same (λ qs here. c .start .ensures .0 .does _ _ (state-in (now (x .tails)) (now (x .nexts)) (now (x .statuses)) (now (x .ticket)) (now (x .granted)) qs) (stands r a b M, (above r a b M .root-is, refl))), (rw (M .home-is) at (c .start .ensures .1 .0), (counted r a (Idle) same (λ z. absurd (omega arith)) (λ z. absurd (omega arith)) _ _ _ _ _ _ _ 0 refl (c .start .ensures .1 .1), shown-kept r a (Idle) same (λ z. absurd (omega arith)) _)))
 
 returns-2 : tie.Need-returns-2
 unfolding started-in
 returns-2 c =
-    let m = c .before .before .before .before .before .before in
+    let after-enum-told2 : tie.After-enum-told2 = search c in
+    let m : tie.After-member-at = search c in
     let M = m .member-at .ensures in let b = m .before .domain-by-row .ensures in let a = m .before .before .place-by-row .ensures in
-    let g = m .before .before .before .before in let r = turn-of _ _ _ _ _ _ _ _ (g .pre .0) in let x = g .args in
-    let same = c .before .before .before .enum-told2 .given .1 in
+    let g : tie.Start = search m in let r = turn-of _ _ _ _ _ _ _ _ (g .pre .0) in let x = g .args in
+    let same = after-enum-told2 .enum-told2 .given .1 in
     (taken r a b M (Prep _) _ _ _ _ _ _ _ _ _ _ _ same (λ qs here. c .prep .ensures .0 .does _ _ (state-in (now (x .tails)) (now (x .nexts)) (now (x .statuses)) (now (x .ticket)) (now (x .granted)) qs) (stands r a b M)), (not-entered _ _ _ _ (c .prep .ensures .1), (counted r a (Prep _) same (λ z. absurd (omega arith)) (λ z. absurd (omega arith)) _ _ _ _ _ _ _ 0 refl (record { added = refl; raised = refl }), shown-kept r a (Prep _) same (λ z. absurd (omega arith)) _)))
 
 returns-3 : tie.Need-returns-3
 unfolding started-in
 returns-3 c =
-    let m = c .before .before .before .before .before .before .before .before .before in
+    let after-enum-told3 : tie.After-enum-told3 = search c in
+    let m : tie.After-member-at = search c in
     let M = m .member-at .ensures in let b = m .before .domain-by-row .ensures in let a = m .before .before .place-by-row .ensures in
-    let g = m .before .before .before .before in let r = turn-of _ _ _ _ _ _ _ _ (g .pre .0) in let x = g .args in
-    let same = c .before .before .before .before .before .before .enum-told3 .given .1 in
+    let g : tie.Start = search m in let r = turn-of _ _ _ _ _ _ _ _ (g .pre .0) in let x = g .args in
+    let same = after-enum-told3 .enum-told3 .given .1 in
     (taken r a b M (Swap _) _ _ _ _ _ _ _ _ _ _ _ same (λ qs here. c .swap .ensures .0 .does _ _ (state-in (now (x .tails)) (now (x .nexts)) (now (x .statuses)) (now (x .ticket)) (now (x .granted)) qs) (stands r a b M, above r a b M)), (rw (M .home-is) at (c .swap .ensures .1 .0), (counted r a (Swap _) same (λ z. absurd (omega arith)) (λ z. absurd (omega arith)) _ _ _ _ _ _ _ _ (ap (cond (eqb (c .swap .result .place .row) 3) 0) (own-taken r a b M ∙ ap (taken-in _ _ _) (at r a b (Swap _) same))) (c .swap .ensures .1 .1), shown-kept r a (Swap _) same (λ z. absurd (omega arith)) _)))
 
 returns-4 : tie.Need-returns-4
 unfolding started-in
 returns-4 c =
-    let m = c .before .before .before .before .before .before in
+    let after-p : tie.After-p = search c in
+    let m : tie.After-member-at = search c in
     let M = m .member-at .ensures in let b = m .before .domain-by-row .ensures in let a = m .before .before .place-by-row .ensures in
-    let g = m .before .before .before .before in let r = turn-of _ _ _ _ _ _ _ _ (g .pre .0) in let x = g .args in
-    let same = c .before .before .before .p .given .1 in
+    let g : tie.Start = search m in let r = turn-of _ _ _ _ _ _ _ _ (g .pre .0) in let x = g .args in
+    let same = after-p .p .given .1 in
     (taken r a b M (Link _ _) _ _ _ _ _ _ _ _ _ _ _ same (λ qs here. c .link .ensures .0 .does _ _ (state-in (now (x .tails)) (now (x .nexts)) (now (x .statuses)) (now (x .ticket)) (now (x .granted)) qs) (stands r a b M)), (not-entered _ _ _ _ (c .link .ensures .1), (counted r a (Link _ _) same (λ z. absurd (omega arith)) (λ z. absurd (omega arith)) _ _ _ _ _ _ _ 0 refl (record { added = refl; raised = refl }), shown-kept r a (Link _ _) same (λ z. absurd (omega arith)) _)))
 
 returns-5 : tie.Need-returns-5
 unfolding started-in
 returns-5 c =
-    let m = c .before .before .before .before .before .before in
+    let after-enum-told4 : tie.After-enum-told4 = search c in
+    let m : tie.After-member-at = search c in
     let M = m .member-at .ensures in let b = m .before .domain-by-row .ensures in let a = m .before .before .place-by-row .ensures in
-    let g = m .before .before .before .before in let r = turn-of _ _ _ _ _ _ _ _ (g .pre .0) in let x = g .args in
-    let same = c .before .before .before .enum-told4 .given .1 in
+    let g : tie.Start = search m in let r = turn-of _ _ _ _ _ _ _ _ (g .pre .0) in let x = g .args in
+    let same = after-enum-told4 .enum-told4 .given .1 in
     (taken r a b M (Wait _) _ _ _ _ _ _ _ _ _ _ _ same (λ qs here. c .wait .ensures .0 .does _ _ (state-in (now (x .tails)) (now (x .nexts)) (now (x .statuses)) (now (x .ticket)) (now (x .granted)) qs) (stands r a b M, (above r a b M, sym here))), (rw (M .home-is) at (c .wait .ensures .1), (counted r a (Wait _) same (λ z. absurd (omega arith)) (λ z. absurd (omega arith)) _ _ _ _ _ _ _ 0 refl (record { added = refl; raised = refl }), shown-kept r a (Wait _) same (λ z. absurd (omega arith)) _)))
 
 returns-6 : tie.Need-returns-6
 unfolding started-in
 returns-6 c =
-    let m = c .before .before .before .before in
+    let m : tie.After-member-at = search c in
     let M = m .member-at .ensures in let b = m .before .domain-by-row .ensures in let a = m .before .before .place-by-row .ensures in
-    let g = m .before .before .before .before in let r = turn-of _ _ _ _ _ _ _ _ (g .pre .0) in let x = g .args in
+    let g : tie.Start = search m in let r = turn-of _ _ _ _ _ _ _ _ (g .pre .0) in let x = g .args in
     let same = c .before .enum-told5 .given .1 in
     (taken r a b M (Inside) _ _ _ _ _ _ _ _ _ _ _ same (λ qs here. c .leave .ensures .0 .does _ _ (state-in (now (x .tails)) (now (x .nexts)) (now (x .statuses)) (now (x .ticket)) (now (x .granted)) qs) (sym (home-is r), above r a b M .root-is)), (not-entered _ _ _ _ (c .leave .ensures .1), (counted r a (Inside) same (λ z. absurd (omega arith)) (λ z. absurd (omega arith)) _ _ _ _ _ _ _ 0 refl (record { added = refl; raised = refl }), shown-kept r a (Inside) same (λ z. absurd (omega arith)) _)))
 
 returns-7 : tie.Need-returns-7
 returns-7 c =
-    let m = c .before .before .before .before .before .before .before .before .before in
+    let after-enum-told6 : tie.After-enum-told6 = search c in
+    let m : tie.After-member-at = search c in
     let M = m .member-at .ensures in let b = m .before .domain-by-row .ensures in let a = m .before .before .place-by-row .ensures in
-    let g = m .before .before .before .before in let r = turn-of _ _ _ _ _ _ _ _ (g .pre .0) in let x = g .args in
-    let same = c .before .before .before .before .before .before .enum-told6 .given .1 in
+    let g : tie.Start = search m in let r = turn-of _ _ _ _ _ _ _ _ (g .pre .0) in let x = g .args in
+    let same = after-enum-told6 .enum-told6 .given .1 in
     let k = c .check .ensures in
     let i = inner r a b M _ same in
     let there = M .domain-is ∙ at r a b _ same ∙ sym (ap (λ (y : PlaceWords). y .domain) (words r a _ same)) in
@@ -246,69 +217,75 @@ returns-7 c =
 returns-8 : tie.Need-returns-8
 unfolding started-in
 returns-8 c =
-    let m = c .before .before .before .before .before in
+    let m : tie.After-member-at = search c in
     let M = m .member-at .ensures in let b = m .before .domain-by-row .ensures in let a = m .before .before .place-by-row .ensures in
-    let g = m .before .before .before .before in let r = turn-of _ _ _ _ _ _ _ _ (g .pre .0) in let x = g .args in
+    let g : tie.Start = search m in let r = turn-of _ _ _ _ _ _ _ _ (g .pre .0) in let x = g .args in
     let same = c .before .before .enum-told7 .given .1 in
     (taken r a b M (Help _) _ _ _ _ _ _ _ _ _ _ _ same (λ qs here. c .help .ensures .0 .does _ _ (state-in (now (x .tails)) (now (x .nexts)) (now (x .statuses)) (now (x .ticket)) (now (x .granted)) qs) (stands r a b M, refl)), (not-entered _ _ _ _ (c .help .ensures .1), (counted r a (Help _) same (λ z. absurd (omega arith)) (λ z. absurd (omega arith)) _ _ _ _ _ _ _ 0 refl (record { added = refl; raised = refl }), shown-kept r a (Help _) same (λ z. absurd (omega arith)) _)))
 
 returns-9 : tie.Need-returns-9
 unfolding started-in
 returns-9 c =
-    let m = c .before .before .before .before .before in
+    let m : tie.After-member-at = search c in
     let M = m .member-at .ensures in let b = m .before .domain-by-row .ensures in let a = m .before .before .place-by-row .ensures in
-    let g = m .before .before .before .before in let r = turn-of _ _ _ _ _ _ _ _ (g .pre .0) in let x = g .args in
+    let g : tie.Start = search m in let r = turn-of _ _ _ _ _ _ _ _ (g .pre .0) in let x = g .args in
     let same = c .before .before .enum-told8 .given .1 in
     (taken r a b M (Cas _) _ _ _ _ _ _ _ _ _ _ _ same (λ qs here. c .cas .ensures .0 .does _ _ (state-in (now (x .tails)) (now (x .nexts)) (now (x .statuses)) (now (x .ticket)) (now (x .granted)) qs) (stands r a b M)), (not-entered _ _ _ _ (c .cas .ensures .1), (counted r a (Cas _) same (λ z. absurd (omega arith)) (λ z. absurd (omega arith)) _ _ _ _ _ _ _ 0 refl (record { added = refl; raised = refl }), shown-kept r a (Cas _) same (λ z. absurd (omega arith)) _)))
 
 returns-10 : tie.Need-returns-10
 unfolding started-in
 returns-10 c =
-    let m = c .before .before .before .before .before in
+    let m : tie.After-member-at = search c in
     let M = m .member-at .ensures in let b = m .before .domain-by-row .ensures in let a = m .before .before .place-by-row .ensures in
-    let g = m .before .before .before .before in let r = turn-of _ _ _ _ _ _ _ _ (g .pre .0) in let x = g .args in
+    let g : tie.Start = search m in let r = turn-of _ _ _ _ _ _ _ _ (g .pre .0) in let x = g .args in
     let same = c .before .before .enum-told9 .given .1 in
     (taken r a b M (Linger _) _ _ _ _ _ _ _ _ _ _ _ same (λ qs here. c .linger .ensures .0 .does _ _ (state-in (now (x .tails)) (now (x .nexts)) (now (x .statuses)) (now (x .ticket)) (now (x .granted)) qs) (stands r a b M, (refl, sym here))), (not-entered _ _ _ _ (c .linger .ensures .1), (counted r a (Linger _) same (λ z. absurd (omega arith)) (λ z. absurd (omega arith)) _ _ _ _ _ _ _ 0 refl (record { added = refl; raised = refl }), shown-kept r a (Linger _) same (λ z. absurd (omega arith)) _)))
 
 returns-11 : tie.Need-returns-11
 unfolding started-in
 returns-11 c =
-    let m = c .before .before .before .before .before .before .before .before in
+    let after-p2 : tie.After-p2 = search c in
+    let m : tie.After-member-at = search c in
     let M = m .member-at .ensures in let b = m .before .domain-by-row .ensures in let a = m .before .before .place-by-row .ensures in
-    let g = m .before .before .before .before in let r = turn-of _ _ _ _ _ _ _ _ (g .pre .0) in let x = g .args in
-    let same = c .before .before .before .before .before .p2 .given .1 in
+    let g : tie.Start = search m in let r = turn-of _ _ _ _ _ _ _ _ (g .pre .0) in let x = g .args in
+    let same = after-p2 .p2 .given .1 in
     (taken r a b M (Grant _ _ _) _ _ _ _ _ _ _ _ _ _ _ same (λ qs here. c .grant .ensures .0 .does _ _ (state-in (now (x .tails)) (now (x .nexts)) (now (x .statuses)) (now (x .ticket)) (now (x .granted)) qs) (stands r a b M)), (not-entered _ _ _ _ (c .grant .ensures .1 .0), (counted r a (Grant _ _ _) same (λ z. absurd (omega arith)) (λ z. absurd (omega arith)) _ _ _ _ _ _ _ _ refl (c .grant .ensures .1 .1), shown-kept r a (Grant _ _ _) same (λ z. absurd (omega arith)) _)))
 
 returns-12 : tie.Need-returns-12
 unfolding started-in
 returns-12 c =
-    let m = c .before .before .before .before .before .before .before .before .before .before in
+    let after-enum-told10 : tie.After-enum-told10 = search c in
+    let m : tie.After-member-at = search c in
     let M = m .member-at .ensures in let b = m .before .domain-by-row .ensures in let a = m .before .before .place-by-row .ensures in
-    let g = m .before .before .before .before in let r = turn-of _ _ _ _ _ _ _ _ (g .pre .0) in let x = g .args in
-    let same = c .before .before .before .before .before .before .before .enum-told10 .given .1 in
+    let g : tie.Start = search m in let r = turn-of _ _ _ _ _ _ _ _ (g .pre .0) in let x = g .args in
+    let same = after-enum-told10 .enum-told10 .given .1 in
     (taken r a b M (Draw) _ _ _ _ _ _ _ _ _ _ _ same (λ qs here. c .draw .ensures .0 .does _ _ (state-in (now (x .tails)) (now (x .nexts)) (now (x .statuses)) (now (x .ticket)) (now (x .granted)) qs) (stands r a b M, refl)), (rw (M .home-is) at (c .draw .ensures .1 .0), (counted r a (Draw) same (λ z. absurd (omega arith)) (λ z. absurd (omega arith)) _ _ _ _ _ _ _ _ (ap (cond (eqb (c .draw .result .kind) 1) 0) (own-taken r a b M ∙ ap (taken-in _ _ _) (at r a b Draw same))) (c .draw .ensures .1 .1), shown-kept r a (Draw) same (λ z. absurd (omega arith)) _)))
 
 returns-13 : tie.Need-returns-13
 unfolding started-in
 returns-13 c =
-    let m = c .before .before .before .before .before .before .before in
+    let after-enum-told11 : tie.After-enum-told11 = search c in
+    let m : tie.After-member-at = search c in
     let M = m .member-at .ensures in let b = m .before .domain-by-row .ensures in let a = m .before .before .place-by-row .ensures in
-    let g = m .before .before .before .before in let r = turn-of _ _ _ _ _ _ _ _ (g .pre .0) in let x = g .args in
-    let same = c .before .before .before .before .enum-told11 .given .1 in
+    let g : tie.Start = search m in let r = turn-of _ _ _ _ _ _ _ _ (g .pre .0) in let x = g .args in
+    let same = after-enum-told11 .enum-told11 .given .1 in
     (taken r a b M (Watch) _ _ _ _ _ _ _ _ _ _ _ same (λ qs here. c .watch .ensures .0 .does _ _ (state-in (now (x .tails)) (now (x .nexts)) (now (x .statuses)) (now (x .ticket)) (now (x .granted)) qs) (stands r a b M, (refl, (refl, sym here)))), (rw (M .home-is) at (c .watch .ensures .1), (counted r a (Watch) same (λ z. absurd (omega arith)) (λ z. absurd (omega arith)) _ _ _ _ _ _ _ 0 refl (record { added = refl; raised = refl }), shown-kept r a (Watch) same (λ z. absurd (omega arith)) _)))
 
 returns-14 : tie.Need-returns-14
 returns-14 c =
-    let m = c .before .before .before .before .before .before .before .before .before in
+    let after-enum-told12 : tie.After-enum-told12 = search c in
+    let m : tie.After-member-at = search c in
     let M = m .member-at .ensures in let b = m .before .domain-by-row .ensures in let a = m .before .before .place-by-row .ensures in
-    let g = m .before .before .before .before in let r = turn-of _ _ _ _ _ _ _ _ (g .pre .0) in let x = g .args in
-    let same = c .before .before .before .before .before .before .enum-told12 .given .1 in
+    let g : tie.Start = search m in let r = turn-of _ _ _ _ _ _ _ _ (g .pre .0) in let x = g .args in
+    let same = after-enum-told12 .enum-told12 .given .1 in
     (taken r a b M (Raise) _ _ _ _ _ _ _ _ _ _ _ same (λ qs here. c .raise .ensures .0 .does _ _ (state-in (now (x .tails)) (now (x .nexts)) (now (x .statuses)) (now (x .ticket)) (now (x .granted)) qs) (stands r a b M)), (not-entered _ _ _ _ (c .raise .ensures .1), (raise-counted _ _ _ _ _ _ _ _ _ _ _ (row-of r a Raise same) (c .before .before .count-shown .ensures .0), record { raise = λ z. c .before .before .count-shown .ensures .1; other = λ n. absurd (n (row-of r a Raise same)) })))
 
 returns-15 : tie.Need-returns-15
 returns-15 c =
-    let r = turn-of _ _ _ _ _ _ _ _ (c .before .before .before .before .before .before .before .before .pre .0) in
-    let a = c .before .before .before .before .before .before .place-by-row .ensures in
+    let after-place-by-row : tie.After-place-by-row = search c in
+    let start : tie.Start = search c in
+    let r = turn-of _ _ _ _ _ _ _ _ (start .pre .0) in
+    let a = after-place-by-row .place-by-row .ensures in
     absurd (never r a (c .before .enum-told13 .given .1))
 
 pub take-spec : {M : Type 1} → statement M
@@ -317,54 +294,54 @@ take-spec =
     (tie.spec
     element-copy-out-home
     place-by-row-requires
-    domain-by-row-requires
+    (λ c κs. search needs)
     member-at-requires
-    cast-d
-    cast-r
-    enum-told
+    (λ c. search needs)
+    (λ c. search needs)
+    (λ c. search needs)
     start-requires
-    enum-told-2
+    (λ c. search needs)
     prep-requires
-    enum-told-3
+    (λ c. search needs)
     swap-requires
-    enum-known-p
+    (λ c. search needs)
     link-requires
-    enum-told-4
+    (λ c. search needs)
     wait-requires
-    enum-told-5
-    leave-requires
-    enum-told-6
+    (λ c. search needs)
+    (λ c κs. search needs)
+    (λ c. search needs)
     element-copy-out-check
-    mul-check
+    (λ c. search needs)
     element-copy-out-check-2
-    mul-check-2
+    (λ c. search needs)
     element-copy-out-check-3
-    mul-check-3
+    (λ c. search needs)
     element-copy-out-check-4
     check-requires
-    enum-told-7
-    mul-help
+    (λ c. search needs)
+    (λ c. search needs)
     element-copy-out-help
-    help-requires
-    enum-told-8
+    (λ c κs. search needs)
+    (λ c. search needs)
     cas-requires
-    enum-told-9
-    mul-linger
+    (λ c. search needs)
+    (λ c. search needs)
     element-copy-out-linger
-    linger-requires
-    enum-known-p-2
+    (λ c κs. search needs)
+    (λ c. search needs)
     grant-requires
-    enum-told-10
+    (λ c. search needs)
     draw-requires
-    enum-told-11
-    mul-watch
+    (λ c. search needs)
+    (λ c. search needs)
     element-copy-out-watch
     watch-requires
-    enum-told-12
+    (λ c. search needs)
     count-shown-requires
     raise-requires
-    enum-told-13
-    at-place-requires
+    (λ c. search needs)
+    (λ c κs. search needs)
     returns
     returns-2
     returns-3

@@ -1,6 +1,6 @@
 -- `runs_call::many_schedules::adds_up` meets its contract: what is left of the entries, and the lengths still ahead.
-use mathlib.Core.Path.{_≡_, sym}
-use Prim.Native.Nat.{_+_, _-_, _≤_}
+use mathlib.Core.Path.{_≡_}
+use Prim.Native.Nat.{_+_, _-_}
 use native.Mathlib.Omega.{arith}
 use lib.ListN.{length, drop}
 use borrow.Author.Needs.{needs}
@@ -15,29 +15,15 @@ Inv-loop lengths entries left₀ k₀ left k = total lengths + left ≡ entries 
 abbrev μ-loop : tie.MeasureT-loop
 μ-loop lengths entries left₀ k₀ left k = length lengths - k
 
-loop-holds : tie.Need-loop-holds Inv-loop μ-loop
-loop-holds c = omega arith
-
-mul-number-index : tie.Need-mul-number-index Inv-loop μ-loop
-mul-number-index c = omega arith
-
-shared-slice-read-number-index : tie.Need-shared-slice-read-number-index Inv-loop μ-loop
-shared-slice-read-number-index c = omega arith
-
-number-index-requires : tie.Need-number-index-requires Inv-loop μ-loop
-number-index-requires c κs = search needs
-
 returns : tie.Need-returns Inv-loop μ-loop
-returns c = too-long _ _ _ (c .before .before .before .before .loop .k) (c .before .before .before .before .loop .inv) (omega arith) (omega arith)
-
-add-k : tie.Need-add-k Inv-loop μ-loop
-add-k c = omega arith
-
-loop-less : tie.Need-loop-less Inv-loop μ-loop
-loop-less c = omega arith
+returns c =
+    let at-loop : tie.At-loop Inv-loop μ-loop = search c in
+    too-long _ _ _ (at-loop .loop .k) (at-loop .loop .inv) (omega arith) (omega arith)
 
 loop-again : tie.Need-loop-again Inv-loop μ-loop
-loop-again c = one-less _ _ _ (c .before .before .before .before .loop .k) (c .before .before .before .before .loop .inv) (omega arith) (omega arith) _ (omega arith)
+loop-again c =
+    let at-loop : tie.At-loop Inv-loop μ-loop = search c in
+    one-less _ _ _ (at-loop .loop .k) (at-loop .loop .inv) (omega arith) (omega arith) _ (omega arith)
 
 returns-2 : tie.Need-returns-2 Inv-loop μ-loop
 returns-2 c = none-left _ _ _ (c .before .loop .k) (c .before .loop .inv) (omega arith)
@@ -48,12 +34,12 @@ adds-up-spec =
     (tie.spec
     Inv-loop
     μ-loop
-    loop-holds
-    mul-number-index
-    shared-slice-read-number-index
-    number-index-requires
+    (λ c. search needs)
+    (λ c. search needs)
+    (λ c. search needs)
+    (λ c κs. search needs)
     returns
-    add-k
-    loop-less
+    (λ c. search needs)
+    (λ c. search needs)
     loop-again
     returns-2)

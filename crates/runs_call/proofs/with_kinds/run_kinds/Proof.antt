@@ -6,21 +6,16 @@ use Rattle.runs_call.proofs.with_kinds.run_kinds.Tie as tie
 
 run-told-requires : tie.Need-run-told-requires
 run-told-requires c κs =
-    let first = c .before .before .before .before .before .before .before .before .before .before .before .before .before .before .before .before .before .before .before .before .before .before .before .before .before .before .before in
+    let first : tie.Start = search c in
     let g = first .good .1 .0 .1 .1 .0 .1 .1 in
     let q = g .1 .1 .1 .0 .1 .1 in
     typed (first .args .state .words) _ _ _ _ _ _ _ _ _ (g .0) (g .1 .0) (g .1 .1 .0) (q .0) (q .1 .0) (q .1 .1 .0) (q .1 .1 .1 .0) (g .1 .1 .1 .1 .0) (g .1 .1 .1 .1 .1 .0)
 
-same-length : tie.Need-same-length
-same-length c = search needs
-
-same-length-2 : tie.Need-same-length-2
-same-length-2 c = search needs
-
 returns : tie.Need-returns
 returns c =
-    let ran = c .before .before .before .before .before .run-told .ensures in
+    let after-run-told : tie.After-run-told = search c in
+    let ran = after-run-told .run-told .ensures in
     (rw (ran .0, ran .1 .0), ran .1 .1)
 
 pub run-kinds-spec : {M : Type 1} → statement M
-run-kinds-spec = tie.close (tie.spec run-told-requires same-length same-length-2 returns)
+run-kinds-spec = tie.close (tie.spec run-told-requires (λ c. search needs) (λ c. search needs) returns)

@@ -1,4 +1,5 @@
 -- `runs_call::with_waits::greatest_divisor` meets its contract: each division keeps the greatest common divisor.
+use borrow.Author.Needs.{needs}
 use mathlib.Core.Path.{_≡_, refl, _∙_}
 use native.Mathlib.Omega.{arith}
 use native.Mathlib.Nat.{mod-lt}
@@ -16,9 +17,6 @@ abbrev μ-loop : tie.MeasureT-loop
 loop-holds : tie.Need-loop-holds Inv-loop μ-loop
 loop-holds c = refl
 
-rem-rest : tie.Need-rem-rest Inv-loop μ-loop
-rem-rest c = omega arith
-
 loop-less : tie.Need-loop-less Inv-loop μ-loop
 loop-less c = mod-lt _ (omega arith)
 
@@ -29,4 +27,4 @@ returns : tie.Need-returns Inv-loop μ-loop
 returns c = euclid-ends _ _ (c .loop-test .left) ∙ c .before .loop .inv
 
 pub greatest-divisor-spec : {M : Type 1} → statement M
-greatest-divisor-spec = tie.close (tie.spec Inv-loop μ-loop loop-holds rem-rest loop-less loop-again returns)
+greatest-divisor-spec = tie.close (tie.spec Inv-loop μ-loop loop-holds (λ c. search needs) loop-less loop-again returns)

@@ -1,6 +1,6 @@
 -- `runs_call::with_waits::lowest_bad_number` meets its contract: all numbers passed can be.
 use mathlib.Core.Path.{_≡_, sym, _∙_}
-use mathlib.Core.Bool.{true, false}
+use mathlib.Core.Bool.{false}
 use Prim.Native.Nat.{ℕ, _≤_, _<_, _-_}
 use native.Mathlib.Omega.{arith}
 use borrow.Author.Needs.{needs}
@@ -19,31 +19,17 @@ abbrev μ-loop : tie.MeasureT-loop
 loop-holds : tie.Need-loop-holds Inv-loop μ-loop
 loop-holds c = (omega arith, λ j l. absurd (omega arith))
 
-cast-number : tie.Need-cast-number Inv-loop μ-loop
-cast-number c = omega arith
-
-mul-number : tie.Need-mul-number Inv-loop μ-loop
-mul-number c = omega arith
-
-element-copy-out-number : tie.Need-element-copy-out-number Inv-loop μ-loop
-element-copy-out-number c = omega arith
-
-is-bad-number-requires : tie.Need-is-bad-number-requires Inv-loop μ-loop
-is-bad-number-requires c κs = search needs
-
 returns : tie.Need-returns Inv-loop μ-loop
 unfolding bad-under-way tree-of
-returns c = record { within = omega arith; passed = c .before .before .before .before .loop .inv .1; fails = λ _. sym (c .before .is-bad-number .ensures) ∙ c .if1 .taken }
-
-add-k : tie.Need-add-k Inv-loop μ-loop
-add-k c = omega arith
-
-loop-less : tie.Need-loop-less Inv-loop μ-loop
-loop-less c = omega arith
+returns c =
+    let at-loop : tie.At-loop Inv-loop μ-loop = search c in
+    record { within = omega arith; passed = at-loop .loop .inv .1; fails = λ _. sym (c .before .is-bad-number .ensures) ∙ c .if1 .taken }
 
 loop-again : tie.Need-loop-again Inv-loop μ-loop
 unfolding bad-under-way tree-of
-loop-again c = (omega arith, one-more _ false _ (c .before .before .before .before .loop .inv .1) (sym (c .before .is-bad-number .ensures) ∙ c .if1 .left))
+loop-again c =
+    let at-loop : tie.At-loop Inv-loop μ-loop = search c in
+    (omega arith, one-more _ false _ (at-loop .loop .inv .1) (sym (c .before .is-bad-number .ensures) ∙ c .if1 .left))
 
 returns-2 : tie.Need-returns-2 Inv-loop μ-loop
 returns-2 c = record { within = omega arith; passed = c .before .loop .inv .1; fails = λ h. absurd (omega arith) }
@@ -55,12 +41,12 @@ lowest-bad-number-spec =
     Inv-loop
     μ-loop
     loop-holds
-    cast-number
-    mul-number
-    element-copy-out-number
-    is-bad-number-requires
+    (λ c. search needs)
+    (λ c. search needs)
+    (λ c. search needs)
+    (λ c κs. search needs)
     returns
-    add-k
-    loop-less
+    (λ c. search needs)
+    (λ c. search needs)
     loop-again
     returns-2)

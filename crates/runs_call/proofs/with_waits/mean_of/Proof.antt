@@ -11,9 +11,6 @@ returns : tie.Need-returns
 unfolding mean
 returns c = rw (eq-eqb _ 0 (c .if1 .taken))
 
-greatest-divisor-requires : tie.Need-greatest-divisor-requires
-greatest-divisor-requires c κs = search needs
-
 div-t5 : tie.Need-div-t5
 div-t5 c = omega (arith, c .greatest-divisor .ensures, positive (c .before .before .args .total) (c .before .before .args .attempts) (c .before .if1 .left))
 
@@ -25,4 +22,4 @@ unfolding mean
 returns-2 c = rw (c .greatest-divisor .ensures, ne-eqb _ 0 (c .before .if1 .left))
 
 pub mean-of-spec : {M : Type 1} → statement M
-mean-of-spec = tie.close (tie.spec returns greatest-divisor-requires div-t5 div-t6 returns-2)
+mean-of-spec = tie.close (tie.spec returns (λ c κs. search needs) div-t5 div-t6 returns-2)

@@ -8,14 +8,8 @@ use borrow.Author.Needs.{needs}
 use Rattle.runs_call.proofs.with_waits.refusal_of.Statement.{statement}
 use Rattle.runs_call.proofs.with_waits.refusal_of.Tie as tie
 
-waits-refusal-of-requires : tie.Need-waits-refusal-of-requires
-waits-refusal-of-requires c κs = search needs
-
 returns : tie.Need-returns
 returns c = waits-answered _ _ _ _ _ _ _ (c .before .before .waits-refusal-of .ensures) (c .if1 .taken)
-
-lowest-bad-number-requires : tie.Need-lowest-bad-number-requires
-lowest-bad-number-requires c κs = search needs
 
 returns-2 : tie.Need-returns-2
 unfolding refusal
@@ -28,7 +22,7 @@ lent-counter-refusal-of-requires : tie.Need-lent-counter-refusal-of-requires
 lent-counter-refusal-of-requires c κs =
     let found = c .before in
     let passed = found .before in
-    let first = found .before .before .before .before .before in
+    let first : tie.Start = search found in
     (first .pre, passes-alone _ _ _ _ (run-passes _ _ _ _ _ (first .args .under-way .now) _ (passed .before .before .waits-refusal-of .ensures) (passed .if1 .left) _ (found .lowest-bad-number .ensures)))
 
 returns-3 : tie.Need-returns-3
@@ -40,4 +34,4 @@ returns-3 c =
 
 pub refusal-of-spec : {M : Type 1} → statement M
 refusal-of-spec =
-    tie.close (tie.spec waits-refusal-of-requires returns lowest-bad-number-requires returns-2 lent-counter-refusal-of-requires returns-3)
+    tie.close (tie.spec (λ c κs. search needs) returns (λ c κs. search needs) returns-2 lent-counter-refusal-of-requires returns-3)

@@ -9,23 +9,18 @@ use Rattle.runs_call.proofs.with_waits.run_waits.Tie as tie
 
 waits-tested-requires : tie.Need-waits-tested-requires
 waits-tested-requires c κs =
-    let first = c .before .before .before .before .before .before .before .before .before .before .before .before .before .before .before .before .before .before .before .before .before .before .before .before .before .before .before .before in
+    let first : tie.Start = search c in
     let g = first .good .1 .0 .1 .1 .0 .1 .1 in
     let q = g .1 .1 .1 .0 .1 .1 in
     typed (first .args .state .words) _ _ _ _ _ _ _ _ _ (g .0) (g .1 .0) (g .1 .1 .0) (q .0) (q .1 .0) (q .1 .1 .0) (q .1 .1 .1 .0) (g .1 .1 .1 .1 .0) (g .1 .1 .1 .1 .1 .0)
 
-same-length : tie.Need-same-length
-same-length c = search needs
-
-same-length-2 : tie.Need-same-length-2
-same-length-2 c = search needs
-
 returns : tie.Need-returns
 unfolding Zeros-law
 returns c =
-    let ran = c .before .before .before .before .before .waits-tested .ensures in
+    let after-waits-tested : tie.After-waits-tested = search c in
+    let ran = after-waits-tested .waits-tested .ensures in
     let z = zeros-law _ _ _ _ _ in
     (rw (ran .0, ran .1 .0) (z .reply), (ran .1 .1 .0 ∙ z .traced, ran .1 .1 .1 .0 ∙ z .written))
 
 pub run-waits-spec : {M : Type 1} → statement M
-run-waits-spec = tie.close (tie.spec waits-tested-requires same-length same-length-2 returns)
+run-waits-spec = tie.close (tie.spec waits-tested-requires (λ c. search needs) (λ c. search needs) returns)

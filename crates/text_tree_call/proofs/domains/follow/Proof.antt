@@ -8,40 +8,43 @@ use borrow.Author.Needs.{needs}
 use Rattle.text_tree_call.proofs.domains.follow.Statement.{statement}
 use Rattle.text_tree_call.proofs.domains.follow.Tie as tie
 
-enum-known-reached : tie.Need-enum-known-reached
-enum-known-reached c = search needs
-
-enum-known-reached-2 : tie.Need-enum-known-reached-2
-enum-known-reached-2 c = search needs
-
-byte-at-requires : tie.Need-byte-at-requires
-byte-at-requires c κs = search needs
-
 add-t9 : tie.Need-add-t9
-add-t9 c = omega (arith, byte-in-text (c .before .before .before .before .before .before .args .text .now) (c .before .before .before .reached2 .given .0 .0) 32 (lit< tt) (sym (c .before .byte-at .ensures) ∙ c .if1 .taken))
+add-t9 c =
+    let after-reached2 : tie.After-reached2 = search c in
+    let start : tie.Start = search c in
+    omega (arith, byte-in-text (start .args .text .now) (after-reached2 .reached2 .given .0 .0) 32 (lit< tt) (sym (c .before .byte-at .ensures) ∙ c .if1 .taken))
 
 returns : tie.Need-returns
-returns c = follows-due _ _ _ (c .before .before .before .reached2 .given .1) (sym (c .before .byte-at .ensures) ∙ c .if1 .taken)
+returns c =
+    let after-reached2 : tie.After-reached2 = search c in
+    follows-due _ _ _ (after-reached2 .reached2 .given .1) (sym (c .before .byte-at .ensures) ∙ c .if1 .taken)
 
 add-t10 : tie.Need-add-t10
-add-t10 c = omega (arith, byte-in-text (c .before .before .before .before .before .before .before .args .text .now) (c .before .before .before .before .reached2 .given .0 .0) 41 (lit< tt) (sym (c .before .before .byte-at .ensures) ∙ c .if2 .taken))
+add-t10 c =
+    let after-reached2 : tie.After-reached2 = search c in
+    let start : tie.Start = search c in
+    omega (arith, byte-in-text (start .args .text .now) (after-reached2 .reached2 .given .0 .0) 41 (lit< tt) (sym (c .before .before .byte-at .ensures) ∙ c .if2 .taken))
 
 returns-2 : tie.Need-returns-2
-returns-2 c = follows-closed _ _ _ (c .before .before .before .before .reached2 .given .1) (sym (c .before .before .byte-at .ensures) ∙ c .if2 .taken)
+returns-2 c =
+    let after-reached2 : tie.After-reached2 = search c in
+    follows-closed _ _ _ (after-reached2 .reached2 .given .1) (sym (c .before .before .byte-at .ensures) ∙ c .if2 .taken)
 
 returns-3 : tie.Need-returns-3
 returns-3 c = follows-stuck _ _ _ (c .before .reached .given .1)
 
 returns-4 : tie.Need-returns-4
-returns-4 c = follows-wrong _ _ _ (c .before .before .before .before .reached2 .given .1) (λ e. c .before .if1 .left (c .before .before .byte-at .ensures ∙ e)) (λ e. c .if2 .left (c .before .before .byte-at .ensures ∙ e))
+returns-4 c =
+    let after-reached2 : tie.After-reached2 = search c in
+    follows-wrong _ _ _ (after-reached2 .reached2 .given .1) (λ e. c .before .if1 .left (c .before .before .byte-at .ensures ∙ e)) (λ e. c .if2 .left (c .before .before .byte-at .ensures ∙ e))
 
 pub follow-spec : {M : Type 1} → statement M
 follow-spec =
     tie.close
     (tie.spec
-    enum-known-reached
-    enum-known-reached-2
-    byte-at-requires
+    (λ c. search needs)
+    (λ c. search needs)
+    (λ c κs. search needs)
     add-t9
     returns
     add-t10

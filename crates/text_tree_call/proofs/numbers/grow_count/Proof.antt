@@ -5,9 +5,6 @@ use borrow.Author.Needs.{needs}
 use Rattle.text_tree_call.proofs.numbers.grow_count.Statement.{statement}
 use Rattle.text_tree_call.proofs.numbers.grow_count.Tie as tie
 
-grow-requires : tie.Need-grow-requires
-grow-requires c κs = search needs
-
 returns : tie.Need-returns
 unfolding least
 returns c = rw (← c .before .grow .ensures, lt-ltb _ _ (c .if1 .taken))
@@ -17,4 +14,4 @@ unfolding least
 returns-2 c = rw (← c .before .grow .ensures, le-ltb _ _ (c .if1 .left))
 
 pub grow-count-spec : {M : Type 1} → statement M
-grow-count-spec = tie.close (tie.spec grow-requires returns returns-2)
+grow-count-spec = tie.close (tie.spec (λ c κs. search needs) returns returns-2)

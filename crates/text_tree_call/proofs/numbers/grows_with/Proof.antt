@@ -6,9 +6,6 @@ use borrow.Author.Needs.{needs}
 use Rattle.text_tree_call.proofs.numbers.grows_with.Statement.{statement}
 use Rattle.text_tree_call.proofs.numbers.grows_with.Tie as tie
 
-is-digit-byte-requires : tie.Need-is-digit-byte-requires
-is-digit-byte-requires c κs = search needs
-
 returns : tie.Need-returns
 returns c = rw (← c .before .is-digit-byte .ensures, not-true (c .before .is-digit-byte .result) (c .if1 .taken))
 
@@ -19,4 +16,4 @@ returns-2 : tie.Need-returns-2
 returns-2 c = rw (c .grow .ensures, ← c .before .before .is-digit-byte .ensures, not-false (c .before .before .is-digit-byte .result) (c .before .if1 .left))
 
 pub grows-with-spec : {M : Type 1} → statement M
-grows-with-spec = tie.close (tie.spec is-digit-byte-requires returns grow-requires returns-2)
+grows-with-spec = tie.close (tie.spec (λ c κs. search needs) returns grow-requires returns-2)

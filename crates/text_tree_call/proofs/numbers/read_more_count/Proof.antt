@@ -25,37 +25,44 @@ abbrev μ-loop : tie.MeasureT-loop
 loop-holds : tie.Need-loop-holds Inv-loop μ-loop
 loop-holds c = (λ d ds w. refl, search needs, search needs)
 
-byte-at-requires : tie.Need-byte-at-requires Inv-loop μ-loop
-byte-at-requires c κs = search needs
-
-is-digit-byte-requires : tie.Need-is-digit-byte-requires Inv-loop μ-loop
-is-digit-byte-requires c κs = search needs
-
-byte-at-requires-2 : tie.Need-byte-at-requires-2 Inv-loop μ-loop
-byte-at-requires-2 c κs = search needs
-
 grow-count-requires : tie.Need-grow-count-requires Inv-loop μ-loop
-grow-count-requires c κs = (search needs, rw (c .byte-at2 .ensures) (digit-bounds _ (sym (ap is-digit (c .before .before .before .byte-at .ensures)) ∙ sym (c .before .before .is-digit-byte .ensures) ∙ c .before .if1 .taken) .0))
+grow-count-requires c κs =
+    let after-byte-at : tie.After-byte-at Inv-loop μ-loop = search c in
+    (search needs, rw (c .byte-at2 .ensures) (digit-bounds _ (sym (ap is-digit (after-byte-at .byte-at .ensures)) ∙ sym (c .before .before .is-digit-byte .ensures) ∙ c .before .if1 .taken) .0))
 
 add-at : tie.Need-add-at Inv-loop μ-loop
-add-at c = omega (arith, digit-in-text (c .before .before .before .before .before .before .before .args .text .now) (c .before .before .before .before .before .loop .at) (sym (ap is-digit (c .before .before .before .before .byte-at .ensures)) ∙ sym (c .before .before .before .is-digit-byte .ensures) ∙ c .before .before .if1 .taken))
+add-at c =
+    let after-is-digit-byte : tie.After-is-digit-byte Inv-loop μ-loop = search c in
+    let after-byte-at : tie.After-byte-at Inv-loop μ-loop = search c in
+    let at-loop : tie.At-loop Inv-loop μ-loop = search c in
+    let start-point : tie.Start Inv-loop μ-loop = search c in
+    omega (arith, digit-in-text (start-point .args .text .now) (at-loop .loop .at) (sym (ap is-digit (after-byte-at .byte-at .ensures)) ∙ sym (after-is-digit-byte .is-digit-byte .ensures) ∙ c .before .before .if1 .taken))
 
 loop-less : tie.Need-loop-less Inv-loop μ-loop
-loop-less c = omega (arith, digit-in-text (c .before .before .before .before .before .before .before .args .text .now) (c .before .before .before .before .before .loop .at) (sym (ap is-digit (c .before .before .before .before .byte-at .ensures)) ∙ sym (c .before .before .before .is-digit-byte .ensures) ∙ c .before .before .if1 .taken))
+loop-less c =
+    let after-is-digit-byte : tie.After-is-digit-byte Inv-loop μ-loop = search c in
+    let after-byte-at : tie.After-byte-at Inv-loop μ-loop = search c in
+    let at-loop : tie.At-loop Inv-loop μ-loop = search c in
+    let start-point : tie.Start Inv-loop μ-loop = search c in
+    omega (arith, digit-in-text (start-point .args .text .now) (at-loop .loop .at) (sym (ap is-digit (after-byte-at .byte-at .ensures)) ∙ sym (after-is-digit-byte .is-digit-byte .ensures) ∙ c .before .before .if1 .taken))
 
 loop-again : tie.Need-loop-again Inv-loop μ-loop
 loop-again c =
-    let grew = c .grow-count .ensures ∙ ap (λ b. least 257 (grown (c .before .before .before .before .before .loop .number) b)) (c .before .byte-at2 .ensures) in (
-      λ d ds w. c .before .before .before .before .before .loop .inv .0 d ds w ∙ count-goes-on _ _ d ds w _ (sym (ap is-digit (c .before .before .before .before .byte-at .ensures)) ∙ sym (c .before .before .before .is-digit-byte .ensures) ∙ c .before .before .if1 .taken) ∙ rw grew,
+    let after-is-digit-byte : tie.After-is-digit-byte Inv-loop μ-loop = search c in
+    let after-byte-at : tie.After-byte-at Inv-loop μ-loop = search c in
+    let at-loop : tie.At-loop Inv-loop μ-loop = search c in
+    let grew = c .grow-count .ensures ∙ ap (λ b. least 257 (grown (at-loop .loop .number) b)) (c .before .byte-at2 .ensures) in (
+      λ d ds w. at-loop .loop .inv .0 d ds w ∙ count-goes-on _ _ d ds w _ (sym (ap is-digit (after-byte-at .byte-at .ensures)) ∙ sym (after-is-digit-byte .is-digit-byte .ensures) ∙ c .before .before .if1 .taken) ∙ rw grew,
       search needs,
       rw grew (least-limit 257 _),
     )
 
 returns : tie.Need-returns Inv-loop μ-loop
 returns c =
+    let at-loop : tie.At-loop Inv-loop μ-loop = search c in
     record {
-      same = λ d ds w. c .before .before .before .loop .inv .0 d ds w;
-      stopped = (c .before .before .before .loop .inv .1, sym (ap is-digit (c .before .before .byte-at .ensures)) ∙ sym (c .before .is-digit-byte .ensures) ∙ c .if1 .left);
+      same = λ d ds w. at-loop .loop .inv .0 d ds w;
+      stopped = (at-loop .loop .inv .1, sym (ap is-digit (c .before .before .byte-at .ensures)) ∙ sym (c .before .is-digit-byte .ensures) ∙ c .if1 .left);
     }
 
 pub read-more-count-spec : {M : Type 1} → statement M
@@ -65,9 +72,9 @@ read-more-count-spec =
     Inv-loop
     μ-loop
     loop-holds
-    byte-at-requires
-    is-digit-byte-requires
-    byte-at-requires-2
+    (λ c κs. search needs)
+    (λ c κs. search needs)
+    (λ c κs. search needs)
     grow-count-requires
     add-at
     loop-less

@@ -24,57 +24,56 @@ abbrev μ-loop : tie.MeasureT-loop
 loop-holds : tie.Need-loop-holds Inv-loop μ-loop
 loop-holds c = (λ d ds w. refl, search needs, search needs)
 
-byte-at-requires : tie.Need-byte-at-requires Inv-loop μ-loop
-byte-at-requires c κs = search needs
-
-grows-with-requires : tie.Need-grows-with-requires Inv-loop μ-loop
-grows-with-requires c κs = search needs
-
-byte-at-requires-2 : tie.Need-byte-at-requires-2 Inv-loop μ-loop
-byte-at-requires-2 c κs = search needs
-
 grow-requires : tie.Need-grow-requires Inv-loop μ-loop
 grow-requires c κs =
-    let read = c .before .before .before in
+    let read : tie.After-byte-at Inv-loop μ-loop = search c in
+    let start-point : tie.Start Inv-loop μ-loop = search c in
     let l = read .before .loop in
     let grows-on = sym (ap (grows (l .number)) (read .byte-at .ensures)) ∙ sym (c .before .before .grows-with .ensures) ∙ c .before .if1 .taken in
-    (search needs, rw (c .byte-at2 .ensures) (digit-bounds _ (grows-digit (l .number) (getD (read .before .before .before .args .text .now) (l .at) 0) grows-on) .0))
+    (search needs, rw (c .byte-at2 .ensures) (digit-bounds _ (grows-digit (l .number) (getD (start-point .args .text .now) (l .at) 0) grows-on) .0))
 
 add-at : tie.Need-add-at Inv-loop μ-loop
 add-at c =
-    let read = c .before .before .before .before in
+    let after-grows-with : tie.After-grows-with Inv-loop μ-loop = search c in
+    let read : tie.After-byte-at Inv-loop μ-loop = search c in
+    let start-point : tie.Start Inv-loop μ-loop = search c in
     let l = read .before .loop in
-    let text = read .before .before .before .args .text .now in
-    let grows-on = sym (ap (grows (l .number)) (read .byte-at .ensures)) ∙ sym (c .before .before .before .grows-with .ensures) ∙ c .before .before .if1 .taken in
+    let text = start-point .args .text .now in
+    let grows-on = sym (ap (grows (l .number)) (read .byte-at .ensures)) ∙ sym (after-grows-with .grows-with .ensures) ∙ c .before .before .if1 .taken in
     omega (arith, digit-in-text text (l .at) (grows-digit (l .number) (getD text (l .at) 0) grows-on))
 
 loop-less : tie.Need-loop-less Inv-loop μ-loop
 loop-less c =
-    let read = c .before .before .before .before in
+    let after-grows-with : tie.After-grows-with Inv-loop μ-loop = search c in
+    let read : tie.After-byte-at Inv-loop μ-loop = search c in
+    let start-point : tie.Start Inv-loop μ-loop = search c in
     let l = read .before .loop in
-    let text = read .before .before .before .args .text .now in
-    let grows-on = sym (ap (grows (l .number)) (read .byte-at .ensures)) ∙ sym (c .before .before .before .grows-with .ensures) ∙ c .before .before .if1 .taken in
+    let text = start-point .args .text .now in
+    let grows-on = sym (ap (grows (l .number)) (read .byte-at .ensures)) ∙ sym (after-grows-with .grows-with .ensures) ∙ c .before .before .if1 .taken in
     omega (arith, digit-in-text text (l .at) (grows-digit (l .number) (getD text (l .at) 0) grows-on))
 
 loop-again : tie.Need-loop-again Inv-loop μ-loop
 loop-again c =
-    let read = c .before .before .before .before in
+    let after-grows-with : tie.After-grows-with Inv-loop μ-loop = search c in
+    let read : tie.After-byte-at Inv-loop μ-loop = search c in
+    let start-point : tie.Start Inv-loop μ-loop = search c in
     let l = read .before .loop in
     let grew = c .grow .ensures ∙ ap (grown (l .number)) (c .before .byte-at2 .ensures) in
-    let grows-on = sym (ap (grows (l .number)) (read .byte-at .ensures)) ∙ sym (c .before .before .before .grows-with .ensures) ∙ c .before .before .if1 .taken in (
+    let grows-on = sym (ap (grows (l .number)) (read .byte-at .ensures)) ∙ sym (after-grows-with .grows-with .ensures) ∙ c .before .before .if1 .taken in (
       λ d ds w. l .inv .0 d ds w ∙ threshold-goes-on _ _ d ds w _ grows-on ∙ rw grew,
       search needs,
-      rw grew (grows-limit (l .number) (getD (read .before .before .before .args .text .now) (l .at) 0) grows-on),
+      rw grew (grows-limit (l .number) (getD (start-point .args .text .now) (l .at) 0) grows-on),
     )
 
 returns : tie.Need-returns Inv-loop μ-loop
 returns c =
+    let at-loop : tie.At-loop Inv-loop μ-loop = search c in
     record {
-      same = λ d ds w. c .before .before .before .loop .inv .0 d ds w;
+      same = λ d ds w. at-loop .loop .inv .0 d ds w;
       stopped = (
-        c .before .before .before .loop .inv .1,
-        sym (ap (grows (c .before .before .before .loop .number)) (c .before .before .byte-at .ensures)) ∙ sym (c .before .grows-with .ensures) ∙ c .if1 .left,
-        c .before .before .before .loop .inv .2,
+        at-loop .loop .inv .1,
+        sym (ap (grows (at-loop .loop .number)) (c .before .before .byte-at .ensures)) ∙ sym (c .before .grows-with .ensures) ∙ c .if1 .left,
+        at-loop .loop .inv .2,
       );
     }
 
@@ -85,9 +84,9 @@ read-more-threshold-spec =
     Inv-loop
     μ-loop
     loop-holds
-    byte-at-requires
-    grows-with-requires
-    byte-at-requires-2
+    (λ c κs. search needs)
+    (λ c κs. search needs)
+    (λ c κs. search needs)
     grow-requires
     add-at
     loop-less

@@ -9,24 +9,6 @@ returns : tie.Need-returns
 unfolding domain-added
 returns c = rw (le-leb _ _ (c .if1 .taken))
 
-number-index-requires : tie.Need-number-index-requires
-number-index-requires c κs = search needs
-
-array-write-parents : tie.Need-array-write-parents
-array-write-parents c = search needs
-
-number-index-requires-2 : tie.Need-number-index-requires-2
-number-index-requires-2 c κs = search needs
-
-mul-thresholds : tie.Need-mul-thresholds
-mul-thresholds c = search needs
-
-array-write-thresholds : tie.Need-array-write-thresholds
-array-write-thresholds c = search needs
-
-add-t18 : tie.Need-add-t18
-add-t18 c = search needs
-
 returns-2 : tie.Need-returns-2
 unfolding domain-added
 returns-2 c = rw (c .before .number-index .ensures, c .number-index2 .ensures, lt-leb _ _ (c .before .before .if1 .left))
@@ -36,10 +18,10 @@ add-domain-spec =
     tie.close
     (tie.spec
     returns
-    number-index-requires
-    array-write-parents
-    number-index-requires-2
-    mul-thresholds
-    array-write-thresholds
-    add-t18
+    (λ c κs. search needs)
+    (λ c. search needs)
+    (λ c κs. search needs)
+    (λ c. search needs)
+    (λ c. search needs)
+    (λ c. search needs)
     returns-2)

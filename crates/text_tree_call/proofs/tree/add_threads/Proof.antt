@@ -7,44 +7,37 @@ use borrow.Author.Needs.{needs}
 use Rattle.text_tree_call.proofs.tree.add_threads.Statement.{statement}
 use Rattle.text_tree_call.proofs.tree.add_threads.Tie as tie
 
-least-of-requires : tie.Need-least-of-requires
-least-of-requires c κs = search needs
-
 sub-least-of : tie.Need-sub-least-of
 sub-least-of c = rw (c .least-of .ensures) (least-limit 257 _)
-
-least-of-requires-2 : tie.Need-least-of-requires-2
-least-of-requires-2 c κs = search needs
 
 add-threads : tie.Need-add-threads
 add-threads c = omega (arith, least-limit 257 (c .before .before .args .tree .threads), least-limit (257 - c .before .least-of .result) (c .before .before .args .count), c .before .least-of .ensures, c .least-of2 .ensures)
 
-least-of-requires-3 : tie.Need-least-of-requires-3
-least-of-requires-3 c κs = search needs
-
-number-index-requires : tie.Need-number-index-requires
-number-index-requires c κs = search needs
-
-number-index-requires-2 : tie.Need-number-index-requires-2
-number-index-requires-2 c κs = search needs
-
 fill-homes-requires : tie.Need-fill-homes-requires
-fill-homes-requires c κs = rw (c .before .before .before .before .number-index .ensures, c .before .before .before .before .before .least-of3 .ensures) (least-limit 256 _)
+fill-homes-requires c κs =
+    let after-number-index : tie.After-number-index = search c in
+    let after-least-of3 : tie.After-least-of3 = search c in
+    rw (after-number-index .number-index .ensures, after-least-of3 .least-of3 .ensures) (least-limit 256 _)
 
 returns : tie.Need-returns
 unfolding threads-added threads-after
-returns c = rw (c .fill-homes .ensures, c .before .number-index2 .ensures, c .before .before .before .before .before .number-index .ensures, c .before .before .before .before .before .before .least-of3 .ensures, c .before .before .before .before .before .before .before .least-of2 .ensures, c .before .before .before .before .before .before .before .before .least-of .ensures)
+returns c =
+    let after-number-index : tie.After-number-index = search c in
+    let after-least-of3 : tie.After-least-of3 = search c in
+    let after-least-of2 : tie.After-least-of2 = search c in
+    let after-least-of : tie.After-least-of = search c in
+    rw (c .fill-homes .ensures, c .before .number-index2 .ensures, after-number-index .number-index .ensures, after-least-of3 .least-of3 .ensures, after-least-of2 .least-of2 .ensures, after-least-of .least-of .ensures)
 
 pub add-threads-spec : {M : Type 1} → statement M
 add-threads-spec =
     tie.close
     (tie.spec
-    least-of-requires
+    (λ c κs. search needs)
     sub-least-of
-    least-of-requires-2
+    (λ c κs. search needs)
     add-threads
-    least-of-requires-3
-    number-index-requires
-    number-index-requires-2
+    (λ c κs. search needs)
+    (λ c κs. search needs)
+    (λ c κs. search needs)
     fill-homes-requires
     returns)

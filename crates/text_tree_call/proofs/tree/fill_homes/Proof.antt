@@ -17,15 +17,6 @@ abbrev μ-loop : tie.MeasureT-loop
 loop-holds : tie.Need-loop-holds Inv-loop μ-loop
 loop-holds c = refl
 
-array-write-filled : tie.Need-array-write-filled Inv-loop μ-loop
-array-write-filled c = search needs
-
-add-i : tie.Need-add-i Inv-loop μ-loop
-add-i c = search needs
-
-loop-less : tie.Need-loop-less Inv-loop μ-loop
-loop-less c = search needs
-
 loop-again : tie.Need-loop-again Inv-loop μ-loop
 loop-again c = one-home _ _ _ _ (c .loop-test .taken) ∙ c .before .loop .inv
 
@@ -35,4 +26,4 @@ returns c = sym (no-home _ _ _ _ (c .loop-test .left)) ∙ c .before .loop .inv
 pub fill-homes-spec : {M : Type 1} → statement M
 fill-homes-spec =
     tie.close
-    (tie.spec Inv-loop μ-loop loop-holds array-write-filled add-i loop-less loop-again returns)
+    (tie.spec Inv-loop μ-loop loop-holds (λ c. search needs) (λ c. search needs) (λ c. search needs) loop-again returns)

@@ -5,9 +5,6 @@ use borrow.Author.Needs.{needs}
 use Rattle.text_tree_call.proofs.tree.next_number.Statement.{statement}
 use Rattle.text_tree_call.proofs.tree.next_number.Tie as tie
 
-cast-result : tie.Need-cast-result
-cast-result c = search needs
-
 returns : tie.Need-returns
 unfolding new-number
 returns c = rw (lt-ltb _ _ (c .if1 .taken))
@@ -17,4 +14,4 @@ unfolding new-number
 returns-2 c = rw (le-ltb _ _ (c .if1 .left))
 
 pub next-number-spec : {M : Type 1} → statement M
-next-number-spec = tie.close (tie.spec cast-result returns returns-2)
+next-number-spec = tie.close (tie.spec (λ c. search needs) returns returns-2)

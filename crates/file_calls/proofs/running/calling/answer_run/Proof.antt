@@ -18,31 +18,27 @@ returns : tie.Need-returns
 unfolding run-outcome outcome-reply outcome-output refusal
 returns c = (rw (ne-eqb _ _ (c .if1 .taken)), rw (ne-eqb _ _ (c .if1 .taken)))
 
-number-index-requires : tie.Need-number-index-requires
-number-index-requires c κs = search needs
-
 slice-aggregate-write-listing : tie.Need-slice-aggregate-write-listing
 slice-aggregate-write-listing c =
+    let start : tie.Start = search c in
     let n = c .before .number-index .result in
-    let is = c .before .before .before .before .before .before .before .args .trace .now in
+    let is = start .args .trace .now in
     let h : n ≤ length is = omega arith in
     sym (length-take-le n is h)
-
-write-listing-requires : tie.Need-write-listing-requires
-write-listing-requires c κs = search needs
-
-same-length : tie.Need-same-length
-same-length c = search needs
 
 returns-2 : tie.Need-returns-2
 unfolding run-outcome outcome-reply outcome-output refusal
 returns-2 c =
-    let a = c .before .before .before .before .before .before .before .before .before .before .before .before .args in
+    let after-write-listing : tie.After-write-listing = search c in
+    let after-number-index : tie.After-number-index = search c in
+    let else1 : tie.Else1 = search c in
+    let start : tie.Start = search c in
+    let a = start .args in
     let ls = listing (a .reply .counts) (take (a .reply .counts .entries) (a .trace .now)) in
     let room = length (a .output .now) in
-    let zero = eq-eqb _ _ (c .before .before .before .before .before .before .before .before .if1 .left) in
-    let n = c .before .before .before .before .before .before .number-index .ensures in
-    let written = c .before .before .before .write-listing in
+    let zero = eq-eqb _ _ (else1 .if1 .left) in
+    let n = after-number-index .number-index .ensures in
+    let written = after-write-listing .write-listing in
     let long : written .result ≡ printed-length ls room = written .ensures .0 ∙ rw n in
     let left : written .last .1 .1 .0 ≡ printed ls (a .output .now) = written .ensures .1 .1 ∙ rw n in
     let short = listing-turned-down _ _ room (sym long ∙ c .if2 .taken) in
@@ -50,23 +46,27 @@ returns-2 c =
 
 cast-t12 : tie.Need-cast-t12
 cast-t12 c =
-    let n = c .before .before .before .before .before .before .number-index .result in
-    let is = c .before .before .before .before .before .before .before .before .before .before .before .before .args .trace .now in
+    let after-write-listing : tie.After-write-listing = search c in
+    let after-number-index : tie.After-number-index = search c in
+    let start : tie.Start = search c in
+    let n = after-number-index .number-index .result in
+    let is = start .args .trace .now in
     let h : n ≤ length is = omega arith in
-    search (needs, length-take-le n is h, c .before .before .before .write-listing .ensures .1 .0)
-
-same-length-2 : tie.Need-same-length-2
-same-length-2 c = search needs
+    search (needs, length-take-le n is h, after-write-listing .write-listing .ensures .1 .0)
 
 returns-3 : tie.Need-returns-3
 unfolding run-outcome outcome-reply outcome-output
 returns-3 c =
-    let a = c .before .before .before .before .before .before .before .before .before .before .before .before .args in
+    let after-write-listing : tie.After-write-listing = search c in
+    let after-number-index : tie.After-number-index = search c in
+    let else1 : tie.Else1 = search c in
+    let start : tie.Start = search c in
+    let a = start .args in
     let ls = listing (a .reply .counts) (take (a .reply .counts .entries) (a .trace .now)) in
     let room = length (a .output .now) in
-    let zero = eq-eqb _ _ (c .before .before .before .before .before .before .before .before .if1 .left) in
-    let n = c .before .before .before .before .before .before .number-index .ensures in
-    let written = c .before .before .before .write-listing in
+    let zero = eq-eqb _ _ (else1 .if1 .left) in
+    let n = after-number-index .number-index .ensures in
+    let written = after-write-listing .write-listing in
     let long : written .result ≡ printed-length ls room = written .ensures .0 ∙ rw n in
     let left : written .last .1 .1 .0 ≡ printed ls (a .output .now) = written .ensures .1 .1 ∙ rw n in
     let fits = listing-taken ls room (λ e. c .if2 .left (long ∙ e)) in
@@ -77,11 +77,11 @@ answer-run-spec =
     tie.close
     (tie.spec
     returns
-    number-index-requires
+    (λ c κs. search needs)
     slice-aggregate-write-listing
-    write-listing-requires
-    same-length
+    (λ c κs. search needs)
+    (λ c. search needs)
     returns-2
     cast-t12
-    same-length-2
+    (λ c. search needs)
     returns-3)

@@ -10,36 +10,27 @@ use Rattle.file_calls.proofs.running.FileRun.{fresh-zero, run-in-buffer
 use Rattle.file_calls.proofs.running.calling.run_in.Statement.{statement}
 use Rattle.file_calls.proofs.running.calling.run_in.Tie as tie
 
-sub-n : tie.Need-sub-n
-sub-n c = search needs
-
-read-schedule-requires : tie.Need-read-schedule-requires
-read-schedule-requires c κs = search needs
-
-fresh-lock-requires : tie.Need-fresh-lock-requires
-fresh-lock-requires c κs = search needs
-
-slice-reshare-prefix-run-lock : tie.Need-slice-reshare-prefix-run-lock
-slice-reshare-prefix-run-lock c = search needs
-
 slice-aggregate-run-lock : tie.Need-slice-aggregate-run-lock
 slice-aggregate-run-lock c =
-    let a = c .before .before .before .before .before .before .before .before .before .before .before .args in
+    let after-read-schedule : tie.After-read-schedule = search c in
+    let start : tie.Start = search c in
+    let a = start .args in
     let n = (length (a .file .now) - a .at) / 2 in
-    let l = c .before .before .before .before .before .read-schedule .last .1 .1 .0 in
+    let l = after-read-schedule .read-schedule .last .1 .1 .0 in
     let h : n ≤ length l = omega arith in
     sym (length-take-le n l h)
 
-run-lock-requires : tie.Need-run-lock-requires
-run-lock-requires c κs = search needs
-
 answer-run-requires : tie.Need-answer-run-requires
 answer-run-requires c κs =
-    let a = c .before .before .before .before .before .before .before .before .before .before .before .before .before .before .before .before .before .args in
-    let pre = c .before .before .before .before .before .before .before .before .before .before .before .before .before .before .before .before .before .pre in
-    let l = c .before .before .before .before .before .before .before .before .before .before .before .read-schedule in
-    let fresh = c .before .before .before .before .before .before .before .before .fresh-lock in
-    let x = c .before .before .before .before .run-lock in
+    let after-run-lock : tie.After-run-lock = search c in
+    let after-fresh-lock : tie.After-fresh-lock = search c in
+    let after-read-schedule : tie.After-read-schedule = search c in
+    let start : tie.Start = search c in
+    let a = start .args in
+    let pre = start .pre in
+    let l = after-read-schedule .read-schedule in
+    let fresh = after-fresh-lock .fresh-lock in
+    let x = after-run-lock .run-lock in
     let all =
     run-in-buffers (a .file .now) (a .at) (a .tree) (fresh .result .state) (x .result) (a .schedule .now) (l .last .1 .1 .0)
     (a .trace .now) (x .last .1 .1 .1 .0) (omega (arith, pre .1)) (omega (arith, pre .1)) (l .ensures)
@@ -47,22 +38,17 @@ answer-run-requires c κs =
     in
     (omega (arith, all .0, x .kept .1 .1 .1 .0, pre .1), omega (arith, x .kept .1 .1 .1 .0, pre .1))
 
-same-length : tie.Need-same-length
-same-length c = search needs
-
-same-length-2 : tie.Need-same-length-2
-same-length-2 c = search needs
-
-same-length-3 : tie.Need-same-length-3
-same-length-3 c = search needs
-
 returns : tie.Need-returns
 returns c =
-    let a = c .before .before .before .before .before .before .before .before .before .before .before .before .before .before .before .before .before .before .before .before .args in
-    let pre = c .before .before .before .before .before .before .before .before .before .before .before .before .before .before .before .before .before .before .before .before .pre in
-    let l = c .before .before .before .before .before .before .before .before .before .before .before .before .before .before .read-schedule in
-    let fresh = c .before .before .before .before .before .before .before .before .before .before .before .fresh-lock in
-    let x = c .before .before .before .before .before .before .before .run-lock in
+    let after-run-lock : tie.After-run-lock = search c in
+    let after-fresh-lock : tie.After-fresh-lock = search c in
+    let after-read-schedule : tie.After-read-schedule = search c in
+    let start : tie.Start = search c in
+    let a = start .args in
+    let pre = start .pre in
+    let l = after-read-schedule .read-schedule in
+    let fresh = after-fresh-lock .fresh-lock in
+    let x = after-run-lock .run-lock in
     let all =
     run-in-buffers (a .file .now) (a .at) (a .tree) (fresh .result .state) (x .result) (a .schedule .now) (l .last .1 .1 .0)
     (a .trace .now) (x .last .1 .1 .1 .0) (omega (arith, pre .1)) (omega (arith, pre .1)) (l .ensures)
@@ -75,14 +61,14 @@ pub run-in-spec : {M : Type 1} → statement M
 run-in-spec =
     tie.close
     (tie.spec
-    sub-n
-    read-schedule-requires
-    fresh-lock-requires
-    slice-reshare-prefix-run-lock
+    (λ c. search needs)
+    (λ c κs. search needs)
+    (λ c κs. search needs)
+    (λ c. search needs)
     slice-aggregate-run-lock
-    run-lock-requires
+    (λ c κs. search needs)
     answer-run-requires
-    same-length
-    same-length-2
-    same-length-3
+    (λ c. search needs)
+    (λ c. search needs)
+    (λ c. search needs)
     returns)

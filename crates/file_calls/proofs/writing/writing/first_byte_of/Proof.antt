@@ -7,22 +7,13 @@ use borrow.Author.Needs.{needs}
 use Rattle.file_calls.proofs.writing.writing.first_byte_of.Statement.{statement}
 use Rattle.file_calls.proofs.writing.writing.first_byte_of.Tie as tie
 
-cast-result : tie.Need-cast-result
-cast-result c = search needs
-
 returns : tie.Need-returns
 unfolding first-byte tree-of
 returns c = rw (eq-eqb _ _ (c .before .if1 .taken)) (omega arith)
-
-cast-result-2 : tie.Need-cast-result-2
-cast-result-2 c = search needs
-
-add-result : tie.Need-add-result
-add-result c = search needs
 
 returns-2 : tie.Need-returns-2
 unfolding first-byte tree-of
 returns-2 c = rw (ne-eqb _ _ (c .before .if1 .left)) (omega arith)
 
 pub first-byte-of-spec : {M : Type 1} → statement M
-first-byte-of-spec = tie.close (tie.spec cast-result returns cast-result-2 add-result returns-2)
+first-byte-of-spec = tie.close (tie.spec (λ c. search needs) returns (λ c. search needs) (λ c. search needs) returns-2)

@@ -26,24 +26,15 @@ abbrev μ-loop : tie.MeasureT-loop
 loop-holds : tie.Need-loop-holds Inv-loop μ-loop
 loop-holds c = (omega arith, omega arith, refl, refl, refl)
 
-mul-of-16-bits : tie.Need-mul-of-16-bits Inv-loop μ-loop
-mul-of-16-bits c = search needs
-
-element-copy-out-of-16-bits : tie.Need-element-copy-out-of-16-bits Inv-loop μ-loop
-element-copy-out-of-16-bits c = search needs
-
-of-16-bits-requires : tie.Need-of-16-bits-requires Inv-loop μ-loop
-of-16-bits-requires c κs = search needs
-
-element-copy-out-put-domain : tie.Need-element-copy-out-put-domain Inv-loop μ-loop
-element-copy-out-put-domain c = search needs
-
 put-domain-requires : tie.Need-put-domain-requires Inv-loop μ-loop
 put-domain-requires c κs =
-    let h = c .before .before .before .before .before .loop in
-    let a = c .before .before .before .before .before .before .before .args in
+    let in-loop : tie.In-loop Inv-loop μ-loop = search c in
+    let at-loop : tie.At-loop Inv-loop μ-loop = search c in
+    let start-point : tie.Start Inv-loop μ-loop = search c in
+    let h = at-loop .loop in
+    let a = start-point .args in
     let t = tree-in (a .domains) 0 (a .parents .now) (a .thresholds .now) [] in
-    let less = c .before .before .before .before .loop-test .taken in
+    let less = in-loop .loop-test .taken in
     let some : 0 < h .d = omega (arith, h .inv .0) in
     let word = c .before .before .«of-16-bits» in
     let next =
@@ -53,20 +44,18 @@ put-domain-requires c κs =
     in
     omega (arith, next .0, h .inv .2, h .inv .3)
 
-add-d : tie.Need-add-d Inv-loop μ-loop
-add-d c = search needs
-
-loop-less : tie.Need-loop-less Inv-loop μ-loop
-loop-less c = omega arith
-
 loop-again : tie.Need-loop-again Inv-loop μ-loop
 loop-again c =
-    let h = c .before .before .before .before .before .before .before .before .loop in
-    let a = c .before .before .before .before .before .before .before .before .before .before .args in
+    let after-of-16-bits : tie.After-of-16-bits Inv-loop μ-loop = search c in
+    let in-loop : tie.In-loop Inv-loop μ-loop = search c in
+    let at-loop : tie.At-loop Inv-loop μ-loop = search c in
+    let start-point : tie.Start Inv-loop μ-loop = search c in
+    let h = at-loop .loop in
+    let a = start-point .args in
     let t = tree-in (a .domains) 0 (a .parents .now) (a .thresholds .now) [] in
-    let less = c .before .before .before .before .before .before .before .loop-test .taken in
+    let less = in-loop .loop-test .taken in
     let some : 0 < h .d = omega (arith, h .inv .0) in
-    let word = c .before .before .before .before .before .«of-16-bits» in
+    let word = after-of-16-bits .«of-16-bits» in
     let next =
     domain-stored (t .parent) (t .threshold) (a .domains) (h .d) (getD (a .parents .now) (h .d) 0) (word .result) less
     (parent-in (a .domains) 0 (a .parents .now) (a .thresholds .now) [] (h .d) some less)
@@ -85,8 +74,9 @@ same-length c = c .before .loop .inv .2
 
 returns : tie.Need-returns Inv-loop μ-loop
 returns c =
+    let start-point : tie.Start Inv-loop μ-loop = search c in
     let h = c .before .loop in
-    let a = c .before .before .before .args in
+    let a = start-point .args in
     let t = tree-in (a .domains) 0 (a .parents .now) (a .thresholds .now) [] in
     let over = domains-over (t .parent) (t .threshold) (a .domains) (h .d) (c .loop-test .left) in
     (omega (arith, ap length over, h .inv .3), rw over at (h .inv .4))
@@ -98,13 +88,13 @@ put-domains-spec =
     Inv-loop
     μ-loop
     loop-holds
-    mul-of-16-bits
-    element-copy-out-of-16-bits
-    of-16-bits-requires
-    element-copy-out-put-domain
+    (λ c. search needs)
+    (λ c. search needs)
+    (λ c κs. search needs)
+    (λ c. search needs)
     put-domain-requires
-    add-d
-    loop-less
+    (λ c. search needs)
+    (λ c. search needs)
     loop-again
     same-length
     returns)

@@ -21,25 +21,12 @@ abbrev μ-loop : tie.MeasureT-loop
 loop-holds : tie.Need-loop-holds Inv-loop μ-loop
 loop-holds c = (omega arith, refl, omega arith, refl)
 
-mul-put-two-bytes : tie.Need-mul-put-two-bytes Inv-loop μ-loop
-mul-put-two-bytes c = search needs
-
-shared-slice-read-put-two-bytes : tie.Need-shared-slice-read-put-two-bytes Inv-loop μ-loop
-shared-slice-read-put-two-bytes c = search needs
-
-put-two-bytes-requires : tie.Need-put-two-bytes-requires Inv-loop μ-loop
-put-two-bytes-requires c κs = omega arith
-
-add-k : tie.Need-add-k Inv-loop μ-loop
-add-k c = search needs
-
-loop-less : tie.Need-loop-less Inv-loop μ-loop
-loop-less c = omega arith
-
 loop-again : tie.Need-loop-again Inv-loop μ-loop
 loop-again c =
-    let h = c .before .before .before .before .before .before .loop in
-    let less = c .before .before .before .before .before .loop-test .taken in
+    let in-loop : tie.In-loop Inv-loop μ-loop = search c in
+    let at-loop : tie.At-loop Inv-loop μ-loop = search c in
+    let h = at-loop .loop in
+    let less = in-loop .loop-test .taken in
     let w = c .before .before .put-two-bytes in (
       omega arith,
       w .kept .0 ∙ h .inv .1,
@@ -52,8 +39,9 @@ same-length c = c .before .loop .inv .1
 
 returns : tie.Need-returns Inv-loop μ-loop
 returns c =
+    let start-point : tie.Start Inv-loop μ-loop = search c in
     let h = c .before .loop in
-    rw (schedule-over (c .before .before .before .before .args .schedule .now) (h .k) (c .loop-test .left)) at (h .inv .3)
+    rw (schedule-over (start-point .args .schedule .now) (h .k) (c .loop-test .left)) at (h .inv .3)
 
 pub put-schedule-spec : {M : Type 1} → statement M
 put-schedule-spec =
@@ -62,11 +50,11 @@ put-schedule-spec =
     Inv-loop
     μ-loop
     loop-holds
-    mul-put-two-bytes
-    shared-slice-read-put-two-bytes
-    put-two-bytes-requires
-    add-k
-    loop-less
+    (λ c. search needs)
+    (λ c. search needs)
+    (λ c κs. search needs)
+    (λ c. search needs)
+    (λ c. search needs)
     loop-again
     same-length
     returns)

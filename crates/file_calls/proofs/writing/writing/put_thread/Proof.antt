@@ -11,12 +11,6 @@ use Rattle.file_calls.proofs.writing.writing.put_thread.Tie as tie
 slice-write-buffer : tie.Need-slice-write-buffer
 slice-write-buffer c = omega (arith, ap length (thread-same _ _ (c .if1 .taken)))
 
-add-result : tie.Need-add-result
-add-result c = search needs
-
-same-length : tie.Need-same-length
-same-length c = search needs
-
 returns : tie.Need-returns
 returns c =
     let e = thread-same _ _ (c .if1 .taken) in
@@ -25,17 +19,8 @@ returns c =
 slice-write-buffer-2 : tie.Need-slice-write-buffer-2
 slice-write-buffer-2 c = omega (arith, ap length (thread-other _ _ (c .if1 .left)))
 
-add-buffer : tie.Need-add-buffer
-add-buffer c = search needs
-
 slice-write-buffer-3 : tie.Need-slice-write-buffer-3
 slice-write-buffer-3 c = simp length-set (omega (arith, ap length (thread-other _ _ (c .if1 .left))))
-
-add-result-2 : tie.Need-add-result-2
-add-result-2 c = search needs
-
-same-length-2 : tie.Need-same-length-2
-same-length-2 c = search needs
 
 returns-2 : tie.Need-returns-2
 returns-2 c =
@@ -47,12 +32,12 @@ put-thread-spec =
     tie.close
     (tie.spec
     slice-write-buffer
-    add-result
-    same-length
+    (λ c. search needs)
+    (λ c. search needs)
     returns
     slice-write-buffer-2
-    add-buffer
+    (λ c. search needs)
     slice-write-buffer-3
-    add-result-2
-    same-length-2
+    (λ c. search needs)
+    (λ c. search needs)
     returns-2)

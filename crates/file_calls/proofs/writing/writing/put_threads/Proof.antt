@@ -27,28 +27,24 @@ abbrev μ-loop : tie.MeasureT-loop
 loop-holds : tie.Need-loop-holds Inv-loop μ-loop
 loop-holds c = (omega arith, refl, rw sub-zero, rw sub-zero)
 
-element-copy-out-home : tie.Need-element-copy-out-home Inv-loop μ-loop
-element-copy-out-home c = search needs
-
 put-thread-requires : tie.Need-put-thread-requires Inv-loop μ-loop
 put-thread-requires c κs =
-    let h = c .before .before .before .loop in
-    let a = c .before .before .before .before .before .args in
+    let at-loop : tie.At-loop Inv-loop μ-loop = search c in
+    let start-point : tie.Start Inv-loop μ-loop = search c in
+    let h = at-loop .loop in
+    let a = start-point .args in
     let less = c .before .before .loop-test .taken in
     let next = thread-stored (tree-in 0 (a .threads) [] [] (a .homes .now) .home) (a .threads) (h .i) (h .before) (getD (a .homes .now) (h .i) 0) less (home-in 0 (a .threads) [] [] (a .homes .now) (h .i) less) (h .buffer) (h .at) in
     omega (arith, next .0, h .inv .1, h .inv .2)
 
-add-i : tie.Need-add-i Inv-loop μ-loop
-add-i c = search needs
-
-loop-less : tie.Need-loop-less Inv-loop μ-loop
-loop-less c = omega arith
-
 loop-again : tie.Need-loop-again Inv-loop μ-loop
 loop-again c =
-    let h = c .before .before .before .before .before .before .loop in
-    let a = c .before .before .before .before .before .before .before .before .args in
-    let less = c .before .before .before .before .before .loop-test .taken in
+    let in-loop : tie.In-loop Inv-loop μ-loop = search c in
+    let at-loop : tie.At-loop Inv-loop μ-loop = search c in
+    let start-point : tie.Start Inv-loop μ-loop = search c in
+    let h = at-loop .loop in
+    let a = start-point .args in
+    let less = in-loop .loop-test .taken in
     let w = c .before .before .put-thread in
     let next = thread-stored (tree-in 0 (a .threads) [] [] (a .homes .now) .home) (a .threads) (h .i) (h .before) (getD (a .homes .now) (h .i) 0) less (home-in 0 (a .threads) [] [] (a .homes .now) (h .i) less) (h .buffer) (h .at) in (
       omega arith,
@@ -62,8 +58,9 @@ same-length c = c .before .loop .inv .1
 
 returns : tie.Need-returns Inv-loop μ-loop
 returns c =
+    let start-point : tie.Start Inv-loop μ-loop = search c in
     let h = c .before .loop in
-    let a = c .before .before .before .args in
+    let a = start-point .args in
     let over = threads-over (tree-in 0 (a .threads) [] [] (a .homes .now) .home) (a .threads) (h .i) (h .before) (c .loop-test .left) in
     (omega (arith, ap length over, h .inv .2), rw over at (h .inv .3))
 
@@ -74,10 +71,10 @@ put-threads-spec =
     Inv-loop
     μ-loop
     loop-holds
-    element-copy-out-home
+    (λ c. search needs)
     put-thread-requires
-    add-i
-    loop-less
+    (λ c. search needs)
+    (λ c. search needs)
     loop-again
     same-length
     returns)

@@ -1,5 +1,5 @@
 -- `refusals::of_runs::counters::good_counts` meets its contract: the counters of all domains passed are good.
-use mathlib.Core.Path.{_≡_, sym, ap, _∙_}
+use mathlib.Core.Path.{_≡_, sym}
 use mathlib.Core.Bool.{true, false}
 use mathlib.Core.List.{[]}
 use Prim.Native.Nat.{ℕ, _≤_, _<_, _-_}
@@ -8,7 +8,7 @@ use borrow.Author.Tests.{not-true, not-false}
 use Rattle.model.specs.Counters.{good-count, good-counts}
 use Rattle.model.proofs.Tests.{all-true}
 use Rattle.refusals.specs.Arrays.{tree-in}
-use Rattle.refusals.specs.OfRuns.Counts.{counters-in, count-in}
+use Rattle.refusals.specs.OfRuns.Counts.{counters-in}
 use Rattle.refusals.proofs.Scanning.{one-more, all-fails, by-answer}
 use Rattle.refusals.proofs.of_runs.Counts.{count-refusal-words}
 use borrow.Author.Needs.{needs}
@@ -24,55 +24,20 @@ abbrev μ-loop : tie.MeasureT-loop
 loop-holds : tie.Need-loop-holds Inv-loop μ-loop
 loop-holds c = (search needs, λ j l. absurd (omega arith))
 
-cast-at : tie.Need-cast-at Inv-loop μ-loop
-cast-at c = omega arith
-
-mul-of-16-bits : tie.Need-mul-of-16-bits Inv-loop μ-loop
-mul-of-16-bits c = omega arith
-
-element-copy-out-of-16-bits : tie.Need-element-copy-out-of-16-bits Inv-loop μ-loop
-element-copy-out-of-16-bits c = omega arith
-
-of-16-bits-requires : tie.Need-of-16-bits-requires Inv-loop μ-loop
-of-16-bits-requires c κs = search needs
-
-mul-e : tie.Need-mul-e Inv-loop μ-loop
-mul-e c = omega arith
-
-element-copy-out-e : tie.Need-element-copy-out-e Inv-loop μ-loop
-element-copy-out-e c = omega arith
-
-mul-n : tie.Need-mul-n Inv-loop μ-loop
-mul-n c = omega arith
-
-element-copy-out-n : tie.Need-element-copy-out-n Inv-loop μ-loop
-element-copy-out-n c = omega arith
-
-mul-l : tie.Need-mul-l Inv-loop μ-loop
-mul-l c = omega arith
-
-element-copy-out-l : tie.Need-element-copy-out-l Inv-loop μ-loop
-element-copy-out-l c = omega arith
-
-good-count-at-requires : tie.Need-good-count-at-requires Inv-loop μ-loop
-good-count-at-requires c κs = search needs
-
 returns : tie.Need-returns Inv-loop μ-loop
 unfolding good-counts
 returns c =
-    let f = count-refusal-words _ _ _ _ _ _ _ _ (c .before .before .before .before .before .«of-16-bits» .ensures .0) (c .before .before .before .before .before .«of-16-bits» .ensures .1) (c .before .good-count-at .ensures) in
-    sym (all-fails 64 _ _ (c .before .before .before .before .before .before .before .loop-test .taken) (by-answer _ false f (not-true _ (c .if1 .taken))))
-
-add-d : tie.Need-add-d Inv-loop μ-loop
-add-d c = omega arith
-
-loop-less : tie.Need-loop-less Inv-loop μ-loop
-loop-less c = omega arith
+    let after-of-16-bits : tie.After-of-16-bits Inv-loop μ-loop = search c in
+    let in-loop : tie.In-loop Inv-loop μ-loop = search c in
+    let f = count-refusal-words _ _ _ _ _ _ _ _ (after-of-16-bits .«of-16-bits» .ensures .0) (after-of-16-bits .«of-16-bits» .ensures .1) (c .before .good-count-at .ensures) in
+    sym (all-fails 64 _ _ (in-loop .loop-test .taken) (by-answer _ false f (not-true _ (c .if1 .taken))))
 
 loop-again : tie.Need-loop-again Inv-loop μ-loop
 loop-again c =
-    let f = count-refusal-words _ _ _ _ _ _ _ _ (c .before .before .before .before .before .«of-16-bits» .ensures .0) (c .before .before .before .before .before .«of-16-bits» .ensures .1) (c .before .good-count-at .ensures) in
-    (omega arith, one-more _ true _ (c .before .before .before .before .before .before .before .before .loop .inv .1) (by-answer _ true f (not-false _ (c .if1 .left))))
+    let after-of-16-bits : tie.After-of-16-bits Inv-loop μ-loop = search c in
+    let at-loop : tie.At-loop Inv-loop μ-loop = search c in
+    let f = count-refusal-words _ _ _ _ _ _ _ _ (after-of-16-bits .«of-16-bits» .ensures .0) (after-of-16-bits .«of-16-bits» .ensures .1) (c .before .good-count-at .ensures) in
+    (omega arith, one-more _ true _ (at-loop .loop .inv .1) (by-answer _ true f (not-false _ (c .if1 .left))))
 
 returns-2 : tie.Need-returns-2 Inv-loop μ-loop
 unfolding good-counts
@@ -85,19 +50,19 @@ good-counts-spec =
     Inv-loop
     μ-loop
     loop-holds
-    cast-at
-    mul-of-16-bits
-    element-copy-out-of-16-bits
-    of-16-bits-requires
-    mul-e
-    element-copy-out-e
-    mul-n
-    element-copy-out-n
-    mul-l
-    element-copy-out-l
-    good-count-at-requires
+    (λ c. search needs)
+    (λ c. search needs)
+    (λ c. search needs)
+    (λ c κs. search needs)
+    (λ c. search needs)
+    (λ c. search needs)
+    (λ c. search needs)
+    (λ c. search needs)
+    (λ c. search needs)
+    (λ c. search needs)
+    (λ c κs. search needs)
     returns
-    add-d
-    loop-less
+    (λ c. search needs)
+    (λ c. search needs)
     loop-again
     returns-2)

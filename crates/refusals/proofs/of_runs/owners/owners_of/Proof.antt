@@ -12,29 +12,8 @@ Inv-loop owners₀ parents homes domains threads d₀ owners d = (0 < d) × (d �
 abbrev μ-loop : tie.MeasureT-loop
 μ-loop owners₀ parents homes domains threads d₀ owners d = domains - d
 
-thread-owners-requires : tie.Need-thread-owners-requires Inv-loop μ-loop
-thread-owners-requires c κs = search needs
-
 loop-holds : tie.Need-loop-holds Inv-loop μ-loop
 loop-holds c = (search needs, search needs, λ few. domains-first _ _ _ few _ (c .thread-owners .ensures))
-
-cast-at : tie.Need-cast-at Inv-loop μ-loop
-cast-at c = omega arith
-
-element-copy-out-p : tie.Need-element-copy-out-p Inv-loop μ-loop
-element-copy-out-p c = omega arith
-
-add-r : tie.Need-add-r Inv-loop μ-loop
-add-r c = omega arith
-
-element-write-owners : tie.Need-element-write-owners Inv-loop μ-loop
-element-write-owners c = omega arith
-
-add-d : tie.Need-add-d Inv-loop μ-loop
-add-d c = omega arith
-
-loop-less : tie.Need-loop-less Inv-loop μ-loop
-loop-less c = omega arith
 
 loop-again : tie.Need-loop-again Inv-loop μ-loop
 loop-again c =
@@ -43,8 +22,9 @@ loop-again c =
 
 returns : tie.Need-returns Inv-loop μ-loop
 returns c =
+    let start : tie.Start Inv-loop μ-loop = search c in
     let l = c .before .loop in
-    let few = c .before .before .before .before .pre .2 in
+    let few = start .pre .2 in
     domains-all _ _ _ few _ _ _ (omega arith) (l .inv .2 few)
 
 pub owners-of-spec : {M : Type 1} → statement M
@@ -53,13 +33,13 @@ owners-of-spec =
     (tie.spec
     Inv-loop
     μ-loop
-    thread-owners-requires
+    (λ c κs. search needs)
     loop-holds
-    cast-at
-    element-copy-out-p
-    add-r
-    element-write-owners
-    add-d
-    loop-less
+    (λ c. search needs)
+    (λ c. search needs)
+    (λ c. search needs)
+    (λ c. search needs)
+    (λ c. search needs)
+    (λ c. search needs)
     loop-again
     returns)

@@ -6,14 +6,8 @@ use borrow.Author.Needs.{needs}
 use Rattle.refusals.proofs.of_runs.states.good_domain_words_at.Statement.{statement}
 use Rattle.refusals.proofs.of_runs.states.good_domain_words_at.Tie as tie
 
-good-next-at-requires : tie.Need-good-next-at-requires
-good-next-at-requires c κs = search needs
-
 returns : tie.Need-returns
 returns c = rw (by-answer _ false (c .before .good-next-at .ensures) (not-true _ (c .if1 .taken)))
-
-good-next-at-requires-2 : tie.Need-good-next-at-requires-2
-good-next-at-requires-2 c κs = search needs
 
 returns-2 : tie.Need-returns-2
 returns-2 c = rw (by-answer _ true (c .before .before .good-next-at .ensures) (not-false _ (c .before .if1 .left))) (c .good-next-at2 .ensures)
@@ -21,4 +15,4 @@ returns-2 c = rw (by-answer _ true (c .before .before .good-next-at .ensures) (n
 pub good-domain-words-at-spec : {M : Type 1} → statement M
 good-domain-words-at-spec =
     tie.close
-    (tie.spec good-next-at-requires returns good-next-at-requires-2 returns-2)
+    (tie.spec (λ c κs. search needs) returns (λ c κs. search needs) returns-2)

@@ -1,5 +1,5 @@
 -- `refusals::of_runs::states::good_domains` meets its contract: the words of all domains passed are good.
-use mathlib.Core.Path.{_≡_, sym, _∙_}
+use mathlib.Core.Path.{_≡_, sym}
 use mathlib.Core.Bool.{true, false}
 use Prim.Native.Nat.{ℕ, _+_, _≤_, _<_, _-_}
 use native.Mathlib.Omega.{arith}
@@ -21,44 +21,15 @@ abbrev μ-loop : tie.MeasureT-loop
 loop-holds : tie.Need-loop-holds Inv-loop μ-loop
 loop-holds c = (search needs, search needs, λ j l. absurd (omega arith))
 
-cast-loop : tie.Need-cast-loop Inv-loop μ-loop
-cast-loop c = omega arith
-
-cast-at : tie.Need-cast-at Inv-loop μ-loop
-cast-at c = omega arith
-
-mul-tail : tie.Need-mul-tail Inv-loop μ-loop
-mul-tail c = omega arith
-
-element-copy-out-tail : tie.Need-element-copy-out-tail Inv-loop μ-loop
-element-copy-out-tail c = omega arith
-
-add-r : tie.Need-add-r Inv-loop μ-loop
-add-r c = omega arith
-
-element-copy-out-owner : tie.Need-element-copy-out-owner Inv-loop μ-loop
-element-copy-out-owner c = omega arith
-
-mul-next : tie.Need-mul-next Inv-loop μ-loop
-mul-next c = omega arith
-
-element-copy-out-next : tie.Need-element-copy-out-next Inv-loop μ-loop
-element-copy-out-next c = omega arith
-
-good-domain-words-at-requires : tie.Need-good-domain-words-at-requires Inv-loop μ-loop
-good-domain-words-at-requires c κs = search needs
-
 returns : tie.Need-returns Inv-loop μ-loop
-returns c = sym (all-fails _ _ _ (c .before .before .before .before .before .loop-test .taken) (by-answer _ false (c .before .good-domain-words-at .ensures) (not-true _ (c .if1 .taken))))
-
-add-d : tie.Need-add-d Inv-loop μ-loop
-add-d c = omega arith
-
-loop-less : tie.Need-loop-less Inv-loop μ-loop
-loop-less c = omega arith
+returns c =
+    let in-loop : tie.In-loop Inv-loop μ-loop = search c in
+    sym (all-fails _ _ _ (in-loop .loop-test .taken) (by-answer _ false (c .before .good-domain-words-at .ensures) (not-true _ (c .if1 .taken))))
 
 loop-again : tie.Need-loop-again Inv-loop μ-loop
-loop-again c = (omega arith, search needs, one-more _ true _ (c .before .before .before .before .before .before .loop .inv .2) (by-answer _ true (c .before .good-domain-words-at .ensures) (not-false _ (c .if1 .left))))
+loop-again c =
+    let at-loop : tie.At-loop Inv-loop μ-loop = search c in
+    (omega arith, search needs, one-more _ true _ (at-loop .loop .inv .2) (by-answer _ true (c .before .good-domain-words-at .ensures) (not-false _ (c .if1 .left))))
 
 returns-2 : tie.Need-returns-2 Inv-loop μ-loop
 returns-2 c = sym (all-true _ _ (λ j h. c .before .loop .inv .2 j (omega arith)))
@@ -70,17 +41,17 @@ good-domains-spec =
     Inv-loop
     μ-loop
     loop-holds
-    cast-loop
-    cast-at
-    mul-tail
-    element-copy-out-tail
-    add-r
-    element-copy-out-owner
-    mul-next
-    element-copy-out-next
-    good-domain-words-at-requires
+    (λ c. search needs)
+    (λ c. search needs)
+    (λ c. search needs)
+    (λ c. search needs)
+    (λ c. search needs)
+    (λ c. search needs)
+    (λ c. search needs)
+    (λ c. search needs)
+    (λ c κs. search needs)
     returns
-    add-d
-    loop-less
+    (λ c. search needs)
+    (λ c. search needs)
     loop-again
     returns-2)

@@ -12,14 +12,10 @@ returns c = rw (eq-eqb _ _ (c .if1 .taken))
 returns-2 : tie.Need-returns-2
 returns-2 c = rw (ne-eqb _ _ (c .before .if1 .left), le-ltb (c .before .before .args .next - 1) 320 (omega arith))
 
-sub-at : tie.Need-sub-at
-sub-at c = search needs
-
-element-copy-out-result : tie.Need-element-copy-out-result
-element-copy-out-result c = search needs
-
 returns-3 : tie.Need-returns-3
-returns-3 c = rw (ne-eqb _ _ (c .before .before .if1 .left), lt-ltb (c .before .before .before .args .next - 1) 320 (omega arith))
+returns-3 c =
+    let start : tie.Start = search c in
+    rw (ne-eqb _ _ (c .before .before .if1 .left), lt-ltb (start .args .next - 1) 320 (omega arith))
 
 pub good-next-at-spec : {M : Type 1} → statement M
-good-next-at-spec = tie.close (tie.spec returns returns-2 sub-at element-copy-out-result returns-3)
+good-next-at-spec = tie.close (tie.spec returns returns-2 (λ c. search needs) (λ c. search needs) returns-3)

@@ -4,12 +4,6 @@ use borrow.Author.Needs.{needs}
 use Rattle.refusals.proofs.of_runs.states.good_peer_at.Statement.{statement}
 use Rattle.refusals.proofs.of_runs.states.good_peer_at.Tie as tie
 
-has-peer-requires : tie.Need-has-peer-requires
-has-peer-requires c κs = search needs
-
-is-member-at-requires : tie.Need-is-member-at-requires
-is-member-at-requires c κs = search needs
-
 returns : tie.Need-returns
 returns c = rw (c .is-member-at .ensures, sym (c .before .before .has-peer .ensures) ∙ c .before .if1 .taken)
 
@@ -18,4 +12,4 @@ returns-2 c = rw (sym (c .before .has-peer .ensures) ∙ c .if1 .left)
 
 pub good-peer-at-spec : {M : Type 1} → statement M
 good-peer-at-spec =
-    tie.close (tie.spec has-peer-requires is-member-at-requires returns returns-2)
+    tie.close (tie.spec (λ c κs. search needs) (λ c κs. search needs) returns returns-2)

@@ -8,41 +8,35 @@ use borrow.Author.Needs.{needs}
 use Rattle.refusals.proofs.of_runs.states.good_thread_at.Statement.{statement}
 use Rattle.refusals.proofs.of_runs.states.good_thread_at.Tie as tie
 
-element-copy-out-home : tie.Need-element-copy-out-home
-element-copy-out-home c = search needs
-
-good-next-at-requires : tie.Need-good-next-at-requires
-good-next-at-requires c κs = search needs
-
 returns : tie.Need-returns
 returns c = rw (by-answer _ false (c .before .good-next-at .ensures) (not-true _ (c .if1 .taken)))
 
-rests-at-requires : tie.Need-rests-at-requires
-rests-at-requires c κs = search needs
-
 returns-2 : tie.Need-returns-2
 returns-2 c =
-    let s = c .before .before .before .before .before in
-    let n = by-answer _ true (c .before .before .before .good-next-at .ensures) (not-false _ (c .before .before .if1 .left)) in
+    let after-good-next-at : tie.After-good-next-at = search c in
+    let s : tie.Start = search c in
+    let n = by-answer _ true (after-good-next-at .good-next-at .ensures) (not-false _ (c .before .before .if1 .left)) in
     let p = rests-good (s .args .ticket-root) (parents-in (s .args .domains) (s .args .parents .now)) (s .args .owners .now) (s .args .statuses .now) (s .args .i) _ (s .args .q) (s .args .resting) (s .pre .1 .1 .1) (by-answer _ true (c .before .rests-at .ensures) (c .if2 .taken)) in
     rw (n, p)
 
 good-place-at-requires : tie.Need-good-place-at-requires
-good-place-at-requires c κs = let s = c .before .before .before .before .before in (s .pre .0, (s .pre .1 .0, s .pre .1 .1 .0))
+good-place-at-requires c κs = let s : tie.Start = search c in (s .pre .0, (s .pre .1 .0, s .pre .1 .1 .0))
 
 returns-3 : tie.Need-returns-3
 returns-3 c =
-    let n = by-answer _ true (c .before .before .before .before .good-next-at .ensures) (not-false _ (c .before .before .before .if1 .left)) in
+    let else1 : tie.Else1 = search c in
+    let after-good-next-at : tie.After-good-next-at = search c in
+    let n = by-answer _ true (after-good-next-at .good-next-at .ensures) (not-false _ (else1 .if1 .left)) in
     rw (c .good-place-at .ensures, n)
 
 pub good-thread-at-spec : {M : Type 1} → statement M
 good-thread-at-spec =
     tie.close
     (tie.spec
-    element-copy-out-home
-    good-next-at-requires
+    (λ c. search needs)
+    (λ c κs. search needs)
     returns
-    rests-at-requires
+    (λ c κs. search needs)
     returns-2
     good-place-at-requires
     returns-3)

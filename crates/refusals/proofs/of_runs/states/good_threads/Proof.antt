@@ -22,30 +22,12 @@ Inv-loop parents owners count threads ticket-root nexts statuses rows domains pe
 abbrev μ-loop : tie.MeasureT-loop
 μ-loop parents owners count threads ticket-root nexts statuses rows domains peers words row i₀ i = threads - i
 
-resting-row-of-requires : tie.Need-resting-row-of-requires Inv-loop μ-loop
-resting-row-of-requires c κs = search needs
-
 loop-holds : tie.Need-loop-holds Inv-loop μ-loop
 loop-holds c = (search needs, search needs, λ j l. absurd (omega arith))
 
-cast-loop : tie.Need-cast-loop Inv-loop μ-loop
-cast-loop c = omega arith
-
-cast-at : tie.Need-cast-at Inv-loop μ-loop
-cast-at c = omega arith
-
-place-at-requires : tie.Need-place-at-requires Inv-loop μ-loop
-place-at-requires c κs = search needs
-
-mul-next : tie.Need-mul-next Inv-loop μ-loop
-mul-next c = omega arith
-
-element-copy-out-next : tie.Need-element-copy-out-next Inv-loop μ-loop
-element-copy-out-next c = omega arith
-
 good-thread-at-requires : tie.Need-good-thread-at-requires Inv-loop μ-loop
 good-thread-at-requires c κs =
-    let l = c .before .before .before in
+    let l : tie.At-loop Inv-loop μ-loop = search c in
     let s = l .before .before in
     let i = l .loop .i in
     let h = c .before .before .loop-test .taken in
@@ -53,18 +35,12 @@ good-thread-at-requires c κs =
 
 returns : tie.Need-returns Inv-loop μ-loop
 returns c =
-    let q = c .before .before .before in
+    let q : tie.After-place-at Inv-loop μ-loop = search c in
     sym (all-fails _ _ _ (q .before .loop-test .taken) (rw (← q .place-at .ensures) (by-answer _ false (c .before .good-thread-at .ensures) (not-true _ (c .if1 .taken)))))
-
-add-i : tie.Need-add-i Inv-loop μ-loop
-add-i c = omega arith
-
-loop-less : tie.Need-loop-less Inv-loop μ-loop
-loop-less c = omega arith
 
 loop-again : tie.Need-loop-again Inv-loop μ-loop
 loop-again c =
-    let q = c .before .before .before in
+    let q : tie.After-place-at Inv-loop μ-loop = search c in
     (omega arith, search needs, one-more _ true _ (q .before .before .loop .inv .2) (rw (← q .place-at .ensures) (by-answer _ true (c .before .good-thread-at .ensures) (not-false _ (c .if1 .left)))))
 
 returns-2 : tie.Need-returns-2 Inv-loop μ-loop
@@ -76,16 +52,16 @@ good-threads-spec =
     (tie.spec
     Inv-loop
     μ-loop
-    resting-row-of-requires
+    (λ c κs. search needs)
     loop-holds
-    cast-loop
-    cast-at
-    place-at-requires
-    mul-next
-    element-copy-out-next
+    (λ c. search needs)
+    (λ c. search needs)
+    (λ c κs. search needs)
+    (λ c. search needs)
+    (λ c. search needs)
     good-thread-at-requires
     returns
-    add-i
-    loop-less
+    (λ c. search needs)
+    (λ c. search needs)
     loop-again
     returns-2)

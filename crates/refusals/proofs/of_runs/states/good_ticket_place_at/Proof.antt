@@ -15,37 +15,43 @@ returns-2 c = rw (ne-eqb _ _ (c .before .before .if1 .left), lt-ltb _ _ (c .if2 
 
 returns-3 : tie.Need-returns-3
 unfolding ticket-place-in
-returns-3 c = rw (ne-eqb _ _ (c .before .before .before .before .if1 .left), le-ltb _ _ (c .before .before .if2 .left), ne-eqb _ _ (c .if3 .taken))
+returns-3 c =
+    let else1 : tie.Else1 = search c in
+    rw (ne-eqb _ _ (else1 .if1 .left), le-ltb _ _ (c .before .before .if2 .left), ne-eqb _ _ (c .if3 .taken))
 
 returns-4 : tie.Need-returns-4
 unfolding ticket-place-in
-returns-4 c = rw (ne-eqb _ _ (c .before .before .before .before .before .before .if1 .left), le-ltb _ _ (c .before .before .before .before .if2 .left), eq-eqb _ _ (c .before .before .if3 .left), ne-eqb _ _ (c .if4 .taken))
+returns-4 c =
+    let else2 : tie.Else2 = search c in
+    let else1 : tie.Else1 = search c in
+    rw (ne-eqb _ _ (else1 .if1 .left), le-ltb _ _ (else2 .if2 .left), eq-eqb _ _ (c .before .before .if3 .left), ne-eqb _ _ (c .if4 .taken))
 
 returns-5 : tie.Need-returns-5
 unfolding ticket-place-in
-returns-5 c = rw (ne-eqb _ _ (c .before .before .before .before .before .before .before .before .if1 .left), le-ltb _ _ (c .before .before .before .before .before .before .if2 .left), eq-eqb _ _ (c .before .before .before .before .if3 .left), eq-eqb _ _ (c .before .before .if4 .left), ne-eqb _ _ (c .if5 .taken))
+returns-5 c =
+    let else3 : tie.Else3 = search c in
+    let else2 : tie.Else2 = search c in
+    let else1 : tie.Else1 = search c in
+    rw (ne-eqb _ _ (else1 .if1 .left), le-ltb _ _ (else2 .if2 .left), eq-eqb _ _ (else3 .if3 .left), eq-eqb _ _ (c .before .before .if4 .left), ne-eqb _ _ (c .if5 .taken))
 
 returns-6 : tie.Need-returns-6
 unfolding ticket-place-in
-returns-6 c = rw (ne-eqb _ _ (c .before .before .before .before .before .before .before .before .before .before .if1 .left), le-ltb _ _ (c .before .before .before .before .before .before .before .before .if2 .left), eq-eqb _ _ (c .before .before .before .before .before .before .if3 .left), eq-eqb _ _ (c .before .before .before .before .if4 .left), eq-eqb _ _ (c .before .before .if5 .left), ne-eqb _ _ (c .if6 .taken))
-
-record-at-requires : tie.Need-record-at-requires
-record-at-requires c κs = search needs
-
-cast-at : tie.Need-cast-at
-cast-at c = search needs
-
-mul-result : tie.Need-mul-result
-mul-result c = search needs
-
-element-copy-out-result : tie.Need-element-copy-out-result
-element-copy-out-result c = search needs
+returns-6 c =
+    let else4 : tie.Else4 = search c in
+    let else3 : tie.Else3 = search c in
+    let else2 : tie.Else2 = search c in
+    let else1 : tie.Else1 = search c in
+    rw (ne-eqb _ _ (else1 .if1 .left), le-ltb _ _ (else2 .if2 .left), eq-eqb _ _ (else3 .if3 .left), eq-eqb _ _ (else4 .if4 .left), eq-eqb _ _ (c .before .before .if5 .left), ne-eqb _ _ (c .if6 .taken))
 
 returns-7 : tie.Need-returns-7
 unfolding ticket-place-in
 returns-7 c =
+    let else4 : tie.Else4 = search c in
+    let else3 : tie.Else3 = search c in
+    let else2 : tie.Else2 = search c in
+    let else1 : tie.Else1 = search c in
     let d = c .before .before in
-    rw (c .before .record-at .ensures .0, ne-eqb _ _ (d .before .before .before .before .before .before .before .before .before .before .if1 .left), le-ltb _ _ (d .before .before .before .before .before .before .before .before .if2 .left), eq-eqb _ _ (d .before .before .before .before .before .before .if3 .left), eq-eqb _ _ (d .before .before .before .before .if4 .left), eq-eqb _ _ (d .before .before .if5 .left), eq-eqb _ _ (d .if6 .left))
+    rw (c .before .record-at .ensures .0, ne-eqb _ _ (else1 .if1 .left), le-ltb _ _ (else2 .if2 .left), eq-eqb _ _ (else3 .if3 .left), eq-eqb _ _ (else4 .if4 .left), eq-eqb _ _ (d .before .before .if5 .left), eq-eqb _ _ (d .if6 .left))
 
 pub good-ticket-place-at-spec : {M : Type 1} → statement M
 good-ticket-place-at-spec =
@@ -57,8 +63,8 @@ good-ticket-place-at-spec =
     returns-4
     returns-5
     returns-6
-    record-at-requires
-    cast-at
-    mul-result
-    element-copy-out-result
+    (λ c κs. search needs)
+    (λ c. search needs)
+    (λ c. search needs)
+    (λ c. search needs)
     returns-7)

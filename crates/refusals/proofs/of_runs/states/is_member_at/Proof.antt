@@ -7,11 +7,8 @@ use Rattle.refusals.proofs.of_runs.states.is_member_at.Tie as tie
 returns : tie.Need-returns
 returns c = rw (le-ltb _ _ (c .if1 .taken))
 
-element-copy-out-result : tie.Need-element-copy-out-result
-element-copy-out-result c = search needs
-
 returns-2 : tie.Need-returns-2
 returns-2 c = rw (lt-ltb _ _ (c .before .if1 .left))
 
 pub is-member-at-spec : {M : Type 1} → statement M
-is-member-at-spec = tie.close (tie.spec returns element-copy-out-result returns-2)
+is-member-at-spec = tie.close (tie.spec returns (λ c. search needs) returns-2)

@@ -22,26 +22,18 @@ returns : tie.Need-returns Inv-loop μ-loop
 returns c = sym (meets-here _ _ _ _ (c .if1 .taken)) ∙ c .before .before .loop .inv .2
 
 returns-2 : tie.Need-returns-2 Inv-loop μ-loop
-returns-2 c = sym (meets-root _ _ _ _ (c .before .if1 .left) (c .if2 .taken)) ∙ c .before .before .before .loop .inv .2
-
-cast-at : tie.Need-cast-at Inv-loop μ-loop
-cast-at c = omega arith
-
-element-copy-out-c : tie.Need-element-copy-out-c Inv-loop μ-loop
-element-copy-out-c c = omega arith
-
-sub-left : tie.Need-sub-left Inv-loop μ-loop
-sub-left c = omega arith
-
-loop-less : tie.Need-loop-less Inv-loop μ-loop
-loop-less c = omega arith
+returns-2 c =
+    let at-loop : tie.At-loop Inv-loop μ-loop = search c in
+    sym (meets-root _ _ _ _ (c .before .if1 .left) (c .if2 .taken)) ∙ at-loop .loop .inv .2
 
 loop-again : tie.Need-loop-again Inv-loop μ-loop
 loop-again c =
-    let l = c .before .before .before .before .loop in
-    let s = c .before .before .before .before .before in
+    let in-loop : tie.In-loop Inv-loop μ-loop = search c in
+    let at-loop : tie.At-loop Inv-loop μ-loop = search c in
+    let s : tie.Start Inv-loop μ-loop = search c in
+    let l = at-loop .loop in
     let low = s .pre .1 .0 .lower (l .c) (omega arith) (l .inv .1) in
-    (omega arith, omega arith, sym (meets-up _ _ _ _ _ (c .before .before .before .loop-test .taken) (c .before .before .if1 .left) (c .before .if2 .left) (l .inv .1)) ∙ l .inv .2)
+    (omega arith, omega arith, sym (meets-up _ _ _ _ _ (in-loop .loop-test .taken) (c .before .before .if1 .left) (c .before .if2 .left) (l .inv .1)) ∙ l .inv .2)
 
 returns-3 : tie.Need-returns-3 Inv-loop μ-loop
 returns-3 c = sym (meets-end _ _ _ _ (c .loop-test .left)) ∙ c .before .loop .inv .2
@@ -55,9 +47,9 @@ meets-at-spec =
     loop-holds
     returns
     returns-2
-    cast-at
-    element-copy-out-c
-    sub-left
-    loop-less
+    (λ c. search needs)
+    (λ c. search needs)
+    (λ c. search needs)
+    (λ c. search needs)
     loop-again
     returns-3)

@@ -18,18 +18,6 @@ abbrev μ-loop : tie.MeasureT-loop
 loop-holds : tie.Need-loop-holds Inv-loop μ-loop
 loop-holds c = (omega arith, search needs, zeros-none _ _)
 
-mul-all : tie.Need-mul-all Inv-loop μ-loop
-mul-all c = search needs
-
-shared-slice-read-all : tie.Need-shared-slice-read-all Inv-loop μ-loop
-shared-slice-read-all c = search needs
-
-add-k : tie.Need-add-k Inv-loop μ-loop
-add-k c = search needs
-
-loop-less : tie.Need-loop-less Inv-loop μ-loop
-loop-less c = search needs
-
 loop-again : tie.Need-loop-again Inv-loop μ-loop
 loop-again c = let i = c .before .before .loop .inv in (omega (arith, i .0), search needs, zeros-next _ _ (c .before .before .loop .all) _ (i .0) (i .2))
 
@@ -39,4 +27,4 @@ returns c = let i = c .before .loop .inv in zeros-all _ _ _ _ (omega arith) (i .
 pub any-half-spec : {M : Type 1} → statement M
 any-half-spec =
     tie.close
-    (tie.spec Inv-loop μ-loop loop-holds mul-all shared-slice-read-all add-k loop-less loop-again returns)
+    (tie.spec Inv-loop μ-loop loop-holds (λ c. search needs) (λ c. search needs) (λ c. search needs) (λ c. search needs) loop-again returns)

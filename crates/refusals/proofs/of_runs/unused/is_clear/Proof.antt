@@ -6,18 +6,12 @@ use borrow.Author.Needs.{needs}
 use Rattle.refusals.proofs.of_runs.unused.is_clear.Statement.{statement}
 use Rattle.refusals.proofs.of_runs.unused.is_clear.Tie as tie
 
-are-places-clear-requires : tie.Need-are-places-clear-requires
-are-places-clear-requires c κs = search needs
-
 returns : tie.Need-returns
 returns c = rw (by-answer _ false (c .before .are-places-clear .ensures) (not-true _ (c .if1 .taken)))
-
-are-records-clear-requires : tie.Need-are-records-clear-requires
-are-records-clear-requires c κs = search needs
 
 returns-2 : tie.Need-returns-2
 returns-2 c = rw (by-answer _ true (c .before .before .are-places-clear .ensures) (not-false _ (c .before .if1 .left))) (c .are-records-clear .ensures)
 
 pub is-clear-spec : {M : Type 1} → statement M
 is-clear-spec =
-    tie.close (tie.spec are-places-clear-requires returns are-records-clear-requires returns-2)
+    tie.close (tie.spec (λ c κs. search needs) returns (λ c κs. search needs) returns-2)

@@ -14,32 +14,35 @@ abbrev μ-loop : tie.MeasureT-loop
 loop-holds : tie.Need-loop-holds Inv-loop μ-loop
 loop-holds c = climbs-start _ _ _ _ (c .pre .1 .1 .0)
 
-cast-at : tie.Need-cast-at Inv-loop μ-loop
-cast-at c = omega arith
-
-mul-entries : tie.Need-mul-entries Inv-loop μ-loop
-mul-entries c = omega arith
-
 element-copy-out-entries : tie.Need-element-copy-out-entries Inv-loop μ-loop
 element-copy-out-entries c = let l = c .before .loop in omega (arith, l .inv .real, c .before .before .pre .0)
 
 add-entries : tie.Need-add-entries Inv-loop μ-loop
-add-entries c = let l = c .before .before .loop in omega (arith, l .inv .above (l .c) (omega arith), c .before .before .before .pre .1 .1 .1 .room (l .c) (omega (arith, l .inv .real, c .before .before .before .pre .0)))
-
-mul-entries-2 : tie.Need-mul-entries-2 Inv-loop μ-loop
-mul-entries-2 c = omega arith
+add-entries c =
+    let start : tie.Start Inv-loop μ-loop = search c in
+    let l = c .before .before .loop in omega (arith, l .inv .above (l .c) (omega arith), start .pre .1 .1 .1 .room (l .c) (omega (arith, l .inv .real, start .pre .0)))
 
 element-write-entries : tie.Need-element-write-entries Inv-loop μ-loop
-element-write-entries c = let l = c .before .before .loop in omega (arith, l .inv .real, c .before .before .before .pre .0)
+element-write-entries c =
+    let start : tie.Start Inv-loop μ-loop = search c in
+    let l = c .before .before .loop in omega (arith, l .inv .real, start .pre .0)
 
 element-copy-out-c : tie.Need-element-copy-out-c Inv-loop μ-loop
-element-copy-out-c c = let l = c .before .before .loop in omega (arith, l .inv .real, c .before .before .before .pre .0)
+element-copy-out-c c =
+    let start : tie.Start Inv-loop μ-loop = search c in
+    let l = c .before .before .loop in omega (arith, l .inv .real, start .pre .0)
 
 loop-less : tie.Need-loop-less Inv-loop μ-loop
-loop-less c = let l = c .before .before .before .loop in omega (arith, c .before .before .before .before .pre .1 .0 .lower (l .c) (omega (arith, c .before .before .loop-test .taken)) (l .inv .real))
+loop-less c =
+    let at-loop : tie.At-loop Inv-loop μ-loop = search c in
+    let start : tie.Start Inv-loop μ-loop = search c in
+    let l = at-loop .loop in omega (arith, start .pre .1 .0 .lower (l .c) (omega (arith, c .before .before .loop-test .taken)) (l .inv .real))
 
 loop-again : tie.Need-loop-again Inv-loop μ-loop
-loop-again c = climbs-on _ _ _ _ _ _ (c .before .before .before .before .pre .1 .0) (c .before .before .loop-test .taken) (c .before .before .before .loop .inv)
+loop-again c =
+    let at-loop : tie.At-loop Inv-loop μ-loop = search c in
+    let start : tie.Start Inv-loop μ-loop = search c in
+    climbs-on _ _ _ _ _ _ (start .pre .1 .0) (c .before .before .loop-test .taken) (at-loop .loop .inv)
 
 returns : tie.Need-returns Inv-loop μ-loop
 returns c = climbs-end _ _ _ _ _ _ (c .loop-test .left) (c .before .loop .inv)
@@ -51,11 +54,11 @@ count-entry-spec =
     Inv-loop
     μ-loop
     loop-holds
-    cast-at
-    mul-entries
+    (λ c. search needs)
+    (λ c. search needs)
     element-copy-out-entries
     add-entries
-    mul-entries-2
+    (λ c. search needs)
     element-write-entries
     element-copy-out-c
     loop-less

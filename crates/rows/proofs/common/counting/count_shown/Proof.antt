@@ -23,44 +23,55 @@ returns c = let g = unmarked-clear _ _ _ (c .before .pre .1 .0) (c .if1 .taken) 
 loop-holds : tie.Need-loop-holds Inv-loop μ-loop
 loop-holds c = (search needs, counted-none _ _ _, λ j l. refl)
 
-cast-loop : tie.Need-cast-loop Inv-loop μ-loop
-cast-loop c = omega arith
-
-cast-at : tie.Need-cast-at Inv-loop μ-loop
-cast-at c = omega arith
-
 element-copy-out-hit : tie.Need-element-copy-out-hit Inv-loop μ-loop
-element-copy-out-hit c = omega (arith, c .before .before .before .pre .0, c .loop-test .taken)
+element-copy-out-hit c =
+    let start-point : tie.Start Inv-loop μ-loop = search c in
+    omega (arith, start-point .pre .0, c .loop-test .taken)
 
 domain-if-requires : tie.Need-domain-if-requires Inv-loop μ-loop
-domain-if-requires c κs = omega (arith, c .before .before .before .before .pre .0, c .before .loop-test .taken)
+domain-if-requires c κs =
+    let start-point : tie.Start Inv-loop μ-loop = search c in
+    omega (arith, start-point .pre .0, c .before .loop-test .taken)
 
 count-start-requires : tie.Need-count-start-requires Inv-loop μ-loop
-count-start-requires c κs = (c .before .domain-if .ensures .1, λ n. let l = c .before .before .before .before .loop in let start = c .before .before .before .before .before .before in let m = meant (l .d) (c .before .domain-if .result) (getD (start .args .shown .now) (l .d) false) (c .before .domain-if .ensures .0) n in rw m (omega (arith, l .inv .2 (l .d) (omega arith), start .pre .1 .1 .room (l .d) (omega (arith, start .pre .0, c .before .before .before .loop-test .taken)))))
+count-start-requires c κs =
+    let in-loop : tie.In-loop Inv-loop μ-loop = search c in
+    let at-loop : tie.At-loop Inv-loop μ-loop = search c in
+    (c .before .domain-if .ensures .1, λ n. let l = at-loop .loop in let start : tie.Start Inv-loop μ-loop = search c in let m = meant (l .d) (c .before .domain-if .result) (getD (start .args .shown .now) (l .d) false) (c .before .domain-if .ensures .0) n in rw m (omega (arith, l .inv .2 (l .d) (omega arith), start .pre .1 .1 .room (l .d) (omega (arith, start .pre .0, in-loop .loop-test .taken)))))
 
 count-length-requires : tie.Need-count-length-requires Inv-loop μ-loop
-count-length-requires c κs = c .before .before .before .domain-if .ensures .1
+count-length-requires c κs =
+    let after-domain-if : tie.After-domain-if Inv-loop μ-loop = search c in
+    after-domain-if .domain-if .ensures .1
 
 add-d : tie.Need-add-d Inv-loop μ-loop
-add-d c = omega (arith, c .before .before .before .before .before .before .before .before .before .pre .0, c .before .before .before .before .before .before .loop-test .taken)
+add-d c =
+    let in-loop : tie.In-loop Inv-loop μ-loop = search c in
+    let start-point : tie.Start Inv-loop μ-loop = search c in
+    omega (arith, start-point .pre .0, in-loop .loop-test .taken)
 
 loop-less : tie.Need-loop-less Inv-loop μ-loop
-loop-less c = omega (arith, c .before .before .before .before .before .before .loop-test .taken)
+loop-less c =
+    let in-loop : tie.In-loop Inv-loop μ-loop = search c in
+    omega (arith, in-loop .loop-test .taken)
 
 loop-again : tie.Need-loop-again Inv-loop μ-loop
 loop-again c =
-    let l = c .before .before .before .before .before .before .before .loop in
-    let start = c .before .before .before .before .before .before .before .before .before in
-    let own = c .before .before .before .before .domain-if .ensures .0 in (
-      omega (arith, c .before .before .before .before .before .before .loop-test .taken),
+    let after-domain-if : tie.After-domain-if Inv-loop μ-loop = search c in
+    let in-loop : tie.In-loop Inv-loop μ-loop = search c in
+    let at-loop : tie.At-loop Inv-loop μ-loop = search c in
+    let start : tie.Start Inv-loop μ-loop = search c in
+    let l = at-loop .loop in
+    let own = after-domain-if .domain-if .ensures .0 in (
+      omega (arith, in-loop .loop-test .taken),
       counted-next _ _ _ _ _ _ (l .inv .1) _ own _ _ (c .before .before .count-start .ensures) (c .count-length .ensures),
       unmoved (l .d) _ (getD (start .args .shown .now) (l .d) false) own (start .args .tenures .now) _ _ (c .before .before .count-start .ensures) (l .inv .2),
     )
 
 returns-2 : tie.Need-returns-2 Inv-loop μ-loop
 returns-2 c =
+    let start : tie.Start Inv-loop μ-loop = search c in
     let l = c .before .before .loop in
-    let start = c .before .before .before .before in
     let z : l .d ≡ start .args .domains = omega (arith, c .before .loop-test .left, l .inv .0) in
     (counted-all _ (start .args .domains) _ _ _ _ (start .pre .0) (start .pre .1 .0 .beyond) (rw z at (l .inv .1)), clear-none)
 
@@ -72,8 +83,8 @@ count-shown-spec =
     μ-loop
     returns
     loop-holds
-    cast-loop
-    cast-at
+    (λ c. search needs)
+    (λ c. search needs)
     element-copy-out-hit
     domain-if-requires
     count-start-requires

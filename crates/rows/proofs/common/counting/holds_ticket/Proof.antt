@@ -35,13 +35,18 @@ returns : tie.Need-returns Inv-loop μ-loop
 returns c = record { none-holds = λ e. absurd (false≢true (sym e)) }
 
 add-d : tie.Need-add-d Inv-loop μ-loop
-add-d c = omega (arith, c .before .before .before .before .pre, c .before .before .loop-test .taken)
+add-d c =
+    let start : tie.Start Inv-loop μ-loop = search c in
+    omega (arith, start .pre, c .before .before .loop-test .taken)
 
 loop-less : tie.Need-loop-less Inv-loop μ-loop
 loop-less c = omega (arith, c .before .before .loop-test .taken)
 
 loop-again : tie.Need-loop-again Inv-loop μ-loop
-loop-again c = let l = c .before .before .before .loop in (omega (arith, c .before .before .loop-test .taken), one-more-differs (c .before .before .before .before .args .statuses .now) _ (l .d) (l .inv .1) (c .if1 .left))
+loop-again c =
+    let at-loop : tie.At-loop Inv-loop μ-loop = search c in
+    let start : tie.Start Inv-loop μ-loop = search c in
+    let l = at-loop .loop in (omega (arith, c .before .before .loop-test .taken), one-more-differs (start .args .statuses .now) _ (l .d) (l .inv .1) (c .if1 .left))
 
 returns-2 : tie.Need-returns-2 Inv-loop μ-loop
 returns-2 c = let l = c .before .loop in record { none-holds = λ e j h. l .inv .1 j (omega (arith, c .loop-test .left)) }

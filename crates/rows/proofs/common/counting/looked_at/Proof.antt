@@ -4,23 +4,13 @@ use borrow.Author.Needs.{needs}
 use Rattle.rows.proofs.common.counting.looked_at.Statement.{statement}
 use Rattle.rows.proofs.common.counting.looked_at.Tie as tie
 
-returns : tie.Need-returns
-returns c = search needs
-
-next-number-requires : tie.Need-next-number-requires
-next-number-requires c κs = search needs
-
-cast-v : tie.Need-cast-v
-cast-v c = search needs
-
-holds-ticket-requires : tie.Need-holds-ticket-requires
-holds-ticket-requires c κs = search needs
-
 returns-2 : tie.Need-returns-2
-returns-2 c = record { other = λ n. absurd (n (c .before .before .before .if1 .left)); all = λ r n. refl; nobody = λ r n. absurd (n refl) }
+returns-2 c =
+    let else1 : tie.Else1 = search c in
+    record { other = λ n. absurd (n (else1 .if1 .left)); all = λ r n. refl; nobody = λ r n. absurd (n refl) }
 
 returns-3 : tie.Need-returns-3
 returns-3 c = record { other = λ n. refl; all = λ r n. absurd (n refl); nobody = λ r n d h. rw (← c .before .before .next-number .ensures) (c .before .holds-ticket .ensures .none-holds (c .if2 .left) d h) }
 
 pub looked-at-spec : {M : Type 1} → statement M
-looked-at-spec = tie.close (tie.spec returns next-number-requires cast-v holds-ticket-requires returns-2 returns-3)
+looked-at-spec = tie.close (tie.spec (λ c. search needs) (λ c κs. search needs) (λ c. search needs) (λ c κs. search needs) returns-2 returns-3)

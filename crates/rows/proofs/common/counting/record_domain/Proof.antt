@@ -1,6 +1,6 @@
 -- `rows::common::counting::record_domain` meets its contract: a thread's number is below 256, a domain's less 256 is below 64.
 use native.Mathlib.Omega.{arith}
-use borrow.Author.Tests.{eq-eqb, ne-eqb, lt-ltb, le-ltb, lt-leb, le-leb, not-true, not-false}
+use borrow.Author.Tests.{lt-ltb, le-ltb}
 use borrow.Author.Needs.{needs}
 use Rattle.rows.proofs.common.counting.record_domain.Statement.{statement}
 use Rattle.rows.proofs.common.counting.record_domain.Tie as tie
@@ -8,11 +8,8 @@ use Rattle.rows.proofs.common.counting.record_domain.Tie as tie
 returns : tie.Need-returns
 returns c = (rw (lt-ltb _ _ (c .if1 .taken)), omega arith)
 
-cast-result : tie.Need-cast-result
-cast-result c = search needs
-
 returns-2 : tie.Need-returns-2
 returns-2 c = (rw (le-ltb _ _ (c .if1 .left)), omega arith)
 
 pub record-domain-spec : {M : Type 1} → statement M
-record-domain-spec = tie.close (tie.spec returns cast-result returns-2)
+record-domain-spec = tie.close (tie.spec returns (λ c. search needs) returns-2)

@@ -1,7 +1,7 @@
 -- `rows::common::counting::taken_at` meets its contract: at home none, else what the search finds.
-use mathlib.Core.Path.{_≡_, refl, sym, ap, _∙_}
+use mathlib.Core.Path.{ap, _∙_}
 use native.Mathlib.Omega.{arith}
-use borrow.Author.Tests.{eq-eqb, ne-eqb, lt-ltb, le-ltb, lt-leb, le-leb, not-true, not-false}
+use borrow.Author.Tests.{eq-eqb, ne-eqb}
 use Rattle.model.proofs.Laws.Search.{same-child-from}
 use borrow.Author.Needs.{needs}
 use Rattle.rows.proofs.common.counting.taken_at.Statement.{statement}
@@ -10,11 +10,8 @@ use Rattle.rows.proofs.common.counting.taken_at.Tie as tie
 returns : tie.Need-returns
 returns c = (rw (eq-eqb _ _ (c .if1 .taken)), omega arith)
 
-search-at-requires : tie.Need-search-at-requires
-search-at-requires c κs = search needs
-
 returns-2 : tie.Need-returns-2
 returns-2 c = (rw (ne-eqb _ _ (c .before .if1 .left)) (ap (λ x. x .child) (c .search-at .ensures .0) ∙ same-child-from 6 _ _ _ 0), c .search-at .ensures .1)
 
 pub taken-at-spec : {M : Type 1} → statement M
-taken-at-spec = tie.close (tie.spec returns search-at-requires returns-2)
+taken-at-spec = tie.close (tie.spec returns (λ c κs. search needs) returns-2)

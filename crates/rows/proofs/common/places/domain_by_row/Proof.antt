@@ -1,6 +1,5 @@
 -- `rows::common::places::domain_by_row` is the domain of a place by its row.
 use borrow.Author.Tests.{eq-eqb, ne-eqb}
-use borrow.Author.Needs.{needs}
 use Rattle.rows.proofs.common.places.domain_by_row.Statement.{statement}
 use Rattle.rows.proofs.common.places.domain_by_row.Tie as tie
 

@@ -3,96 +3,6 @@ use borrow.Author.Needs.{needs}
 use Rattle.rows.proofs.common.places.words_at.Statement.{statement}
 use Rattle.rows.proofs.common.places.words_at.Tie as tie
 
-enum-told : tie.Need-enum-told
-enum-told c = search needs
-
-words-from-requires : tie.Need-words-from-requires
-words-from-requires c κs = search needs
-
-enum-known-place : tie.Need-enum-known-place
-enum-known-place c = search needs
-
-words-from-requires-2 : tie.Need-words-from-requires-2
-words-from-requires-2 c κs = search needs
-
-enum-known-place-2 : tie.Need-enum-known-place-2
-enum-known-place-2 c = search needs
-
-words-from-requires-3 : tie.Need-words-from-requires-3
-words-from-requires-3 c κs = search needs
-
-enum-known-place-3 : tie.Need-enum-known-place-3
-enum-known-place-3 c = search needs
-
-words-from-requires-4 : tie.Need-words-from-requires-4
-words-from-requires-4 c κs = search needs
-
-enum-known-place-4 : tie.Need-enum-known-place-4
-enum-known-place-4 c = search needs
-
-words-from-requires-5 : tie.Need-words-from-requires-5
-words-from-requires-5 c κs = search needs
-
-enum-told-2 : tie.Need-enum-told-2
-enum-told-2 c = search needs
-
-words-from-requires-6 : tie.Need-words-from-requires-6
-words-from-requires-6 c κs = search needs
-
-enum-known-place-5 : tie.Need-enum-known-place-5
-enum-known-place-5 c = search needs
-
-words-from-requires-7 : tie.Need-words-from-requires-7
-words-from-requires-7 c κs = search needs
-
-enum-known-place-6 : tie.Need-enum-known-place-6
-enum-known-place-6 c = search needs
-
-words-from-requires-8 : tie.Need-words-from-requires-8
-words-from-requires-8 c κs = search needs
-
-enum-known-place-7 : tie.Need-enum-known-place-7
-enum-known-place-7 c = search needs
-
-words-from-requires-9 : tie.Need-words-from-requires-9
-words-from-requires-9 c κs = search needs
-
-enum-known-place-8 : tie.Need-enum-known-place-8
-enum-known-place-8 c = search needs
-
-words-from-requires-10 : tie.Need-words-from-requires-10
-words-from-requires-10 c κs = search needs
-
-enum-known-place-9 : tie.Need-enum-known-place-9
-enum-known-place-9 c = search needs
-
-words-from-requires-11 : tie.Need-words-from-requires-11
-words-from-requires-11 c κs = search needs
-
-enum-told-3 : tie.Need-enum-told-3
-enum-told-3 c = search needs
-
-words-from-requires-12 : tie.Need-words-from-requires-12
-words-from-requires-12 c κs = search needs
-
-enum-told-4 : tie.Need-enum-told-4
-enum-told-4 c = search needs
-
-words-from-requires-13 : tie.Need-words-from-requires-13
-words-from-requires-13 c κs = search needs
-
-enum-told-5 : tie.Need-enum-told-5
-enum-told-5 c = search needs
-
-words-from-requires-14 : tie.Need-words-from-requires-14
-words-from-requires-14 c κs = search needs
-
-enum-told-6 : tie.Need-enum-told-6
-enum-told-6 c = search needs
-
-words-from-requires-15 : tie.Need-words-from-requires-15
-words-from-requires-15 c κs = search needs
-
 returns : tie.Need-returns
 returns c = rw (c .words-from .ensures, c .before .enum-told .given .1)
 
@@ -142,36 +52,36 @@ pub words-at-spec : {M : Type 1} → statement M
 words-at-spec =
     tie.close
     (tie.spec
-    enum-told
-    words-from-requires
-    enum-known-place
-    words-from-requires-2
-    enum-known-place-2
-    words-from-requires-3
-    enum-known-place-3
-    words-from-requires-4
-    enum-known-place-4
-    words-from-requires-5
-    enum-told-2
-    words-from-requires-6
-    enum-known-place-5
-    words-from-requires-7
-    enum-known-place-6
-    words-from-requires-8
-    enum-known-place-7
-    words-from-requires-9
-    enum-known-place-8
-    words-from-requires-10
-    enum-known-place-9
-    words-from-requires-11
-    enum-told-3
-    words-from-requires-12
-    enum-told-4
-    words-from-requires-13
-    enum-told-5
-    words-from-requires-14
-    enum-told-6
-    words-from-requires-15
+    (λ c. search needs)
+    (λ c κs. search needs)
+    (λ c. search needs)
+    (λ c κs. search needs)
+    (λ c. search needs)
+    (λ c κs. search needs)
+    (λ c. search needs)
+    (λ c κs. search needs)
+    (λ c. search needs)
+    (λ c κs. search needs)
+    (λ c. search needs)
+    (λ c κs. search needs)
+    (λ c. search needs)
+    (λ c κs. search needs)
+    (λ c. search needs)
+    (λ c κs. search needs)
+    (λ c. search needs)
+    (λ c κs. search needs)
+    (λ c. search needs)
+    (λ c κs. search needs)
+    (λ c. search needs)
+    (λ c κs. search needs)
+    (λ c. search needs)
+    (λ c κs. search needs)
+    (λ c. search needs)
+    (λ c κs. search needs)
+    (λ c. search needs)
+    (λ c κs. search needs)
+    (λ c. search needs)
+    (λ c κs. search needs)
     returns
     returns-2
     returns-3

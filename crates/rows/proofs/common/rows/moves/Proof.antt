@@ -3,14 +3,8 @@ use borrow.Author.Needs.{needs}
 use Rattle.rows.proofs.common.rows.moves.Statement.{statement}
 use Rattle.rows.proofs.common.rows.moves.Tie as tie
 
-words-at-requires : tie.Need-words-at-requires
-words-at-requires c κs = search needs
-
-at-place-requires : tie.Need-at-place-requires
-at-place-requires c κs = search needs
-
 returns : tie.Need-returns
 returns c = rw (c .at-place .ensures, c .before .words-at .ensures)
 
 pub moves-spec : {M : Type 1} → statement M
-moves-spec = tie.close (tie.spec words-at-requires at-place-requires returns)
+moves-spec = tie.close (tie.spec (λ c κs. search needs) (λ c κs. search needs) returns)

@@ -1,6 +1,6 @@
 -- `runs_call::many_schedules::many::run_rows` meets its contract: the rows stored so far, and those still ahead.
-use mathlib.Core.Path.{_≡_, refl, sym, ap, _∙_}
-use Prim.Native.Nat.{_+_, _-_, _≤_}
+use mathlib.Core.Path.{_≡_, refl, ap, _∙_}
+use Prim.Native.Nat.{_+_, _-_}
 use native.Mathlib.Omega.{arith}
 use lib.ListN.{length, take, drop, getD}
 use Rattle.runs_call.proofs.many_schedules.Storing.{So-far, start, next-fits, turn, ends}
@@ -15,60 +15,45 @@ abbrev μ-loop : tie.MeasureT-loop
 μ-loop tree lengths entries trace₀ rows₀ k₀ from₀ at₀ trace rows k from at = length lengths - k
 
 loop-holds : tie.Need-loop-holds Inv-loop μ-loop
-loop-holds c = (start _ _ _ _ (c .before .before .before .before .pre .1 .0), refl)
-
-mul-number-index : tie.Need-mul-number-index Inv-loop μ-loop
-mul-number-index c = omega arith
-
-shared-slice-read-number-index : tie.Need-shared-slice-read-number-index Inv-loop μ-loop
-shared-slice-read-number-index c = omega arith
-
-number-index-requires : tie.Need-number-index-requires Inv-loop μ-loop
-number-index-requires c κs = search needs
+loop-holds c =
+    let start-point : tie.Start Inv-loop μ-loop = search c in
+    (start _ _ _ _ (start-point .pre .1 .0), refl)
 
 add-end : tie.Need-add-end Inv-loop μ-loop
-add-end c = omega (arith, c .before .before .before .loop .inv .0 .ahead, next-fits _ _ _ _ _ _ _ _ (c .before .before .before .loop .inv .0) (omega arith))
-
-mul-run-row : tie.Need-mul-run-row Inv-loop μ-loop
-mul-run-row c = omega arith
-
-sub-run-row : tie.Need-sub-run-row Inv-loop μ-loop
-sub-run-row c = search needs
-
-part-run-row-start : tie.Need-part-run-row-start Inv-loop μ-loop
-part-run-row-start c = search needs
+add-end c =
+    let at-loop : tie.At-loop Inv-loop μ-loop = search c in
+    omega (arith, at-loop .loop .inv .0 .ahead, next-fits _ _ _ _ _ _ _ _ (at-loop .loop .inv .0) (omega arith))
 
 part-run-row-end : tie.Need-part-run-row-end Inv-loop μ-loop
-part-run-row-end c = let h = next-fits _ _ _ _ _ _ _ _ (c .before .before .before .loop .inv .0) (omega arith) in search needs
+part-run-row-end c =
+    let at-loop : tie.At-loop Inv-loop μ-loop = search c in
+    let h = next-fits _ _ _ _ _ _ _ _ (at-loop .loop .inv .0) (omega arith) in search needs
 
 run-row-requires : tie.Need-run-row-requires Inv-loop μ-loop
 run-row-requires c κs =
-    let l = c .before .before .before .before .before .before in
-    let begin = l .before .before .before .before .before in (
+    let in-loop : tie.In-loop Inv-loop μ-loop = search c in
+    let l : tie.At-loop Inv-loop μ-loop = search c in
+    let begin : tie.Start Inv-loop μ-loop = search l in (
       begin .pre .0,
       (
         omega (arith, l .loop .inv .1, begin .pre .1),
-        omega (arith, l .loop .inv .0 .row-place, l .loop .inv .0 .long, c .before .before .before .before .before .loop-test .taken, begin .pre .1),
+        omega (arith, l .loop .inv .0 .row-place, l .loop .inv .0 .long, in-loop .loop-test .taken, begin .pre .1),
       ),
     )
 
 add-at : tie.Need-add-at Inv-loop μ-loop
 add-at c =
-    let l = c .before .before .before .before .before .before .before .before .before .before .before in
-    omega (arith, l .loop .inv .0 .row-place, c .before .before .before .before .before .before .before .before .before .before .loop-test .taken, l .before .before .before .before .before .pre .1)
-
-add-k : tie.Need-add-k Inv-loop μ-loop
-add-k c = omega arith
-
-loop-less : tie.Need-loop-less Inv-loop μ-loop
-loop-less c = omega arith
+    let in-loop : tie.In-loop Inv-loop μ-loop = search c in
+    let l : tie.At-loop Inv-loop μ-loop = search c in
+    let start-point : tie.Start Inv-loop μ-loop = search c in
+    omega (arith, l .loop .inv .0 .row-place, in-loop .loop-test .taken, start-point .pre .1)
 
 loop-again : tie.Need-loop-again Inv-loop μ-loop
 loop-again c =
-    let ran = c .before .before .before .before in
-    let read = ran .before .before .before .before in
-    let l = read .before .before .before in
-    let begin = l .before .before .before .before .before in
+    let ran : tie.After-run-row Inv-loop μ-loop = search c in
+    let read : tie.After-number-index Inv-loop μ-loop = search ran in
+    let l : tie.At-loop Inv-loop μ-loop = search read in
+    let begin : tie.Start Inv-loop μ-loop = search l in
     let n : read .number-index .result ≡ getD (begin .args .lengths .now) (l .loop .k) 0 = read .number-index .ensures in
     let part : l .loop .from + read .number-index .result - l .loop .from ≡ getD (begin .args .lengths .now) (l .loop .k) 0 = omega arith in (
       rw n (turn _ _ _ _ _ _ _ _ (l .loop .inv .0) (read .before .before .loop-test .taken) _ _ (ap (λ m. take m (drop (l .loop .from) (begin .args .entries .now))) part) (ran .run-row .ensures)),
@@ -91,18 +76,18 @@ run-rows-spec =
     Inv-loop
     μ-loop
     loop-holds
-    mul-number-index
-    shared-slice-read-number-index
-    number-index-requires
+    (λ c. search needs)
+    (λ c. search needs)
+    (λ c κs. search needs)
     add-end
-    mul-run-row
-    sub-run-row
-    part-run-row-start
+    (λ c. search needs)
+    (λ c. search needs)
+    (λ c. search needs)
     part-run-row-end
     run-row-requires
     add-at
-    add-k
-    loop-less
+    (λ c. search needs)
+    (λ c. search needs)
     loop-again
     same-length
     same-length-2

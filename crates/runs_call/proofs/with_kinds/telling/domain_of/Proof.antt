@@ -4,14 +4,8 @@ use borrow.Author.Needs.{needs}
 use Rattle.runs_call.proofs.with_kinds.telling.domain_of.Statement.{statement}
 use Rattle.runs_call.proofs.with_kinds.telling.domain_of.Tie as tie
 
-byte-word-requires : tie.Need-byte-word-requires
-byte-word-requires c κs = search needs
-
 returns : tie.Need-returns
 returns c = rw (eq-eqb _ _ (c .before .if1 .taken)) (c .byte-word .ensures)
-
-byte-word-requires-2 : tie.Need-byte-word-requires-2
-byte-word-requires-2 c κs = search needs
 
 returns-2 : tie.Need-returns-2
 returns-2 c = rw (ne-eqb _ _ (c .before .before .if1 .left), eq-eqb _ _ (c .before .if2 .taken)) (c .byte-word2 .ensures)
@@ -20,4 +14,4 @@ returns-3 : tie.Need-returns-3
 returns-3 c = rw (ne-eqb _ _ (c .before .if1 .left), ne-eqb _ _ (c .if2 .left))
 
 pub domain-of-spec : {M : Type 1} → statement M
-domain-of-spec = tie.close (tie.spec byte-word-requires returns byte-word-requires-2 returns-2 returns-3)
+domain-of-spec = tie.close (tie.spec (λ c κs. search needs) returns (λ c κs. search needs) returns-2 returns-3)

@@ -5,9 +5,6 @@ use borrow.Author.Needs.{needs}
 use Rattle.runs_call.proofs.with_kinds.telling.refusal_of.Statement.{statement}
 use Rattle.runs_call.proofs.with_kinds.telling.refusal_of.Tie as tie
 
-lent-refusal-of-requires : tie.Need-lent-refusal-of-requires
-lent-refusal-of-requires c κs = search needs
-
 returns : tie.Need-returns
 returns c = run-answered _ _ _ _ _ _ (c .before .before .lent-refusal-of .ensures) (c .if1 .taken)
 
@@ -30,4 +27,4 @@ returns-3 c =
 
 pub refusal-of-spec : {M : Type 1} → statement M
 refusal-of-spec =
-    tie.close (tie.spec lent-refusal-of-requires returns returns-2 lent-counter-refusal-of-requires returns-3)
+    tie.close (tie.spec (λ c κs. search needs) returns returns-2 lent-counter-refusal-of-requires returns-3)

@@ -22,28 +22,23 @@ passed ran = ran .before .before .before .before .before .before .before .before
 abbrev ran : tie.After-spread → tie.After-run-lent
 ran spread = spread .before .before .before .before .before .before .before .before
 
-refusal-of-requires : tie.Need-refusal-of-requires
-refusal-of-requires c κs = search needs
-
-counts-of-requires : tie.Need-counts-of-requires
-counts-of-requires c κs = search needs
-
 returns : tie.Need-returns
 unfolding refusal
 returns c =
-    let answer = told-refuses _ _ _ _ _ _ (c .before .before .before .before .refusal-of .ensures) (c .before .before .if1 .taken) _ refl in
+    let after-refusal-of : tie.After-refusal-of = search c in
+    let answer = told-refuses _ _ _ _ _ _ (after-refusal-of .refusal-of .ensures) (c .before .before .if1 .taken) _ refl in
     (rw (c .counts-of .ensures) (ap told-beside (answer .0)), (ap (λ r. r .state) (answer .0), answer .1))
 
 run-lent-requires : tie.Need-run-lent-requires
 run-lent-requires c κs =
-    let p = c .before .before .before .before .before .before .before .before .before .before .before .before .before .before .before in
+    let p : tie.Else1 = search c in
     let q = asked p in
     let a = first q .args in
     (first q .pre, early-passes _ _ (a .schedule .now) (a .trace .now) _ (as-run _ _ _ (a .trace .now) (a .rows .now) _ (q .refusal-of .ensures) (p .if1 .left)) (p .if1 .left))
 
 spread-requires : tie.Need-spread-requires
 spread-requires c κs =
-    let r = c .before .before .before .before .before .before .before in
+    let r : tie.After-run-lent = search c in
     let p = passed r in
     let q = asked p in
     let a = first q .args in (
@@ -61,20 +56,15 @@ counts-of-requires-2 c κs =
 
 index-number-requires : tie.Need-index-number-requires
 index-number-requires c κs =
-    let p = passed (ran (c .before .before .before .before)) in
+    let after-spread : tie.After-spread = search c in
+    let p = passed (ran (after-spread)) in
     let q = asked p in
     let a = first q .args in
     omega (arith, short _ _ (a .schedule .now) (a .trace .now) (a .rows .now) _ (q .refusal-of .ensures) (p .if1 .left))
 
-same-length : tie.Need-same-length
-same-length c = search needs
-
-same-length-2 : tie.Need-same-length-2
-same-length-2 c = search needs
-
 returns-2 : tie.Need-returns-2
 returns-2 c =
-    let put = c .before .before .before .before .before in
+    let put : tie.After-spread = search c in
     let r = ran put in
     let p = passed r in
     let q = asked p in
@@ -96,13 +86,13 @@ pub run-told-spec : {M : Type 1} → statement M
 run-told-spec =
     tie.close
     (tie.spec
-    refusal-of-requires
-    counts-of-requires
+    (λ c κs. search needs)
+    (λ c κs. search needs)
     returns
     run-lent-requires
     spread-requires
     counts-of-requires-2
     index-number-requires
-    same-length
-    same-length-2
+    (λ c. search needs)
+    (λ c. search needs)
     returns-2)

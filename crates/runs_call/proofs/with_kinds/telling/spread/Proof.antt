@@ -1,6 +1,6 @@
 -- `runs_call::with_kinds::telling::spread` meets its contract: the steps from one on have two numbers each.
 use mathlib.Core.Path.{_≡_}
-use Prim.Native.Nat.{_+_, _-_, _*_, _%_, _≤_, _<_}
+use Prim.Native.Nat.{_+_, _-_, _*_, _%_, _≤_}
 use native.Mathlib.Omega.{arith}
 use lib.ListN.{length, getD, length-set}
 use borrow.Author.Needs.{needs}
@@ -18,75 +18,65 @@ abbrev μ-loop : tie.MeasureT-loop
 loop-holds : tie.Need-loop-holds Inv-loop μ-loop
 loop-holds c = (omega arith, spread-none _ _ _)
 
-sub-k : tie.Need-sub-k Inv-loop μ-loop
-sub-k c = omega arith
-
-mul-code : tie.Need-mul-code Inv-loop μ-loop
-mul-code c = omega arith
-
 slice-read-code : tie.Need-slice-read-code Inv-loop μ-loop
-slice-read-code c = let s = c .before .before .before .before .before in let l = c .before .before in omega (arith, l .loop .inv .0, l .loop .inv .1 .long, s .pre .0)
-
-mul-word-index : tie.Need-mul-word-index Inv-loop μ-loop
-mul-word-index c = omega arith
+slice-read-code c = let s : tie.Start Inv-loop μ-loop = search c in let l = c .before .before in omega (arith, l .loop .inv .0, l .loop .inv .1 .long, s .pre .0)
 
 shared-slice-read-word-index : tie.Need-shared-slice-read-word-index Inv-loop μ-loop
-shared-slice-read-word-index c = let l = c .before .before .before in omega (arith, l .loop .inv .0)
-
-word-index-requires : tie.Need-word-index-requires Inv-loop μ-loop
-word-index-requires c κs = search needs
+shared-slice-read-word-index c = let l : tie.At-loop Inv-loop μ-loop = search c in omega (arith, l .loop .inv .0)
 
 element-copy-out-home : tie.Need-element-copy-out-home Inv-loop μ-loop
 element-copy-out-home c =
-    let l = c .before .before .before .before in
+    let l : tie.At-loop Inv-loop μ-loop = search c in
+    let start : tie.Start Inv-loop μ-loop = search c in
     let k = l .loop .k in
-    rw (c .word-index .ensures) (c .before .before .before .before .before .before .before .pre .1 .fits (k - 1) (omega (arith, l .loop .inv .0)))
-
-domain-of-requires : tie.Need-domain-of-requires Inv-loop μ-loop
-domain-of-requires c κs = search needs
+    rw (c .word-index .ensures) (start .pre .1 .fits (k - 1) (omega (arith, l .loop .inv .0)))
 
 mul-rows : tie.Need-mul-rows Inv-loop μ-loop
 mul-rows c =
-    let l = c .before .before .before .before .before .before in
-    omega (arith, l .loop .inv .0, l .loop .inv .1 .long, c .before .before .before .before .before .before .before .before .before .pre .0)
+    let l : tie.At-loop Inv-loop μ-loop = search c in
+    let start : tie.Start Inv-loop μ-loop = search c in
+    omega (arith, l .loop .inv .0, l .loop .inv .1 .long, start .pre .0)
 
 mul-rows-2 : tie.Need-mul-rows-2 Inv-loop μ-loop
 mul-rows-2 c =
-    let l = c .before .before .before .before .before .before in
-    omega (arith, l .loop .inv .0, l .loop .inv .1 .long, c .before .before .before .before .before .before .before .before .before .pre .0)
+    let l : tie.At-loop Inv-loop μ-loop = search c in
+    let start : tie.Start Inv-loop μ-loop = search c in
+    omega (arith, l .loop .inv .0, l .loop .inv .1 .long, start .pre .0)
 
 slice-write-rows : tie.Need-slice-write-rows Inv-loop μ-loop
 slice-write-rows c =
-    let l = c .before .before .before .before .before .before in
-    omega (arith, l .loop .inv .0, l .loop .inv .1 .long, c .before .before .before .before .before .before .before .before .before .pre .0)
+    let l : tie.At-loop Inv-loop μ-loop = search c in
+    let start : tie.Start Inv-loop μ-loop = search c in
+    omega (arith, l .loop .inv .0, l .loop .inv .1 .long, start .pre .0)
 
 mul-rows-3 : tie.Need-mul-rows-3 Inv-loop μ-loop
 mul-rows-3 c =
-    let l = c .before .before .before .before .before .before in
-    omega (arith, l .loop .inv .0, l .loop .inv .1 .long, c .before .before .before .before .before .before .before .before .before .pre .0)
+    let l : tie.At-loop Inv-loop μ-loop = search c in
+    let start : tie.Start Inv-loop μ-loop = search c in
+    omega (arith, l .loop .inv .0, l .loop .inv .1 .long, start .pre .0)
 
 add-rows : tie.Need-add-rows Inv-loop μ-loop
 add-rows c =
-    let l = c .before .before .before .before .before .before in
-    omega (arith, l .loop .inv .0, l .loop .inv .1 .long, c .before .before .before .before .before .before .before .before .before .pre .0)
+    let l : tie.At-loop Inv-loop μ-loop = search c in
+    let start : tie.Start Inv-loop μ-loop = search c in
+    omega (arith, l .loop .inv .0, l .loop .inv .1 .long, start .pre .0)
 
 mul-rows-4 : tie.Need-mul-rows-4 Inv-loop μ-loop
 mul-rows-4 c =
-    let l = c .before .before .before .before .before .before in
-    omega (arith, l .loop .inv .0, l .loop .inv .1 .long, c .before .before .before .before .before .before .before .before .before .pre .0)
+    let l : tie.At-loop Inv-loop μ-loop = search c in
+    let start : tie.Start Inv-loop μ-loop = search c in
+    omega (arith, l .loop .inv .0, l .loop .inv .1 .long, start .pre .0)
 
 slice-write-rows-2 : tie.Need-slice-write-rows-2 Inv-loop μ-loop
 slice-write-rows-2 c =
-    let l = c .before .before .before .before .before .before in
-    omega (arith, l .loop .inv .0, l .loop .inv .1 .long, c .before .before .before .before .before .before .before .before .before .pre .0, length-set (l .loop .rows) (2 * (l .loop .k - 1)) (getD (l .loop .rows) (l .loop .k - 1) 0 % 8))
-
-loop-less : tie.Need-loop-less Inv-loop μ-loop
-loop-less c = omega arith
+    let l : tie.At-loop Inv-loop μ-loop = search c in
+    let start : tie.Start Inv-loop μ-loop = search c in
+    omega (arith, l .loop .inv .0, l .loop .inv .1 .long, start .pre .0, length-set (l .loop .rows) (2 * (l .loop .k - 1)) (getD (l .loop .rows) (l .loop .k - 1) 0 % 8))
 
 loop-again : tie.Need-loop-again Inv-loop μ-loop
 loop-again c =
-    let l = c .before .before .before .before .before .before in
-    let first = c .before .before .before .before .before .before .before .before .before in
+    let l : tie.At-loop Inv-loop μ-loop = search c in
+    let first : tie.Start Inv-loop μ-loop = search c in
     let k = l .loop .k in
     let z : k - 1 + 1 ≡ k = omega arith in
     (omega (arith, l .loop .inv .0), spread-one _ _ _ (l .loop .rows) (k - 1) (omega (arith, l .loop .inv .0)) (first .pre .0) (rw z (l .loop .inv .1)) _ _ (c .before .before .word-index .ensures) (c .domain-of .ensures))
@@ -106,14 +96,14 @@ spread-spec =
     Inv-loop
     μ-loop
     loop-holds
-    sub-k
-    mul-code
+    (λ c. search needs)
+    (λ c. search needs)
     slice-read-code
-    mul-word-index
+    (λ c. search needs)
     shared-slice-read-word-index
-    word-index-requires
+    (λ c κs. search needs)
     element-copy-out-home
-    domain-of-requires
+    (λ c κs. search needs)
     mul-rows
     mul-rows-2
     slice-write-rows
@@ -121,7 +111,7 @@ spread-spec =
     add-rows
     mul-rows-4
     slice-write-rows-2
-    loop-less
+    (λ c. search needs)
     loop-again
     same-length
     returns)

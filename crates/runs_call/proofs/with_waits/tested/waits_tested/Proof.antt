@@ -19,28 +19,27 @@ abbrev passed-of : tie.After-run-counted → tie.Else1
 passed-of ran = ran .before .before .before .before .before .before .before .before .before .before .before .before .before .before .before .before .before
 
 refusal-of-requires : tie.Need-refusal-of-requires
-refusal-of-requires c κs = c .before .before .before .before .before .before .before .before .before .before .before .before .before .before .before .before .pre
-
-counts-of-requires : tie.Need-counts-of-requires
-counts-of-requires c κs = search needs
+refusal-of-requires c κs =
+    let start-point : tie.Start = search c in
+    start-point .pre
 
 returns : tie.Need-returns
 returns c =
-    let told = c .before .before .before .before in
+    let told : tie.After-refusal-of = search c in
     let a = start told .args in
     let y = waits-refuse (a .tree) _ (a .schedule .now) (a .trace .now) (a .rows .now) (a .under-way .now) _ (told .refusal-of .ensures) (c .before .before .if1 .taken) in
     (rw (c .counts-of .ensures) (ap waits-told (y .0)), (ap (λ r. r .state) (y .0), y .1))
 
 run-counted-requires : tie.Need-run-counted-requires
 run-counted-requires c κs =
-    let passed = c .before .before .before .before .before .before .before .before .before .before .before .before .before .before .before .before in
+    let passed : tie.Else1 = search c in
     let first = start (told-of passed) in
     let a = first .args in
     (first .pre, waits-pass (a .tree) _ (a .schedule .now) (a .trace .now) (a .rows .now) (a .under-way .now) _ (told-of passed .refusal-of .ensures) (passed .if1 .left))
 
 counts-of-requires-2 : tie.Need-counts-of-requires-2
 counts-of-requires-2 c κs =
-    let ran = c .before .before .before .before .before in
+    let ran : tie.After-run-counted = search c in
     let passed = passed-of ran in
     let a = start (told-of passed) .args in
     waits-kinds-few (a .tree) _ (a .schedule .now) (a .trace .now) (a .rows .now) (a .under-way .now) _ (told-of passed .refusal-of .ensures) (passed .if1 .left) _ (ran .run-counted .ensures .1 .1 .0)
@@ -48,20 +47,15 @@ counts-of-requires-2 c κs =
 add-t59 : tie.Need-add-t59
 unfolding tree-of
 add-t59 c =
-    let passed = passed-of (c .before .before .before .before .before .before .before) in
+    let after-run-counted : tie.After-run-counted = search c in
+    let passed = passed-of (after-run-counted) in
     let a = start (told-of passed) .args in
     omega (arith, waits-threads-few (a .tree) _ (a .schedule .now) (a .trace .now) (a .rows .now) (a .under-way .now) _ (told-of passed .refusal-of .ensures) (passed .if1 .left))
-
-same-length : tie.Need-same-length
-same-length c = search needs
-
-same-length-2 : tie.Need-same-length-2
-same-length-2 c = search needs
 
 returns-2 : tie.Need-returns-2
 unfolding tree-of
 returns-2 c =
-    let ran = c .before .before .before .before .before .before .before in
+    let ran : tie.After-run-counted = search c in
     let passed = passed-of ran in
     let a = start (told-of passed) .args in
     let e = ran .run-counted .ensures in
@@ -74,11 +68,11 @@ waits-tested-spec =
     tie.close
     (tie.spec
     refusal-of-requires
-    counts-of-requires
+    (λ c κs. search needs)
     returns
     run-counted-requires
     counts-of-requires-2
     add-t59
-    same-length
-    same-length-2
+    (λ c. search needs)
+    (λ c. search needs)
     returns-2)

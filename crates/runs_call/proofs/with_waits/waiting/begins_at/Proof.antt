@@ -13,15 +13,9 @@ returns-2 : tie.Need-returns-2
 unfolding begins-number
 returns-2 c = rw (c .before .if1 .taken, ne-eqb _ 0 (c .if2 .left))
 
-mul-result : tie.Need-mul-result
-mul-result c = search needs
-
-add-result : tie.Need-add-result
-add-result c = search needs
-
 returns-3 : tie.Need-returns-3
 unfolding begins-number
 returns-3 c = rw (c .if1 .left)
 
 pub begins-at-spec : {M : Type 1} → statement M
-begins-at-spec = tie.close (tie.spec returns returns-2 mul-result add-result returns-3)
+begins-at-spec = tie.close (tie.spec returns returns-2 (λ c. search needs) (λ c. search needs) returns-3)

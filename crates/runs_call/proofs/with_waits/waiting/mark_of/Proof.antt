@@ -9,15 +9,9 @@ returns : tie.Need-returns
 unfolding mark-of
 returns c = rw (eq-eqb _ 0 (c .if1 .taken))
 
-add-result : tie.Need-add-result
-add-result c = search needs
-
-sub-result : tie.Need-sub-result
-sub-result c = search needs
-
 returns-2 : tie.Need-returns-2
 unfolding mark-of
 returns-2 c = rw (ne-eqb _ 0 (c .if1 .left))
 
 pub mark-of-spec : {M : Type 1} → statement M
-mark-of-spec = tie.close (tie.spec returns add-result sub-result returns-2)
+mark-of-spec = tie.close (tie.spec returns (λ c. search needs) (λ c. search needs) returns-2)

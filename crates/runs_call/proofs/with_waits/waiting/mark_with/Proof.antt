@@ -3,14 +3,8 @@ use borrow.Author.Needs.{needs}
 use Rattle.runs_call.proofs.with_waits.waiting.mark_with.Statement.{statement}
 use Rattle.runs_call.proofs.with_waits.waiting.mark_with.Tie as tie
 
-add-result : tie.Need-add-result
-add-result c = search needs
-
 returns : tie.Need-returns
 returns c = rw (c .if1 .taken)
 
-returns-2 : tie.Need-returns-2
-returns-2 c = search needs
-
 pub mark-with-spec : {M : Type 1} → statement M
-mark-with-spec = tie.close (tie.spec add-result returns returns-2)
+mark-with-spec = tie.close (tie.spec (λ c. search needs) returns (λ c. search needs))

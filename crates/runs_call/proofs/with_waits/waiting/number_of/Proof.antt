@@ -9,15 +9,9 @@ returns : tie.Need-returns
 unfolding number-of
 returns c = rw (eq-eqb _ 0 (c .if1 .taken))
 
-add-result : tie.Need-add-result
-add-result c = search needs
-
-sub-result : tie.Need-sub-result
-sub-result c = search needs
-
 returns-2 : tie.Need-returns-2
 unfolding number-of
 returns-2 c = rw (ne-eqb _ 0 (c .if1 .left))
 
 pub number-of-spec : {M : Type 1} → statement M
-number-of-spec = tie.close (tie.spec returns add-result sub-result returns-2)
+number-of-spec = tie.close (tie.spec returns (λ c. search needs) (λ c. search needs) returns-2)

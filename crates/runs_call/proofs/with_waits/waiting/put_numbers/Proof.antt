@@ -15,29 +15,11 @@ abbrev μ-loop : tie.MeasureT-loop
 loop-holds : tie.Need-loop-holds Inv-loop μ-loop
 loop-holds c = numbered-start _ _ _ _
 
-mul-number-of : tie.Need-mul-number-of Inv-loop μ-loop
-mul-number-of c = omega arith
-
-element-copy-out-number-of : tie.Need-element-copy-out-number-of Inv-loop μ-loop
-element-copy-out-number-of c = omega arith
-
 number-of-requires : tie.Need-number-of-requires Inv-loop μ-loop
 number-of-requires c κs =
     let test = c .before in
     let fit = test .before .before .pre in
     (fit .1 .few, fit .1 .each (test .before .loop .k) (omega (arith, fit .0, test .loop-test .taken)))
-
-mul-numbers : tie.Need-mul-numbers Inv-loop μ-loop
-mul-numbers c = omega arith
-
-element-write-numbers : tie.Need-element-write-numbers Inv-loop μ-loop
-element-write-numbers c = omega arith
-
-add-k : tie.Need-add-k Inv-loop μ-loop
-add-k c = omega arith
-
-loop-less : tie.Need-loop-less Inv-loop μ-loop
-loop-less c = omega arith
 
 loop-again : tie.Need-loop-again Inv-loop μ-loop
 loop-again c = let test = c .before .before in numbered-turn _ _ _ _ _ _ (test .before .loop .inv) (test .loop-test .taken) _ (c .number-of .ensures)
@@ -52,12 +34,12 @@ put-numbers-spec =
     Inv-loop
     μ-loop
     loop-holds
-    mul-number-of
-    element-copy-out-number-of
+    (λ c. search needs)
+    (λ c. search needs)
     number-of-requires
-    mul-numbers
-    element-write-numbers
-    add-k
-    loop-less
+    (λ c. search needs)
+    (λ c. search needs)
+    (λ c. search needs)
+    (λ c. search needs)
     loop-again
     returns)

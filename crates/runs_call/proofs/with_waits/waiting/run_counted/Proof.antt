@@ -32,102 +32,84 @@ abbrev ended-of : tie.After-run-lent Inv-loop μ-loop → tie.After-piece-end In
 ended-of ran = ran .before .before .before .before .before .before .before .before .before .before .before .before .before .before .before .before .before
 
 set-marks-requires : tie.Need-set-marks-requires Inv-loop μ-loop
-set-marks-requires c κs = (search needs, c .before .before .before .before .before .pre .1 .1 .1)
+set-marks-requires c κs =
+    let start-point : tie.Start Inv-loop μ-loop = search c in
+    (search needs, start-point .pre .1 .1 .1)
 
 loop-holds : tie.Need-loop-holds Inv-loop μ-loop
 loop-holds c =
-    let first = c .before .before .before .before .before .before .pre in
+    let start-point : tie.Start Inv-loop μ-loop = search c in
+    let first = start-point .pre in
     pieces-start _ _ _ _ _ _ _ (first .1 .1 .1) (c .set-marks .ensures) (record { typed = first .0; form = run-facts _ _ _ _ (first .1 .0) .form })
-
-piece-end-requires : tie.Need-piece-end-requires Inv-loop μ-loop
-piece-end-requires c κs = omega arith
 
 sub-written : tie.Need-sub-written Inv-loop μ-loop
 sub-written c = from-first _ _ _ _ _ _ _ _ _ _ _ _ _ _ _ _ (turn-of c .loop .inv) (start (turn-of c) .pre .1 .0)
 
 mul-run-lent : tie.Need-mul-run-lent Inv-loop μ-loop
 mul-run-lent c =
-    let test = c .before .before .before .before .before .before .before .before .before .before in
+    let test : tie.In-loop Inv-loop μ-loop = search c in
     omega (arith, test .loop-test .taken, run-facts _ _ _ _ (start (test .before) .pre .1 .0) .short)
 
-sub-run-lent : tie.Need-sub-run-lent Inv-loop μ-loop
-sub-run-lent c = search needs
-
-part-run-lent-start : tie.Need-part-run-lent-start Inv-loop μ-loop
-part-run-lent-start c = search needs
-
-part-run-lent-end : tie.Need-part-run-lent-end Inv-loop μ-loop
-part-run-lent-end c = search needs
-
 mul-run-lent-2 : tie.Need-mul-run-lent-2 Inv-loop μ-loop
-mul-run-lent-2 c = let turn = turn-of (c .before .before .before .before .before .before .before .before .before .before) in omega (arith, entered-small _ _ _ _ _ _ _ _ _ _ _ _ _ _ _ _ (turn .loop .inv) (start turn .pre .1 .0))
+mul-run-lent-2 c =
+    let after-piece-end : tie.After-piece-end Inv-loop μ-loop = search c in
+    let turn = turn-of (after-piece-end) in omega (arith, entered-small _ _ _ _ _ _ _ _ _ _ _ _ _ _ _ _ (turn .loop .inv) (start turn .pre .1 .0))
 
 sub-run-lent-2 : tie.Need-sub-run-lent-2 Inv-loop μ-loop
-sub-run-lent-2 c = let turn = turn-of (c .before .before .before .before .before .before .before .before .before .before) in part-room _ _ _ _ _ _ _ _ _ _ _ _ _ _ _ _ (turn .loop .inv) (start turn .pre .1 .0)
+sub-run-lent-2 c =
+    let after-piece-end : tie.After-piece-end Inv-loop μ-loop = search c in
+    let turn = turn-of (after-piece-end) in part-room _ _ _ _ _ _ _ _ _ _ _ _ _ _ _ _ (turn .loop .inv) (start turn .pre .1 .0)
 
 part-run-lent-start-2 : tie.Need-part-run-lent-start-2 Inv-loop μ-loop
-part-run-lent-start-2 c = let turn = turn-of (c .before .before .before .before .before .before .before .before .before .before) in part-room _ _ _ _ _ _ _ _ _ _ _ _ _ _ _ _ (turn .loop .inv) (start turn .pre .1 .0)
-
-part-run-lent-end-2 : tie.Need-part-run-lent-end-2 Inv-loop μ-loop
-part-run-lent-end-2 c = omega arith
-
-slice-aggregate-run-lent : tie.Need-slice-aggregate-run-lent Inv-loop μ-loop
-slice-aggregate-run-lent c = search needs
+part-run-lent-start-2 c =
+    let after-piece-end : tie.After-piece-end Inv-loop μ-loop = search c in
+    let turn = turn-of (after-piece-end) in part-room _ _ _ _ _ _ _ _ _ _ _ _ _ _ _ _ (turn .loop .inv) (start turn .pre .1 .0)
 
 run-lent-requires : tie.Need-run-lent-requires Inv-loop μ-loop
 run-lent-requires c κs =
-    let ended = c .before .before .before .before .before .before .before .before .before .before .before .before .before .before .before .before in
+    let ended : tie.After-piece-end Inv-loop μ-loop = search c in
     let turn = turn-of ended in
     let e = ended .piece-end .ensures in
     (turn .loop .inv .formed .typed, piece-runs _ _ _ _ _ _ _ _ _ _ _ _ _ _ _ _ (turn .loop .inv) (start turn .pre .1 .0) _ (e .0) (e .1 .0) (e .1 .1))
 
 add-kinds-requires : tie.Need-add-kinds-requires Inv-loop μ-loop
 add-kinds-requires c κs =
-    let ran = c .before .before .before .before .before in
+    let ran : tie.After-run-lent Inv-loop μ-loop = search c in
     let turn = turn-of (ended-of ran) in
     let e = ended-of ran .piece-end .ensures in
     kinds-fit _ _ _ _ _ _ _ _ _ _ _ _ _ _ _ _ (turn .loop .inv) (start turn .pre .1 .0) _ (e .0) (e .1 .0) (e .1 .1) _ (ran .run-lent .ensures .1 .1 .0)
 
 mul-count-piece : tie.Need-mul-count-piece Inv-loop μ-loop
 mul-count-piece c =
-    let test = c .before .before .before .before .before .before .before .before .before .before .before .before .before .before .before .before .before .before .before .before .before .before .before .before in
+    let test : tie.In-loop Inv-loop μ-loop = search c in
     omega (arith, test .loop-test .taken, run-facts _ _ _ _ (start (test .before) .pre .1 .0) .short)
-
-sub-count-piece : tie.Need-sub-count-piece Inv-loop μ-loop
-sub-count-piece c = search needs
-
-part-count-piece-start : tie.Need-part-count-piece-start Inv-loop μ-loop
-part-count-piece-start c = search needs
-
-part-count-piece-end : tie.Need-part-count-piece-end Inv-loop μ-loop
-part-count-piece-end c = search needs
-
-slice-aggregate-count-piece : tie.Need-slice-aggregate-count-piece Inv-loop μ-loop
-slice-aggregate-count-piece c = search needs
 
 count-piece-requires : tie.Need-count-piece-requires Inv-loop μ-loop
 count-piece-requires c κs =
-    let ran = c .before .before .before .before .before .before .before .before .before .before .before .before in
+    let ran : tie.After-run-lent Inv-loop μ-loop = search c in
     let turn = turn-of (ended-of ran) in
     let e = ended-of ran .piece-end .ensures in
     countable _ _ _ _ _ _ _ _ _ _ _ _ _ _ _ _ (turn .loop .inv) (start turn .pre .1 .0) _ (e .0) (e .1 .0) (e .1 .1) _ (ran .run-lent .ensures .1 .1 .1 .0)
 
 loop-less : tie.Need-loop-less Inv-loop μ-loop
-loop-less c = let e = ended-of (c .before .before .before .before .before .before .before .before .before .before .before .before .before) .piece-end .ensures in omega (arith, e .0, e .1 .0)
+loop-less c =
+    let after-run-lent : tie.After-run-lent Inv-loop μ-loop = search c in
+    let e = ended-of (after-run-lent) .piece-end .ensures in omega (arith, e .0, e .1 .0)
 
 loop-again : tie.Need-loop-again Inv-loop μ-loop
 loop-again c =
-    let after = c .before .before .before .before .before .before .before .before .before .before .before .before .before in
+    let after-add-kinds : tie.After-add-kinds Inv-loop μ-loop = search c in
+    let after : tie.After-run-lent Inv-loop μ-loop = search c in
     let turn = turn-of (ended-of after) in
     let ran = after .run-lent .ensures in
     let e = ended-of after .piece-end .ensures in
     pieces-turn _ _ _ _ _ _ _ _ _ _ _ _ _ _ _ _ (turn .loop .inv) (start turn .pre .1 .0) _ (e .0) (e .1 .0) (e .1 .1) _ (ran .1 .1 .1 .0) _ _ (ran .0) (ran .1 .1 .1 .1) _ (ran .1 .0) _ _ (ran .1 .1 .0)
-    (c .before .before .before .before .before .before .before .add-kinds .ensures) _ _ _ _ _ (c .count-piece .ensures)
+    (after-add-kinds .add-kinds .ensures) _ _ _ _ _ (c .count-piece .ensures)
 
 put-rows-requires : tie.Need-put-rows-requires Inv-loop μ-loop
 unfolding tree-of
 put-rows-requires c κs =
-    let turn = c .before .before .before .before .before in
+    let turn : tie.At-loop Inv-loop μ-loop = search c in
     let first = start turn in
     (threads-few (first .args .tree) (run-facts _ _ _ _ (first .pre .1 .0) .tree), (first .pre .1 .1 .0, attempts-table _ _ _ _ _ _ _ _ _ _ _ _ _ _ _ _ (turn .loop .inv) (first .pre .1 .0)))
 
@@ -138,16 +120,19 @@ after-loop put = put .before .before .before .before .before
 put-numbers-requires : tie.Need-put-numbers-requires Inv-loop μ-loop
 unfolding tree-of
 put-numbers-requires c κs =
-    let turn = after-loop (c .before .before .before .before) .before in
+    let after-put-rows : tie.After-put-rows Inv-loop μ-loop = search c in
+    let turn = after-loop (after-put-rows) .before in
     let first = start turn in
     (threads-few (first .args .tree) (run-facts _ _ _ _ (first .pre .1 .0) .tree), marks-fit _ _ _ _ _ _ _ _ _ _ _ _ _ _ _ _ (turn .loop .inv) (first .pre .1 .0))
 
 same-length : tie.Need-same-length Inv-loop μ-loop
-same-length c = let turn = after-loop (c .before .before .before .before .before) .before in trace-long _ _ _ _ _ _ _ _ _ _ _ _ _ _ _ _ (turn .loop .inv) (start turn .pre .1 .0)
+same-length c =
+    let after-put-rows : tie.After-put-rows Inv-loop μ-loop = search c in
+    let turn = after-loop (after-put-rows) .before in trace-long _ _ _ _ _ _ _ _ _ _ _ _ _ _ _ _ (turn .loop .inv) (start turn .pre .1 .0)
 
 same-length-2 : tie.Need-same-length-2 Inv-loop μ-loop
 same-length-2 c =
-    let put = c .before .before .before .before .before in
+    let put : tie.After-put-rows Inv-loop μ-loop = search c in
     let turn = after-loop put .before in
     let first = start turn in
     let l = turn .loop in
@@ -156,7 +141,7 @@ same-length-2 c =
 returns : tie.Need-returns Inv-loop μ-loop
 unfolding tree-of
 returns c =
-    let put = c .before .before .before .before .before in
+    let put : tie.After-put-rows Inv-loop μ-loop = search c in
     let e = after-loop put .loop-test .left in
     let turn = after-loop put .before in
     let first = start turn in
@@ -187,24 +172,24 @@ run-counted-spec =
     μ-loop
     set-marks-requires
     loop-holds
-    piece-end-requires
+    (λ c κs. search needs)
     sub-written
     mul-run-lent
-    sub-run-lent
-    part-run-lent-start
-    part-run-lent-end
+    (λ c. search needs)
+    (λ c. search needs)
+    (λ c. search needs)
     mul-run-lent-2
     sub-run-lent-2
     part-run-lent-start-2
-    part-run-lent-end-2
-    slice-aggregate-run-lent
+    (λ c. search needs)
+    (λ c. search needs)
     run-lent-requires
     add-kinds-requires
     mul-count-piece
-    sub-count-piece
-    part-count-piece-start
-    part-count-piece-end
-    slice-aggregate-count-piece
+    (λ c. search needs)
+    (λ c. search needs)
+    (λ c. search needs)
+    (λ c. search needs)
     count-piece-requires
     loop-less
     loop-again

@@ -1,5 +1,5 @@
 -- `runs_call::with_waits::waiting::set_marks` meets its contract: the marks so far are those of their numbers.
-use mathlib.Core.Path.{_≡_, sym, _∙_}
+use mathlib.Core.Path.{_≡_, _∙_}
 use mathlib.Core.List.{List}
 use Prim.Native.Nat.{ℕ, _+_, _-_, _≤_, _<_}
 use native.Mathlib.Omega.{arith}
@@ -37,26 +37,8 @@ abbrev μ-loop : tie.MeasureT-loop
 loop-holds : tie.Need-loop-holds Inv-loop μ-loop
 loop-holds c = record { long = c .pre .0; within = omega arith; each = λ i l. absurd (omega arith) }
 
-mul-mark-of : tie.Need-mul-mark-of Inv-loop μ-loop
-mul-mark-of c = omega arith
-
-element-copy-out-mark-of : tie.Need-element-copy-out-mark-of Inv-loop μ-loop
-element-copy-out-mark-of c = omega arith
-
 mark-of-requires : tie.Need-mark-of-requires Inv-loop μ-loop
 mark-of-requires c κs = let test = c .before in test .before .before .pre .1 .small (test .before .loop .k) (test .loop-test .taken)
-
-mul-marks : tie.Need-mul-marks Inv-loop μ-loop
-mul-marks c = omega arith
-
-element-write-marks : tie.Need-element-write-marks Inv-loop μ-loop
-element-write-marks c = omega arith
-
-add-k : tie.Need-add-k Inv-loop μ-loop
-add-k c = omega arith
-
-loop-less : tie.Need-loop-less Inv-loop μ-loop
-loop-less c = omega arith
 
 loop-again : tie.Need-loop-again Inv-loop μ-loop
 loop-again c = let test = c .before .before in one-more _ _ _ (test .before .loop .inv) (test .loop-test .taken) _ (c .mark-of .ensures)
@@ -71,12 +53,12 @@ set-marks-spec =
     Inv-loop
     μ-loop
     loop-holds
-    mul-mark-of
-    element-copy-out-mark-of
+    (λ c. search needs)
+    (λ c. search needs)
     mark-of-requires
-    mul-marks
-    element-write-marks
-    add-k
-    loop-less
+    (λ c. search needs)
+    (λ c. search needs)
+    (λ c. search needs)
+    (λ c. search needs)
     loop-again
     returns)
