@@ -6,9 +6,9 @@ use Rattle.model.specs.Trees.{read-word, tree-of, is-child, is-member, is-leaf,
 use Rattle.model.specs.Refusals.{refusal, accepted, lowest-bad, first-refusal, bad-domains, bad-threads, bad-parent, too-deep, no-threshold, bad-home, empty-domain, tree-tests, tree-refusal}
 use Rattle.bounds.specs.StarvationFreedom.Bounds.{members, levels, entry-rounds, tenure-length, tenures-for, link-rounds, standing-rounds, acquire-from, acquire-rounds, acquire-bound, release-bound, everyone-bound}
 use Rattle.bounds.specs.LongestWait.Bounds.{sum-below, effective-threshold, effective, passes, others-passes, tenures-for-all, wait-from, member-wait, wait-bound}
-use Rattle.model.specs.Cases.{same-numbers}
+use Rattle.model.specs.Cases.Marked.{same-numbers}
 use Rattle.bounds.specs.Answers.{capped, allowance-word, words-from, allowances-answer, allowances-left, rounds-answer, wait-word, wait-bounds-answer, wait-bounds-left}
-use Rattle.bounds.specs.Cases.{cases, rounds-cases, wait-cases}
+use Rattle.bounds.specs.Cases.Answers.{cases, rounds-cases, wait-cases}
 
 pub cases-hold : all cases ≡ true
 unfolding same-numbers any-below all-below largest-below read-word tree-of is-child is-leaf depth-from depth level meets on-path under domain-allowance allowance refusal accepted lowest-bad first-refusal bad-domains bad-threads bad-parent too-deep no-threshold bad-home empty-domain tree-tests tree-refusal capped allowance-word words-from allowances-answer allowances-left cases

@@ -16,8 +16,8 @@ use Rattle.model.specs.Steps.{is-kind, is-entry, prep-row, swap-row, link-row, 
 use Rattle.model.specs.Runs.{steps, state-after, entering, run-of, run, occurrences}
 use Rattle.model.specs.Acts.{sends-inside, acts-at, acts}
 use Rattle.model.specs.Refusals.{refusal, accepted, lowest-bad, first-refusal, bad-domains, bad-threads, bad-parent, too-deep, no-threshold, bad-home, empty-domain, tree-tests, tree-refusal}
-use Rattle.model.specs.Cases.{padded, tree, at-ticket-root, two-homes}
-use Rattle.model.specs.TicketCases.{three-in-ticket}
+use Rattle.model.specs.Cases.Marked.{padded, tree, at-ticket-root, two-homes}
+use Rattle.model.specs.Cases.Ticket.{three-in-ticket}
 use Rattle.model.proofs.Tests.{all-each}
 use Rattle.chain.specs.Chain.{stays, acts-ahead, acts-holding, looked-to, looks-to, only, among, chain-from, chain}
 use Rattle.waits.specs.Attempts.{swaps-at, draws, begins-from, begins, enters, begun, counted, under-way-after, finished, finished-by, waits-from, waits}
@@ -27,7 +27,7 @@ use Rattle.bounds.specs.StarvationFreedom.Laws.{is-acquiring, is-releasi
 use Rattle.bounds.specs.LongestWait.Bounds.{effective-threshold, effective, passes, others-passes, tenures-for-all, wait-from, member-wait, wait-bound}
 use Rattle.bounds.specs.LongestWait.InLine.{ends-at, others-entry, in-line, bypass, prompt, late-entry, count-steps}
 use Rattle.bounds.specs.LongestWait.Laws.{Even}
-use Rattle.bounds.specs.Witnesses.{Rounds-met, Places-met, two-by-two-by-two, Even-met, in-turn, Prompt-met, Witnesses}
+use Rattle.bounds.specs.Cases.Witnesses.{Rounds-met, Places-met, two-by-two-by-two, Even-met, in-turn, Prompt-met, Witnesses}
 use Rattle.bounds.proofs.starvation_freedom.Law.{robin-rounds, robin-length}
 use Rattle.bounds.proofs.starvation_freedom.RoundRobin.{round-robin-law}
 

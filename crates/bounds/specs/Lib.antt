@@ -1,7 +1,6 @@
 -- What a reader must believe about the calls of allowances and rounds. Its proofs are in proofs/.
 pub mod Answers
 pub mod Laws
-pub mod Cases
 pub mod StarvationFreedom
 pub mod LongestWait
-pub mod Witnesses
+pub mod Cases

@@ -2,4 +2,3 @@
 pub mod Bounds
 pub mod InLine
 pub mod Laws
-pub mod Cases

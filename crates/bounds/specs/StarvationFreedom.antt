@@ -1,4 +1,3 @@
 -- Nobody starves: the bounds, the laws under fair schedules, and computed cases.
 pub mod Bounds
 pub mod Laws
-pub mod Cases

@@ -16,10 +16,10 @@ use Rattle.model.specs.Acts.{sends-inside, acts-at, acts}
 use Rattle.model.specs.WellFormed.{good-tail, queue-on-path, good-place, good-counters}
 use Rattle.model.specs.Counters.{lock-state, fresh-counters, good-count}
 use Rattle.model.specs.Refusals.{Refusal, refusal, accepted, Test, test, lowest-bad, first-refusal, bad-domains, bad-threads, bad-parent, too-deep, no-threshold, bad-home, empty-domain, tree-tests, bad-state, bad-entry, entry-tests}
-use Rattle.model.specs.Cases.{padded, tree, at-ticket-root, uncounted, counters, two-homes, root-alone, two-in-root, same-numbers}
+use Rattle.model.specs.Cases.Marked.{padded, tree, at-ticket-root, uncounted, counters, two-homes, root-alone, two-in-root, same-numbers}
 use Rattle.chain.specs.Chain.{stays, acts-ahead, acts-holding, looked-to, looks-to, only, among, chain-from, chain}
 use Rattle.chain.specs.Answers.{bad-buffer, bad-chain, chain-tests, chain-refusal, chain-reply, chain-buffer, chain-answer, buffer-answer}
-use Rattle.chain.specs.Cases.{Case, gives, refuses, refuses-at, breaks, counted, sevens, roomy, gave, refused-at, refused, holds, all-hold, three-in-root, three-in-ticket, cases}
+use Rattle.chain.specs.Cases.Chains.{Case, gives, refuses, refuses-at, breaks, counted, sevens, roomy, gave, refused-at, refused, holds, all-hold, three-in-root, three-in-ticket, cases}
 use Rattle.model.proofs.Tests.{and-both}
 use Rattle.model.proofs.Walks.{walked, zero-from, first-pass, formed-by-walks, same-formed, counts-by-walks, zipped}
 use Rattle.model.proofs.Computing.{refusal-by, same-lock-formed, state-sized, sized}

@@ -17,9 +17,9 @@ use Rattle.model.specs.WellFormed.{good-tail, good-next, good-status, queue-on-
 use Rattle.model.specs.Refusals.{refusal, accepted, lowest-bad, first-refusal, bad-domains, bad-threads, bad-parent, too-deep, no-threshold, bad-home, empty-domain, tree-tests, bad-state, bad-entry, bad-counter, step-tests, tree-refusal, step-refusal}
 use Rattle.model.specs.Answers.{counters-behind, first-kind, first-domain, step-reply, step-answer}
 use Rattle.claims.specs.Reached.{Can-move}
-use Rattle.model.specs.Cases.{padded, tree, at-ticket-root, same-numbers, two-homes, two-in-root, one-home}
-use Rattle.model.specs.TicketCases.{two-in-ticket, three-in-ticket}
-use Rattle.claims.specs.MoveCases.{busy-threads, moving-threads, three-in-root, until-lingering, until-woken, move-cases, move-holds, all-move, Nobody-moves, dead-queue, dead-ticket, Dead-states}
+use Rattle.model.specs.Cases.Marked.{padded, tree, at-ticket-root, same-numbers, two-homes, two-in-root, one-home}
+use Rattle.model.specs.Cases.Ticket.{two-in-ticket, three-in-ticket}
+use Rattle.claims.specs.Cases.Moving.{busy-threads, moving-threads, three-in-root, until-lingering, until-woken, move-cases, move-holds, all-move, Nobody-moves, dead-queue, dead-ticket, Dead-states}
 use Rattle.model.proofs.Places.{not-idle, idle-facts}
 use Rattle.model.proofs.Lists.{same-or}
 use Rattle.model.proofs.Laws.Kinds.{stay-named}

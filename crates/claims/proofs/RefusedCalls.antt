@@ -5,8 +5,8 @@ use Rattle.model.specs.States.{fresh-words, fresh-state}
 use Rattle.model.specs.Counters.{fresh-lock}
 use Rattle.model.specs.Answers.{fresh-answer}
 use Rattle.claims.specs.Claim.{Demand-three}
-use Rattle.model.specs.Cases.{tree, two-homes}
-use Rattle.model.specs.ClaimCases.{mixed-calls}
+use Rattle.model.specs.Cases.Marked.{tree, two-homes}
+use Rattle.model.specs.Cases.Claim.{mixed-calls}
 use Rattle.claims.specs.RefusedCalls.{Refused-calls-allowed}
 use Rattle.model.proofs.ClaimCases.{mixed-calls-answered}
 use Rattle.claims.proofs.Claims.Demand.{demand-three}

@@ -19,13 +19,13 @@ use Rattle.model.specs.WellFormed.{good-tail, good-next, good-status, queue-on-
 use Rattle.model.specs.Refusals.{refusal, accepted, lowest-bad, first-refusal, bad-domains, bad-threads, bad-parent, too-deep, no-threshold, bad-home, empty-domain, tree-tests, bad-state, bad-entry, bad-counter, step-tests, tree-refusal, step-refusal}
 use Rattle.model.specs.Answers.{fresh-answer, counters-behind, first-kind, first-domain, step-reply, step-answer}
 use Rattle.model.specs.Calls.{one-step, state-in, answer-to, answer, asked-entries, joined, Names}
-use Rattle.model.specs.Cases.{padded, tree, two-homes}
-use Rattle.model.specs.CounterCases.{one-pass}
-use Rattle.model.specs.ClaimCases.{call, mixed-calls, mixed-schedule}
+use Rattle.model.specs.Cases.Marked.{padded, tree, two-homes}
+use Rattle.model.specs.Cases.Counters.{one-pass}
+use Rattle.model.specs.Cases.Claim.{call, mixed-calls, mixed-schedule}
 use Rattle.model.proofs.ClaimCases.{mixed-calls-answered}
 use Rattle.model.proofs.Places.{not-idle}
 use Rattle.claims.specs.Reached.{last-state, Longest-run-law}
-use Rattle.claims.specs.Witnesses.{Call-meets, until-waiting, reached, States-reached, Thresholds-one, List-meets, Witnesses}
+use Rattle.claims.specs.Cases.Witnesses.{Call-meets, until-waiting, reached, States-reached, Thresholds-one, List-meets, Witnesses}
 use Rattle.claims.proofs.RefusedCalls.{refused-calls-allowed}
 use Rattle.claims.proofs.Claims.Accepts.{longest-run-law}
 

@@ -2,6 +2,5 @@
 pub mod Claim
 pub mod Reached
 pub mod RefusedCalls
-pub mod MoveCases
 pub mod Tenures
-pub mod Witnesses
+pub mod Cases

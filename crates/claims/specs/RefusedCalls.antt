@@ -1,8 +1,8 @@
 -- A list with refused calls, some of which name other trees, has the claim.
 use Rattle.model.specs.Trees.{tree-of}
 use Rattle.model.specs.Counters.{fresh-lock}
-use Rattle.model.specs.Cases.{two-homes}
-use Rattle.model.specs.ClaimCases.{mixed-calls, mixed-schedule, Mixed-calls-answered}
+use Rattle.model.specs.Cases.Marked.{two-homes}
+use Rattle.model.specs.Cases.Claim.{mixed-calls, mixed-schedule, Mixed-calls-answered}
 use Rattle.claims.specs.Claim.{Claim}
 
 -- its calls are answered as computed, and the claim holds of it

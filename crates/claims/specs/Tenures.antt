@@ -1,3 +1,2 @@
 -- What holds of entries, tenures and the longest tenure of each domain.
 pub mod Laws
-pub mod Cases

@@ -3,5 +3,5 @@ pub mod Entries
 pub mod Reading
 pub mod Answers
 pub mod Laws
-pub mod Cases
 pub mod StepCheck
+pub mod Cases

@@ -1,5 +1,3 @@
 -- What a reader must believe about the check of steps. The laws' proofs are in proofs/.
 pub mod Answers
 pub mod Laws
-pub mod Cases
-pub mod Witnesses

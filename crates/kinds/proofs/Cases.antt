@@ -18,10 +18,10 @@ use Rattle.model.specs.Tenures.{finds-none, taken-from, given, starts, checks-a
 use Rattle.model.specs.Counters.{fresh-counters, each-with-index, counters-after, good-count, good-counts, count-above, any-above}
 use Rattle.model.specs.Refusals.{Refusal, refusal, accepted, lowest-bad, first-refusal, bad-domains, bad-threads, bad-parent, too-deep, no-threshold, bad-home, empty-domain, tree-tests, bad-state, bad-length, bad-entry, bad-room, bad-counter, schedule-tests, room-tests}
 use Rattle.model.specs.Answers.{counters-behind, run-reply, run-buffer}
-use Rattle.model.specs.Cases.{padded, tree, at-ticket-root, two-homes, first-entries, two-in-root, three-levels, same-numbers, same-places, same-counts, same-state, same-counters, same-lock}
+use Rattle.model.specs.Cases.Marked.{padded, tree, at-ticket-root, two-homes, first-entries, two-in-root, three-levels, same-numbers, same-places, same-counts, same-state, same-counters, same-lock}
 use Rattle.schedules.specs.Answers.{row-buffer}
 use Rattle.kinds.specs.Answers.{rows-of, bad-kind-room, kind-room-tests, kinds-tests-before-19, kinds-tests, kinds-refusal, kinds-reply, refused-by, kinds-answer, kinds-trace, kinds-rows}
-use Rattle.kinds.specs.Cases.{Case, told, refused-from, refused-with, full-entries, cases, answered, holds, all-hold}
+use Rattle.kinds.specs.Cases.Kinds.{Case, told, refused-from, refused-with, full-entries, cases, answered, holds, all-hold}
 use Rattle.model.proofs.Tests.{and-both}
 use Rattle.model.proofs.Walks.{walked, Sized, zero-from, first-pass, first-meets, formed-by-walks, same-formed, counts-by-walks, above-by-walks, zipped}
 use Rattle.model.proofs.Computing.{far-below, have-room, walked-counter, tests-by, late-tests, same-late, same-lock-formed, state-sized, sized}

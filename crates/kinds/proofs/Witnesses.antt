@@ -11,9 +11,9 @@ use Rattle.model.specs.Counters.{fresh-counters, each-with-index, counters-afte
 use Rattle.model.specs.WellFormed.{good-tail, good-next, good-status, queue-on-path, good-place, good-watch, good-thread, good-counters, well-formed}
 use Rattle.model.specs.Refusals.{refusal, accepted, lowest-bad, first-refusal, bad-domains, bad-threads, bad-parent, too-deep, no-threshold, bad-home, empty-domain, tree-tests, bad-state, bad-length, bad-entry, bad-room, bad-counter, tree-refusal}
 use Rattle.model.specs.Answers.{counters-behind, run-reply}
-use Rattle.model.specs.Cases.{padded, tree, two-in-root}
+use Rattle.model.specs.Cases.Marked.{padded, tree, two-in-root}
 use Rattle.kinds.specs.Answers.{bad-kind-room, kinds-tests, kinds-refusal, kinds-reply, refused-by, kinds-answer}
-use Rattle.kinds.specs.Witnesses.{Calls-meet}
+use Rattle.kinds.specs.Cases.Witnesses.{Calls-meet}
 
 pub calls-meet : Calls-meet
 unfolding occurrences ended-in entries-under finds-none taken-from given starts checks-at word-to-grant tenure-length domain-entries domain-tenures

@@ -2,4 +2,3 @@
 pub mod Answers
 pub mod Laws
 pub mod Cases
-pub mod Witnesses

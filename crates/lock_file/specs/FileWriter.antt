@@ -3,4 +3,3 @@ pub mod Writing
 pub mod Refusals
 pub mod Answers
 pub mod Laws
-pub mod Cases

@@ -3,7 +3,7 @@ pub mod Reading
 pub mod Answers
 pub mod Format
 pub mod ReadingLaws
-pub mod Cases
 pub mod PrintedListing
 pub mod FileAnswers
 pub mod FileWriter
+pub mod Cases

@@ -11,7 +11,7 @@ use Rattle.model.specs.WellFormed.{good-tail, queue-on-path, good-place,
 use Rattle.model.specs.Refusals.{refusal, accepted, lowest-bad, first-refusal, bad-domains, bad-threads, bad-parent, too-deep, no-threshold, bad-home, empty-domain, tree-tests, bad-length, bad-entry, bad-room, tree-refusal}
 use Rattle.model.specs.Counters.{fresh-counters}
 use Rattle.model.specs.Answers.{fresh-answer, first-kind, first-domain, step-reply, run-reply, run-buffer}
-use Rattle.model.specs.Cases.{padded, tree, count-up, ok, refused, passes, two-homes, first-entries, root-alone, two-in-root, one-home, three-levels, four-levels, cases, counters, same-numbers, same-places, same-state, same-counters, same-lock, gives, same-counts, kept, holds, all-hold, three-homes, until-standing, while-standing, allowance-reached}
+use Rattle.model.specs.Cases.Marked.{padded, tree, count-up, ok, refused, passes, two-homes, first-entries, root-alone, two-in-root, one-home, three-levels, four-levels, cases, counters, same-numbers, same-places, same-state, same-counters, same-lock, gives, same-counts, kept, holds, all-hold, three-homes, until-standing, while-standing, allowance-reached}
 use Rattle.model.proofs.Walks.{walked, zero-from, first-pass, formed-by-walks, zipped}
 use Rattle.model.proofs.Computing.{walked-step, walked-refusal, holds-by-walks, all-hold-by-walks, case-sized, all-sized, same-cases}
 

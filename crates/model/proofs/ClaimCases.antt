@@ -22,8 +22,8 @@ use Rattle.model.specs.Refusals.{Refusal, refusal, accepted, lowest-bad,
 use Rattle.model.specs.Answers.{fresh-answer, counters-behind, step-reply, step-answer, run-reply, run-buffer, run-answer, trace-answer}
 use Rattle.model.specs.Laws.{Unread-law}
 use Rattle.model.specs.Calls.{Ask, one-step, a-run, Call, Answer, stepped, ran, state-in, answer-to, answer, ask-refusal, call-refusal, asked-entries, added, answers, joined, Names}
-use Rattle.model.specs.Cases.{padded, tree, count-up, same-numbers, two-homes}
-use Rattle.model.specs.ClaimCases.{reaches, one-leaf, thread-allowance-reached, two-leaves-below, until-leaf-stands, while-leaf-stands, inner-allowance-reached, Allowances-reached, too-many-domains, two-homes-again, mixed-calls, mixed-schedule, refusal-in, refusals-in, Mixed-calls-answered}
+use Rattle.model.specs.Cases.Marked.{padded, tree, count-up, same-numbers, two-homes}
+use Rattle.model.specs.Cases.Claim.{reaches, one-leaf, thread-allowance-reached, two-leaves-below, until-leaf-stands, while-leaf-stands, inner-allowance-reached, Allowances-reached, too-many-domains, two-homes-again, mixed-calls, mixed-schedule, refusal-in, refusals-in, Mixed-calls-answered}
 use Rattle.model.proofs.Tests.{and-both}
 use Rattle.model.proofs.Walks.{walked, Sized, zero-from, first-pass, formed-by-walks, same-formed, counts-by-walks, zipped}
 use Rattle.model.proofs.Computing.{far-below, have-room, counted-refusal, same-counted-step, same-counted-run, state-sized, sized}

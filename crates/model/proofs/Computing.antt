@@ -20,7 +20,7 @@ use Rattle.model.specs.Counters.{fresh-counters, counters-after, good-co
 use Rattle.model.specs.CounterLaws.{Room-left, Room-law}
 use Rattle.model.specs.Refusals.{Refusal, Test, test, lowest-bad, first-refusal, tree-tests, bad-state, bad-counter, entry-tests, schedule-tests, room-tests, counter-tests, step-tests-before-19, step-tests, run-tests-before-19, run-tests, step-refusal, run-refusal}
 use Rattle.model.specs.Answers.{counters-behind, step-reply, step-answer, run-reply, run-buffer, run-answer, trace-answer}
-use Rattle.model.specs.Cases.{Case, fresh-call, fresh-starts, step-call, step-gives, run-call, trace-room, uncounted, step-holds, step-gave, run-holds, holds, all-hold}
+use Rattle.model.specs.Cases.Marked.{Case, fresh-call, fresh-starts, step-call, step-gives, run-call, trace-room, uncounted, step-holds, step-gave, run-holds, holds, all-hold}
 use Rattle.model.specs.States.{Places-room}
 use Rattle.model.proofs.Tests.{and-both, and-true}
 use Rattle.model.proofs.Refusing.{test-skipped}

@@ -20,8 +20,8 @@ use Rattle.model.specs.WellFormed.{good-tail, queue-on-path, good-place,
 use Rattle.model.specs.Counters.{lock-state, fresh-counters, each-with-index, counters-after, good-count, good-counts, count-above, any-above}
 use Rattle.model.specs.Refusals.{Refusal, refusal, accepted, Test, test, lowest-bad, first-refusal, bad-domains, bad-threads, bad-parent, too-deep, no-threshold, bad-home, empty-domain, tree-tests, bad-state, bad-length, bad-entry, bad-room, bad-counter, entry-tests, schedule-tests, room-tests, counter-tests, step-tests, run-tests, tree-refusal, step-refusal, run-refusal}
 use Rattle.model.specs.Answers.{counters-behind, first-kind, first-domain, step-reply, step-answer, run-reply, run-buffer, run-answer, trace-answer}
-use Rattle.model.specs.Cases.{padded, tree, at-ticket-root, counters as ticket-counters, two-homes, first-entries, same-numbers, same-places, same-state, same-counters, same-lock, uncounted}
-use Rattle.model.specs.CounterCases.{counters, Case, leaves, run-with, step-with, step-leaves, two-below, one-pass, two-leaves, three-leaves, two-watch, cases, buffer, left-so, refused-so, step-so, holds, all-hold, Counter-cases-hold}
+use Rattle.model.specs.Cases.Marked.{padded, tree, at-ticket-root, counters as ticket-counters, two-homes, first-entries, same-numbers, same-places, same-state, same-counters, same-lock, uncounted}
+use Rattle.model.specs.Cases.Counters.{counters, Case, leaves, run-with, step-with, step-leaves, two-below, one-pass, two-leaves, three-leaves, two-watch, cases, buffer, left-so, refused-so, step-so, holds, all-hold, Counter-cases-hold}
 use Rattle.model.proofs.Tests.{and-both}
 use Rattle.model.proofs.Laws.Form.{fresh-well-formed}
 use Rattle.model.proofs.Walks.{walked, zero-from, first-pass, first-meets, formed-by-walks, same-formed, counts-by-walks, above-by-walks, zipped}

@@ -11,8 +11,8 @@ use Rattle.model.specs.WellFormed.{good-tail, queue-on-path, good-place,
 use Rattle.model.specs.Refusals.{refusal, accepted, lowest-bad, first-refusal, bad-domains, bad-threads, bad-parent, too-deep, no-threshold, bad-home, empty-domain, tree-tests, bad-length, bad-entry, bad-room, tree-refusal}
 use Rattle.model.specs.Counters.{fresh-counters}
 use Rattle.model.specs.Answers.{fresh-answer, first-kind, first-domain, step-reply, run-reply, run-buffer}
-use Rattle.model.specs.Cases.{padded, tree, at-ticket-root, count-up, counters, ok, refused, two-homes, root-alone, two-in-root, one-home, same-numbers, same-places, same-state, same-counters, same-lock, gives, same-counts, kept, holds, all-hold}
-use Rattle.model.specs.TicketCases.{ticket-alone, two-in-ticket, three-in-ticket, ticket-above, with-numbers, ticket-cases, Several-shown, Raises-in-order}
+use Rattle.model.specs.Cases.Marked.{padded, tree, at-ticket-root, count-up, counters, ok, refused, two-homes, root-alone, two-in-root, one-home, same-numbers, same-places, same-state, same-counters, same-lock, gives, same-counts, kept, holds, all-hold}
+use Rattle.model.specs.Cases.Ticket.{ticket-alone, two-in-ticket, three-in-ticket, ticket-above, with-numbers, ticket-cases, Several-shown, Raises-in-order}
 use Rattle.model.proofs.Walks.{walked, zero-from, first-pass, formed-by-walks, zipped}
 use Rattle.model.proofs.Computing.{walked-step, walked-refusal, holds-by-walks, all-hold-by-walks, case-sized, all-sized, same-cases}
 

@@ -22,10 +22,10 @@ use Rattle.model.specs.Answers.{counters-behind}
 use Rattle.model.specs.Laws.{All-threads, Form-law, Unread-law}
 use Rattle.model.specs.CounterLaws.{Counter-form-law, Room-law}
 use Rattle.model.specs.Search.{with-parent, six-levels}
-use Rattle.model.specs.Cases.{padded, tree, at-ticket-root, count-up, two-homes, first-entries, three-levels}
-use Rattle.model.specs.CounterCases.{counters, one-pass}
-use Rattle.model.specs.ClaimCases.{two-homes-again}
-use Rattle.model.specs.Witnesses.{Meets, crossing, Trees-meet, States-met, counted-before, Counters-met, kinds-of, Kinds-met, Tests-numbered, Unread-met, status-after, Words-met, Domains-met, Own-parent, Witnesses}
+use Rattle.model.specs.Cases.Marked.{padded, tree, at-ticket-root, count-up, two-homes, first-entries, three-levels}
+use Rattle.model.specs.Cases.Counters.{counters, one-pass}
+use Rattle.model.specs.Cases.Claim.{two-homes-again}
+use Rattle.model.specs.Cases.Witnesses.{Meets, crossing, Trees-meet, States-met, counted-before, Counters-met, kinds-of, Kinds-met, Tests-numbered, Unread-met, status-after, Words-met, Domains-met, Own-parent, Witnesses}
 use Rattle.model.proofs.Tests.{and-both}
 use Rattle.model.proofs.Lists.{same-or}
 use Rattle.model.proofs.Trees.Accepted.{sixteen-bit}

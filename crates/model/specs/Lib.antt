@@ -15,9 +15,5 @@ pub mod Calls
 pub mod Laws
 pub mod CounterLaws
 pub mod Meanings
-pub mod Cases
-pub mod ClaimCases
 pub mod Search
-pub mod TicketCases
-pub mod CounterCases
-pub mod Witnesses
+pub mod Cases

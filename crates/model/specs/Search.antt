@@ -10,7 +10,7 @@ use Rattle.model.specs.declared.TreeWords.{TreeWords}
 use Rattle.model.specs.declared.Found.{Found}
 use Rattle.model.specs.Trees.{Tree, tree-of, is-child, depth, level, on-path, child}
 use Rattle.model.specs.Refusals.{tree-refusal}
-use Rattle.model.specs.Cases.{tree, count-up, three-levels}
+use Rattle.model.specs.Cases.Marked.{tree, count-up, three-levels}
 
 abbrev pub found : (child looked : ℕ) → Found
 found c n = record { child = c; looked = n }

@@ -4,7 +4,7 @@ use native.Mathlib.Omega.{arith}
 use lib.Ieee.{ofBits, fits}
 use Rattle.rate.specs.Rate.{is-time}
 use Rattle.rate.specs.Laws.{Time-law}
-use Rattle.rate.specs.Witnesses.{example-times, Witnesses}
+use Rattle.rate.specs.Cases.Witnesses.{example-times, Witnesses}
 use Rattle.rate.proofs.Tests.{time-law}
 
 pub witnesses : Witnesses

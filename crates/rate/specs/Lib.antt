@@ -3,4 +3,3 @@ pub mod Rate
 pub mod Answers
 pub mod Laws
 pub mod Cases
-pub mod Witnesses

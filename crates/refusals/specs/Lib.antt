@@ -4,3 +4,4 @@ pub mod Lowest
 pub mod OfRuns
 pub mod Paths
 pub mod StateCheck
+pub mod Cases

@@ -18,11 +18,11 @@ use Rattle.model.specs.Runs.{steps, state-after, how-many, entering, counts-of,
 use Rattle.model.specs.Counters.{fresh-lock}
 use Rattle.model.specs.Refusals.{refusal, accepted, lowest-bad, first-refusal, bad-domains, bad-threads, bad-parent, too-deep, no-threshold, bad-home, empty-domain, tree-tests, bad-length, bad-entry, schedule-tests, tree-refusal}
 use Rattle.model.specs.Answers.{counters-behind, run-reply}
-use Rattle.model.specs.Cases.{padded, tree, at-ticket-root, two-homes, first-entries, two-in-root, three-levels, same-numbers}
+use Rattle.model.specs.Cases.Marked.{padded, tree, at-ticket-root, two-homes, first-entries, two-in-root, three-levels, same-numbers}
 use Rattle.schedules.specs.Rows.{total, cut, row-of, rows-of, behind-one-another}
 use Rattle.schedules.specs.Refusals.{bad-total, bad-row-room, many-tests, many-refusal}
 use Rattle.schedules.specs.Answers.{many-answer, row-buffer, rows-answer}
-use Rattle.schedules.specs.Cases.{Case, rows-given, refused-by, no-steps, one-move, one-entry, example-row, no-thread-at, empty-leaf, cases, holds, all-hold}
+use Rattle.schedules.specs.Cases.Schedules.{Case, rows-given, refused-by, no-steps, one-move, one-entry, example-row, no-thread-at, empty-leaf, cases, holds, all-hold}
 use Rattle.schedules.proofs.Alone.{alone-by-schedule}
 use Rattle.schedules.proofs.Answering.{call-facts}
 

@@ -18,15 +18,15 @@ use Rattle.model.specs.Tenures.{finds-none, taken-from, given, starts, checks-a
 use Rattle.model.specs.Counters.{fresh-counters, each-with-index, counters-after, good-count, good-counts, count-above, any-above}
 use Rattle.model.specs.Refusals.{Refusal, refusal, accepted, lowest-bad, first-refusal, bad-domains, bad-threads, bad-parent, too-deep, no-threshold, bad-home, empty-domain, tree-tests, bad-state, bad-length, bad-entry, bad-room, bad-counter, schedule-tests, room-tests}
 use Rattle.model.specs.Answers.{counters-behind, run-reply, run-buffer}
-use Rattle.model.specs.Cases.{padded, tree, at-ticket-root, two-homes, first-entries, two-in-root, three-levels, same-numbers, same-places, same-counts, same-state, same-counters, same-lock}
+use Rattle.model.specs.Cases.Marked.{padded, tree, at-ticket-root, two-homes, first-entries, two-in-root, three-levels, same-numbers, same-places, same-counts, same-state, same-counters, same-lock}
 use Rattle.schedules.specs.Rows.{total}
 use Rattle.schedules.specs.Answers.{row-buffer}
 use Rattle.waits.specs.Attempts.{swaps-at, draws, begins-from, begins, enters, begun, counted, under-way-after, finished, finished-by, waits-from, under-way-from, waits-below-from, under-way-below}
 use Rattle.waits.specs.Rows.{largest, divisor-in, mean, row-with, row-of, rows-below-from, capped, row-of-all, all-rows-from}
 use Rattle.waits.specs.Refusals.{bad-row-room, row-room-tests, bad-under-way, under-way-tests, waits-on-tests-before-19, waits-on-tests, waits-on-refusal}
 use Rattle.waits.specs.Answers.{waits-reply, refused-on, waits-on-answer, waits-on-trace, waits-on-rows, waits-on-under-way}
-use Rattle.waits.specs.Cases.{full-entries, reached, no-attempt, no-wait}
-use Rattle.waits.specs.CasesOn.{On-case, all-numbers, goes-on, refused-from, four-in-root, three-wait, all-enter, on-cases, answered, holds, all-hold, parts, Every-part}
+use Rattle.waits.specs.Cases.Waits.{full-entries, reached, no-attempt, no-wait}
+use Rattle.waits.specs.Cases.GoingOn.{On-case, all-numbers, goes-on, refused-from, four-in-root, three-wait, all-enter, on-cases, answered, holds, all-hold, parts, Every-part}
 use Rattle.model.proofs.Tests.{and-both}
 use Rattle.model.proofs.Walks.{walked, Sized, zero-from, first-pass, first-meets, formed-by-walks, same-formed, counts-by-walks, above-by-walks, zipped}
 use Rattle.model.proofs.Computing.{far-below, have-room, walked-counter, tests-by, late-tests, same-late, same-lock-formed, state-sized, sized}

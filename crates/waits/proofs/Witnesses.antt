@@ -12,13 +12,13 @@ use Rattle.model.specs.Counters.{fresh-counters, each-with-index, counters-afte
 use Rattle.model.specs.WellFormed.{good-tail, good-next, good-status, queue-on-path, good-place, good-watch, good-thread, good-counters, well-formed}
 use Rattle.model.specs.Refusals.{refusal, accepted, lowest-bad, first-refusal, bad-domains, bad-threads, bad-parent, too-deep, no-threshold, bad-home, empty-domain, tree-tests, bad-state, bad-length, bad-entry, bad-room, bad-counter, tree-refusal}
 use Rattle.model.specs.Answers.{counters-behind, run-reply}
-use Rattle.model.specs.Cases.{padded, tree, at-ticket-root, two-in-root}
-use Rattle.model.specs.TicketCases.{three-in-ticket}
+use Rattle.model.specs.Cases.Marked.{padded, tree, at-ticket-root, two-in-root}
+use Rattle.model.specs.Cases.Ticket.{three-in-ticket}
 use Rattle.waits.specs.Attempts.{swaps-at, draws, begins-from, begins, enters, begun, counted, under-way-after, under-way-from, under-way-below}
 use Rattle.waits.specs.Refusals.{bad-row-room, bad-under-way, waits-on-tests, waits-on-refusal}
 use Rattle.waits.specs.Answers.{waits-reply, refused-on, waits-on-answer, waits-on-under-way}
 use Rattle.waits.specs.Meanings.{Between}
-use Rattle.waits.specs.Witnesses.{first-left, Calls-meet, in-ticket, two-drawn, draw, between, entry, Attempt-met, Witnesses}
+use Rattle.waits.specs.Cases.Witnesses.{first-left, Calls-meet, in-ticket, two-drawn, draw, between, entry, Attempt-met, Witnesses}
 
 calls-meet : Calls-meet
 unfolding occurrences ended-in entries-under finds-none taken-from given starts checks-at word-to-grant tenure-length domain-entries domain-tenures

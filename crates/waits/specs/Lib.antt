@@ -7,5 +7,3 @@ pub mod Laws
 pub mod GoingOn
 pub mod Meanings
 pub mod Cases
-pub mod CasesOn
-pub mod Witnesses

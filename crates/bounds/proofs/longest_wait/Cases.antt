@@ -13,19 +13,19 @@ use Rattle.model.specs.Steps.{is-kind, is-entry, prep-row, swap-row, link-row, 
 use Rattle.model.specs.Runs.{steps, state-after, entering, run-of, run, occurrences}
 use Rattle.model.specs.Acts.{sends-inside, acts-at, acts}
 use Rattle.model.specs.Laws.{All-threads}
-use Rattle.model.specs.Cases.{padded, tree, at-ticket-root, two-homes, two-in-root}
-use Rattle.model.specs.TicketCases.{three-in-ticket}
+use Rattle.model.specs.Cases.Marked.{padded, tree, at-ticket-root, two-homes, two-in-root}
+use Rattle.model.specs.Cases.Ticket.{three-in-ticket}
 use Rattle.model.proofs.Tests.{and-both}
 use Rattle.model.proofs.Laws.Runs.{steps-join}
-use Rattle.claims.specs.MoveCases.{three-in-root}
+use Rattle.claims.specs.Cases.Moving.{three-in-root}
 use Rattle.chain.specs.Chain.{stays, acts-ahead, acts-holding, looked-to, looks-to, only, among, chain-from, chain}
 use Rattle.waits.specs.Attempts.{swaps-at, draws, begins-from, begins}
 use Rattle.claims.specs.Tenures.Laws.{sum-below}
 use Rattle.bounds.specs.StarvationFreedom.Bounds.{members}
-use Rattle.bounds.specs.StarvationFreedom.Cases.{all-threads}
+use Rattle.bounds.specs.Cases.StarvationFreedom.{all-threads}
 use Rattle.bounds.specs.LongestWait.Bounds.{effective-threshold, effective, passes, others-passes, tenures-for-all, wait-from, member-wait, wait-bound}
 use Rattle.bounds.specs.LongestWait.InLine.{ends-at, others-entry, in-line, bypass, prompt, late-entry, count-steps}
-use Rattle.bounds.specs.LongestWait.Cases.{bound-holds, all-bounds, two-sockets, bound-cases, first-step, steps-on, wait-holds, all-waits, all-reach, Decides-attempts, three-and-one, two-below-one, one-below-one, ones, reaching-cases, two-by-three-by-two, rounded-up, equation-19, beyond-equation-19, stalled-case, Cases-hold}
+use Rattle.bounds.specs.Cases.LongestWait.{bound-holds, all-bounds, two-sockets, bound-cases, first-step, steps-on, wait-holds, all-waits, all-reach, Decides-attempts, three-and-one, two-below-one, one-below-one, ones, reaching-cases, two-by-three-by-two, rounded-up, equation-19, beyond-equation-19, stalled-case, Cases-hold}
 
 bounds-hold : all-bounds bound-cases ≡ true
 unfolding any-below largest-below filter-below read-word tree-of is-child is-leaf domain-allowance allowance depth-from depth level is-member padded tree at-ticket-root two-homes two-in-root members sum-below effective-threshold effective passes others-passes tenures-for-all wait-from member-wait wait-bound bound-holds all-bounds two-sockets bound-cases

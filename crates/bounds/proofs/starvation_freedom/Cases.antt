@@ -13,14 +13,14 @@ use Rattle.model.specs.Places.{place-of, is-watch}
 use Rattle.model.specs.States.{fresh-words, fresh-state, numbers-at, store-numbers}
 use Rattle.model.specs.Steps.{is-entry, prep-row, swap-row, link-row, wait-row, leave-row, check-row, help-row, cas-row, linger-row, grant-row, draw-row, watch-row, is-watched, shown-members, raise-row, row, step}
 use Rattle.model.specs.Runs.{steps, state-after, entering, run-of, run, occurrences}
-use Rattle.model.specs.Cases.{padded, tree, at-ticket-root, two-homes, two-in-root, same-numbers, same-places, same-state}
+use Rattle.model.specs.Cases.Marked.{padded, tree, at-ticket-root, two-homes, two-in-root, same-numbers, same-places, same-state}
 use Rattle.model.specs.Laws.{All-threads, Run-law, then-run}
 use Rattle.model.proofs.Tests.{and-both, all-each}
 use Rattle.model.proofs.Laws.Runs.{run-law}
 use Rattle.model.proofs.Counted.{occurrences-join}
 use Rattle.bounds.specs.StarvationFreedom.Bounds.{sum-below, members, effective-threshold, effective, passes, others-passes, levels, entry-rounds, tenure-length, tenures-for, link-rounds, standing-rounds, acquire-from, acquire-rounds, acquire-bound, release-bound, everyone-bound, largest-allowance, allowance-from, allowance-acquire-bound, allowance-everyone-bound}
 use Rattle.bounds.specs.StarvationFreedom.Laws.{none, one-more}
-use Rattle.bounds.specs.StarvationFreedom.Cases.{bound-holds, all-bounds, one-leaf, two-lone, leaf-of-three, two-below-one, bound-cases, all-threads, are-rounds, joined, Decides-rounds, round-holds, all-rounds, round-cases, stalled-tree, until-stalled, without-releaser, times, Starves-without-rounds, Cases-hold}
+use Rattle.bounds.specs.Cases.StarvationFreedom.{bound-holds, all-bounds, one-leaf, two-lone, leaf-of-three, two-below-one, bound-cases, all-threads, are-rounds, joined, Decides-rounds, round-holds, all-rounds, round-cases, stalled-tree, until-stalled, without-releaser, times, Starves-without-rounds, Cases-hold}
 use Rattle.bounds.proofs.starvation_freedom.SameState.{state-same}
 
 bounds-hold : all-bounds bound-cases ≡ true

@@ -7,7 +7,7 @@ use lib.Dec.{eqb}
 use borrow.Author.Tests.{eqb-true}
 use Rattle.model.specs.declared.State.{State}
 use Rattle.model.specs.declared.PlaceArrays.{PlaceArrays}
-use Rattle.model.specs.Cases.{same-numbers, same-places, same-state}
+use Rattle.model.specs.Cases.Marked.{same-numbers, same-places, same-state}
 use Rattle.model.proofs.Tests.{and-both}
 
 numbers-same : (xs ys : List ℕ) → same-numbers xs ys ≡ true → xs ≡ ys

@@ -16,12 +16,12 @@ use Rattle.model.specs.WellFormed.{good-tail, queue-on-path, good-place, good-c
 use Rattle.model.specs.Tenures.{finds-none, taken-from, given, starts, checks-at, word-to-grant, tenure-length, domain-entries, domain-tenures, longest-tenure}
 use Rattle.model.specs.Counters.{fresh-counters, each-with-index, counters-after, good-count, good-counts, count-above, any-above, lock-after}
 use Rattle.model.specs.Refusals.{Refusal, refusal, accepted, lowest-bad, first-refusal, bad-domains, bad-threads, bad-parent, too-deep, no-threshold, bad-home, empty-domain, tree-tests, bad-state}
-use Rattle.model.specs.Cases.{padded, tree, at-ticket-root, two-homes, one-home, two-in-root, same-numbers, same-places, same-state, same-counters, same-lock}
+use Rattle.model.specs.Cases.Marked.{padded, tree, at-ticket-root, two-homes, one-home, two-in-root, same-numbers, same-places, same-state, same-counters, same-lock}
 use Rattle.model.proofs.Tests.{and-both}
 use Rattle.model.proofs.Walks.{walked, zero-from, first-pass, first-meets, formed-by-walks, same-formed, counts-by-walks, zipped}
 use Rattle.model.proofs.Computing.{refusal-by, same-lock-formed, state-sized, sized}
 use Rattle.journal.specs.StepCheck.Answers.{bad-lengths, length-tests, early-tests, early-refusal, step-number, checked, replied, refused, steps-answer}
-use Rattle.journal.specs.StepCheck.Cases.{Case, passing, passing-kinds, passing-domains, one-pass, releasing, releasing-kinds, releasing-domains, full-entries, empty-leaf, cases, holds, all-hold}
+use Rattle.journal.specs.Cases.StepCheck.{Case, passing, passing-kinds, passing-domains, one-pass, releasing, releasing-kinds, releasing-domains, full-entries, empty-leaf, cases, holds, all-hold}
 
 -- what refuses before the steps, where 10 is tested by walks
 unfoldable walked-refusal : Case → Refusal

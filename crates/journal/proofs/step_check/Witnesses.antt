@@ -12,12 +12,12 @@ use Rattle.model.specs.Counters.{fresh-counters, fresh-lock, good-count, good-c
 use Rattle.model.specs.WellFormed.{good-tail, good-next, good-status, queue-on-path, good-place, good-watch, good-thread, good-counters, well-formed}
 use Rattle.model.specs.Refusals.{refusal, accepted, lowest-bad, first-refusal, bad-domains, bad-threads, bad-parent, too-deep, no-threshold, bad-home, empty-domain, tree-tests, bad-state, tree-refusal}
 use Rattle.model.specs.Laws.{Formed, Form-law}
-use Rattle.model.specs.Cases.{padded, tree, two-homes}
+use Rattle.model.specs.Cases.Marked.{padded, tree, two-homes}
 use Rattle.model.proofs.Trees.Accepted.{sixteen-bit}
 use Rattle.model.proofs.Laws.Form.{form-law}
 use Rattle.journal.specs.StepCheck.Answers.{bad-lengths, early-tests, early-refusal}
-use Rattle.journal.specs.StepCheck.Cases.{passing, passing-kinds, passing-domains}
-use Rattle.journal.specs.StepCheck.Witnesses.{Witnesses}
+use Rattle.journal.specs.Cases.StepCheck.{passing, passing-kinds, passing-domains}
+use Rattle.journal.specs.Cases.StepCheckWitnesses.{Witnesses}
 
 tree-accepted : tree-refusal (tree-of two-homes) .number ≡ 0
 unfolding any-below filter-below read-word tree-of is-child is-leaf depth-from depth level meets on-path under refusal accepted lowest-bad first-refusal bad-domains bad-threads bad-parent too-deep no-threshold bad-home empty-domain tree-tests tree-refusal padded tree two-homes

@@ -9,13 +9,13 @@ use Rattle.model.specs.Steps.{is-kind, is-entry, prep-row, swap-row, link-row, 
 use Rattle.model.specs.Runs.{steps, state-after, how-many, entering, counts-of, run-of, run}
 use Rattle.model.specs.Refusals.{refusal, accepted, lowest-bad, first-refusal, bad-domains, bad-threads, bad-parent, too-deep, no-threshold, bad-home, empty-domain, tree-tests, bad-length, bad-entry, bad-room}
 use Rattle.model.specs.Answers.{run-reply}
-use Rattle.model.specs.Cases.{same-numbers}
+use Rattle.model.specs.Cases.Marked.{same-numbers}
 use Rattle.lock_file.specs.Reading.{reached-refusal, field-end, entry-end, domain-size, domain-end, parent-at, threshold-at, stored, domains-from, domains-read, thread-end, home-at, threads-from, threads-behind, threads-read, thread-count, schedule-start, tree-read, entries-from, entries-at, reading-of, file-read}
 use Rattle.lock_file.specs.PrintedListing.Listing.{digits, numeral, number-then, trace-lines, spaced, first-line, listing}
 use Rattle.lock_file.specs.FileAnswers.FileAnswers.{listing-outcome, run-outcome, file-trace, file-outcome, outcome-reply, outcome-output, file-answer, output-answer}
-use Rattle.lock_file.specs.FileAnswers.Cases.{cases, parts, Every-part}
+use Rattle.lock_file.specs.Cases.FileAnswers.{cases, parts, Every-part}
 use Rattle.lock_file.specs.FileAnswers.FileLaws.{met-numbers}
-use Rattle.lock_file.specs.FileAnswers.Witnesses.{met-files, Numbers-met}
+use Rattle.lock_file.specs.Cases.FileAnswersWitnesses.{met-files, Numbers-met}
 use Rattle.lock_file.proofs.file_answers.Computing.{quick-refusal, quick-run, quick-reading, same-reading}
 
 pub cases-hold : all cases ≡ true

@@ -8,13 +8,13 @@ use borrow.Author.Tests.{le-ltb}
 use Rattle.model.specs.Scans.{any-below}
 use Rattle.model.specs.Trees.{read-word, tree-of, is-child, is-leaf, depth-from, depth, level, meets, on-path, under}
 use Rattle.model.specs.Refusals.{refusal, accepted, lowest-bad, first-refusal, bad-domains, bad-threads, bad-parent, too-deep, no-threshold, bad-home, empty-domain, tree-tests, tree-refusal, bad-length, bad-entry, entry-tests, schedule-tests}
-use Rattle.model.specs.Cases.{padded, tree, root-alone}
+use Rattle.model.specs.Cases.Marked.{padded, tree, root-alone}
 use Rattle.model.proofs.Refusing.{lowest-none}
 use Rattle.model.proofs.Laws.Counters.{zeros}
 use Rattle.refusals.proofs.Scanning.{single-missed}
 use Rattle.lock_file.specs.FileWriter.Writing.{written-domains, written-thread, written-threads, first-byte, written-tree, written-file}
 use Rattle.lock_file.specs.FileWriter.Laws.{Write-refusal-law}
-use Rattle.lock_file.specs.FileWriter.Cases.{steps-of-one, Longest-law}
+use Rattle.lock_file.specs.Cases.FileWriter.{steps-of-one, Longest-law}
 use Rattle.lock_file.proofs.file_writer.Lengths.{file-length}
 use Rattle.lock_file.proofs.file_writer.Refusing.{write-refusal-law}
 

@@ -2,7 +2,7 @@
 use Prim.Native.Nat.{ℕ, zero, suc, _<_}
 use native.Mathlib.Omega.{arith}
 use lib.ListN.{getD}
-use Rattle.lock_file.specs.PrintedListing.Witnesses.{example-counts, example-trace, Witnesses}
+use Rattle.lock_file.specs.Cases.PrintedListingWitnesses.{example-counts, example-trace, Witnesses}
 
 short : (k : ℕ) → getD example-trace k 0 < 1000
 short zero = omega arith

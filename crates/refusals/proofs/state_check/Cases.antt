@@ -14,13 +14,13 @@ use Rattle.model.specs.Runs.{steps, state-after, run-of, run}
 use Rattle.model.specs.WellFormed.{good-tail, queue-on-path, good-place, good-counters}
 use Rattle.model.specs.Counters.{fresh-counters, good-count}
 use Rattle.model.specs.Refusals.{Refusal, refusal, accepted, lowest-bad, first-refusal, bad-domains, bad-threads, bad-parent, too-deep, no-threshold, bad-home, empty-domain, tree-tests, bad-state}
-use Rattle.model.specs.Cases.{padded, tree, at-ticket-root, two-homes, first-entries, root-alone}
-use Rattle.model.specs.CounterCases.{counters}
+use Rattle.model.specs.Cases.Marked.{padded, tree, at-ticket-root, two-homes, first-entries, root-alone}
+use Rattle.model.specs.Cases.Counters.{counters}
 use Rattle.model.proofs.Tests.{and-both}
 use Rattle.model.proofs.Walks.{walked, zero-from, first-pass, first-meets, formed-by-walks, same-formed, counts-by-walks, zipped}
 use Rattle.model.proofs.Computing.{refusal-by, same-lock-formed, state-sized, sized}
 use Rattle.refusals.specs.StateCheck.Answers.{check-tests, check-refusal, check-answer}
-use Rattle.refusals.specs.StateCheck.Cases.{Case, empty-leaf, cases, holds, all-hold}
+use Rattle.refusals.specs.Cases.StateCheck.{Case, empty-leaf, cases, holds, all-hold}
 
 -- what refuses a state, where 10 is tested by walks
 unfoldable walked-refusal : TreeWords → LockState → Refusal

@@ -14,7 +14,7 @@ use Rattle.model.specs.Counters.{fresh-lock}
 use Rattle.model.specs.Refusals.{Refusal, refusal, accepted}
 use Rattle.model.specs.Answers.{fresh-answer}
 use Rattle.model.specs.Calls.{Ask, one-step, a-run, Call, Answer, stepped, ran, answers, joined, Names}
-use Rattle.model.specs.Cases.{tree, count-up, same-numbers, two-homes}
+use Rattle.model.specs.Cases.Marked.{tree, count-up, same-numbers, two-homes}
 
 -- ALLOWANCES. All that the claim's `bounded` asks, of a schedule until m begins to stand with a thread's step, and the entries after it: and there the entries under q are as many as q's allowance, which is the number given
 unfoldable pub reaches : TreeWords → (until : List ℕ) → (beginner : ℕ) → (meanwhile : List ℕ) → (m q number : ℕ) → Bool

@@ -9,8 +9,8 @@ use Rattle.model.specs.Trees.{Tree, tree-of, level}
 use Rattle.model.specs.States.{place, fresh-state}
 use Rattle.model.specs.Runs.{steps, run, occurrences}
 use Rattle.model.specs.Refusals.{tree-refusal}
-use Rattle.model.specs.Cases.{tree, two-homes}
-use Rattle.model.specs.TicketCases.{three-in-ticket}
+use Rattle.model.specs.Cases.Marked.{tree, two-homes}
+use Rattle.model.specs.Cases.Ticket.{three-in-ticket}
 use Rattle.waits.specs.Attempts.{waits}
 use Rattle.bounds.specs.StarvationFreedom.Bounds.{members}
 use Rattle.bounds.specs.StarvationFreedom.Laws.{is-acquiring, is-releasing, Rounds, Windows, round-robin}

@@ -11,7 +11,7 @@ use Rattle.model.specs.Trees.{tree-of}
 use Rattle.model.specs.States.{fresh-words, with-place}
 use Rattle.model.specs.Runs.{steps}
 use Rattle.model.specs.Counters.{lock-state, fresh-lock, lock-after, most-counted}
-use Rattle.model.specs.Cases.{tree, at-ticket-root, uncounted, two-homes, one-home, two-in-root, same-lock}
+use Rattle.model.specs.Cases.Marked.{tree, at-ticket-root, uncounted, two-homes, one-home, two-in-root, same-lock}
 use Rattle.journal.specs.StepCheck.Answers.{steps-answer}
 
 -- a call, number and place that it is to answer, and how many steps it finds right; the state after so many is to be returned

@@ -3,7 +3,7 @@ use mathlib.Core.Path.{_≡_}
 use mathlib.Core.List.{[], _∷_}
 use lib.ListN.{replicate}
 use Rattle.model.specs.Counters.{fresh-lock}
-use Rattle.model.specs.Cases.{two-in-root}
+use Rattle.model.specs.Cases.Marked.{two-in-root}
 use Rattle.kinds.specs.Answers.{refused-by, kinds-answer}
 
 -- TWO CALLS, the second from the state that the first returns, and one on the joined schedule: all three are accepted

@@ -17,7 +17,7 @@ use Rattle.model.specs.States.{fresh-words, with-status, with-place}
 use Rattle.model.specs.Runs.{run}
 use Rattle.model.specs.Counters.{lock-state, most-counted}
 use Rattle.model.specs.Answers.{step-answer, run-answer, trace-answer}
-use Rattle.model.specs.Cases.{padded, tree, at-ticket-root, counters as ticket-counters, two-homes, first-entries, same-numbers, same-counters, same-lock, uncounted}
+use Rattle.model.specs.Cases.Marked.{padded, tree, at-ticket-root, counters as ticket-counters, two-homes, first-entries, same-numbers, same-counters, same-lock, uncounted}
 
 -- counters by their first numbers, from the root on; the room after them is 0
 unfoldable pub counters : (entries tenures longest : List ℕ) → Counters

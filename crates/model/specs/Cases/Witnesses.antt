@@ -17,9 +17,9 @@ use Rattle.model.specs.Refusals.{tree-tests, run-tests-before-19, bad-co
 use Rattle.model.specs.Laws.{All-threads, Sixteen-bit, Formed, Numbered, Read-alike}
 use Rattle.model.specs.CounterLaws.{Room-left}
 use Rattle.model.specs.Search.{Same-up-to, with-parent, six-levels}
-use Rattle.model.specs.Cases.{at-ticket-root, two-homes, first-entries, three-levels}
-use Rattle.model.specs.CounterCases.{counters, one-pass}
-use Rattle.model.specs.ClaimCases.{two-homes-again}
+use Rattle.model.specs.Cases.Marked.{at-ticket-root, two-homes, first-entries, three-levels}
+use Rattle.model.specs.Cases.Counters.{counters, one-pass}
+use Rattle.model.specs.Cases.Claim.{two-homes-again}
 
 -- 1. WHAT NEARLY EVERY LAW ASKS: a tree with thresholds of 16 bits that is accepted, a schedule of its threads, and a thread
 pub record Meets (w : TreeWords) (schedule : List ℕ) (thread : ℕ) : Type 0 where

@@ -10,7 +10,7 @@ use Rattle.model.specs.Scans.{all-below}
 use Rattle.model.specs.Trees.{Tree, tree-of}
 use Rattle.model.specs.States.{fresh-state}
 use Rattle.model.specs.Runs.{run, occurrences}
-use Rattle.model.specs.Cases.{tree, at-ticket-root, two-homes, two-in-root}
+use Rattle.model.specs.Cases.Marked.{tree, at-ticket-root, two-homes, two-in-root}
 use Rattle.bounds.specs.StarvationFreedom.Bounds.{acquire-bound, release-bound, everyone-bound, allowance-everyone-bound}
 use Rattle.bounds.specs.StarvationFreedom.Laws.{Rounds}
 

@@ -10,8 +10,8 @@ use Rattle.model.specs.Trees.{tree-of}
 use Rattle.model.specs.States.{fresh-words, with-place}
 use Rattle.model.specs.Runs.{run}
 use Rattle.model.specs.Counters.{lock-state}
-use Rattle.model.specs.Cases.{tree, at-ticket-root, uncounted, two-homes, first-entries, root-alone}
-use Rattle.model.specs.CounterCases.{counters, limit}
+use Rattle.model.specs.Cases.Marked.{tree, at-ticket-root, uncounted, two-homes, first-entries, root-alone}
+use Rattle.model.specs.Cases.Counters.{counters, limit}
 use Rattle.refusals.specs.StateCheck.Answers.{check-answer}
 
 -- a tree, a state, and number and place that the check is to answer

@@ -10,11 +10,11 @@ use Rattle.model.specs.declared.State.{State}
 use Rattle.model.specs.declared.LockState.{LockState}
 use Rattle.model.specs.States.{fresh-words}
 use Rattle.model.specs.Counters.{fresh-lock, most-counted}
-use Rattle.model.specs.Cases.{tree, at-ticket-root, two-homes, two-in-root, same-numbers, same-counts, same-lock, uncounted}
+use Rattle.model.specs.Cases.Marked.{tree, at-ticket-root, two-homes, two-in-root, same-numbers, same-counts, same-lock, uncounted}
 use Rattle.model.specs.Answers.{no-counts}
 use Rattle.waits.specs.declared.WaitsReply.{WaitsReply}
 use Rattle.waits.specs.Answers.{waits-on-answer, waits-on-trace, waits-on-rows, waits-on-under-way}
-use Rattle.waits.specs.Cases.{full-entries, reached, no-attempt, no-wait}
+use Rattle.waits.specs.Cases.Waits.{full-entries, reached, no-attempt, no-wait}
 
 -- a call, number and place that it is to answer, and the row buffer and the numbers after it
 pub record On-case : Type 0 where

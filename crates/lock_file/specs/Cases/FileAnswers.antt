@@ -5,10 +5,10 @@ use mathlib.Core.List.{List, [], _∷_, _++_}
 use Prim.Native.Nat.{ℕ, _+_, _*_}
 use lib.Dec.{eqb}
 use lib.ListN.{replicate}
-use Rattle.model.specs.Cases.{same-numbers}
-use Rattle.lock_file.specs.Cases.{pairs, example, plain}
+use Rattle.model.specs.Cases.Marked.{same-numbers}
+use Rattle.lock_file.specs.Cases.Reading.{pairs, example, plain}
 use Rattle.lock_file.specs.declared.file_answers.FileReply.{FileReply}
-use Rattle.lock_file.specs.PrintedListing.Cases.{example-listing}
+use Rattle.lock_file.specs.Cases.PrintedListing.{example-listing}
 use Rattle.lock_file.specs.FileAnswers.FileAnswers.{file-answer, output-answer}
 use Rattle.lock_file.specs.FileAnswers.FileLaws.{listing-room}
 

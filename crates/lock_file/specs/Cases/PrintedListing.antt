@@ -4,7 +4,7 @@ use mathlib.Core.List.{List, [], _∷_, _++_}
 use Prim.Native.Nat.{ℕ}
 use lib.ListN.{replicate}
 use Rattle.model.specs.declared.Counts.{Counts}
-use Rattle.model.specs.Cases.{same-numbers}
+use Rattle.model.specs.Cases.Marked.{same-numbers}
 use Rattle.lock_file.specs.PrintedListing.Listing.{numeral, listing, refusal-line, printed}
 
 -- "ok 22 3 1 2 1 0", then 0, 1 and 2

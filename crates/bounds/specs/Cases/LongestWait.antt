@@ -11,10 +11,10 @@ use Rattle.model.specs.Trees.{tree-of}
 use Rattle.model.specs.States.{fresh-state}
 use Rattle.model.specs.Steps.{Step, step}
 use Rattle.model.specs.Runs.{steps, run, entering, occurrences}
-use Rattle.model.specs.Cases.{tree, at-ticket-root, two-homes, two-in-root}
-use Rattle.claims.specs.MoveCases.{three-in-root}
-use Rattle.model.specs.TicketCases.{three-in-ticket}
-use Rattle.bounds.specs.StarvationFreedom.Cases.{all-threads}
+use Rattle.model.specs.Cases.Marked.{tree, at-ticket-root, two-homes, two-in-root}
+use Rattle.claims.specs.Cases.Moving.{three-in-root}
+use Rattle.model.specs.Cases.Ticket.{three-in-ticket}
+use Rattle.bounds.specs.Cases.StarvationFreedom.{all-threads}
 use Rattle.waits.specs.Attempts.{begins}
 use Rattle.bounds.specs.LongestWait.Bounds.{wait-bound}
 use Rattle.bounds.specs.LongestWait.InLine.{in-line, bypass, late-entry, count-steps}

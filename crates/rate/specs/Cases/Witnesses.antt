@@ -4,7 +4,7 @@ use lib.Dec.{T}
 use lib.Ieee.{binary64, fits, ofBits}
 use Rattle.rate.specs.declared.PassingTimes.{PassingTimes}
 use Rattle.rate.specs.Laws.{Accepted}
-use Rattle.rate.specs.Cases.{twentieth, fifth, one}
+use Rattle.rate.specs.Cases.Rates.{twentieth, fifth, one}
 
 -- the times of the example in docs/RATE.md
 unfoldable pub example-times : PassingTimes

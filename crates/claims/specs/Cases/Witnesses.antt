@@ -15,9 +15,9 @@ use Rattle.model.specs.Runs.{run}
 use Rattle.model.specs.Counters.{fresh-lock, most-counted}
 use Rattle.model.specs.Answers.{fresh-answer}
 use Rattle.model.specs.Calls.{one-step, a-run, Call, asked-entries, joined, Names, Stretches}
-use Rattle.model.specs.Cases.{two-homes}
-use Rattle.model.specs.CounterCases.{one-pass}
-use Rattle.model.specs.ClaimCases.{call, mixed-calls, mixed-schedule}
+use Rattle.model.specs.Cases.Marked.{two-homes}
+use Rattle.model.specs.Cases.Counters.{one-pass}
+use Rattle.model.specs.Cases.Claim.{call, mixed-calls, mixed-schedule}
 use Rattle.claims.specs.Reached.{last-state, Asks-well}
 
 -- a call after the list of mixed calls: the longest run that is allowed, on the list's tree

@@ -8,8 +8,8 @@ use lib.ListN.{length, replicate}
 use Rattle.model.specs.declared.TreeWords.{TreeWords}
 use Rattle.model.specs.Trees.{tree-of}
 use Rattle.model.specs.Refusals.{refusal, accepted}
-use Rattle.model.specs.Cases.{tree, at-ticket-root, two-homes, first-entries, root-alone, two-in-root, same-numbers}
-use Rattle.lock_file.specs.Cases.{example}
+use Rattle.model.specs.Cases.Marked.{tree, at-ticket-root, two-homes, first-entries, root-alone, two-in-root, same-numbers}
+use Rattle.lock_file.specs.Cases.Reading.{example}
 use Rattle.lock_file.specs.declared.file_writer.WriteReply.{WriteReply}
 use Rattle.lock_file.specs.FileWriter.Writing.{written-file}
 use Rattle.lock_file.specs.FileWriter.Refusals.{write-refusal}

@@ -12,7 +12,7 @@ use Rattle.model.specs.Places.{place-words}
 use Rattle.model.specs.States.{wait-word, fresh-words, with-tail, with-status, with-place, store-numbers}
 use Rattle.model.specs.Steps.{shown-members}
 use Rattle.model.specs.Runs.{steps, begun, ended}
-use Rattle.model.specs.Cases.{tree, at-ticket-root, counters, ok, refused, Case, fresh-call, fresh-starts, step-call, step-gives, run-call, two-homes, root-alone, two-in-root, one-home}
+use Rattle.model.specs.Cases.Marked.{tree, at-ticket-root, counters, ok, refused, Case, fresh-call, fresh-starts, step-call, step-gives, run-call, two-homes, root-alone, two-in-root, one-home}
 
 -- one thread, two threads and three threads in a ticket root
 unfoldable pub ticket-alone : TreeWords

@@ -16,8 +16,8 @@ use Rattle.model.specs.Steps.{stay, is-kind, step}
 use Rattle.model.specs.Runs.{run}
 use Rattle.model.specs.Answers.{step-answer}
 use Rattle.claims.specs.Reached.{Can-move}
-use Rattle.model.specs.Cases.{tree, at-ticket-root, uncounted, same-numbers, two-homes, one-home}
-use Rattle.model.specs.TicketCases.{two-in-ticket, three-in-ticket}
+use Rattle.model.specs.Cases.Marked.{tree, at-ticket-root, uncounted, same-numbers, two-homes, one-home}
+use Rattle.model.specs.Cases.Ticket.{two-in-ticket, three-in-ticket}
 
 -- the threads that are not Idle
 unfoldable pub busy-threads : Tree → State → List ℕ

@@ -10,8 +10,8 @@ use Rattle.model.specs.States.{fresh-words}
 use Rattle.model.specs.Steps.{Step, step}
 use Rattle.model.specs.Runs.{steps, run}
 use Rattle.model.specs.Counters.{fresh-lock}
-use Rattle.model.specs.Cases.{two-in-root}
-use Rattle.model.specs.TicketCases.{three-in-ticket}
+use Rattle.model.specs.Cases.Marked.{two-in-root}
+use Rattle.model.specs.Cases.Ticket.{three-in-ticket}
 use Rattle.waits.specs.Attempts.{begins, enters}
 use Rattle.waits.specs.Answers.{refused-on}
 use Rattle.waits.specs.GoingOn.{Left, left-by}

@@ -10,7 +10,7 @@ use Rattle.model.specs.Trees.{tree-of}
 use Rattle.model.specs.States.{fresh-state}
 use Rattle.model.specs.Runs.{steps}
 use Rattle.model.specs.Tenures.{domain-entries, domain-tenures, longest-tenure}
-use Rattle.model.specs.Cases.{tree, at-ticket-root}
+use Rattle.model.specs.Cases.Marked.{tree, at-ticket-root}
 
 -- a tree, the start of its fresh lock, a schedule, and what the steps tell of a domain: entries, tenures, longest tenure
 pub record Case : Type 0 where

@@ -6,9 +6,9 @@ use lib.ListN.{length, take, drop}
 use Rattle.model.specs.Trees.{tree-of}
 use Rattle.model.specs.Counters.{fresh-lock, most-counted}
 use Rattle.model.specs.Laws.{Formed}
-use Rattle.model.specs.Cases.{two-homes}
+use Rattle.model.specs.Cases.Marked.{two-homes}
 use Rattle.journal.specs.StepCheck.Answers.{early-refusal}
-use Rattle.journal.specs.StepCheck.Cases.{passing, passing-kinds, passing-domains}
+use Rattle.journal.specs.Cases.StepCheck.{passing, passing-kinds, passing-domains}
 
 -- the first eleven steps of the trace that the cases check, and the twelfth
 pub record Witnesses : Type 0 where

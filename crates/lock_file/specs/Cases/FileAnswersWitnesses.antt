@@ -3,7 +3,7 @@ use mathlib.Core.Path.{_≡_}
 use mathlib.Core.List.{List, [], _∷_, _++_, map}
 use Prim.Native.Nat.{ℕ}
 use lib.ListN.{replicate}
-use Rattle.lock_file.specs.Cases.{pairs, example}
+use Rattle.lock_file.specs.Cases.Reading.{pairs, example}
 use Rattle.lock_file.specs.FileAnswers.FileAnswers.{file-answer}
 use Rattle.lock_file.specs.FileAnswers.FileLaws.{met-numbers}
 

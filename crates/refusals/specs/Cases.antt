@@ -1,0 +1,2 @@
+-- Computed cases: they pin the definitions, and nobody has to believe them.
+pub mod StateCheck
