@@ -1,11 +1,11 @@
 -- The check of a journal piece by piece: the state so far, the entries still ahead, and what a piece comes to.
 use mathlib.Core.Path.{_≡_, sym, ap, _∙_, subst}
-use mathlib.Core.Bool.{true, false, not}
+use mathlib.Core.Bool.{Bool, true, false, not}
 use mathlib.Core.List.{List, [], _∷_}
 use mathlib.Core.Logic.{_≢_}
 use Prim.Native.Nat.{ℕ, zero, suc, _+_, _-_, _%_, _≤_, _<_}
 use native.Mathlib.Omega.{arith}
-use lib.Dec.{eqb}
+use lib.Dec.{eqb, T as Holds}
 use lib.ListN.{length, getD, take, drop}
 use lib.Seq.{length-take-le, getD-take}
 use borrow.Author.Tests.{eqb-true, eqb-false, eq-eqb, ne-eqb, not-false, not-true}
@@ -38,6 +38,8 @@ use Rattle.journal.specs.Laws.{kind-numbers}
 use Rattle.journal_call.proofs.Stepping.{stretch-threads, stretch-moves, Same-kinds, goes-on, stops-here, stopped-by, ended}
 use Rattle.lock.specs.Steps.Running.{step-code, codes-front, fresh-from}
 use Rattle.journal_call.specs.Kinds.{other-kind}
+use Rattle.journal_call.specs.declared.journals.Turn.{Turn}
+use Rattle.journal_call.specs.Journals.{So-far, Turned, stop-of}
 use Rattle.lock.proofs.steps.Starting.{fresh-from-zero}
 use Rattle.lock.proofs.steps.StepCodes.{code-kind}
 
@@ -53,13 +55,8 @@ module _ (w : TreeWords) (bs : List ℕ) where
   abbrev t : Tree
   t = tree-of w
 
-  -- the state so far is well formed, and what is still ahead decides the answer
-  pub record So-far (s : State) (position before : ℕ) : Type 0 where
-    pub formed : Formed t s
-    pub ahead : checked (length bs) t s bs position before ≡ checked (length bs) t (fresh-lock w) bs 0 0
-
   -- the answer of a check that has come this far
-  answers : tree-refusal t .number ≡ 0 → (s : State) (p b : ℕ) → So-far s p b → (r : Refusal) → checked (length bs) t s bs p b ≡ r → replied r ≡ journal-answer w bs
+  answers : tree-refusal t .number ≡ 0 → (s : State) (p b : ℕ) → So-far w bs s p b → (r : Refusal) → checked (length bs) t s bs p b ≡ r → replied r ≡ journal-answer w bs
   unfolding journal-answer journal-refusal
   answers ok s p b g r e = rw (eq-eqb (tree-refusal t .number) 0 ok) (ap replied (sym e ∙ g .ahead))
 
@@ -77,17 +74,18 @@ module _ (w : TreeWords) (bs : List ℕ) where
     unfolding fresh-answer
     fresh-is = rw (eq-eqb (tree-refusal t .number) 0 ok) (fresh-at-zero t)
 
-    pub start : (s : State) → s ≡ fresh-from 0 → So-far s 0 0
+    pub start : (s : State) → s ≡ fresh-from 0 → So-far w bs s 0 0
     unfolding Form-law
     start s e =
         let z : s ≡ fresh-words = e ∙ fresh-from-zero in
         record {
+          passes = ok;
           formed = subst (λ x. Formed t x) (fresh-at-zero t ∙ sym z) (form-law t (sixteen-bit w) ok .of-fresh 0);
           ahead = ap (λ x. checked (length bs) t x bs 0 0) (z ∙ sym fresh-is);
         }
 
     -- A PIECE: its threads and its kinds
-    module _ (s : State) (p b : ℕ) (g : So-far s p b) (threads kinds : List ℕ) (c : Piece) (r : Piece-read (w .threads) bs p b threads kinds c) where
+    module _ (s : State) (p b : ℕ) (g : So-far w bs s p b) (threads kinds : List ℕ) (c : Piece) (r : Piece-read (w .threads) bs p b threads kinds c) where
       abbrev is : List ℕ
       is = take (c .count) threads
 
@@ -146,10 +144,15 @@ module _ (w : TreeWords) (bs : List ℕ) where
           ends n = answers ok s p b g accepted (behind ∙ ended t bs _ (c .position) (c .before) n)
 
           -- or the next piece
-          pub turn : (s′ : State) → s′ ≡ run t is s .state → So-far s′ (c .position) (c .before)
+          pub turn : (s′ : State) → s′ ≡ run t is s .state → So-far w bs s′ (c .position) (c .before)
           unfolding run run-of Form-law
           turn s′ f =
               record {
+                passes = ok;
                 formed = subst (λ x. Formed t x) (sym f) (form-law t (sixteen-bit w) ok .of-run is s (stretch-threads t read) (g .formed));
                 ahead = ap (λ x. checked (length bs) t x bs (c .position) (c .before)) f ∙ sym behind ∙ g .ahead;
               }
+
+-- a turn that stops says the answer, and goes nowhere
+pub stopping : (w : TreeWords) (bs : List ℕ) (p : ℕ) (r : Turn) (q b n m : ℕ) (s : State) → r ≡ stop-of q b n m → replied (refusal n m) ≡ journal-answer w bs → Turned w bs p r s
+stopping w bs p r q b n m s e a = subst (λ x. Turned w bs p x s) (sym e) (record { goes = λ z. absurd (subst (λ (h : Bool). Holds h) z tt); ends = λ _. a })

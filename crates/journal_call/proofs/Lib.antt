@@ -1,3 +1,4 @@
 -- What several proofs use.
 pub mod Stepping
 pub mod Journaling
+pub mod Lending

@@ -3,3 +3,4 @@ pub mod Kinds
 pub mod Reader
 pub mod Pieces
 pub mod StepCheck
+pub mod Journals

@@ -13,7 +13,10 @@ ghost use Rattle.model.specs.Laws.{Typed};
 ghost use Rattle.refusals.specs.Arrays.{lent-state};
 ghost use Rattle.lock.specs.Steps.Running.{codes-front};
 ghost use Rattle.journal_call.specs.Kinds.{other-kind, All-same-kinds};
+ghost use Rattle.journal_call.specs.Journals.{So-far, Turned, stop-of};
 ghost use Rattle.journal.specs.Answers.{replied, journal-answer};
+use crate::reader::Piece;
+use crate::reader::Reader;
 use journal::JournalReply;
 use model::TreeWords;
 
@@ -126,20 +129,146 @@ fn run_piece(
     );
 }
 
-// The entries of a journal, with room for as many of them as the lent buffers hold at a time. Each piece goes on from the state that the one before it left, in arrays that are lent to all of them.
-pub(crate) fn check_entries(
+// What a piece comes to: where the next one begins and the thread that the entry before it names; or, stopped, the answer.
+pub struct Turn {
+    pub stopped: bool,
+    pub position: usize,
+    pub before: u16,
+    pub number: u32,
+    pub place: usize,
+}
+
+fn stopped_by(piece: Piece, number: u32, place: usize) -> Turn
+    ensures { λ r. ⌜ r ≡ stop-of (piece .position) (piece .before) number place ⌝ }
+{
+    let before = piece.before;
+    Turn {
+        stopped: true,
+        position: piece.position,
+        before,
+        number,
+        place,
+    }
+}
+
+// The piece of a journal at a position: its entries are read, their threads stepped, their kinds compared. The state goes on in the arrays that are lent.
+fn check_piece(
     tree: TreeWords,
     journal: &[u8],
-    threads: &mut [u16],
-    kinds: &mut [u8],
-    trace: &mut [u16],
-    codes: &mut [u16],
-) -> JournalReply
+    position: usize,
+    before: u16,
+    tails: &mut [u16; 64],
+    nexts: &mut [u16; 320],
+    statuses: &mut [u64; 320],
+    rows: &mut [u8; 256],
+    domains: &mut [u8; 256],
+    peers: &mut [u16; 256],
+    words: &mut [u64; 256],
+    ticket: &mut u16,
+    granted: &mut u16,
+    threads: &mut [u16; 1024],
+    kinds: &mut [u8; 1024],
+    trace: &mut [u16; 1024],
+    codes: &mut [u16; 1024],
+) -> Turn
+    requires { ⌜ So-far tree (now journal) (lent-state (now tails) (now nexts) (now statuses) (now rows) (now domains) (now peers) (now words) (now ticket) (now granted)) position before ⌝ }
+    ensures { λ r. ⌜ Turned tree (now (journal .entry)) position r (lent-state (now (tails .exit)) (now (nexts .exit)) (now (statuses .exit)) (now (rows .exit)) (now (domains .exit)) (now (peers .exit)) (now (words .exit)) (now (ticket .exit)) (now (granted .exit))) ⌝ }
+{
+    let piece = crate::pieces::read_piece(journal, position, before, tree.threads, threads, kinds);
+    let count = piece.count;
+    run_piece(
+        tree,
+        tails,
+        nexts,
+        statuses,
+        rows,
+        domains,
+        peers,
+        words,
+        ticket,
+        granted,
+        threads,
+        count,
+        trace,
+        codes,
+    );
+    let same = first_other_kind(kinds, codes, count);
+    if same < count {
+        let place = crate::reader::position_after(journal, position, before, same);
+        return stopped_by(piece, 26, place);
+    }
+    if piece.number != 0 {
+        return stopped_by(piece, piece.number, piece.position);
+    }
+    if journal.len() <= piece.position {
+        return stopped_by(piece, 0, 0);
+    }
+    Turn {
+        stopped: false,
+        position: piece.position,
+        before: piece.before,
+        number: 0,
+        place: 0,
+    }
+}
+
+// Walks a journal with one reader from the first byte to the last, a piece at a time. No branch but the loop's own: its proof is by hand, since the reader holds the journal.
+fn walk_entries(
+    tree: TreeWords,
+    journal: &[u8],
+    tails: &mut [u16; 64],
+    nexts: &mut [u16; 320],
+    statuses: &mut [u64; 320],
+    rows: &mut [u8; 256],
+    domains: &mut [u8; 256],
+    peers: &mut [u16; 256],
+    words: &mut [u64; 256],
+    ticket: &mut u16,
+    granted: &mut u16,
+    threads: &mut [u16; 1024],
+    kinds: &mut [u8; 1024],
+    trace: &mut [u16; 1024],
+    codes: &mut [u16; 1024],
+) -> Turn
+    requires { ⌜ So-far tree (now journal) (lent-state (now tails) (now nexts) (now statuses) (now rows) (now domains) (now peers) (now words) (now ticket) (now granted)) 0 0 ⌝ }
+    ensures { λ r. ⌜ replied (refusal (r .number) (r .place)) ≡ journal-answer tree (now (journal .entry)) ⌝ }
+{
+    let mut reader = Reader {
+        journal,
+        position: 0,
+        before: 0,
+    };
+    loop {
+        let turn = check_piece(
+            tree,
+            reader.journal,
+            reader.position,
+            reader.before,
+            tails,
+            nexts,
+            statuses,
+            rows,
+            domains,
+            peers,
+            words,
+            ticket,
+            granted,
+            threads,
+            kinds,
+            trace,
+            codes,
+        );
+        reader.position = turn.position;
+        reader.before = turn.before;
+        if turn.stopped {
+            return turn;
+        }
+    }
+}
+
+// The entries of a journal. Each piece goes on from the state that the one before it left, in arrays that are lent to all of them.
+pub(crate) fn check_entries(tree: TreeWords, journal: &[u8]) -> JournalReply
     requires { ⌜ tree-refusal (tree-of tree) .number ≡ 0 ⌝ }
-    requires { ⌜ length (now threads) ≡ 1024 ⌝ }
-    requires { ⌜ length (now kinds) ≡ 1024 ⌝ }
-    requires { ⌜ length (now trace) ≡ 1024 ⌝ }
-    requires { ⌜ length (now codes) ≡ 1024 ⌝ }
     ensures { λ r. ⌜ r ≡ journal-answer tree (now (journal .entry)) ⌝ }
 {
     let fresh = lock::steps::fresh_state(0);
@@ -152,46 +281,26 @@ pub(crate) fn check_entries(
     let mut words = fresh.places.words;
     let mut ticket = fresh.ticket;
     let mut granted = fresh.grant;
-    let mut position: usize = 0;
-    let mut before: u16 = 0;
-    loop {
-        let piece = crate::pieces::read_piece(
-            journal,
-            position,
-            before,
-            tree.threads,
-            threads,
-            kinds,
-        );
-        let count = piece.count;
-        run_piece(
-            tree,
-            &mut tails,
-            &mut nexts,
-            &mut statuses,
-            &mut rows,
-            &mut domains,
-            &mut peers,
-            &mut words,
-            &mut ticket,
-            &mut granted,
-            threads,
-            count,
-            trace,
-            codes,
-        );
-        let same = first_other_kind(kinds, codes, count);
-        if same < count {
-            let place = crate::reader::position_after(journal, position, before, same);
-            return answer_at(26, place);
-        }
-        if piece.number != 0 {
-            return answer_at(piece.number, piece.position);
-        }
-        if journal.len() <= piece.position {
-            return answer_at(0, 0);
-        }
-        position = piece.position;
-        before = piece.before;
-    }
+    let mut threads = [0u16; 1024];
+    let mut kinds = [0u8; 1024];
+    let mut trace = [0u16; 1024];
+    let mut codes = [0u16; 1024];
+    let last = walk_entries(
+        tree,
+        journal,
+        &mut tails,
+        &mut nexts,
+        &mut statuses,
+        &mut rows,
+        &mut domains,
+        &mut peers,
+        &mut words,
+        &mut ticket,
+        &mut granted,
+        &mut threads,
+        &mut kinds,
+        &mut trace,
+        &mut codes,
+    );
+    answer_at(last.number, last.place)
 }

@@ -28,16 +28,5 @@ pub fn check_journal(tree: TreeWords, journal: &[u8]) -> JournalReply
             place: r.place as usize,
         };
     }
-    let mut threads = [0u16; 1024];
-    let mut kinds = [0u8; 1024];
-    let mut trace = [0u16; 1024];
-    let mut codes = [0u16; 1024];
-    journals::check_entries(
-        tree,
-        journal,
-        &mut threads,
-        &mut kinds,
-        &mut trace,
-        &mut codes,
-    )
+    journals::check_entries(tree, journal)
 }

@@ -8,10 +8,11 @@ ghost use Rattle.journal.specs.Reading.{entry-size, entry-thread, entry-kind, e
 ghost use Rattle.journal_call.specs.Reader.Stretches.{position-after, piece-of, Read-on, Stopped-before};
 use journal::Entry;
 
-// A lent journal and a position in it.
+// A lent journal, a position in it, and the thread that the entry before it names.
 pub struct Reader<'a> {
     pub journal: &'a [u8],
     pub position: usize,
+    pub before: u16,
 }
 
 // Some entries one after another: how many, the position after them, the thread that the last one names. Where the entry at that position is refused by 25 or 12, this number, else 0.
@@ -89,7 +90,7 @@ fn whole_entry(journal: &[u8], position: usize, before: u16, bits: usize) -> Ent
     }
 }
 
-// The entry at a position of some bytes, where the entry before names a thread. The reader's functions stand on this one.
+// The entry at a position of some bytes, where the entry before names a thread. All that reads entry by entry stands on this one.
 pub fn read_entry(journal: &[u8], position: usize, before: u16) -> Entry
     ensures { λ r. ⌜ r ≡ entry-at (now (journal .entry)) position before ⌝ }
 {
@@ -130,27 +131,6 @@ pub fn read_entry(journal: &[u8], position: usize, before: u16) -> Entry
     }
 }
 
-// A reader at a position of a lent journal.
-pub fn reader_at<'a>(journal: &'a [u8], position: usize) -> Reader<'a>
-    ensures { λ r. ⌜ (r .journal ≡ journal .entry) × (r .position ≡ position) ⌝ }
-{
-    Reader { journal, position }
-}
-
-// The entry where the reader stands.
-pub fn next_entry<'a>(reader: Reader<'a>, before: u16) -> Entry
-    ensures { λ r. ⌜ r ≡ entry-at (now (reader .entry .journal)) (reader .entry .position) before ⌝ }
-{
-    read_entry(reader.journal, reader.position, before)
-}
-
-// The same by plain parameters, through a reader of its own: who calls this needs no proof about the reader.
-pub fn entry_at(journal: &[u8], position: usize, before: u16) -> Entry
-    ensures { λ r. ⌜ r ≡ entry-at (now (journal .entry)) position before ⌝ }
-{
-    next_entry(reader_at(journal, position), before)
-}
-
 pub fn stopped(count: usize, position: usize, before: u16, number: u32) -> Piece
     ensures { λ r. ⌜ r ≡ piece-of count position before number ⌝ }
 {
@@ -183,7 +163,7 @@ pub fn read_some(
     let mut at = position;
     let mut last = before;
     while count < end {
-        let e = entry_at(journal, at, last);
+        let e = read_entry(journal, at, last);
         match e {
             Entry::Named {
                 thread,
@@ -214,7 +194,7 @@ pub fn position_after(journal: &[u8], position: usize, before: u16, count: usize
     let mut last = before;
     let mut k: usize = 0;
     while k < count {
-        let e = entry_at(journal, at, last);
+        let e = read_entry(journal, at, last);
         match e {
             Entry::Named {
                 thread,

@@ -51,8 +51,10 @@ loop-less c = omega arith
 
 loop-again : tie.Need-loop-again Inv-loop μ-loop
 loop-again c =
-    let a = c .before .before .before .before .before .before .before .args in
-    (omega arith, one-told (a .kinds .now) (a .codes .now) _ _ _ (c .before .before .before .before .loop .inv .1) (c .marked .ensures))
+    let at-loop : tie.At-loop Inv-loop μ-loop = search c in
+    let start : tie.Start Inv-loop μ-loop = search c in
+    let a = start .args in
+    (omega arith, one-told (a .kinds .now) (a .codes .now) _ _ _ (at-loop .loop .inv .1) (c .marked .ensures))
 
 returns : tie.Need-returns Inv-loop μ-loop
 returns c z j h = c .before .loop .inv .1 z j (omega arith)

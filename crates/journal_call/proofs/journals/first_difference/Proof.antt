@@ -32,7 +32,9 @@ shared-slice-read-if1 : tie.Need-shared-slice-read-if1 Inv-loop μ-loop
 shared-slice-read-if1 c = search needs
 
 returns : tie.Need-returns Inv-loop μ-loop
-returns c = record { within = omega arith; passed = c .before .before .before .before .loop .inv .1; fails = λ _. rw (ne-eqb _ _ (c .if1 .taken)) }
+returns c =
+    let at-loop : tie.At-loop Inv-loop μ-loop = search c in
+    record { within = omega arith; passed = at-loop .loop .inv .1; fails = λ _. rw (ne-eqb _ _ (c .if1 .taken)) }
 
 add-k : tie.Need-add-k Inv-loop μ-loop
 add-k c = omega arith
@@ -41,7 +43,9 @@ loop-less : tie.Need-loop-less Inv-loop μ-loop
 loop-less c = omega arith
 
 loop-again : tie.Need-loop-again Inv-loop μ-loop
-loop-again c = (omega arith, one-more _ false _ (c .before .before .before .before .loop .inv .1) (rw (eq-eqb _ _ (c .if1 .left))))
+loop-again c =
+    let at-loop : tie.At-loop Inv-loop μ-loop = search c in
+    (omega arith, one-more _ false _ (at-loop .loop .inv .1) (rw (eq-eqb _ _ (c .if1 .left))))
 
 returns-2 : tie.Need-returns-2 Inv-loop μ-loop
 returns-2 c = record { within = omega arith; passed = c .before .loop .inv .1; fails = λ h. absurd (omega arith) }

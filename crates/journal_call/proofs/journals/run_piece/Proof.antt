@@ -25,7 +25,9 @@ part-run-lent-end c = search needs
 run-lent-requires : tie.Need-run-lent-requires
 unfolding fresh-counters
 run-lent-requires c κs =
-    let begin = c .before .before .before .before .before .before .before .before .before .before .before .before .before .before .before .before .before .before .before in
+    let after-counts : tie.After-counts = search c in
+    let after-run-lent-arg2 : tie.After-run-lent-arg2 = search c in
+    let begin : tie.Start = search c in
     let a = begin .args in
     let s = lent-state (a .tails .now) (a .nexts .now) (a .statuses .now) (a .rows .now) (a .domains .now) (a .peers .now) (a .words .now) (a .ticket .now) (a .granted .now) in
     let whole : a .count - 0 ≡ a .count = omega arith in
@@ -39,8 +41,12 @@ same-length-2 c = search needs
 
 returns : tie.Need-returns
 returns c =
-    let ran = c .before .before .before .before .run-lent in
-    let a = c .before .before .before .before .before .before .before .before .before .before .before .before .before .before .before .before .before .before .before .before .before .before .before .before .args in
+    let after-run-lent : tie.After-run-lent = search c in
+    let after-counts : tie.After-counts = search c in
+    let after-run-lent-arg2 : tie.After-run-lent-arg2 = search c in
+    let start : tie.Start = search c in
+    let ran = after-run-lent .run-lent in
+    let a = start .args in
     let s = lent-state (a .tails .now) (a .nexts .now) (a .statuses .now) (a .rows .now) (a .domains .now) (a .peers .now) (a .words .now) (a .ticket .now) (a .granted .now) in
     let whole : a .count - 0 ≡ a .count = omega arith in (
       ran .ensures .0 ∙ ap (λ n. run (tree-of (a .tree)) (take n (a .threads .now)) s .state) whole,

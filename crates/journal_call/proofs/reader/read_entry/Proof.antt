@@ -32,14 +32,18 @@ byte-index-requires c κs = search needs
 
 whole-entry-requires : tie.Need-whole-entry-requires
 whole-entry-requires c κs =
+    let else1 : tie.Else1 = search c in
     let bits = c .before .before .if2 .left in
-    (omega (arith, bits, c .byte-index .ensures .0), omega (arith, c .before .if3 .taken, c .before .before .before .before .if1 .left))
+    (omega (arith, bits, c .byte-index .ensures .0), omega (arith, c .before .if3 .taken, else1 .if1 .left))
 
 returns-3 : tie.Need-returns-3
 returns-3 c =
-    let a = c .before .before .before .before .before .before .before .args in
-    let few : c .before .byte-index .result ≤ 3 = omega (arith, c .before .before .before .if2 .left, c .before .byte-index .ensures .0) in
-    c .whole-entry .ensures ∙ sym (whole-entry (a .journal .now) (a .position) (a .before) (c .before .byte-index .result) (c .before .before .before .before .before .if1 .left) (sym (c .before .byte-index .ensures .0)) few (omega (arith, few, c .before .before .if3 .taken)))
+    let else2 : tie.Else2 = search c in
+    let else1 : tie.Else1 = search c in
+    let start : tie.Start = search c in
+    let a = start .args in
+    let few : c .before .byte-index .result ≤ 3 = omega (arith, else2 .if2 .left, c .before .byte-index .ensures .0) in
+    c .whole-entry .ensures ∙ sym (whole-entry (a .journal .now) (a .position) (a .before) (c .before .byte-index .result) (else1 .if1 .left) (sym (c .before .byte-index .ensures .0)) few (omega (arith, few, c .before .before .if3 .taken)))
 
 sub-if4 : tie.Need-sub-if4
 sub-if4 c = search needs
@@ -48,7 +52,10 @@ size-of-requires : tie.Need-size-of-requires
 size-of-requires c κs = search needs
 
 returns-4 : tie.Need-returns-4
-returns-4 c = rw (lt-ltb _ _ (c .before .before .before .before .before .if1 .left), le-ltb _ _ (c .before .before .before .if2 .left), ← c .before .size-of .ensures, lt-ltb _ _ (c .if4 .taken))
+returns-4 c =
+    let else2 : tie.Else2 = search c in
+    let else1 : tie.Else1 = search c in
+    rw (lt-ltb _ _ (else1 .if1 .left), le-ltb _ _ (else2 .if2 .left), ← c .before .size-of .ensures, lt-ltb _ _ (c .if4 .taken))
 
 add-t13 : tie.Need-add-t13
 add-t13 c = search needs
@@ -63,7 +70,10 @@ add-two-bytes-2 : tie.Need-add-two-bytes-2
 add-two-bytes-2 c = search needs
 
 shared-slice-read-two-bytes-2 : tie.Need-shared-slice-read-two-bytes-2
-shared-slice-read-two-bytes-2 c = omega (arith, c .before .before .before .before .size-of .ensures ∙ ap entry-size (c .before .before .match .keys2), c .before .before .before .if4 .left)
+shared-slice-read-two-bytes-2 c =
+    let else4 : tie.Else4 = search c in
+    let after-size-of : tie.After-size-of = search c in
+    omega (arith, after-size-of .size-of .ensures ∙ ap entry-size (c .before .before .match .keys2), else4 .if4 .left)
 
 two-bytes-requires : tie.Need-two-bytes-requires
 two-bytes-requires c κs = search needs
@@ -100,44 +110,65 @@ add-t33 c = search needs
 
 shared-slice-read-t35 : tie.Need-shared-slice-read-t35
 shared-slice-read-t35 c =
-    let a = c .before .before .before .before .before .before .before .before .before .before .before .before .args in
-    let m = c .before .before .before .before .match in
-    let bits = three (getD (a .journal .now) (a .position) 0) (c .before .before .before .before .before .before .before .before .if2 .left) (m .rest .0 .0 .1) (m .rest .0 .1) (m .rest .1) in
-    let size = c .before .before .before .before .before .before .size-of .ensures ∙ ap entry-size bits in
-    omega (arith, size, c .before .before .before .before .before .if4 .left)
+    let at-match-rest : tie.At-match-rest = search c in
+    let else4 : tie.Else4 = search c in
+    let after-size-of : tie.After-size-of = search c in
+    let else2 : tie.Else2 = search c in
+    let start : tie.Start = search c in
+    let a = start .args in
+    let m = at-match-rest .match in
+    let bits = three (getD (a .journal .now) (a .position) 0) (else2 .if2 .left) (m .rest .0 .0 .1) (m .rest .0 .1) (m .rest .1) in
+    let size = after-size-of .size-of .ensures ∙ ap entry-size bits in
+    omega (arith, size, else4 .if4 .left)
 
 add-t36 : tie.Need-add-t36
 add-t36 c = search needs
 
 returns-5 : tie.Need-returns-5
 returns-5 c =
-    let a = c .before .before .before .before .before .before .before .before .args in
+    let else1 : tie.Else1 = search c in
+    let start : tie.Start = search c in
+    let a = start .args in
     let size = c .before .before .size-of .ensures ∙ ap entry-size (c .match .keys1) in
-    sym (whole-entry (a .journal .now) (a .position) (a .before) 0 (c .before .before .before .before .before .before .if1 .left) (c .match .keys1) (lit≤ tt) (omega (arith, size, c .before .if4 .left)))
+    sym (whole-entry (a .journal .now) (a .position) (a .before) 0 (else1 .if1 .left) (c .match .keys1) (lit≤ tt) (omega (arith, size, c .before .if4 .left)))
 
 returns-6 : tie.Need-returns-6
 returns-6 c =
-    let a = c .before .before .before .before .before .before .before .before .before .before .before .args in
-    let bits = c .before .before .before .match .keys2 in
-    let size = c .before .before .before .before .before .size-of .ensures ∙ ap entry-size bits in
+    let at-match-keys2 : tie.At-match-keys2 = search c in
+    let else4 : tie.Else4 = search c in
+    let after-size-of : tie.After-size-of = search c in
+    let else1 : tie.Else1 = search c in
+    let start : tie.Start = search c in
+    let a = start .args in
+    let bits = at-match-keys2 .match .keys2 in
+    let size = after-size-of .size-of .ensures ∙ ap entry-size bits in
     ap (λ (w : ℕ). Named w 0 (a .position + 3)) (c .two-bytes .ensures)
-    ∙ sym (whole-entry (a .journal .now) (a .position) (a .before) 1 (c .before .before .before .before .before .before .before .before .before .if1 .left) bits (lit≤ tt) (omega (arith, size, c .before .before .before .before .if4 .left)))
+    ∙ sym (whole-entry (a .journal .now) (a .position) (a .before) 1 (else1 .if1 .left) bits (lit≤ tt) (omega (arith, size, else4 .if4 .left)))
 
 returns-7 : tie.Need-returns-7
 returns-7 c =
-    let a = c .before .before .before .before .before .before .before .before .before .args in
+    let after-size-of : tie.After-size-of = search c in
+    let else1 : tie.Else1 = search c in
+    let start : tie.Start = search c in
+    let a = start .args in
     let bits = c .before .match .keys3 in
-    let size = c .before .before .before .size-of .ensures ∙ ap entry-size bits in
-    sym (whole-entry (a .journal .now) (a .position) (a .before) 2 (c .before .before .before .before .before .before .before .if1 .left) bits (lit≤ tt) (omega (arith, size, c .before .before .if4 .left)))
+    let size = after-size-of .size-of .ensures ∙ ap entry-size bits in
+    sym (whole-entry (a .journal .now) (a .position) (a .before) 2 (else1 .if1 .left) bits (lit≤ tt) (omega (arith, size, c .before .before .if4 .left)))
 
 returns-8 : tie.Need-returns-8
 returns-8 c =
-    let a = c .before .before .before .before .before .before .before .before .before .before .before .before .args in
-    let m = c .before .before .before .before .match in
-    let bits = three (getD (a .journal .now) (a .position) 0) (c .before .before .before .before .before .before .before .before .if2 .left) (m .rest .0 .0 .1) (m .rest .0 .1) (m .rest .1) in
-    let size = c .before .before .before .before .before .before .size-of .ensures ∙ ap entry-size bits in
+    let at-match-rest : tie.At-match-rest = search c in
+    let else4 : tie.Else4 = search c in
+    let after-size-of : tie.After-size-of = search c in
+    let else2 : tie.Else2 = search c in
+    let else1 : tie.Else1 = search c in
+    let start : tie.Start = search c in
+    let a = start .args in
+    let m = at-match-rest .match in
+    let bits = three (getD (a .journal .now) (a .position) 0) (else2 .if2 .left) (m .rest .0 .0 .1) (m .rest .0 .1) (m .rest .1) in
+    let size = after-size-of .size-of .ensures ∙ ap entry-size bits in
     ap (λ (w : ℕ). Named w (getD (a .journal .now) (a .position + 3) 0) (a .position + 4)) (c .before .two-bytes2 .ensures)
-    ∙ sym (whole-entry (a .journal .now) (a .position) (a .before) 3 (c .before .before .before .before .before .before .before .before .before .before .if1 .left) bits (lit≤ tt) (omega (arith, size, c .before .before .before .before .before .if4 .left)))
+    ∙ sym (whole-entry (a .journal .now) (a .position) (a .before) 3 (else1 .if1 .left) bits (lit≤ tt) (omega (arith, size, else4 .if4 .left)))
 
 pub read-entry-spec : {M : Type 1} → statement M
 read-entry-spec =

@@ -16,10 +16,12 @@ abbrev μ-loop : tie.MeasureT-loop
 μ-loop journal position before known threads₀ kinds₀ from end count₀ at₀ last₀ threads kinds count at last = end - count
 
 loop-holds : tie.Need-loop-holds Inv-loop μ-loop
-loop-holds c = (omega (arith, c .before .before .before .pre .0), nothing _ _ _ _ _ _ _ (omega (arith, c .before .before .before .pre)) (omega (arith, c .before .before .before .pre)))
+loop-holds c =
+    let start : tie.Start Inv-loop μ-loop = search c in
+    (omega (arith, start .pre .0), nothing _ _ _ _ _ _ _ (omega (arith, start .pre)) (omega (arith, start .pre)))
 
-entry-at-requires : tie.Need-entry-at-requires Inv-loop μ-loop
-entry-at-requires c κs = search needs
+read-entry-requires : tie.Need-read-entry-requires Inv-loop μ-loop
+read-entry-requires c κs = search needs
 
 enum-known-e : tie.Need-enum-known-e Inv-loop μ-loop
 enum-known-e c = search needs
@@ -31,42 +33,58 @@ stopped-requires : tie.Need-stopped-requires Inv-loop μ-loop
 stopped-requires c κs = search needs
 
 same-length : tie.Need-same-length Inv-loop μ-loop
-same-length c = threads-long _ _ _ _ _ _ _ _ _ _ _ _ (c .before .before .before .before .before .before .before .loop .inv .1)
+same-length c =
+    let at-loop : tie.At-loop Inv-loop μ-loop = search c in
+    threads-long _ _ _ _ _ _ _ _ _ _ _ _ (at-loop .loop .inv .1)
 
 same-length-2 : tie.Need-same-length-2 Inv-loop μ-loop
-same-length-2 c = kinds-long _ _ _ _ _ _ _ _ _ _ _ _ (c .before .before .before .before .before .before .before .loop .inv .1)
+same-length-2 c =
+    let at-loop : tie.At-loop Inv-loop μ-loop = search c in
+    kinds-long _ _ _ _ _ _ _ _ _ _ _ _ (at-loop .loop .inv .1)
 
 returns : tie.Need-returns Inv-loop μ-loop
-returns c = rw (c .stopped .ensures) (c .before .before .before .before .before .before .before .loop .inv .1, unknown _ _ _ _ _ _ _ _ _ (sym (c .before .before .before .before .before .entry-at .ensures) ∙ c .before .before .before .e .given .1) (c .before .if1 .taken))
+returns c =
+    let after-e : tie.After-e Inv-loop μ-loop = search c in
+    let after-read-entry : tie.After-read-entry Inv-loop μ-loop = search c in
+    let at-loop : tie.At-loop Inv-loop μ-loop = search c in
+    rw (c .stopped .ensures) (at-loop .loop .inv .1, unknown _ _ _ _ _ _ _ _ _ (sym (after-read-entry .read-entry .ensures) ∙ after-e .e .given .1) (c .before .if1 .taken))
 
 mul-threads : tie.Need-mul-threads Inv-loop μ-loop
 mul-threads c = omega arith
 
 slice-write-threads : tie.Need-slice-write-threads Inv-loop μ-loop
 slice-write-threads c =
-    let l = c .before .before .before .before .before .before in
-    omega (arith, c .before .before .before .before .before .loop-test .taken, threads-long _ _ _ _ _ _ _ _ _ _ _ _ (l .loop .inv .1), c .before .before .before .before .before .before .before .before .before .before .pre)
+    let in-loop : tie.In-loop Inv-loop μ-loop = search c in
+    let l : tie.At-loop Inv-loop μ-loop = search c in
+    let start : tie.Start Inv-loop μ-loop = search c in
+    omega (arith, in-loop .loop-test .taken, threads-long _ _ _ _ _ _ _ _ _ _ _ _ (l .loop .inv .1), start .pre)
 
 slice-write-kinds : tie.Need-slice-write-kinds Inv-loop μ-loop
 slice-write-kinds c =
-    let l = c .before .before .before .before .before .before in
-    omega (arith, c .before .before .before .before .before .loop-test .taken, kinds-long _ _ _ _ _ _ _ _ _ _ _ _ (l .loop .inv .1), c .before .before .before .before .before .before .before .before .before .before .pre)
+    let in-loop : tie.In-loop Inv-loop μ-loop = search c in
+    let l : tie.At-loop Inv-loop μ-loop = search c in
+    let start : tie.Start Inv-loop μ-loop = search c in
+    omega (arith, in-loop .loop-test .taken, kinds-long _ _ _ _ _ _ _ _ _ _ _ _ (l .loop .inv .1), start .pre)
 
 add-count : tie.Need-add-count Inv-loop μ-loop
 add-count c = omega arith
 
 loop-less : tie.Need-loop-less Inv-loop μ-loop
-loop-less c = omega (arith, c .before .before .before .before .before .loop-test .taken)
+loop-less c =
+    let in-loop : tie.In-loop Inv-loop μ-loop = search c in
+    omega (arith, in-loop .loop-test .taken)
 
 loop-again : tie.Need-loop-again Inv-loop μ-loop
 loop-again c =
-    let l = c .before .before .before .before .before .before in
-    let begin = c .before .before .before .before .before .before .before .before .before .before in
+    let after-read-entry : tie.After-read-entry Inv-loop μ-loop = search c in
+    let in-loop : tie.In-loop Inv-loop μ-loop = search c in
+    let l : tie.At-loop Inv-loop μ-loop = search c in
+    let begin : tie.Start Inv-loop μ-loop = search c in
     let long-threads = threads-long _ _ _ _ _ _ _ _ _ _ _ _ (l .loop .inv .1) in
     let long-kinds = kinds-long _ _ _ _ _ _ _ _ _ _ _ _ (l .loop .inv .1) in (
-      omega (arith, c .before .before .before .before .before .loop-test .taken),
+      omega (arith, in-loop .loop-test .taken),
       more _ _ _ _ _ _ _ _ _ _ _ _ (l .loop .inv .1) _ _ _ _ _
-          (one _ _ _ _ _ _ _ _ _ _ (omega (arith, c .before .before .before .before .before .loop-test .taken, long-threads, begin .pre)) (omega (arith, c .before .before .before .before .before .loop-test .taken, long-kinds, begin .pre)) (sym (c .before .before .before .before .entry-at .ensures) ∙ c .before .before .e .given .1) (c .if1 .left)),
+          (one _ _ _ _ _ _ _ _ _ _ (omega (arith, in-loop .loop-test .taken, long-threads, begin .pre)) (omega (arith, in-loop .loop-test .taken, long-kinds, begin .pre)) (sym (after-read-entry .read-entry .ensures) ∙ c .before .before .e .given .1) (c .if1 .left)),
     )
 
 enum-told : tie.Need-enum-told Inv-loop μ-loop
@@ -76,13 +94,20 @@ stopped-requires-2 : tie.Need-stopped-requires-2 Inv-loop μ-loop
 stopped-requires-2 c κs = search needs
 
 same-length-3 : tie.Need-same-length-3 Inv-loop μ-loop
-same-length-3 c = threads-long _ _ _ _ _ _ _ _ _ _ _ _ (c .before .before .before .before .before .loop .inv .1)
+same-length-3 c =
+    let at-loop : tie.At-loop Inv-loop μ-loop = search c in
+    threads-long _ _ _ _ _ _ _ _ _ _ _ _ (at-loop .loop .inv .1)
 
 same-length-4 : tie.Need-same-length-4 Inv-loop μ-loop
-same-length-4 c = kinds-long _ _ _ _ _ _ _ _ _ _ _ _ (c .before .before .before .before .before .loop .inv .1)
+same-length-4 c =
+    let at-loop : tie.At-loop Inv-loop μ-loop = search c in
+    kinds-long _ _ _ _ _ _ _ _ _ _ _ _ (at-loop .loop .inv .1)
 
 returns-2 : tie.Need-returns-2 Inv-loop μ-loop
-returns-2 c = rw (c .stopped2 .ensures) (c .before .before .before .before .before .loop .inv .1, broken _ _ _ _ _ _ (sym (c .before .before .before .entry-at .ensures) ∙ c .before .enum-told .given .1))
+returns-2 c =
+    let after-read-entry : tie.After-read-entry Inv-loop μ-loop = search c in
+    let at-loop : tie.At-loop Inv-loop μ-loop = search c in
+    rw (c .stopped2 .ensures) (at-loop .loop .inv .1, broken _ _ _ _ _ _ (sym (after-read-entry .read-entry .ensures) ∙ c .before .enum-told .given .1))
 
 enum-told-2 : tie.Need-enum-told-2 Inv-loop μ-loop
 enum-told-2 c = search needs
@@ -91,13 +116,20 @@ stopped-requires-3 : tie.Need-stopped-requires-3 Inv-loop μ-loop
 stopped-requires-3 c κs = search needs
 
 same-length-5 : tie.Need-same-length-5 Inv-loop μ-loop
-same-length-5 c = threads-long _ _ _ _ _ _ _ _ _ _ _ _ (c .before .before .before .before .before .loop .inv .1)
+same-length-5 c =
+    let at-loop : tie.At-loop Inv-loop μ-loop = search c in
+    threads-long _ _ _ _ _ _ _ _ _ _ _ _ (at-loop .loop .inv .1)
 
 same-length-6 : tie.Need-same-length-6 Inv-loop μ-loop
-same-length-6 c = kinds-long _ _ _ _ _ _ _ _ _ _ _ _ (c .before .before .before .before .before .loop .inv .1)
+same-length-6 c =
+    let at-loop : tie.At-loop Inv-loop μ-loop = search c in
+    kinds-long _ _ _ _ _ _ _ _ _ _ _ _ (at-loop .loop .inv .1)
 
 returns-3 : tie.Need-returns-3 Inv-loop μ-loop
-returns-3 c = rw (c .stopped3 .ensures) (c .before .before .before .before .before .loop .inv .1, ended _ _ _ _ _ _ (sym (c .before .before .before .entry-at .ensures) ∙ c .before .enum-told2 .given .1))
+returns-3 c =
+    let after-read-entry : tie.After-read-entry Inv-loop μ-loop = search c in
+    let at-loop : tie.At-loop Inv-loop μ-loop = search c in
+    rw (c .stopped3 .ensures) (at-loop .loop .inv .1, ended _ _ _ _ _ _ (sym (after-read-entry .read-entry .ensures) ∙ c .before .enum-told2 .given .1))
 
 stopped-requires-4 : tie.Need-stopped-requires-4 Inv-loop μ-loop
 stopped-requires-4 c κs = search needs
@@ -118,7 +150,7 @@ read-some-spec =
     Inv-loop
     μ-loop
     loop-holds
-    entry-at-requires
+    read-entry-requires
     enum-known-e
     cast-if1
     stopped-requires

@@ -30,7 +30,8 @@ thread-by-requires c κs = search needs
 
 returns : tie.Need-returns
 returns c =
-    let a = c .before .before .before .before .before .args in
+    let start : tie.Start = search c in
+    let a = start .args in
     c .thread-by .ensures ∙ ap (λ w. cond (eqb (a .bits % 2) 1) w (a .before)) (c .before .two-bytes .ensures)
 
 pub thread-at-spec : {M : Type 1} → statement M

@@ -13,7 +13,10 @@ number-index-requires : tie.Need-number-index-requires
 number-index-requires c κs = search needs
 
 returns : tie.Need-returns
-returns c = let a = c .before .before .before .before .before .before .before .args in refused-answered _ _ (a .threads .now) (a .kinds .now) (a .domains .now) _ (c .before .before .before .early-refusal-of .ensures) (c .before .if1 .taken) _ (c .number-index .ensures)
+returns c =
+    let after-early-refusal-of : tie.After-early-refusal-of = search c in
+    let start : tie.Start = search c in
+    let a = start .args in refused-answered _ _ (a .threads .now) (a .kinds .now) (a .domains .now) _ (after-early-refusal-of .early-refusal-of .ensures) (c .before .if1 .taken) _ (c .number-index .ensures)
 
 slice-aggregate-check-all : tie.Need-slice-aggregate-check-all
 slice-aggregate-check-all c = search needs
@@ -23,9 +26,12 @@ slice-aggregate-check-all-2 c = search needs
 
 check-all-requires : tie.Need-check-all-requires
 check-all-requires c κs =
-    let passed = c .before .before .before .before .before .before .before .before .before .before .before .before .before .before .before .before .before .before .before .before .before .before .before .before in
-    let told = c .before .before .before .before .before .before .before .before .before .before .before .before .before .before .before .before .before .before .before .before .before .before .before .before .before .before .early-refusal-of .ensures in
-    let first = c .before .before .before .before .before .before .before .before .before .before .before .before .before .before .before .before .before .before .before .before .before .before .before .before .before .before .before .before .before .before in
+    let after-rows2 : tie.After-rows2 = search c in
+    let after-rows : tie.After-rows = search c in
+    let passed : tie.Else1 = search c in
+    let after-early-refusal-of : tie.After-early-refusal-of = search c in
+    let first : tie.Start = search c in
+    let told = after-early-refusal-of .early-refusal-of .ensures in
     let a = first .args in
     let g = first .good .1 .0 .1 .1 .0 .1 .1 in
     let q = g .1 .1 .1 .0 .1 .1 in
@@ -42,10 +48,15 @@ place-of-requires c κs = search needs
 
 returns-2 : tie.Need-returns-2
 returns-2 c =
-    let passed = c .before .before .before .before .before .before .before .before .before .before .before .before .before .before .before .before .before .before .before .before .before .before .before .before .before .before .before .before in
-    let a = c .before .before .before .before .before .before .before .before .before .before .before .before .before .before .before .before .before .before .before .before .before .before .before .before .before .before .before .before .before .before .before .before .before .before .args in
-    let all = c .before .before .before .check-all .ensures in
-    steps-answered _ _ (a .threads .now) (a .kinds .now) (a .domains .now) _ (c .before .before .before .before .before .before .before .before .before .before .before .before .before .before .before .before .before .before .before .before .before .before .before .before .before .before .before .before .before .before .early-refusal-of .ensures) (passed .if1 .left) _ _ _ (all .0) (all .1) (c .place-of .ensures)
+    let after-check-all : tie.After-check-all = search c in
+    let after-place-domains2 : tie.After-place-domains2 = search c in
+    let after-place-domains : tie.After-place-domains = search c in
+    let passed : tie.Else1 = search c in
+    let after-early-refusal-of : tie.After-early-refusal-of = search c in
+    let start : tie.Start = search c in
+    let a = start .args in
+    let all = after-check-all .check-all .ensures in
+    steps-answered _ _ (a .threads .now) (a .kinds .now) (a .domains .now) _ (after-early-refusal-of .early-refusal-of .ensures) (passed .if1 .left) _ _ _ (all .0) (all .1) (c .place-of .ensures)
 
 pub check-steps-spec : {M : Type 1} → statement M
 check-steps-spec =

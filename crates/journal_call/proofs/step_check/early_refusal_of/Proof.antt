@@ -13,14 +13,23 @@ returns c = state-answered _ _ _ _ _ _ (c .before .before .check-state .ensures)
 
 returns-2 : tie.Need-returns-2
 unfolding refusal
-returns-2 c = let a = c .before .before .before .before .before .before .before .args in kinds-answered _ _ (a .threads .now) (a .kinds .now) (a .domains .now) _ (c .before .before .before .check-state .ensures) (c .before .if1 .left) (c .if2 .taken)
+returns-2 c =
+    let after-check-state : tie.After-check-state = search c in
+    let start : tie.Start = search c in
+    let a = start .args in kinds-answered _ _ (a .threads .now) (a .kinds .now) (a .domains .now) _ (after-check-state .check-state .ensures) (c .before .if1 .left) (c .if2 .taken)
 
 returns-3 : tie.Need-returns-3
 unfolding refusal
-returns-3 c = let a = c .before .before .before .before .before .before .before .before .args in domains-answered _ _ (a .threads .now) (a .kinds .now) (a .domains .now) _ (c .before .before .before .before .check-state .ensures) (c .before .before .if1 .left) (c .before .if2 .left) (c .if3 .taken)
+returns-3 c =
+    let after-check-state : tie.After-check-state = search c in
+    let start : tie.Start = search c in
+    let a = start .args in domains-answered _ _ (a .threads .now) (a .kinds .now) (a .domains .now) _ (after-check-state .check-state .ensures) (c .before .before .if1 .left) (c .before .if2 .left) (c .if3 .taken)
 
 returns-4 : tie.Need-returns-4
-returns-4 c = let a = c .before .before .before .before .before .before .before .before .args in lengths-answered _ _ (a .threads .now) (a .kinds .now) (a .domains .now) _ (c .before .before .before .before .check-state .ensures) (c .before .before .if1 .left) (c .before .if2 .left) (c .if3 .left)
+returns-4 c =
+    let after-check-state : tie.After-check-state = search c in
+    let start : tie.Start = search c in
+    let a = start .args in lengths-answered _ _ (a .threads .now) (a .kinds .now) (a .domains .now) _ (after-check-state .check-state .ensures) (c .before .before .if1 .left) (c .before .if2 .left) (c .if3 .left)
 
 pub early-refusal-of-spec : {M : Type 1} → statement M
 early-refusal-of-spec =

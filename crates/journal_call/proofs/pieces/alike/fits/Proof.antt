@@ -32,8 +32,10 @@ sub-result : tie.Need-sub-result
 sub-result c = search needs
 
 returns-6 : tie.Need-returns-6
-returns-6 c = λ z.
-    let a = c .before .before .before .before .before .args in
+returns-6 c =
+    let start : tie.Start = search c in
+    λ z.
+    let a = start .args in
     let e = leb-true (a .number) (a .kinds - a .count) z in
     record { bytes-left = omega arith; threads-left = omega arith; kinds-left = omega (arith, e) }
 

@@ -28,7 +28,10 @@ same-length-4 c = search needs
 
 returns-2 : tie.Need-returns-2
 returns-2 c =
-    again _ _ _ _ _ _ _ _ _ _ _ _ (c .before .before .before .before .before .before .before .before .before .before .before .before .before .read-many .ensures) (omega (arith, c .before .before .before .before .before .before .before .if1 .left)) _ _ _ _ _ (c .before .before .before .before .read-four .ensures)
+    let after-read-four : tie.After-read-four = search c in
+    let else1 : tie.Else1 = search c in
+    let after-read-many : tie.After-read-many = search c in
+    again _ _ _ _ _ _ _ _ _ _ _ _ (after-read-many .read-many .ensures) (omega (arith, else1 .if1 .left)) _ _ _ _ _ (after-read-four .read-four .ensures)
 
 pub read-alike-spec : {M : Type 1} → statement M
 read-alike-spec = tie.close (tie.spec read-many-requires same-length same-length-2 returns read-four-requires same-length-3 same-length-4 returns-2)

@@ -10,14 +10,17 @@ stopped-requires c κs = search needs
 
 returns : tie.Need-returns
 returns c =
-    let begin = c .before .before .before .before .before in
+    let begin : tie.Start = search c in
     rw (c .stopped .ensures) (nothing _ _ _ _ _ _ _ (begin .pre .0) (begin .pre .1))
 
 fits-requires : tie.Need-fits-requires
 fits-requires c κs = search needs
 
 read-same-requires : tie.Need-read-same-requires
-read-same-requires c κs = (c .before .before .before .fits2 .ensures (c .before .before .if2 .taken), omega (arith, c .before .before .before .before .if1 .left))
+read-same-requires c κs =
+    let after-fits2 : tie.After-fits2 = search c in
+    let else1 : tie.Else1 = search c in
+    (after-fits2 .fits2 .ensures (c .before .before .if2 .taken), omega (arith, else1 .if1 .left))
 
 same-length : tie.Need-same-length
 same-length c = search needs
@@ -30,8 +33,11 @@ returns-2 c = search needs
 
 read-others-requires : tie.Need-read-others-requires
 read-others-requires c κs =
-    let fits = c .before .before .before .before .before .before .before .before .before .before .before .before .fits2 .ensures (c .before .before .before .before .before .before .before .before .before .before .before .if2 .taken) in
-    let kept = c .before .before .before .before .before .before .before .before .read-same .kept in
+    let after-read-same : tie.After-read-same = search c in
+    let then2 : tie.Then2 = search c in
+    let after-fits2 : tie.After-fits2 = search c in
+    let fits = after-fits2 .fits2 .ensures (then2 .if2 .taken) in
+    let kept = after-read-same .read-same .kept in
     record { bytes-left = fits .bytes-left; threads-left = omega (arith, fits .threads-left, kept .1 .1 .1 .1 .0); kinds-left = omega (arith, fits .kinds-left, kept .1 .1 .1 .1 .1 .0) }
 
 same-length-3 : tie.Need-same-length-3
@@ -42,14 +48,17 @@ same-length-4 c = search needs
 
 returns-3 : tie.Need-returns-3
 returns-3 c =
-    again _ _ _ _ _ _ _ _ _ _ _ _ (c .before .before .before .before .before .before .before .before .before .before .before .before .before .read-same .ensures) (omega (arith, c .before .before .before .before .before .before .before .if3 .left)) _ _ _ _ _ (c .before .before .before .before .read-others .ensures)
+    let after-read-others : tie.After-read-others = search c in
+    let else3 : tie.Else3 = search c in
+    let after-read-same : tie.After-read-same = search c in
+    again _ _ _ _ _ _ _ _ _ _ _ _ (after-read-same .read-same .ensures) (omega (arith, else3 .if3 .left)) _ _ _ _ _ (after-read-others .read-others .ensures)
 
 stopped-requires-2 : tie.Need-stopped-requires-2
 stopped-requires-2 c κs = search needs
 
 returns-4 : tie.Need-returns-4
 returns-4 c =
-    let begin = c .before .before .before .before .before .before .before in
+    let begin : tie.Start = search c in
     rw (c .stopped2 .ensures) (nothing _ _ _ _ _ _ _ (begin .pre .0) (begin .pre .1))
 
 pub read-four-spec : {M : Type 1} → statement M

@@ -10,14 +10,17 @@ stopped-requires c κs = search needs
 
 returns : tie.Need-returns
 returns c =
-    let begin = c .before .before .before .before .before in
+    let begin : tie.Start = search c in
     rw (c .stopped .ensures) (nothing _ _ _ _ _ _ _ (begin .pre .0) (begin .pre .1))
 
 fits-requires : tie.Need-fits-requires
 fits-requires c κs = search needs
 
 read-sixteen-requires : tie.Need-read-sixteen-requires
-read-sixteen-requires c κs = (c .before .before .before .fits2 .ensures (c .before .before .if2 .taken), omega (arith, c .before .before .before .before .if1 .left))
+read-sixteen-requires c κs =
+    let after-fits2 : tie.After-fits2 = search c in
+    let else1 : tie.Else1 = search c in
+    (after-fits2 .fits2 .ensures (c .before .before .if2 .taken), omega (arith, else1 .if1 .left))
 
 same-length : tie.Need-same-length
 same-length c = search needs
@@ -33,7 +36,7 @@ stopped-requires-2 c κs = search needs
 
 returns-3 : tie.Need-returns-3
 returns-3 c =
-    let begin = c .before .before .before .before .before .before .before in
+    let begin : tie.Start = search c in
     rw (c .stopped2 .ensures) (nothing _ _ _ _ _ _ _ (begin .pre .0) (begin .pre .1))
 
 pub read-many-spec : {M : Type 1} → statement M

@@ -101,12 +101,18 @@ put-kinds-requires c κs = search needs
 
 add-stopped : tie.Need-add-stopped
 add-stopped c =
-    let begin = c .before .before .before .before .before .before .before .before .before .before .before .before .before .before .before .before .before .before .before .before .before .before .before .before .before .before .before .before .before .before .before in
+    let after-two-bytes4 : tie.After-two-bytes4 = search c in
+    let after-shared-slice-known7 : tie.After-shared-slice-known7 = search c in
+    let after-shared-slice-known : tie.After-shared-slice-known = search c in
+    let begin : tie.Start = search c in
     search (needs, begin .pre .threads-left)
 
 add-stopped-2 : tie.Need-add-stopped-2
 add-stopped-2 c =
-    let begin = c .before .before .before .before .before .before .before .before .before .before .before .before .before .before .before .before .before .before .before .before .before .before .before .before .before .before .before .before .before .before .before in
+    let after-two-bytes4 : tie.After-two-bytes4 = search c in
+    let after-shared-slice-known7 : tie.After-shared-slice-known7 = search c in
+    let after-shared-slice-known : tie.After-shared-slice-known = search c in
+    let begin : tie.Start = search c in
     search (needs, begin .pre .bytes-left)
 
 stopped-requires : tie.Need-stopped-requires
@@ -118,26 +124,42 @@ same-length c = search needs
 same-length-2 : tie.Need-same-length-2
 same-length-2 c = search needs
 
+-- where the function starts
+abbrev start-of : tie.After-all-are → tie.Start
+start-of c = search c
+
 returns : tie.Need-returns
 returns c =
-    let a = c .before .before .before .before .before .before .before .before .before .before .before .before .before .before .before .before .before .before .before .before .before .before .before .before .before .before .before .before .before .before .before .before .args in
-    let begin = c .before .before .before .before .before .before .before .before .before .before .before .before .before .before .before .before .before .before .before .before .before .before .before .before .before .before .before .before .before .before .before .before in
-    let same = c .before .before .before .before .before .before .before .before .before .before .before .before .before .before .before .before .before .before .before .before .before .before .before .before .all-are .ensures (c .before .before .before .before .before .before .before .before .before .before .before .before .before .before .before .before .before .before .before .before .before .before .before .if1 .taken) in
-    let first = c .before .before .before .before .before .before .before .before .before .before .before .before .before .before .before .before .before .before .before .before .two-bytes .ensures in
-    let second = c .before .before .before .before .before .before .before .before .before .before .before .before .before .before .before .before .before .two-bytes2 .ensures in
-    let third = c .before .before .before .before .before .before .before .before .before .before .before .before .before .before .two-bytes3 .ensures in
-    let fourth = c .before .before .before .before .before .before .before .before .before .before .before .two-bytes4 .ensures in
-    let known = c .before .before .before .before .before .before .before .before .before .before .all-known .ensures (c .before .before .before .before .before .before .before .before .before .if2 .taken) in
+    let after-put-kinds : tie.After-put-kinds = search c in
+    let after-put-threads : tie.After-put-threads = search c in
+    let then2 : tie.Then2 = search c in
+    let after-all-known : tie.After-all-known = search c in
+    let after-two-bytes4 : tie.After-two-bytes4 = search c in
+    let after-two-bytes3 : tie.After-two-bytes3 = search c in
+    let after-two-bytes2 : tie.After-two-bytes2 = search c in
+    let after-two-bytes : tie.After-two-bytes = search c in
+    let then1 : tie.Then1 = search c in
+    let after-all-are : tie.After-all-are = search c in
+    let start = start-of after-all-are in
+    let a = start .args in
+    let same = after-all-are .all-are .ensures (then1 .if1 .taken) in
+    let first = after-two-bytes .two-bytes .ensures in
+    let second = after-two-bytes2 .two-bytes2 .ensures in
+    let third = after-two-bytes3 .two-bytes3 .ensures in
+    let fourth = after-two-bytes4 .two-bytes4 .ensures in
+    let known = after-all-known .all-known .ensures (then2 .if2 .taken) in
     rw (c .stopped .ensures)
-    (four-read _ _ _ _ _ _ _ (begin .pre .threads-left) (begin .pre .kinds-left) (c .before .before .before .before .before .before .before .put-threads .ensures) (c .before .before .before .put-kinds .ensures)
-    (four-others (a .journal .now) (a .position) (a .before) _ (begin .pre .bytes-left) same _ _ _ _ first second third fourth known))
+    (four-read _ _ _ _ _ _ _ (start .pre .threads-left) (start .pre .kinds-left) (after-put-threads .put-threads .ensures) (after-put-kinds .put-kinds .ensures)
+    (four-others (a .journal .now) (a .position) (a .before) _ (start .pre .bytes-left) same _ _ _ _ first second third fourth known))
 
 stopped-requires-2 : tie.Need-stopped-requires-2
 stopped-requires-2 c κs = search needs
 
 returns-2 : tie.Need-returns-2
 returns-2 c =
-    let begin = c .before .before .before .before .before .before .before .before .before .before .before .before .before .before .before .before .before .before .before .before .before .before .before .before in
+    let after-shared-slice-known9 : tie.After-shared-slice-known9 = search c in
+    let after-shared-slice-known2 : tie.After-shared-slice-known2 = search c in
+    let begin : tie.Start = search c in
     rw (c .stopped2 .ensures) (nothing _ _ _ _ _ _ _ (omega (arith, begin .pre .threads-left)) (omega (arith, begin .pre .kinds-left)))
 
 stopped-requires-3 : tie.Need-stopped-requires-3
@@ -145,7 +167,7 @@ stopped-requires-3 c κs = search needs
 
 returns-3 : tie.Need-returns-3
 returns-3 c =
-    let begin = c .before .before .before .before .before .before .before .before .before .before in
+    let begin : tie.Start = search c in
     rw (c .stopped3 .ensures) (nothing _ _ _ _ _ _ _ (omega (arith, begin .pre .threads-left)) (omega (arith, begin .pre .kinds-left)))
 
 pub read-others-spec : {M : Type 1} → statement M

@@ -75,14 +75,25 @@ same-length c = search needs
 same-length-2 : tie.Need-same-length-2
 same-length-2 c = search needs
 
+-- where the function starts, from each comparison
+abbrev start-of : tie.After-all-are → tie.Start
+start-of c = search c
+
+abbrev first-of : tie.After-all-are2 → tie.After-all-are
+first-of c = search c
+
 returns : tie.Need-returns
 returns c =
-    let a = c .before .before .before .before .before .before .before .before .before .before .before .before .before .before .before .before .before .before .before .before .before .before .args in
-    let begin = c .before .before .before .before .before .before .before .before .before .before .before .before .before .before .before .before .before .before .before .before .before .before in
-    let same = c .before .before .before .before .before .before .before .before .before .before .before .before .before .before .all-are .ensures (c .before .before .before .before .before .before .before .before .before .before .before .before .before .if1 .taken) in
+    let after-put-kinds : tie.After-put-kinds = search c in
+    let after-put-threads : tie.After-put-threads = search c in
+    let then1 : tie.Then1 = search c in
+    let after-all-are : tie.After-all-are = search c in
+    let start = start-of after-all-are in
+    let a = start .args in
+    let same = after-all-are .all-are .ensures (then1 .if1 .taken) in
     rw (c .stopped .ensures)
-    (four-read _ _ _ _ _ _ _ (begin .pre .0 .threads-left) (begin .pre .0 .kinds-left) (c .before .before .before .before .before .before .before .put-threads .ensures) (c .before .before .before .put-kinds .ensures)
-    (four-moves (a .journal .now) (a .position) (a .before) _ (begin .pre .1) (omega (arith, begin .pre .0 .bytes-left)) same))
+    (four-read _ _ _ _ _ _ _ (start .pre .0 .threads-left) (start .pre .0 .kinds-left) (after-put-threads .put-threads .ensures) (after-put-kinds .put-kinds .ensures)
+    (four-moves (a .journal .now) (a .position) (a .before) _ (start .pre .1) (omega (arith, start .pre .0 .bytes-left)) same))
 
 shared-slice-read-all-are-5 : tie.Need-shared-slice-read-all-are-5
 shared-slice-read-all-are-5 c = search needs
@@ -131,19 +142,24 @@ same-length-4 c = search needs
 
 returns-2 : tie.Need-returns-2
 returns-2 c =
-    let a = c .before .before .before .before .before .before .before .before .before .before .before .before .before .before .before .before .before .before .before .before .before .before .before .before .args in
-    let begin = c .before .before .before .before .before .before .before .before .before .before .before .before .before .before .before .before .before .before .before .before .before .before .before .before in
-    let same = c .before .before .before .before .before .before .before .before .before .before .all-are2 .ensures (c .before .before .before .before .before .before .before .before .before .if2 .taken) in
+    let after-put-kinds2 : tie.After-put-kinds2 = search c in
+    let after-put-threads2 : tie.After-put-threads2 = search c in
+    let then2 : tie.Then2 = search c in
+    let after-all-are2 : tie.After-all-are2 = search c in
+    let start = start-of (first-of after-all-are2) in
+    let a = start .args in
+    let same = after-all-are2 .all-are2 .ensures (then2 .if2 .taken) in
     rw (c .stopped2 .ensures)
-    (four-read _ _ _ _ _ _ _ (begin .pre .0 .threads-left) (begin .pre .0 .kinds-left) (c .before .before .before .before .before .before .before .put-threads2 .ensures) (c .before .before .before .put-kinds2 .ensures)
-    (four-stays (a .journal .now) (a .position) (a .before) _ (begin .pre .1) (omega (arith, begin .pre .0 .bytes-left)) same))
+    (four-read _ _ _ _ _ _ _ (start .pre .0 .threads-left) (start .pre .0 .kinds-left) (after-put-threads2 .put-threads2 .ensures) (after-put-kinds2 .put-kinds2 .ensures)
+    (four-stays (a .journal .now) (a .position) (a .before) _ (start .pre .1) (omega (arith, start .pre .0 .bytes-left)) same))
 
 stopped-requires-3 : tie.Need-stopped-requires-3
 stopped-requires-3 c κs = search needs
 
 returns-3 : tie.Need-returns-3
 returns-3 c =
-    let begin = c .before .before .before .before .before .before .before .before .before .before .before .before .before .before .before .before in
+    let after-shared-slice-known4 : tie.After-shared-slice-known4 = search c in
+    let begin : tie.Start = search c in
     rw (c .stopped3 .ensures) (nothing _ _ _ _ _ _ _ (omega (arith, begin .pre .0 .threads-left)) (omega (arith, begin .pre .0 .kinds-left)))
 
 pub read-same-spec : {M : Type 1} → statement M

@@ -20,39 +20,42 @@ abbrev μ-loop : tie.MeasureT-loop
 μ-loop journal position before known threads₀ kinds₀ count k₀ threads kinds k = 16 - k
 
 kinds-given-requires : tie.Need-kinds-given-requires Inv-loop μ-loop
-kinds-given-requires c κs = c .before .before .before .pre .0 .bytes-left
+kinds-given-requires c κs =
+    let start : tie.Start Inv-loop μ-loop = search c in
+    start .pre .0 .bytes-left
 
 stopped-requires : tie.Need-stopped-requires Inv-loop μ-loop
 stopped-requires c κs = search needs
 
 returns : tie.Need-returns Inv-loop μ-loop
 returns c =
-    let fits = c .before .before .before .before .before .before .pre .0 in
+    let start : tie.Start Inv-loop μ-loop = search c in
+    let fits = start .pre .0 in
     rw (c .stopped .ensures) (nothing _ _ _ _ _ _ _ (omega (arith, fits .threads-left)) (omega (arith, fits .kinds-left)))
 
 loop-holds : tie.Need-loop-holds Inv-loop μ-loop
 loop-holds c =
-    let begin = c .before .before .before .before .before in
+    let begin : tie.Start Inv-loop μ-loop = search c in
     let no-entry : begin .args .count + 0 ≡ begin .args .count = omega arith in
     let no-byte : begin .args .position + 2 * 0 ≡ begin .args .position = omega arith in
     (omega arith, rw (no-entry, no-byte) (nothing _ _ _ _ _ _ _ (omega (arith, begin .pre .0 .threads-left)) (omega (arith, begin .pre .0 .kinds-left))))
 
 add-threads : tie.Need-add-threads Inv-loop μ-loop
 add-threads c =
+    let begin : tie.Start Inv-loop μ-loop = search c in
     let l = c .before .loop in
-    let begin = c .before .before .before .before .before .before .before in
     omega (arith, l .inv .0, begin .pre .0 .threads-left)
 
 mul-threads : tie.Need-mul-threads Inv-loop μ-loop
 mul-threads c =
+    let begin : tie.Start Inv-loop μ-loop = search c in
     let l = c .before .loop in
-    let begin = c .before .before .before .before .before .before .before in
     omega (arith, l .inv .0, begin .pre .0 .threads-left)
 
 slice-write-threads : tie.Need-slice-write-threads Inv-loop μ-loop
 slice-write-threads c =
+    let begin : tie.Start Inv-loop μ-loop = search c in
     let l = c .before .loop in
-    let begin = c .before .before .before .before .before .before .before in
     omega (arith, c .loop-test .taken, begin .pre .0 .threads-left, threads-long _ _ _ _ _ _ _ _ _ _ _ _ (l .inv .1))
 
 mul-kinds : tie.Need-mul-kinds Inv-loop μ-loop
@@ -63,26 +66,26 @@ add-kinds c = omega (arith, c .before .loop .inv .0)
 
 add-kinds-2 : tie.Need-add-kinds-2 Inv-loop μ-loop
 add-kinds-2 c =
+    let begin : tie.Start Inv-loop μ-loop = search c in
     let l = c .before .loop in
-    let begin = c .before .before .before .before .before .before .before in
     omega (arith, l .inv .0, begin .pre .0 .bytes-left)
 
 shared-slice-read-kinds : tie.Need-shared-slice-read-kinds Inv-loop μ-loop
 shared-slice-read-kinds c =
+    let begin : tie.Start Inv-loop μ-loop = search c in
     let l = c .before .before .loop in
-    let begin = c .before .before .before .before .before .before .before .before in
     omega (arith, l .inv .0, begin .pre .0 .bytes-left)
 
 add-kinds-3 : tie.Need-add-kinds-3 Inv-loop μ-loop
 add-kinds-3 c =
+    let begin : tie.Start Inv-loop μ-loop = search c in
     let l = c .before .before .loop in
-    let begin = c .before .before .before .before .before .before .before .before in
     omega (arith, l .inv .0, begin .pre .0 .threads-left)
 
 slice-write-kinds : tie.Need-slice-write-kinds Inv-loop μ-loop
 slice-write-kinds c =
+    let begin : tie.Start Inv-loop μ-loop = search c in
     let l = c .before .before .loop in
-    let begin = c .before .before .before .before .before .before .before .before in
     omega (arith, c .before .loop-test .taken, begin .pre .0 .kinds-left, kinds-long _ _ _ _ _ _ _ _ _ _ _ _ (l .inv .1))
 
 add-k : tie.Need-add-k Inv-loop μ-loop
@@ -93,10 +96,12 @@ loop-less c = omega arith
 
 loop-again : tie.Need-loop-again Inv-loop μ-loop
 loop-again c =
+    let else1 : tie.Else1 Inv-loop μ-loop = search c in
+    let after-kinds-given : tie.After-kinds-given Inv-loop μ-loop = search c in
+    let begin : tie.Start Inv-loop μ-loop = search c in
     let l = c .before .before .loop in
-    let begin = c .before .before .before .before .before .before .before .before in
     let here = c .before .loop-test .taken in
-    let bits : getD (begin .args .journal .now) (begin .args .position + 2 * l .k) 0 ≡ 2 = c .before .before .before .before .kinds-given .ensures (not-false _ (c .before .before .before .if1 .left)) (l .k) here in
+    let bits : getD (begin .args .journal .now) (begin .args .position + 2 * l .k) 0 ≡ 2 = after-kinds-given .kinds-given .ensures (not-false _ (else1 .if1 .left)) (l .k) here in
     let next : begin .args .count + (l .k + 1) ≡ begin .args .count + l .k + 1 = omega arith in (
       omega arith,
       rw next
@@ -107,10 +112,14 @@ loop-again c =
     )
 
 add-stopped : tie.Need-add-stopped Inv-loop μ-loop
-add-stopped c = omega (arith, c .before .before .before .before .before .before .before .pre .0 .threads-left)
+add-stopped c =
+    let start : tie.Start Inv-loop μ-loop = search c in
+    omega (arith, start .pre .0 .threads-left)
 
 add-stopped-2 : tie.Need-add-stopped-2 Inv-loop μ-loop
-add-stopped-2 c = omega (arith, c .before .before .before .before .before .before .before .pre .0 .bytes-left)
+add-stopped-2 c =
+    let start : tie.Start Inv-loop μ-loop = search c in
+    omega (arith, start .pre .0 .bytes-left)
 
 stopped-requires-2 : tie.Need-stopped-requires-2 Inv-loop μ-loop
 stopped-requires-2 c κs = search needs
@@ -123,8 +132,8 @@ same-length-2 c = kinds-long _ _ _ _ _ _ _ _ _ _ _ _ (c .before .before .loop .i
 
 returns-2 : tie.Need-returns-2 Inv-loop μ-loop
 returns-2 c =
+    let begin : tie.Start Inv-loop μ-loop = search c in
     let l = c .before .before .loop in
-    let begin = c .before .before .before .before .before .before .before .before in
     let all : l .k ≡ 16 = omega (arith, l .inv .0, c .before .loop-test .left) in
     rw (c .stopped2 .ensures) (rw all at (l .inv .1))
 

@@ -36,7 +36,9 @@ loop-less : tie.Need-loop-less Inv-loop μ-loop
 loop-less c = omega arith
 
 loop-again : tie.Need-loop-again Inv-loop μ-loop
-loop-again c = (omega arith, one-size _ _ _ _ _ (c .before .before .before .loop .inv .1) (omega arith) (c .size-by .ensures))
+loop-again c =
+    let at-loop : tie.At-loop Inv-loop μ-loop = search c in
+    (omega arith, one-size _ _ _ _ _ (at-loop .loop .inv .1) (omega arith) (c .size-by .ensures))
 
 returns : tie.Need-returns Inv-loop μ-loop
 returns c =

@@ -20,7 +20,7 @@ abbrev μ-loop : tie.MeasureT-loop
 
 loop-holds : tie.Need-loop-holds Inv-loop μ-loop
 loop-holds c =
-    let f = c .before .before .before .before .before in
+    let f : tie.Start Inv-loop μ-loop = search c in
     (f .pre .1 .1 .1 .0, (f .pre .1 .1 .1 .1, none-yet _ _ (f .args .threads .now) (f .args .kinds .now) (f .args .domains .now) (f .pre .1 .0) (f .pre .1 .1 .0) (f .pre .0)))
 
 sub-loop : tie.Need-sub-loop Inv-loop μ-loop
@@ -30,7 +30,10 @@ add-end : tie.Need-add-end Inv-loop μ-loop
 add-end c = omega arith
 
 mul-check-piece : tie.Need-mul-check-piece Inv-loop μ-loop
-mul-check-piece c = let f = c .before .before .before .before .before .before .before .before .before .before .before .before .before .before .before .before .before .before .before in omega (arith, c .before .before .before .before .before .before .before .before .before .before .before .before .before .loop .inv .1 .1 .within, f .pre .1 .0, f .pre .1 .1 .0, f .good .1 .1 .1 .1 .1 .1 .1 .1 .1 .1 .1 .1 .1 .0)
+mul-check-piece c =
+    let after-check-piece-arg2 : tie.After-check-piece-arg2 Inv-loop μ-loop = search c in
+    let at-loop : tie.At-loop Inv-loop μ-loop = search c in
+    let f : tie.Start Inv-loop μ-loop = search c in omega (arith, at-loop .loop .inv .1 .1 .within, f .pre .1 .0, f .pre .1 .1 .0, f .good .1 .1 .1 .1 .1 .1 .1 .1 .1 .1 .1 .1 .1 .0)
 
 sub-check-piece : tie.Need-sub-check-piece Inv-loop μ-loop
 sub-check-piece c = omega arith
@@ -42,7 +45,10 @@ part-check-piece-end : tie.Need-part-check-piece-end Inv-loop μ-loop
 part-check-piece-end c = omega arith
 
 mul-check-piece-2 : tie.Need-mul-check-piece-2 Inv-loop μ-loop
-mul-check-piece-2 c = let f = c .before .before .before .before .before .before .before .before .before .before .before .before .before .before .before .before .before .before .before .before in omega (arith, c .before .before .before .before .before .before .before .before .before .before .before .before .before .before .loop .inv .1 .1 .within, f .pre .1 .0, f .pre .1 .1 .0, f .good .1 .1 .1 .1 .1 .1 .1 .1 .1 .1 .1 .1 .1 .0)
+mul-check-piece-2 c =
+    let after-check-piece-arg3 : tie.After-check-piece-arg3 Inv-loop μ-loop = search c in
+    let at-loop : tie.At-loop Inv-loop μ-loop = search c in
+    let f : tie.Start Inv-loop μ-loop = search c in omega (arith, at-loop .loop .inv .1 .1 .within, f .pre .1 .0, f .pre .1 .1 .0, f .good .1 .1 .1 .1 .1 .1 .1 .1 .1 .1 .1 .1 .1 .0)
 
 sub-check-piece-2 : tie.Need-sub-check-piece-2 Inv-loop μ-loop
 sub-check-piece-2 c = omega arith
@@ -54,7 +60,10 @@ part-check-piece-end-2 : tie.Need-part-check-piece-end-2 Inv-loop μ-loop
 part-check-piece-end-2 c = omega arith
 
 mul-check-piece-3 : tie.Need-mul-check-piece-3 Inv-loop μ-loop
-mul-check-piece-3 c = let f = c .before .before .before .before .before .before .before .before .before .before .before .before .before .before .before .before .before .before .before .before .before in omega (arith, c .before .before .before .before .before .before .before .before .before .before .before .before .before .before .before .loop .inv .1 .1 .within, f .pre .1 .0, f .pre .1 .1 .0, f .good .1 .1 .1 .1 .1 .1 .1 .1 .1 .1 .1 .1 .1 .0)
+mul-check-piece-3 c =
+    let after-check-piece-arg4 : tie.After-check-piece-arg4 Inv-loop μ-loop = search c in
+    let at-loop : tie.At-loop Inv-loop μ-loop = search c in
+    let f : tie.Start Inv-loop μ-loop = search c in omega (arith, at-loop .loop .inv .1 .1 .within, f .pre .1 .0, f .pre .1 .1 .0, f .good .1 .1 .1 .1 .1 .1 .1 .1 .1 .1 .1 .1 .1 .0)
 
 sub-check-piece-3 : tie.Need-sub-check-piece-3 Inv-loop μ-loop
 sub-check-piece-3 c = omega arith
@@ -67,32 +76,53 @@ part-check-piece-end-3 c = omega arith
 
 check-piece-requires : tie.Need-check-piece-requires Inv-loop μ-loop
 check-piece-requires c κs =
-    let f = c .before .before .before .before .before .before .before .before .before .before .before .before .before .before .before .before .before .before .before .before .before .before .before .before in
-    let l = c .before .before .before .before .before .before .before .before .before .before .before .before .before .before .before .before .before .before .loop in
+    let after-check-piece-arg7 : tie.After-check-piece-arg7 Inv-loop μ-loop = search c in
+    let in-loop : tie.In-loop Inv-loop μ-loop = search c in
+    let at-loop : tie.At-loop Inv-loop μ-loop = search c in
+    let f : tie.Start Inv-loop μ-loop = search c in
+    let l = at-loop .loop in
     let g = l .inv .1 .1 in
-    (g .ready, piece-fits _ _ (f .args .threads .now) (f .args .kinds .now) (f .args .domains .now) (f .pre .1 .0) (f .pre .1 .1 .0) _ (l .at) (l .at + 1024) g (omega arith) (omega (arith, g .within, c .before .before .before .before .before .before .before .before .before .before .before .before .before .before .before .before .before .loop-test .taken)) _ _ (omega arith) (l .inv .0) (l .inv .1 .0))
+    (g .ready, piece-fits _ _ (f .args .threads .now) (f .args .kinds .now) (f .args .domains .now) (f .pre .1 .0) (f .pre .1 .1 .0) _ (l .at) (l .at + 1024) g (omega arith) (omega (arith, g .within, in-loop .loop-test .taken)) _ _ (omega arith) (l .inv .0) (l .inv .1 .0))
 
 add-t56 : tie.Need-add-t56 Inv-loop μ-loop
 add-t56 c =
-    let f = c .before .before .before .before .before .before .before .before .before .before .before .before .before .before .before .before .before .before .before .before .before .before .before .before .before .before .before .before .before .before .before .before in
-    let l = c .before .before .before .before .before .before .before .before .before .before .before .before .before .before .before .before .before .before .before .before .before .before .before .before .before .before .loop in
+    let after-check-piece : tie.After-check-piece Inv-loop μ-loop = search c in
+    let after-check-piece-arg8 : tie.After-check-piece-arg8 Inv-loop μ-loop = search c in
+    let in-loop : tie.In-loop Inv-loop μ-loop = search c in
+    let at-loop : tie.At-loop Inv-loop μ-loop = search c in
+    let f : tie.Start Inv-loop μ-loop = search c in
+    let l = at-loop .loop in
     let g = l .inv .1 .1 in
-    omega (arith, steps-few _ _ (f .args .threads .now) (f .args .kinds .now) (f .args .domains .now) (f .pre .1 .0) (f .pre .1 .1 .0) _ (l .at) (l .at + 1024) g (omega arith) (omega (arith, g .within, c .before .before .before .before .before .before .before .before .before .before .before .before .before .before .before .before .before .before .before .before .before .before .before .before .before .loop-test .taken)) _ (ap (λ v. v .steps) (c .before .before .before .before .before .before .before .check-piece .ensures .0)), f .good .1 .1 .1 .1 .1 .1 .1 .1 .1 .1 .1 .1 .1 .0)
+    omega (arith, steps-few _ _ (f .args .threads .now) (f .args .kinds .now) (f .args .domains .now) (f .pre .1 .0) (f .pre .1 .1 .0) _ (l .at) (l .at + 1024) g (omega arith) (omega (arith, g .within, in-loop .loop-test .taken)) _ (ap (λ v. v .steps) (after-check-piece .check-piece .ensures .0)), f .good .1 .1 .1 .1 .1 .1 .1 .1 .1 .1 .1 .1 .1 .0)
 
 same-length : tie.Need-same-length Inv-loop μ-loop
-same-length c = c .before .before .before .before .before .before .before .check-piece .ensures .1 .1 .0 ∙ c .before .before .before .before .before .before .before .before .before .before .before .before .before .before .before .before .before .before .before .before .before .before .before .before .before .before .loop .inv .0 ∙ sym (c .before .before .before .before .before .before .before .before .before .before .before .before .before .before .before .before .before .before .before .before .before .before .before .before .before .before .before .before .before .before .before .before .pre .1 .1 .1 .0)
+same-length c =
+    let after-check-piece : tie.After-check-piece Inv-loop μ-loop = search c in
+    let after-check-piece-arg8 : tie.After-check-piece-arg8 Inv-loop μ-loop = search c in
+    let at-loop : tie.At-loop Inv-loop μ-loop = search c in
+    let start : tie.Start Inv-loop μ-loop = search c in
+    after-check-piece .check-piece .ensures .1 .1 .0 ∙ at-loop .loop .inv .0 ∙ sym (start .pre .1 .1 .1 .0)
 
 same-length-2 : tie.Need-same-length-2 Inv-loop μ-loop
-same-length-2 c = c .before .before .before .before .before .before .before .check-piece .ensures .1 .1 .1 ∙ c .before .before .before .before .before .before .before .before .before .before .before .before .before .before .before .before .before .before .before .before .before .before .before .before .before .before .loop .inv .1 .0 ∙ sym (c .before .before .before .before .before .before .before .before .before .before .before .before .before .before .before .before .before .before .before .before .before .before .before .before .before .before .before .before .before .before .before .before .pre .1 .1 .1 .1)
+same-length-2 c =
+    let after-check-piece : tie.After-check-piece Inv-loop μ-loop = search c in
+    let after-check-piece-arg8 : tie.After-check-piece-arg8 Inv-loop μ-loop = search c in
+    let at-loop : tie.At-loop Inv-loop μ-loop = search c in
+    let start : tie.Start Inv-loop μ-loop = search c in
+    after-check-piece .check-piece .ensures .1 .1 .1 ∙ at-loop .loop .inv .1 .0 ∙ sym (start .pre .1 .1 .1 .1)
 
 returns : tie.Need-returns Inv-loop μ-loop
 returns c =
-    let f = c .before .before .before .before .before .before .before .before .before .before .before .before .before .before .before .before .before .before .before .before .before .before .before .before .before .before .before .before .before .before .before .before in
-    let l = c .before .before .before .before .before .before .before .before .before .before .before .before .before .before .before .before .before .before .before .before .before .before .before .before .before .before .loop in
+    let after-check-piece : tie.After-check-piece Inv-loop μ-loop = search c in
+    let after-check-piece-arg8 : tie.After-check-piece-arg8 Inv-loop μ-loop = search c in
+    let in-loop : tie.In-loop Inv-loop μ-loop = search c in
+    let at-loop : tie.At-loop Inv-loop μ-loop = search c in
+    let f : tie.Start Inv-loop μ-loop = search c in
+    let l = at-loop .loop in
     let g = l .inv .1 .1 in
-    let e = c .before .before .before .before .before .before .before .check-piece .ensures in
+    let e = after-check-piece .check-piece .ensures in
     let n = c .before .if1 .taken in
-    let answer = stops _ _ (f .args .threads .now) (f .args .kinds .now) (f .args .domains .now) (f .pre .1 .0) (f .pre .1 .1 .0) _ (l .at) (l .at + 1024) g (omega arith) (omega (arith, g .within, c .before .before .before .before .before .before .before .before .before .before .before .before .before .before .before .before .before .before .before .before .before .before .before .before .before .loop-test .taken)) (λ z. n (ap (λ v. v .number) (e .0) ∙ z)) in
+    let answer = stops _ _ (f .args .threads .now) (f .args .kinds .now) (f .args .domains .now) (f .pre .1 .0) (f .pre .1 .1 .0) _ (l .at) (l .at + 1024) g (omega arith) (omega (arith, g .within, in-loop .loop-test .taken)) (λ z. n (ap (λ v. v .number) (e .0) ∙ z)) in
     (rw (e .0) (answer .0), e .1 .0 ∙ answer .1)
 
 loop-less : tie.Need-loop-less Inv-loop μ-loop
@@ -100,14 +130,21 @@ loop-less c = omega arith
 
 loop-again : tie.Need-loop-again Inv-loop μ-loop
 loop-again c =
-    let f = c .before .before .before .before .before .before .before .before .before .before .before .before .before .before .before .before .before .before .before .before .before .before .before .before .before .before .before .before .before .before .before in
-    let l = c .before .before .before .before .before .before .before .before .before .before .before .before .before .before .before .before .before .before .before .before .before .before .before .before .before .loop in
+    let after-check-piece : tie.After-check-piece Inv-loop μ-loop = search c in
+    let after-check-piece-arg8 : tie.After-check-piece-arg8 Inv-loop μ-loop = search c in
+    let in-loop : tie.In-loop Inv-loop μ-loop = search c in
+    let at-loop : tie.At-loop Inv-loop μ-loop = search c in
+    let f : tie.Start Inv-loop μ-loop = search c in
+    let l = at-loop .loop in
     let g = l .inv .1 .1 in
-    let e = c .before .before .before .before .before .before .check-piece .ensures in
-    (e .1 .1 .0 ∙ l .inv .0, (e .1 .1 .1 ∙ l .inv .1 .0, goes-on _ _ (f .args .threads .now) (f .args .kinds .now) (f .args .domains .now) (f .pre .1 .0) (f .pre .1 .1 .0) _ (l .at) (l .at + 1024) g (omega arith) (omega (arith, g .within, c .before .before .before .before .before .before .before .before .before .before .before .before .before .before .before .before .before .before .before .before .before .before .before .before .loop-test .taken)) (sym (ap (λ v. v .number) (e .0)) ∙ c .if1 .left) _ (e .1 .0)))
+    let e = after-check-piece .check-piece .ensures in
+    (e .1 .1 .0 ∙ l .inv .0, (e .1 .1 .1 ∙ l .inv .1 .0, goes-on _ _ (f .args .threads .now) (f .args .kinds .now) (f .args .domains .now) (f .pre .1 .0) (f .pre .1 .1 .0) _ (l .at) (l .at + 1024) g (omega arith) (omega (arith, g .within, in-loop .loop-test .taken)) (sym (ap (λ v. v .number) (e .0)) ∙ c .if1 .left) _ (e .1 .0)))
 
 mul-check-piece-4 : tie.Need-mul-check-piece-4 Inv-loop μ-loop
-mul-check-piece-4 c = let f = c .before .before .before .before .before .before .before .before .before .before .before .before .before .before .before .before .before .before .before in omega (arith, c .before .before .before .before .before .before .before .before .before .before .before .before .before .loop .inv .1 .1 .within, f .pre .1 .0, f .pre .1 .1 .0, f .good .1 .1 .1 .1 .1 .1 .1 .1 .1 .1 .1 .1 .1 .0)
+mul-check-piece-4 c =
+    let after-check-piece-arg19 : tie.After-check-piece-arg19 Inv-loop μ-loop = search c in
+    let at-loop : tie.At-loop Inv-loop μ-loop = search c in
+    let f : tie.Start Inv-loop μ-loop = search c in omega (arith, at-loop .loop .inv .1 .1 .within, f .pre .1 .0, f .pre .1 .1 .0, f .good .1 .1 .1 .1 .1 .1 .1 .1 .1 .1 .1 .1 .1 .0)
 
 sub-check-piece-4 : tie.Need-sub-check-piece-4 Inv-loop μ-loop
 sub-check-piece-4 c = omega arith
@@ -119,7 +156,10 @@ part-check-piece-end-4 : tie.Need-part-check-piece-end-4 Inv-loop μ-loop
 part-check-piece-end-4 c = omega arith
 
 mul-check-piece-5 : tie.Need-mul-check-piece-5 Inv-loop μ-loop
-mul-check-piece-5 c = let f = c .before .before .before .before .before .before .before .before .before .before .before .before .before .before .before .before .before .before .before .before in omega (arith, c .before .before .before .before .before .before .before .before .before .before .before .before .before .before .loop .inv .1 .1 .within, f .pre .1 .0, f .pre .1 .1 .0, f .good .1 .1 .1 .1 .1 .1 .1 .1 .1 .1 .1 .1 .1 .0)
+mul-check-piece-5 c =
+    let after-check-piece-arg20 : tie.After-check-piece-arg20 Inv-loop μ-loop = search c in
+    let at-loop : tie.At-loop Inv-loop μ-loop = search c in
+    let f : tie.Start Inv-loop μ-loop = search c in omega (arith, at-loop .loop .inv .1 .1 .within, f .pre .1 .0, f .pre .1 .1 .0, f .good .1 .1 .1 .1 .1 .1 .1 .1 .1 .1 .1 .1 .1 .0)
 
 sub-check-piece-5 : tie.Need-sub-check-piece-5 Inv-loop μ-loop
 sub-check-piece-5 c = omega arith
@@ -131,7 +171,10 @@ part-check-piece-end-5 : tie.Need-part-check-piece-end-5 Inv-loop μ-loop
 part-check-piece-end-5 c = omega arith
 
 mul-check-piece-6 : tie.Need-mul-check-piece-6 Inv-loop μ-loop
-mul-check-piece-6 c = let f = c .before .before .before .before .before .before .before .before .before .before .before .before .before .before .before .before .before .before .before .before .before in omega (arith, c .before .before .before .before .before .before .before .before .before .before .before .before .before .before .before .loop .inv .1 .1 .within, f .pre .1 .0, f .pre .1 .1 .0, f .good .1 .1 .1 .1 .1 .1 .1 .1 .1 .1 .1 .1 .1 .0)
+mul-check-piece-6 c =
+    let after-check-piece-arg21 : tie.After-check-piece-arg21 Inv-loop μ-loop = search c in
+    let at-loop : tie.At-loop Inv-loop μ-loop = search c in
+    let f : tie.Start Inv-loop μ-loop = search c in omega (arith, at-loop .loop .inv .1 .1 .within, f .pre .1 .0, f .pre .1 .1 .0, f .good .1 .1 .1 .1 .1 .1 .1 .1 .1 .1 .1 .1 .1 .0)
 
 sub-check-piece-6 : tie.Need-sub-check-piece-6 Inv-loop μ-loop
 sub-check-piece-6 c = omega arith
@@ -144,31 +187,50 @@ part-check-piece-end-6 c = omega arith
 
 check-piece-requires-2 : tie.Need-check-piece-requires-2 Inv-loop μ-loop
 check-piece-requires-2 c κs =
-    let f = c .before .before .before .before .before .before .before .before .before .before .before .before .before .before .before .before .before .before .before .before .before .before .before .before in
-    let l = c .before .before .before .before .before .before .before .before .before .before .before .before .before .before .before .before .before .before .loop in
+    let after-check-piece-arg24 : tie.After-check-piece-arg24 Inv-loop μ-loop = search c in
+    let after-loop : tie.After-loop Inv-loop μ-loop = search c in
+    let at-loop : tie.At-loop Inv-loop μ-loop = search c in
+    let f : tie.Start Inv-loop μ-loop = search c in
+    let l = at-loop .loop in
     let g = l .inv .1 .1 in
     let n = length (f .args .threads .now) in
-    (g .ready, piece-fits _ _ (f .args .threads .now) (f .args .kinds .now) (f .args .domains .now) (f .pre .1 .0) (f .pre .1 .1 .0) _ (l .at) n g (g .within) (omega arith) _ _ (omega (arith, c .before .before .before .before .before .before .before .before .before .before .before .before .before .before .before .before .before .loop-test .left)) (l .inv .0) (l .inv .1 .0))
+    (g .ready, piece-fits _ _ (f .args .threads .now) (f .args .kinds .now) (f .args .domains .now) (f .pre .1 .0) (f .pre .1 .1 .0) _ (l .at) n g (g .within) (omega arith) _ _ (omega (arith, after-loop .loop-test .left)) (l .inv .0) (l .inv .1 .0))
 
 add-t69 : tie.Need-add-t69 Inv-loop μ-loop
 add-t69 c =
-    let f = c .before .before .before .before .before .before .before .before .before .before .before .before .before .before .before .before .before .before .before .before .before .before .before .before .before .before .before .before .before .before in
-    let l = c .before .before .before .before .before .before .before .before .before .before .before .before .before .before .before .before .before .before .before .before .before .before .before .before .loop in
+    let after-check-piece2 : tie.After-check-piece2 Inv-loop μ-loop = search c in
+    let after-check-piece-arg25 : tie.After-check-piece-arg25 Inv-loop μ-loop = search c in
+    let at-loop : tie.At-loop Inv-loop μ-loop = search c in
+    let f : tie.Start Inv-loop μ-loop = search c in
+    let l = at-loop .loop in
     let g = l .inv .1 .1 in
-    omega (arith, steps-few _ _ (f .args .threads .now) (f .args .kinds .now) (f .args .domains .now) (f .pre .1 .0) (f .pre .1 .1 .0) _ (l .at) (length (f .args .threads .now)) g (g .within) (omega arith) _ (ap (λ v. v .steps) (c .before .before .before .before .before .«check-piece2» .ensures .0)), f .good .1 .1 .1 .1 .1 .1 .1 .1 .1 .1 .1 .1 .1 .0)
+    omega (arith, steps-few _ _ (f .args .threads .now) (f .args .kinds .now) (f .args .domains .now) (f .pre .1 .0) (f .pre .1 .1 .0) _ (l .at) (length (f .args .threads .now)) g (g .within) (omega arith) _ (ap (λ v. v .steps) (after-check-piece2 .«check-piece2» .ensures .0)), f .good .1 .1 .1 .1 .1 .1 .1 .1 .1 .1 .1 .1 .1 .0)
 
 same-length-3 : tie.Need-same-length-3 Inv-loop μ-loop
-same-length-3 c = c .before .before .before .before .before .«check-piece2» .ensures .1 .1 .0 ∙ c .before .before .before .before .before .before .before .before .before .before .before .before .before .before .before .before .before .before .before .before .before .before .before .before .loop .inv .0 ∙ sym (c .before .before .before .before .before .before .before .before .before .before .before .before .before .before .before .before .before .before .before .before .before .before .before .before .before .before .before .before .before .before .pre .1 .1 .1 .0)
+same-length-3 c =
+    let after-check-piece2 : tie.After-check-piece2 Inv-loop μ-loop = search c in
+    let after-check-piece-arg25 : tie.After-check-piece-arg25 Inv-loop μ-loop = search c in
+    let at-loop : tie.At-loop Inv-loop μ-loop = search c in
+    let start : tie.Start Inv-loop μ-loop = search c in
+    after-check-piece2 .«check-piece2» .ensures .1 .1 .0 ∙ at-loop .loop .inv .0 ∙ sym (start .pre .1 .1 .1 .0)
 
 same-length-4 : tie.Need-same-length-4 Inv-loop μ-loop
-same-length-4 c = c .before .before .before .before .before .«check-piece2» .ensures .1 .1 .1 ∙ c .before .before .before .before .before .before .before .before .before .before .before .before .before .before .before .before .before .before .before .before .before .before .before .before .loop .inv .1 .0 ∙ sym (c .before .before .before .before .before .before .before .before .before .before .before .before .before .before .before .before .before .before .before .before .before .before .before .before .before .before .before .before .before .before .pre .1 .1 .1 .1)
+same-length-4 c =
+    let after-check-piece2 : tie.After-check-piece2 Inv-loop μ-loop = search c in
+    let after-check-piece-arg25 : tie.After-check-piece-arg25 Inv-loop μ-loop = search c in
+    let at-loop : tie.At-loop Inv-loop μ-loop = search c in
+    let start : tie.Start Inv-loop μ-loop = search c in
+    after-check-piece2 .«check-piece2» .ensures .1 .1 .1 ∙ at-loop .loop .inv .1 .0 ∙ sym (start .pre .1 .1 .1 .1)
 
 returns-2 : tie.Need-returns-2 Inv-loop μ-loop
 returns-2 c =
-    let f = c .before .before .before .before .before .before .before .before .before .before .before .before .before .before .before .before .before .before .before .before .before .before .before .before .before .before .before .before .before .before in
-    let l = c .before .before .before .before .before .before .before .before .before .before .before .before .before .before .before .before .before .before .before .before .before .before .before .before .loop in
+    let after-check-piece2 : tie.After-check-piece2 Inv-loop μ-loop = search c in
+    let after-check-piece-arg25 : tie.After-check-piece-arg25 Inv-loop μ-loop = search c in
+    let at-loop : tie.At-loop Inv-loop μ-loop = search c in
+    let f : tie.Start Inv-loop μ-loop = search c in
+    let l = at-loop .loop in
     let g = l .inv .1 .1 in
-    let e = c .before .before .before .before .before .«check-piece2» .ensures in
+    let e = after-check-piece2 .«check-piece2» .ensures in
     let answer = ends _ _ (f .args .threads .now) (f .args .kinds .now) (f .args .domains .now) (f .pre .1 .0) (f .pre .1 .1 .0) _ (l .at) (length (f .args .threads .now)) g (g .within) (omega arith) refl in
     (rw (e .0) (answer .0), e .1 .0 ∙ answer .1)
 

@@ -10,20 +10,22 @@ use Rattle.journal_call.proofs.step_check.pieces.check_piece.Tie as tie
 
 -- the start, the stretch that can be stepped, and where it was stepped and compared
 abbrev first : tie.After-stretch-of → tie.Start
-first stretch = stretch .before .before .before .before .before .before .before .before .before .before .before .before .before .before .before .before .before .before
+first stretch = search stretch
 
 abbrev stretch : tie.After-run-part → tie.After-stretch-of
-stretch ran = ran .before .before .before .before .before .before .before .before .before .before .before .before .before .before .before .before .before .before .before .before .before .before .before .before .before
+stretch ran = search ran
 
 abbrev ran : tie.After-first-difference → tie.After-run-part
-ran compared = compared .before .before .before .before .before .before .before .before
+ran compared = search compared
 
 stretch-of-requires : tie.Need-stretch-of-requires
 stretch-of-requires c κs = search needs
 
 run-part-requires : tie.Need-run-part-requires
 run-part-requires c κs =
-    let st = c .before .before .before .before .before .before .before .before .before .before .before .before .before .before .before .before .before .before .before .before .before .before .before .before in
+    let after-run-part-arg4 : tie.After-run-part-arg4 = search c in
+    let after-kept-rows : tie.After-kept-rows = search c in
+    let st : tie.After-stretch-of = search c in
     let f = first st in
     let a = f .args in
     let g = f .pre .0 in
@@ -33,7 +35,7 @@ run-part-requires c κs =
 
 first-difference-requires : tie.Need-first-difference-requires
 first-difference-requires c κs =
-    let r = c .before .before .before .before .before .before .before in
+    let r : tie.After-run-part = search c in
     let st = stretch r in
     let f = first st in
     let a = f .args in
@@ -99,7 +101,7 @@ mul-number-of-2 c =
 
 slice-read-number-of : tie.Need-slice-read-number-of
 slice-read-number-of c =
-    let d = c .before .before .before in
+    let d : tie.After-first-difference = search c in
     let r = ran d in
     let st = stretch r in
     let f = first st in
@@ -114,7 +116,9 @@ number-of-requires c κs = search needs
 
 run-part-requires-2 : tie.Need-run-part-requires-2
 run-part-requires-2 c κs =
-    let d = c .before .before .before .before .before .before .before .before .before .before .before .before .before .before .before .before .before .before in
+    let after-run-part-arg18 : tie.After-run-part-arg18 = search c in
+    let else1 : tie.Else1 = search c in
+    let d : tie.After-first-difference = search c in
     let r = ran d in
     let st = stretch r in
     let f = first st in
@@ -122,23 +126,35 @@ run-part-requires-2 c κs =
     let g = f .pre .0 in
     let q = f .pre .1 in
     let S = st .stretch-of .ensures in
-    let h = c .before .before .before .before .before .before .before .before .before .before .before .before .before .before .before .before .before .if1 .left in
+    let h = else1 .if1 .left in
     let m = d .first-difference .result in
     (omega (arith, h, S .within), (g .typed, tests _ _ _ (a .kinds .now) (a .domains .now) g _ S m _ (omega (arith, h)) (omega (arith, h, S .within, q .few)) (omega (arith, h, S .within, q .few, q .trace-room, r .run-part .ensures .1 .1))))
 
 same-length-3 : tie.Need-same-length-3
 same-length-3 c =
-    let r = c .before .before .before .before .before .before .before .before .before .before .before .before .before .before .before .before .before .before .before .before .before .before .before .before .before .before .before .before .before .before .before .run-part .ensures in
-    c .before .before .before .before .«run-part2» .ensures .1 .1 ∙ r .1 .1
+    let after-run-part2 : tie.After-run-part2 = search c in
+    let after-run-part-arg19 : tie.After-run-part-arg19 = search c in
+    let after-first-difference : tie.After-first-difference = search c in
+    let after-run-part : tie.After-run-part = search c in
+    let r = after-run-part .run-part .ensures in
+    after-run-part2 .«run-part2» .ensures .1 .1 ∙ r .1 .1
 
 same-length-4 : tie.Need-same-length-4
 same-length-4 c =
-    let r = c .before .before .before .before .before .before .before .before .before .before .before .before .before .before .before .before .before .before .before .before .before .before .before .before .before .before .before .before .before .before .before .run-part .ensures in
-    ap length (c .before .before .before .before .«run-part2» .ensures .1 .0) ∙ told-front-length _ _ ∙ ap length (r .1 .0) ∙ told-front-length _ _
+    let after-run-part2 : tie.After-run-part2 = search c in
+    let after-run-part-arg19 : tie.After-run-part-arg19 = search c in
+    let after-first-difference : tie.After-first-difference = search c in
+    let after-run-part : tie.After-run-part = search c in
+    let r = after-run-part .run-part .ensures in
+    ap length (after-run-part2 .«run-part2» .ensures .1 .0) ∙ told-front-length _ _ ∙ ap length (r .1 .0) ∙ told-front-length _ _
 
 returns-2 : tie.Need-returns-2
 returns-2 c =
-    let d = c .before .before .before .before .before .before .before .before .before .before .before .before .before .before .before .before .before .before .before .before .before .before .before in
+    let after-run-part2 : tie.After-run-part2 = search c in
+    let after-run-part-arg19 : tie.After-run-part-arg19 = search c in
+    let after-number-of : tie.After-number-of = search c in
+    let else1 : tie.Else1 = search c in
+    let d : tie.After-first-difference = search c in
     let r = ran d in
     let st = stretch r in
     let f = first st in
@@ -146,8 +162,8 @@ returns-2 c =
     let g = f .pre .0 in
     let q = f .pre .1 in
     let S = st .stretch-of .ensures in
-    let answer = piece-stops _ _ _ (a .kinds .now) (a .domains .now) g _ S (q .kinds-long) (q .domains-long) _ _ (q .codes-room) (q .few) (r .run-part .ensures .1 .0) _ (d .first-difference .ensures) (c .before .before .before .before .before .before .before .before .before .before .before .before .before .before .before .before .before .before .before .before .before .before .if1 .left) _ (c .before .before .before .before .before .before .before .before .before .before .before .before .before .before .before .before .before .before .before .number-of .ensures) in
-    let again = c .before .before .before .before .«run-part2» .ensures in
+    let answer = piece-stops _ _ _ (a .kinds .now) (a .domains .now) g _ S (q .kinds-long) (q .domains-long) _ _ (q .codes-room) (q .few) (r .run-part .ensures .1 .0) _ (d .first-difference .ensures) (else1 .if1 .left) _ (after-number-of .number-of .ensures) in
+    let again = after-run-part2 .«run-part2» .ensures in
     (answer .0, (again .0 ∙ answer .1, (again .1 .1 ∙ r .run-part .ensures .1 .1, ap length (again .1 .0) ∙ told-front-length _ _ ∙ ap length (r .run-part .ensures .1 .0) ∙ told-front-length _ _)))
 
 pub check-piece-spec : {M : Type 1} → statement M

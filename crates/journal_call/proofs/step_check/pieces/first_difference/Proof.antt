@@ -21,40 +21,56 @@ loop-holds : tie.Need-loop-holds Inv-loop μ-loop
 loop-holds c = (omega arith, λ j l. absurd (omega arith))
 
 mul-code : tie.Need-mul-code Inv-loop μ-loop
-mul-code c = omega (arith, c .before .before .before .before .before .before .pre .codes-long)
+mul-code c =
+    let start : tie.Start Inv-loop μ-loop = search c in
+    omega (arith, start .pre .codes-long)
 
 shared-slice-read-code : tie.Need-shared-slice-read-code Inv-loop μ-loop
-shared-slice-read-code c = omega (arith, c .before .before .before .before .before .before .before .pre .codes-long)
+shared-slice-read-code c =
+    let start : tie.Start Inv-loop μ-loop = search c in
+    omega (arith, start .pre .codes-long)
 
 mul-if1 : tie.Need-mul-if1 Inv-loop μ-loop
 mul-if1 c = omega arith
 
 shared-slice-read-if1 : tie.Need-shared-slice-read-if1 Inv-loop μ-loop
-shared-slice-read-if1 c = omega (arith, c .before .before .before .before .before .before .before .before .pre .kinds-long)
+shared-slice-read-if1 c =
+    let start : tie.Start Inv-loop μ-loop = search c in
+    omega (arith, start .pre .kinds-long)
 
 returns : tie.Need-returns Inv-loop μ-loop
 returns c =
-    let a = c .before .before .before .before .before .before .before .before .before .args in
-    let k = c .before .before .before .before .loop .k in
-    record { within = omega arith; passed = c .before .before .before .before .loop .inv .1; fails = λ _. kind-differs (a .homes .now) (a .threads .now) (a .kinds .now) (a .domains .now) (a .codes .now) k (c .if1 .taken) }
+    let at-loop : tie.At-loop Inv-loop μ-loop = search c in
+    let start : tie.Start Inv-loop μ-loop = search c in
+    let a = start .args in
+    let k = at-loop .loop .k in
+    record { within = omega arith; passed = at-loop .loop .inv .1; fails = λ _. kind-differs (a .homes .now) (a .threads .now) (a .kinds .now) (a .domains .now) (a .codes .now) k (c .if1 .taken) }
 
 mul-word-index : tie.Need-mul-word-index Inv-loop μ-loop
 mul-word-index c = omega arith
 
 shared-slice-read-word-index : tie.Need-shared-slice-read-word-index Inv-loop μ-loop
-shared-slice-read-word-index c = omega (arith, c .before .before .before .before .before .before .before .before .before .before .pre .threads-long)
+shared-slice-read-word-index c =
+    let start : tie.Start Inv-loop μ-loop = search c in
+    omega (arith, start .pre .threads-long)
 
 word-index-requires : tie.Need-word-index-requires Inv-loop μ-loop
 word-index-requires c κs = search needs
 
 element-copy-out-home : tie.Need-element-copy-out-home Inv-loop μ-loop
-element-copy-out-home c = rw (c .word-index .ensures) (c .before .before .before .before .before .before .before .before .before .before .before .pre .small (c .before .before .before .before .before .before .loop .k) (omega arith))
+element-copy-out-home c =
+    let at-loop : tie.At-loop Inv-loop μ-loop = search c in
+    let start : tie.Start Inv-loop μ-loop = search c in
+    rw (c .word-index .ensures) (start .pre .small (at-loop .loop .k) (omega arith))
 
 mul-word-number : tie.Need-mul-word-number Inv-loop μ-loop
 mul-word-number c = omega arith
 
 shared-slice-read-word-number : tie.Need-shared-slice-read-word-number Inv-loop μ-loop
-shared-slice-read-word-number c = omega (arith, c .before .before .before .before .before .before .before .before .before .before .before .before .before .pre .domains-long)
+shared-slice-read-word-number c =
+    let after-shared-slice-known3 : tie.After-shared-slice-known3 Inv-loop μ-loop = search c in
+    let start : tie.Start Inv-loop μ-loop = search c in
+    omega (arith, start .pre .domains-long)
 
 word-number-requires : tie.Need-word-number-requires Inv-loop μ-loop
 word-number-requires c κs = search needs
@@ -64,12 +80,16 @@ domain-of-code-requires c κs = search needs
 
 returns-2 : tie.Need-returns-2 Inv-loop μ-loop
 returns-2 c =
-    let a = c .before .before .before .before .before .before .before .before .before .before .before .before .before .before .before .before .args in
-    let k = c .before .before .before .before .before .before .before .before .before .before .before .loop .k in
+    let after-word-index : tie.After-word-index Inv-loop μ-loop = search c in
+    let else1 : tie.Else1 Inv-loop μ-loop = search c in
+    let at-loop : tie.At-loop Inv-loop μ-loop = search c in
+    let start : tie.Start Inv-loop μ-loop = search c in
+    let a = start .args in
+    let k = at-loop .loop .k in
     record {
       within = omega arith;
-      passed = c .before .before .before .before .before .before .before .before .before .before .before .loop .inv .1;
-      fails = λ _. domain-differs (a .homes .now) (a .threads .now) (a .kinds .now) (a .domains .now) (a .codes .now) k (c .before .before .before .before .before .before .before .if1 .left) _ _ _ (c .before .before .before .before .before .word-index .ensures) (c .before .before .word-number .ensures) (c .before .domain-of-code .ensures) (c .if2 .taken);
+      passed = at-loop .loop .inv .1;
+      fails = λ _. domain-differs (a .homes .now) (a .threads .now) (a .kinds .now) (a .domains .now) (a .codes .now) k (else1 .if1 .left) _ _ _ (after-word-index .word-index .ensures) (c .before .before .word-number .ensures) (c .before .domain-of-code .ensures) (c .if2 .taken);
     }
 
 add-k : tie.Need-add-k Inv-loop μ-loop
@@ -80,11 +100,15 @@ loop-less c = omega arith
 
 loop-again : tie.Need-loop-again Inv-loop μ-loop
 loop-again c =
-    let a = c .before .before .before .before .before .before .before .before .before .before .before .before .before .before .before .before .args in
-    let k = c .before .before .before .before .before .before .before .before .before .before .before .loop .k in (
+    let after-word-index : tie.After-word-index Inv-loop μ-loop = search c in
+    let else1 : tie.Else1 Inv-loop μ-loop = search c in
+    let at-loop : tie.At-loop Inv-loop μ-loop = search c in
+    let start : tie.Start Inv-loop μ-loop = search c in
+    let a = start .args in
+    let k = at-loop .loop .k in (
       omega arith,
-      one-more _ false _ (c .before .before .before .before .before .before .before .before .before .before .before .loop .inv .1)
-          (both-same (a .homes .now) (a .threads .now) (a .kinds .now) (a .domains .now) (a .codes .now) k (c .before .before .before .before .before .before .before .if1 .left) _ _ _ (c .before .before .before .before .before .word-index .ensures) (c .before .before .word-number .ensures) (c .before .domain-of-code .ensures) (c .if2 .left)),
+      one-more _ false _ (at-loop .loop .inv .1)
+          (both-same (a .homes .now) (a .threads .now) (a .kinds .now) (a .domains .now) (a .codes .now) k (else1 .if1 .left) _ _ _ (after-word-index .word-index .ensures) (c .before .before .word-number .ensures) (c .before .domain-of-code .ensures) (c .if2 .left)),
     )
 
 returns-3 : tie.Need-returns-3 Inv-loop μ-loop

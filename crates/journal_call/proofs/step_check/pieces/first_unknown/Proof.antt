@@ -30,7 +30,9 @@ word-number-requires : tie.Need-word-number-requires Inv-loop μ-loop
 word-number-requires c κs = search needs
 
 returns : tie.Need-returns Inv-loop μ-loop
-returns c = record { within = omega arith; passed = c .before .before .before .before .loop .inv .1; fails = λ _. not-below _ _ _ (c .before .word-number .ensures) (c .if1 .taken) }
+returns c =
+    let at-loop : tie.At-loop Inv-loop μ-loop = search c in
+    record { within = omega arith; passed = at-loop .loop .inv .1; fails = λ _. not-below _ _ _ (c .before .word-number .ensures) (c .if1 .taken) }
 
 add-k : tie.Need-add-k Inv-loop μ-loop
 add-k c = omega arith
@@ -39,7 +41,9 @@ loop-less : tie.Need-loop-less Inv-loop μ-loop
 loop-less c = omega arith
 
 loop-again : tie.Need-loop-again Inv-loop μ-loop
-loop-again c = (omega arith, one-more _ false _ (c .before .before .before .before .loop .inv .1) (is-below _ _ _ (c .before .word-number .ensures) (c .if1 .left)))
+loop-again c =
+    let at-loop : tie.At-loop Inv-loop μ-loop = search c in
+    (omega arith, one-more _ false _ (at-loop .loop .inv .1) (is-below _ _ _ (c .before .word-number .ensures) (c .if1 .left)))
 
 returns-2 : tie.Need-returns-2 Inv-loop μ-loop
 returns-2 c = record { within = omega arith; passed = c .before .loop .inv .1; fails = λ h. absurd (omega arith) }

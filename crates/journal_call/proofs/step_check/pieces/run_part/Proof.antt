@@ -24,7 +24,9 @@ part-run-lent-end c = search needs
 
 run-lent-requires : tie.Need-run-lent-requires
 run-lent-requires c κs =
-    let begin = c .before .before .before .before .before .before .before .before .before .before .before .before .before .before .before .before .before .before .before in
+    let after-kinds : tie.After-kinds = search c in
+    let after-run-lent-arg2 : tie.After-run-lent-arg2 = search c in
+    let begin : tie.Start = search c in
     let a = begin .args in
     let s = lent-lock (a .tails .now) (a .nexts .now) (a .statuses .now) (a .rows .now) (a .places .now) (a .peers .now) (a .words .now) (a .ticket .now) (a .granted .now) (a .entries .now) (a .tenures .now) (a .longest .now) in
     let whole : a .count - 0 ≡ a .count = omega arith in
@@ -36,11 +38,21 @@ same-length c = search needs
 same-length-2 : tie.Need-same-length-2
 same-length-2 c = search needs
 
+-- when the steps have been taken, and where the function starts
+abbrev ran-of : tie.After-slice-known4 → tie.After-run-lent
+ran-of c = search c
+
+abbrev lent-of : tie.After-run-lent → tie.After-run-lent-arg2
+lent-of c = search c
+
+abbrev start-of : tie.After-run-lent-arg2 → tie.Start
+start-of c = search c
+
 returns : tie.Need-returns
 unfolding lock-after run run-of
 returns c =
-    let ran = c .before .before .before .before .run-lent .ensures in
-    let a = c .before .before .before .before .before .before .before .before .before .before .before .before .before .before .before .before .before .before .before .before .before .before .before .before .args in
+    let ran = ran-of c .run-lent .ensures in
+    let a = start-of (lent-of (ran-of c)) .args in
     let s = lent-lock (a .tails .now) (a .nexts .now) (a .statuses .now) (a .rows .now) (a .places .now) (a .peers .now) (a .words .now) (a .ticket .now) (a .granted .now) (a .entries .now) (a .tenures .now) (a .longest .now) in
     let whole : a .count - 0 ≡ a .count = omega arith in
     let t = tree-of (a .tree) in (

@@ -18,8 +18,8 @@ part-lent-counter-refusal-of-end c = search needs
 
 lent-counter-refusal-of-requires : tie.Need-lent-counter-refusal-of-requires
 lent-counter-refusal-of-requires c κs =
+    let first : tie.Start = search c in
     let found = c .before in
-    let first = c .before .before .before in
     (first .pre .0 .typed, early _ _ _ (first .pre .0) (first .pre .1) _ (found .first-unknown .ensures))
 
 number-index-requires : tie.Need-number-index-requires
@@ -27,21 +27,24 @@ number-index-requires c κs = search needs
 
 returns : tie.Need-returns
 returns c =
-    let told = c .before .before .before in
-    let first = c .before .before .before .before .before .before .before in
-    counter-stops _ _ _ (first .pre .0) (first .pre .1) _ (c .before .before .before .before .before .first-unknown .ensures) _ (told .lent-counter-refusal-of .ensures) (c .before .if1 .taken) _ (c .number-index .ensures)
+    let told : tie.After-lent-counter-refusal-of = search c in
+    let after-first-unknown : tie.After-first-unknown = search c in
+    let first : tie.Start = search c in
+    counter-stops _ _ _ (first .pre .0) (first .pre .1) _ (after-first-unknown .first-unknown .ensures) _ (told .lent-counter-refusal-of .ensures) (c .before .if1 .taken) _ (c .number-index .ensures)
 
 returns-2 : tie.Need-returns-2
 returns-2 c =
-    let told = c .before .before .before in
-    let first = c .before .before .before .before .before .before .before in
-    thread-stops _ _ _ (first .pre .0) (first .pre .1) _ (c .before .before .before .before .before .first-unknown .ensures) _ (told .lent-counter-refusal-of .ensures) (c .before .if1 .left) (c .if2 .taken)
+    let told : tie.After-lent-counter-refusal-of = search c in
+    let after-first-unknown : tie.After-first-unknown = search c in
+    let first : tie.Start = search c in
+    thread-stops _ _ _ (first .pre .0) (first .pre .1) _ (after-first-unknown .first-unknown .ensures) _ (told .lent-counter-refusal-of .ensures) (c .before .if1 .left) (c .if2 .taken)
 
 returns-3 : tie.Need-returns-3
 returns-3 c =
-    let told = c .before .before .before in
-    let first = c .before .before .before .before .before .before .before in
-    nothing-stops _ _ _ (first .pre .0) (first .pre .1) _ (c .before .before .before .before .before .first-unknown .ensures) _ (told .lent-counter-refusal-of .ensures) (c .before .if1 .left) (c .if2 .left)
+    let told : tie.After-lent-counter-refusal-of = search c in
+    let after-first-unknown : tie.After-first-unknown = search c in
+    let first : tie.Start = search c in
+    nothing-stops _ _ _ (first .pre .0) (first .pre .1) _ (after-first-unknown .first-unknown .ensures) _ (told .lent-counter-refusal-of .ensures) (c .before .if1 .left) (c .if2 .left)
 
 pub stretch-of-spec : {M : Type 1} → statement M
 stretch-of-spec =
