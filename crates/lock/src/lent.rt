@@ -10,7 +10,11 @@ ghost use Rattle.refusals.specs.Arrays.{lent-state};
 ghost use Rattle.lock.specs.Lent.{lent-lock, told-by, run-told};
 use crate::steps::limits;
 use crate::steps::run;
+use model::Counters;
 use model::Counts;
+use model::LockState;
+use model::PlaceArrays;
+use model::State;
 use model::TreeWords;
 
 // The kind of a step and the domain that it was at.
@@ -123,5 +127,49 @@ pub(crate) fn run_tested(
         kind: told.kind,
         domain: told.domain,
         counts,
+    }
+}
+
+// The state of a lock, from its arrays. The last row and the first counter are read for the compiler alone: it takes a struct apart around a number that is read by itself, and then copies fewer bytes, since the arrays do not go whole from each struct into the next; tests/bench counts them.
+pub(crate) fn lock_of<'s>(
+    tails: &'s [u16; 64],
+    nexts: &'s [u16; 320],
+    statuses: &'s [u64; 320],
+    rows: &'s [u8; 256],
+    domains: &'s [u8; 256],
+    peers: &'s [u16; 256],
+    words: &'s [u64; 256],
+    ticket: u16,
+    grant: u16,
+    entries: &'s [u64; 64],
+    tenures: &'s [u64; 64],
+    longest: &'s [u64; 64],
+) -> LockState
+    ensures { λ r. ⌜ r ≡ lent-lock (now (tails .entry)) (now (nexts .entry)) (now (statuses .entry)) (now (rows .entry)) (now (domains .entry)) (now (peers .entry)) (now (words .entry)) ticket grant (now (entries .entry)) (now (tenures .entry)) (now (longest .entry)) ⌝ }
+{
+    let places = PlaceArrays {
+        rows: *rows,
+        domains: *domains,
+        peers: *peers,
+        words: *words,
+    };
+    let _last_row = places.rows[255];
+    let after = State {
+        tails: *tails,
+        nexts: *nexts,
+        statuses: *statuses,
+        places,
+        ticket,
+        grant,
+    };
+    let counters = Counters {
+        entries: *entries,
+        tenures: *tenures,
+        longest: *longest,
+    };
+    let _first_entries = counters.entries[0];
+    LockState {
+        words: after,
+        counters,
     }
 }

@@ -11,9 +11,7 @@ mod lent;
 use model::Counters;
 use model::FreshReply;
 use model::LockState;
-use model::PlaceArrays;
 use model::RunReply;
-use model::State;
 use model::StepReply;
 use model::TreeWords;
 
@@ -101,29 +99,20 @@ pub fn step_lock(tree: TreeWords, state: LockState, thread: u16) -> StepReply
         &schedule,
         &mut trace,
     );
-    let places = PlaceArrays {
-        rows,
-        domains,
-        peers,
-        words,
-    };
-    let after = State {
-        tails,
-        nexts,
-        statuses,
-        places,
+    let left = lent::lock_of(
+        &tails,
+        &nexts,
+        &statuses,
+        &rows,
+        &domains,
+        &peers,
+        &words,
         ticket,
         grant,
-    };
-    let counters = Counters {
-        entries,
-        tenures,
-        longest,
-    };
-    let left = LockState {
-        words: after,
-        counters,
-    };
+        &entries,
+        &tenures,
+        &longest,
+    );
     StepReply {
         number: r.number,
         place: r.place,
@@ -167,29 +156,20 @@ pub fn run_lock(tree: TreeWords, state: LockState, schedule: &[u16], trace: &mut
         schedule,
         trace,
     );
-    let places = PlaceArrays {
-        rows,
-        domains,
-        peers,
-        words,
-    };
-    let after = State {
-        tails,
-        nexts,
-        statuses,
-        places,
+    let left = lent::lock_of(
+        &tails,
+        &nexts,
+        &statuses,
+        &rows,
+        &domains,
+        &peers,
+        &words,
         ticket,
         grant,
-    };
-    let counters = Counters {
-        entries,
-        tenures,
-        longest,
-    };
-    let left = LockState {
-        words: after,
-        counters,
-    };
+        &entries,
+        &tenures,
+        &longest,
+    );
     let counts = r.counts;
     RunReply {
         number: r.number,

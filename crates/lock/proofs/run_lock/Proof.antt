@@ -7,10 +7,13 @@ use Rattle.lock.proofs.run_lock.Tie as tie
 
 run-tested-requires : tie.Need-run-tested-requires
 run-tested-requires c κs =
-    let first = c .before .before .before .before .before .before .before .before .before .before .before .before .before .before .before .before .before .before .before .before .before .before .before .before .before in
-    let g = first .good .1 .0 .1 .1 .0 .1 .1 in
+    let start : tie.Start = search c in
+    let g = start .good .1 .0 .1 .1 .0 .1 .1 in
     let q = g .1 .1 .1 .0 .1 .1 in
-    typed (first .args .state .words) _ _ _ _ _ _ _ _ _ (g .0) (g .1 .0) (g .1 .1 .0) (q .0) (q .1 .0) (q .1 .1 .0) (q .1 .1 .1 .0) (g .1 .1 .1 .1 .0) (g .1 .1 .1 .1 .1 .0)
+    typed (start .args .state .words) _ _ _ _ _ _ _ _ _ (g .0) (g .1 .0) (g .1 .1 .0) (q .0) (q .1 .0) (q .1 .1 .0) (q .1 .1 .1 .0) (g .1 .1 .1 .1 .0) (g .1 .1 .1 .1 .1 .0)
+
+lock-of-requires : tie.Need-lock-of-requires
+lock-of-requires c κs = search needs
 
 same-length : tie.Need-same-length
 same-length c = search needs
@@ -18,8 +21,10 @@ same-length c = search needs
 returns : tie.Need-returns
 unfolding run-told
 returns c =
-    let ran = c .before .before .before .run-tested .ensures in
-    (rw (ran .0, ran .1 .0), ran .1 .1)
+    let after : tie.After-run-tested = search c in
+    let packed : tie.After-lock-of = search c in
+    let ran = after .run-tested .ensures in
+    (rw (packed .lock-of .ensures, ran .0, ran .1 .0), ran .1 .1)
 
 pub run-lock-spec : {M : Type 1} → statement M
-run-lock-spec = tie.close (tie.spec run-tested-requires same-length returns)
+run-lock-spec = tie.close (tie.spec run-tested-requires lock-of-requires same-length returns)

@@ -15,16 +15,20 @@ slice-aggregate-run-tested-2 c = search needs
 
 run-tested-requires : tie.Need-run-tested-requires
 run-tested-requires c κs =
-    let first = c .before .before .before .before .before .before .before .before .before .before .before .before .before .before .before .before .before .before .before .before .before .before .before .before in
-    let g = first .good .1 .0 .1 .1 .0 .1 .1 in
+    let start : tie.Start = search c in
+    let g = start .good .1 .0 .1 .1 .0 .1 .1 in
     let q = g .1 .1 .1 .0 .1 .1 in
-    typed (first .args .state .words) _ _ _ _ _ _ _ _ _ (g .0) (g .1 .0) (g .1 .1 .0) (q .0) (q .1 .0) (q .1 .1 .0) (q .1 .1 .1 .0) (g .1 .1 .1 .1 .0) (g .1 .1 .1 .1 .1 .0)
+    typed (start .args .state .words) _ _ _ _ _ _ _ _ _ (g .0) (g .1 .0) (g .1 .1 .0) (q .0) (q .1 .0) (q .1 .1 .0) (q .1 .1 .1 .0) (g .1 .1 .1 .1 .0) (g .1 .1 .1 .1 .1 .0)
+
+lock-of-requires : tie.Need-lock-of-requires
+lock-of-requires c κs = search needs
 
 returns : tie.Need-returns
 unfolding run-told
 returns c =
-    let ran = c .before .run-tested .ensures in
-    rw (ran .0, ran .1 .0) (step-told _ _ _ _ refl)
+    let after : tie.After-run-tested = search c in
+    let ran = after .run-tested .ensures in
+    rw (c .lock-of .ensures, ran .0, ran .1 .0) (step-told _ _ _ _ refl)
 
 pub step-lock-spec : {M : Type 1} → statement M
-step-lock-spec = tie.close (tie.spec slice-aggregate-run-tested slice-aggregate-run-tested-2 run-tested-requires returns)
+step-lock-spec = tie.close (tie.spec slice-aggregate-run-tested slice-aggregate-run-tested-2 run-tested-requires lock-of-requires returns)

@@ -7,13 +7,22 @@ use native.Mathlib.Omega.{arith}
 use native.Mathlib.Decide.{ℕ-discrete}
 use lib.Dec.{ltb}
 use lib.ListN.{getD}
+use lib.Bits.{bitOr, or-add-and, and-le-l, and-le-r}
 use borrow.Author.Tests.{lt-ltb, le-ltb}
 use Rattle.model.specs.Counters.{most-counted, count-above, any-above}
 use Rattle.model.proofs.Tests.{any-found, or-right, any-nowhere}
 use Rattle.refusals.specs.OfRuns.Counts.{counters-in}
 
-pub one-more-fits : (vs : List ℕ) (d : ℕ) → ((j : ℕ) → j < d → getD vs j 0 + 65536 ≤ most-counted) → getD vs d 0 ≤ 9223372036854710272 → (j : ℕ) → j < d + 1 → getD vs j 0 + 65536 ≤ most-counted
-one-more-fits vs d h l j b = elim (ℕ-discrete j d) [ yes z ↦ rw z (omega arith) | no z ↦ h j (omega arith) ]
+-- an OR is no less than either of its numbers
+pub or-above-left : (a b : ℕ) → a ≤ bitOr a b
+or-above-left a b = omega (arith, or-add-and a b, and-le-r a b)
+
+pub or-above-right : (a b : ℕ) → b ≤ bitOr a b
+or-above-right a b = omega (arith, or-add-and a b, and-le-l a b)
+
+-- the numbers passed, and one more, are at most a number that is no less than the last
+pub one-more-below : (vs : List ℕ) (d m n : ℕ) → ((j : ℕ) → j < d → getD vs j 0 ≤ m) → m ≤ n → getD vs d 0 ≤ n → (j : ℕ) → j < d + 1 → getD vs j 0 ≤ n
+one-more-below vs d m n h g l j b = elim (ℕ-discrete j d) [ yes z ↦ rw z l | no z ↦ omega (arith, h j (omega arith)) ]
 
 module _ (es ns ls : List ℕ) where
   pub entries-above : (d : ℕ) → d < 64 → most-counted < getD es d 0 → any-above (counters-in es ns ls) ≡ true
