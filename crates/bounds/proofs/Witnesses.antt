@@ -1,12 +1,10 @@
 -- The witnesses of `bounds` hold.
 use mathlib.Core.Path.{_≡_, refl, sym, subst, _∙_}
 use mathlib.Core.Bool.{Bool, true, false, _||_}
-use mathlib.Core.List.{List, [], _∷_}
-use Prim.Native.Nat.{ℕ, _*_, _≤_, _<_, _∣_}
+use Prim.Native.Nat.{ℕ, _<_, _∣_}
 use native.Mathlib.Omega.{arith}
 use native.Mathlib.Nat.{dvd-refl}
 use lib.Dec.{eqb}
-use lib.ListN.{length}
 use borrow.Author.Tests.{eqb-true}
 use Rattle.model.specs.Scans.{any-below, all-below, largest-below, filter-below}
 use Rattle.model.specs.Trees.{Tree, read-word, tree-of, is-ticket, is-child, is-leaf, depth-from, depth, level, meets, on-path, child-from, child, own-record, is-record, is-member, under, domain-allowance, allowance}
@@ -20,7 +18,7 @@ use Rattle.model.specs.Cases.Marked.{padded, tree, at-ticket-root, two-homes}
 use Rattle.model.specs.Cases.Ticket.{three-in-ticket}
 use Rattle.model.proofs.Tests.{all-each}
 use Rattle.chain.specs.Chain.{stays, acts-ahead, acts-holding, looked-to, looks-to, only, among, chain-from, chain}
-use Rattle.waits.specs.Attempts.{swaps-at, draws, begins-from, begins, enters, begun, counted, under-way-after, finished, finished-by, waits-from, waits}
+use Rattle.waits.specs.Attempts.{swaps-at, draws, begins-from, begins, enters, begun, counted, under-way-after, finished, finished-by, waits-from}
 use Rattle.claims.specs.Tenures.Laws.{sum-below}
 use Rattle.bounds.specs.StarvationFreedom.Bounds.{members}
 use Rattle.bounds.specs.StarvationFreedom.Laws.{is-acquiring, is-releasing, Round-robin-law}

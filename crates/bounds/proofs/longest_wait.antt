@@ -1,5 +1,4 @@
 -- The proofs.
-pub mod Arithmetic
 pub mod Waits
 pub mod Ends
 pub mod Owes

@@ -1,5 +1,4 @@
 -- The proofs.
-pub mod Changes
 pub mod Left
 pub mod Positions
 pub mod Effective
@@ -19,7 +18,6 @@ pub mod Over
 pub mod Linked
 pub mod Line
 pub mod Tenures
-pub mod Sums
 pub mod Weights
 pub mod Lines
 pub mod Ahead

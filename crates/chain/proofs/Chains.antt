@@ -21,6 +21,7 @@ use Rattle.model.proofs.Laws.Refusals.{refusal-law}
 use Rattle.model.proofs.Lists.{same-or}
 use Rattle.claims.proofs.Words.Tickets.{list-short}
 use Rattle.claims.proofs.Claims.Bounded.{same-count}
+use Rattle.model.proofs.Counted.{occurrences-one}
 use Rattle.chain.specs.Chain.{stays, looked-to, looks-to, only, among, chain-from, chain}
 use Rattle.chain.specs.Answers.{chain-tests}
 use Rattle.chain.specs.Laws.{Chain-on, ends, goes-on, Chain-law, Chain-refusal-law}
@@ -52,10 +53,6 @@ pub occurrences-snoc : (x j : ℕ) (c : List ℕ) → occurrences x (c ++ (j ∷
 unfolding occurrences
 occurrences-snoc x j [] = omega arith
 occurrences-snoc x j (y ∷ c) = omega (arith, occurrences-snoc x j c)
-
-occurrences-one : (a n : ℕ) → 1 ≤ occurrences a (n ∷ []) → a ≡ n
-unfolding occurrences
-occurrences-one a n h = same-or a n _ (λ e. e) (λ e. absurd (let z : 1 ≤ 0 + 0 = rw (ne-eqb a n e) at h in omega arith))
 
 -- the numbers that pass are below the bound
 filter-small : (n : ℕ) (f : ℕ → Bool) (a : ℕ) → 1 ≤ occurrences a (filter-below n f) → a < n

@@ -1,6 +1,7 @@
 -- The abstract layer of the third demand: a tree of queues, its moves, its invariant, and the three claims of every run of moves.
 pub mod Paths
 pub mod Moves
+pub mod Changes
 pub mod Invariant
 pub mod Meeting
 pub mod Joined

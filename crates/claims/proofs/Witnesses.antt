@@ -1,27 +1,27 @@
 -- The witnesses of `claims` hold.
 use mathlib.Core.Path.{_≡_, refl, ap, _∙_}
 use mathlib.Core.Bool.{Bool, true, false, _&&_, cond}
-use mathlib.Core.List.{List, [], _∷_, _++_}
-use Prim.Native.Nat.{ℕ, zero, suc, _+_, _%_, _≤_}
+use mathlib.Core.List.{_∷_}
+use Prim.Native.Nat.{ℕ, zero, suc, _%_, _≤_}
 use native.Mathlib.Omega.{arith}
-use lib.Dec.{ltb, leb}
+use lib.Dec.{leb}
 use lib.ListN.{length, getD, replicate, length-replicate}
 use borrow.Author.Tests.{le-ltb}
 use Rattle.model.specs.Scans.{any-below, all-below, filter-below}
-use Rattle.model.specs.Trees.{Tree, read-word, tree-of, is-ticket, is-child, is-leaf, depth-from, depth, level, meets, on-path, child-from, child, own-record, is-record, is-member, owner-domain, under}
+use Rattle.model.specs.Trees.{read-word, tree-of, is-ticket, is-child, is-leaf, depth-from, depth, level, meets, on-path, child-from, child, own-record, is-record, is-member, owner-domain, under}
 use Rattle.model.specs.Places.{place-of, is-idle, is-watch}
-use Rattle.model.specs.States.{place, fresh-words, fresh-state, numbers-at, store-numbers}
-use Rattle.model.specs.Steps.{stay, is-kind, is-entry, prep-row, swap-row, link-row, wait-row, leave-row, check-row, help-row, cas-row, linger-row, grant-row, draw-row, watch-row, is-watched, shown-members, raise-row, row, step}
+use Rattle.model.specs.States.{fresh-words, fresh-state, numbers-at, store-numbers}
+use Rattle.model.specs.Steps.{is-kind, is-entry, prep-row, swap-row, link-row, wait-row, leave-row, check-row, help-row, cas-row, linger-row, grant-row, draw-row, watch-row, is-watched, shown-members, raise-row, row, step}
 use Rattle.model.specs.Runs.{steps, state-after, run-of, run, ended-in, entries-under, occurrences}
 use Rattle.model.specs.Tenures.{finds-none, taken-from, given, starts, checks-at, word-to-grant, tenure-length, domain-entries, domain-tenures, longest-tenure}
 use Rattle.model.specs.Counters.{fresh-counters, fresh-lock, each-with-index, counters-after, good-count, good-counts, count-above, any-above}
 use Rattle.model.specs.WellFormed.{good-tail, good-next, good-status, queue-on-path, good-place, good-watch, good-thread, good-counters, well-formed}
 use Rattle.model.specs.Refusals.{refusal, accepted, lowest-bad, first-refusal, bad-domains, bad-threads, bad-parent, too-deep, no-threshold, bad-home, empty-domain, tree-tests, bad-state, bad-entry, bad-counter, step-tests, tree-refusal, step-refusal}
 use Rattle.model.specs.Answers.{fresh-answer, counters-behind, first-kind, first-domain, step-reply, step-answer}
-use Rattle.model.specs.Calls.{one-step, state-in, answer-to, answer, asked-entries, joined, Names}
+use Rattle.model.specs.Calls.{state-in, answer-to, answer, asked-entries, joined, Names}
 use Rattle.model.specs.Cases.Marked.{padded, tree, two-homes}
 use Rattle.model.specs.Cases.Counters.{one-pass}
-use Rattle.model.specs.Cases.Claim.{call, mixed-calls, mixed-schedule}
+use Rattle.model.specs.Cases.Claim.{mixed-calls, mixed-schedule}
 use Rattle.model.proofs.ClaimCases.{mixed-calls-answered}
 use Rattle.model.proofs.Places.{not-idle}
 use Rattle.claims.specs.Reached.{last-state, Longest-run-law}

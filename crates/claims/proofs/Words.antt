@@ -2,10 +2,12 @@
 pub mod Links
 pub mod View
 pub mod Represents
+pub mod Says
 pub mod Tickets
 pub mod Frame
 pub mod Joining
 pub mod Releasing
+pub mod Handing
 pub mod Granting
 pub mod Outcome
 pub mod Acquiring

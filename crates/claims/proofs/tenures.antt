@@ -1,15 +1,10 @@
 -- The proofs.
 pub mod Children
-pub mod StepMoves
-pub mod Acquiring
-pub mod Leaving
-pub mod Steps
 pub mod Firsts
 pub mod LeafTenures
 pub mod LeafMoves
 pub mod Telling
 pub mod Along
-pub mod Fitting
 pub mod Tracking
 pub mod Law
 pub mod Counted

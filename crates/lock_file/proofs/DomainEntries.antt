@@ -1,7 +1,7 @@
 -- The domains' entries: what reading them stores, and that it reads exactly the entries that stand there.
 use mathlib.Core.Path.{_≡_, refl, sym, _∙_, ap}
 use mathlib.Core.List.{List, [], _++_, append-assoc}
-use mathlib.Core.Logic.{_≢_, _⊎_, inl, inr}
+use mathlib.Core.Logic.{inl}
 use Prim.Native.Nat.{ℕ, zero, suc, _+_, _≤_, _<_}
 use native.Mathlib.Omega.{arith}
 use native.Mathlib.Nat.{add-zero}
@@ -12,7 +12,7 @@ use Rattle.lock_file.specs.declared.DomainsRead.{DomainsRead}
 use Rattle.lock_file.specs.Reading.{domain-end, parent-at, threshold-at, stored, domains-from}
 use Rattle.lock_file.specs.Format.{Domain-entries, no-domain, next-domain}
 use Rattle.lock_file.proofs.Positions.{reached-cases, domain-then, domain-ended, domain-bad}
-use Rattle.lock_file.proofs.Stored.{stored-length, stored-here, stored-other}
+use Rattle.lock_file.proofs.Stored.{stored-length, stored-here, stored-other, Outside, outside-next, outside-apart}
 use Rattle.lock_file.proofs.DomainEntry.{domain-bytes, domain-fields}
 
 -- reading keeps the room
@@ -32,26 +32,18 @@ domains-room bs (suc k) d at ps hs =
 
 -- the words of other domains stay
 pub domains-kept :
-    (bs : List ℕ) (k d at : ℕ) (ps hs : List ℕ) (j : ℕ) → (j < d) ⊎ (d + k ≤ j) →
+    (bs : List ℕ) (k d at : ℕ) (ps hs : List ℕ) (j : ℕ) → Outside j d k →
     (getD (domains-from bs k d at ps hs .parents) j 0 ≡ getD ps j 0) × (getD (domains-from bs k d at ps hs .thresholds) j 0 ≡ getD hs j 0)
 unfolding domains-from
 domains-kept bs zero d at ps hs j o = (refl, refl)
 domains-kept bs (suc k) d at ps hs j o =
     reached-cases (domain-end bs at)
     (λ next e.
-    let rest = domains-kept bs k (d + 1) next (stored 64 ps d (parent-at bs at)) (stored 64 hs d (threshold-at bs at)) j (beyond o) in
+    let rest = domains-kept bs k (d + 1) next (stored 64 ps d (parent-at bs at)) (stored 64 hs d (threshold-at bs at)) j (outside-next j d k o) in
     rw (domain-then bs k d at ps hs next e)
-    (rest .0 ∙ stored-other 64 ps d (parent-at bs at) j (apart o), rest .1 ∙ stored-other 64 hs d (threshold-at bs at) j (apart o)))
+    (rest .0 ∙ stored-other 64 ps d (parent-at bs at) j (outside-apart j d k o), rest .1 ∙ stored-other 64 hs d (threshold-at bs at) j (outside-apart j d k o)))
     (λ e. rw (domain-ended bs k d at ps hs e) (refl, refl))
     (λ p e. rw (domain-bad bs k d at ps hs p e) (refl, refl))
-  where
-    beyond : (j < d) ⊎ (d + suc k ≤ j) → (j < d + 1) ⊎ (d + 1 + k ≤ j)
-    beyond (inl l) = inl (omega arith)
-    beyond (inr g) = inr (omega arith)
-
-    apart : (j < d) ⊎ (d + suc k ≤ j) → j ≢ d
-    apart (inl l) z = omega arith
-    apart (inr g) z = omega arith
 
 -- entries that were read: their bytes, up to the position reached
 pub record Domains-at (bs : List ℕ) (d k at next : ℕ) (ps hs : List ℕ) : Type 0 where

@@ -3,7 +3,7 @@ use mathlib.Core.Path.{_≡_, refl, sym, _∙_}
 use mathlib.Core.List.{List}
 use mathlib.Core.Bool.{Bool, true, false}
 use mathlib.Core.Logic.{_≢_, _⊎_, inl, inr}
-use Prim.Native.Nat.{ℕ, _≤_, _<_}
+use Prim.Native.Nat.{ℕ, _≤_, _<_, suc, _+_}
 use native.Mathlib.Omega.{arith}
 use lib.Dec.{ltb}
 use lib.ListN.{length, getD, set, length-set}
@@ -37,3 +37,15 @@ same-words n first end xs ys a b within x y =
     by j h true t p q = x j (inl (ltb-true j first p)) ∙ sym (y j (inl (ltb-true j first p)))
     by j h false true p q = within j (ltb-false j first p) (ltb-true j end q) (omega arith)
     by j h false false p q = x j (inr (ltb-false j end q)) ∙ sym (y j (inr (ltb-false j end q)))
+
+-- words of others than those from d on, k of them
+abbrev pub Outside : (index from many : ℕ) → Type 0
+Outside j d k = (j < d) ⊎ (d + k ≤ j)
+
+pub outside-next : (j d k : ℕ) → Outside j d (suc k) → Outside j (d + 1) k
+outside-next j d k (inl l) = inl (omega arith)
+outside-next j d k (inr g) = inr (omega arith)
+
+pub outside-apart : (j d k : ℕ) → Outside j d (suc k) → j ≢ d
+outside-apart j d k (inl l) z = omega arith
+outside-apart j d k (inr g) z = omega arith

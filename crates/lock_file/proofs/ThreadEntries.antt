@@ -1,7 +1,7 @@
 -- The threads' entries: what reading them stores, and that it reads exactly the entries that stand there.
 use mathlib.Core.Path.{_≡_, refl, sym, _∙_, ap}
 use mathlib.Core.List.{List, [], _++_, append-assoc}
-use mathlib.Core.Logic.{_≢_, _⊎_, inl, inr}
+use mathlib.Core.Logic.{inl}
 use Prim.Native.Nat.{ℕ, zero, suc, _+_, _≤_, _<_}
 use native.Mathlib.Omega.{arith}
 use native.Mathlib.Nat.{add-zero}
@@ -13,7 +13,7 @@ use Rattle.lock_file.specs.Reading.{thread-end, home-at, stored, threads
 use Rattle.lock_file.specs.Format.{Thread-entries, no-thread, next-thread}
 use Rattle.lock_file.proofs.Positions.{reached-cases, thread-then, thread-ended, thread-bad}
 use Rattle.lock_file.proofs.Within.{position, threads-position}
-use Rattle.lock_file.proofs.Stored.{stored-length, stored-here, stored-other}
+use Rattle.lock_file.proofs.Stored.{stored-length, stored-here, stored-other, Outside, outside-next, outside-apart}
 use Rattle.lock_file.proofs.ThreadEntry.{thread-bytes, thread-fields}
 
 -- reading keeps the room
@@ -32,7 +32,7 @@ threads-room bs (suc k) i before at hs =
 
 -- the homes of other threads stay
 pub threads-kept :
-    (bs : List ℕ) (k i before at : ℕ) (hs : List ℕ) (j : ℕ) → (j < i) ⊎ (i + k ≤ j) →
+    (bs : List ℕ) (k i before at : ℕ) (hs : List ℕ) (j : ℕ) → Outside j i k →
     getD (threads-from bs k i before at hs .homes) j 0 ≡ getD hs j 0
 unfolding threads-from
 threads-kept bs zero i before at hs j o = refl
@@ -41,17 +41,9 @@ threads-kept bs (suc k) i before at hs j o =
     reached-cases (thread-end bs at)
     (λ next e.
     rw (thread-then bs k i before at hs next e)
-    (threads-kept bs k (i + 1) h next (stored 256 hs i h) j (beyond o) ∙ stored-other 256 hs i h j (apart o)))
+    (threads-kept bs k (i + 1) h next (stored 256 hs i h) j (outside-next j i k o) ∙ stored-other 256 hs i h j (outside-apart j i k o)))
     (λ e. rw (thread-ended bs k i before at hs e))
     (λ p e. rw (thread-bad bs k i before at hs p e))
-  where
-    beyond : (j < i) ⊎ (i + suc k ≤ j) → (j < i + 1) ⊎ (i + 1 + k ≤ j)
-    beyond (inl l) = inl (omega arith)
-    beyond (inr g) = inr (omega arith)
-
-    apart : (j < i) ⊎ (i + suc k ≤ j) → j ≢ i
-    apart (inl l) z = omega arith
-    apart (inr g) z = omega arith
 
 -- a position that reading came to lies within the file
 pub threads-within :

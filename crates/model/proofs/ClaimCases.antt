@@ -39,7 +39,7 @@ unfolding any-below filter-below largest-below read-word tree-of is-ticket is-ch
 allowances-reached = (refl, refl)
 
 -- what holds of 0, 1 and 2 holds below 3
-below-three : (P : ℕ → Type 0) → P 0 → P 1 → P 2 → (k : ℕ) → k < 3 → P k
+pub below-three : (P : ℕ → Type 0) → P 0 → P 1 → P 2 → (k : ℕ) → k < 3 → P k
 below-three P a b c zero h = a
 below-three P a b c (suc zero) h = b
 below-three P a b c (suc (suc zero)) h = c

@@ -81,7 +81,7 @@ unfoldable pub walked-refusal : TreeWords → State → (schedule : List ℕ) �
 walked-refusal w s is room = let t = tree-of w in refusal-by t (formed-by-walks t s) (schedule-tests t is ++ room-tests is room)
 
 -- a last test that passes changes no answer
-last-passes : (xs : List Test) (y : Test) → ((p : ℕ) → p < y .places → y .bad p ≡ false) → first-refusal (xs ++ (y ∷ [])) ≡ first-refusal xs
+pub last-passes : (xs : List Test) (y : Test) → ((p : ℕ) → p < y .places → y .bad p ≡ false) → first-refusal (xs ++ (y ∷ [])) ≡ first-refusal xs
 unfolding first-refusal
 last-passes [] y h = test-skipped y [] h
 last-passes (x ∷ xs) y h = ap (lowest-bad (x .number) (x .bad) (x .places) 0) (last-passes xs y h)

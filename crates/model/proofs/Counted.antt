@@ -1,6 +1,6 @@
 -- Counters after steps, index by index; and how little a step adds.
 use mathlib.Core.Path.{_≡_, refl, sym, ap, _∙_}
-use mathlib.Core.Bool.{Bool, true, false, _&&_, cond}
+use mathlib.Core.Bool.{Bool, true, false, cond}
 use mathlib.Core.List.{List, [], _∷_, _++_}
 use mathlib.Core.Logic.{_≢_}
 use Prim.Native.Nat.{ℕ, zero, suc, _+_, _≤_, _<_, max}
@@ -13,10 +13,11 @@ use borrow.Author.Tests.{eq-eqb, ne-eqb, lt-ltb, le-ltb}
 use Rattle.model.specs.declared.Counters.{Counters}
 use Rattle.model.specs.Scans.{filter-below}
 use Rattle.model.specs.Trees.{Tree}
-use Rattle.model.specs.Steps.{Kind, Step, is-entry}
+use Rattle.model.specs.Steps.{Kind, Step}
 use Rattle.model.specs.Runs.{how-many, entries-under, occurrences}
-use Rattle.model.specs.Tenures.{domain-entries, domain-tenures, longest-tenure, starts, tenure-length}
+use Rattle.model.specs.Tenures.{domain-entries, domain-tenures, longest-tenure}
 use Rattle.model.specs.Counters.{each-with-index, counters-after}
+use Rattle.model.proofs.Lists.{same-or}
 use Rattle.model.proofs.Laws.Runs.{entries-under-join}
 
 -- EACH ELEMENT BY ITS INDEX
@@ -115,6 +116,10 @@ how-many-most f (x ∷ xs) = by (f (x .kind)) (how-many-most f xs)
     by false h = omega arith
 
 -- HOW OFTEN a number is among those that pass
+pub occurrences-one : (a n : ℕ) → 1 ≤ occurrences a (n ∷ []) → a ≡ n
+unfolding occurrences
+occurrences-one a n h = same-or a n _ (λ e. e) (λ e. absurd (let z : 1 ≤ 0 + 0 = rw (ne-eqb a n e) at h in omega arith))
+
 pub occurrences-join : (m : ℕ) (xs ys : List ℕ) → occurrences m (xs ++ ys) ≡ occurrences m xs + occurrences m ys
 unfolding occurrences
 occurrences-join m [] ys = omega arith

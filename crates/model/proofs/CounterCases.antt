@@ -1,6 +1,6 @@
 -- The cases of the counters hold, by walks where 10 is tested.
-use mathlib.Core.Path.{_≡_, refl, ap, _∙_}
-use mathlib.Core.Bool.{Bool, true, not, _&&_}
+use mathlib.Core.Path.{_≡_, refl, _∙_}
+use mathlib.Core.Bool.{Bool, true, _&&_}
 use mathlib.Core.List.{List, [], _∷_, _++_}
 use Prim.Native.Nat.{ℕ}
 use lib.Dec.{leb, eqb}
@@ -18,7 +18,7 @@ use Rattle.model.specs.Runs.{steps, state-after, how-many, entering, cou
 use Rattle.model.specs.Tenures.{finds-none, taken-from, given, starts, checks-at, word-to-grant, tenure-length, domain-entries, domain-tenures, longest-tenure}
 use Rattle.model.specs.WellFormed.{good-tail, queue-on-path, good-place, good-counters}
 use Rattle.model.specs.Counters.{lock-state, fresh-counters, each-with-index, counters-after, good-count, good-counts, count-above, any-above}
-use Rattle.model.specs.Refusals.{Refusal, refusal, accepted, Test, test, lowest-bad, first-refusal, bad-domains, bad-threads, bad-parent, too-deep, no-threshold, bad-home, empty-domain, tree-tests, bad-state, bad-length, bad-entry, bad-room, bad-counter, entry-tests, schedule-tests, room-tests, counter-tests, step-tests, run-tests, tree-refusal, step-refusal, run-refusal}
+use Rattle.model.specs.Refusals.{Refusal, refusal, accepted, lowest-bad, first-refusal, bad-domains, bad-threads, bad-parent, too-deep, no-threshold, bad-home, empty-domain, tree-tests, bad-length, bad-entry, bad-room, bad-counter, entry-tests, schedule-tests, room-tests, run-refusal}
 use Rattle.model.specs.Answers.{counters-behind, first-kind, first-domain, step-reply, step-answer, run-reply, run-buffer, run-answer, trace-answer}
 use Rattle.model.specs.Cases.Marked.{padded, tree, at-ticket-root, counters as ticket-counters, two-homes, first-entries, same-numbers, same-places, same-state, same-counters, same-lock, uncounted}
 use Rattle.model.specs.Cases.Counters.{counters, Case, leaves, run-with, step-with, step-leaves, two-below, one-pass, two-leaves, three-leaves, two-watch, cases, buffer, left-so, refused-so, step-so, holds, all-hold, Counter-cases-hold}

@@ -55,6 +55,11 @@ words-fit Watch = refl
 words-fit Raise = refl
 words-fit Invalid = refl
 
+-- a place whose row is known
+pub row-place : (p : Place) (r : ℕ) → words-of p .row ≡ r → p ≡ shaped (shape r) (words-of p .domain) (words-of p .peer) (words-of p .word)
+unfolding place-of
+row-place p r e = sym (place-of-words p) ∙ rw (words-fit p, e) refl
+
 -- a row is one of the table's, or beyond them
 pub by-row :
     (C : ℕ → Type 0) (r : ℕ) → C 0 → C 1 → C 2 → C 3 → C 4 → C 5 → C 6 → C 7 → C 8 → C 9 → C 10 → C 11 → C 12 → C 13 → (13 < r → C r) → C r
@@ -223,7 +228,7 @@ room-kept q i x r =
     }
 
 -- fresh places: the numbers of Idle everywhere
-zero-everywhere : (n j : ℕ) → getD {A = ℕ} (replicate n 0) j 0 ≡ 0
+pub zero-everywhere : (n j : ℕ) → getD {A = ℕ} (replicate n 0) j 0 ≡ 0
 zero-everywhere zero j = refl
 zero-everywhere (suc n) zero = refl
 zero-everywhere (suc n) (suc j) = zero-everywhere n j

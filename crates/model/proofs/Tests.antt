@@ -1,6 +1,6 @@
 -- From tests to facts: connectives and scans.
 use mathlib.Core.Path.{_≡_, refl, sym}
-use mathlib.Core.List.{List, [], _∷_, _++_}
+use mathlib.Core.List.{[], _∷_}
 use mathlib.Core.Bool.{Bool, true, false, _&&_, _||_, cond, false≢true, true≢false}
 use mathlib.Core.Logic.{_≢_, _⊎_, inl, inr}
 use Prim.Native.Nat.{ℕ, zero, suc, _≤_, _<_}
@@ -40,9 +40,17 @@ pub or-false : (a : Bool) → a || false ≡ a
 or-false true = refl
 or-false false = refl
 
+pub or-none : (a b : Bool) → b ≡ false → a || b ≡ a
+or-none true b e = refl
+or-none false b e = e
+
 pub and-grouped : (a b c : Bool) → a && (b && c) ≡ (a && b) && c
 and-grouped true b c = refl
 and-grouped false b c = refl
+
+pub false-by : (a : Bool) → (a ≡ true → ⊥) → a ≡ false
+false-by true n = absurd (n refl)
+false-by false n = refl
 
 -- SCANS
 pub any-none : (n : ℕ) (f : ℕ → Bool) → any-below n f ≡ false → (j : ℕ) → j < n → f j ≡ false

@@ -1,37 +1,36 @@
 -- The witnesses of `model` hold.
 use mathlib.Core.Path.{_≡_, refl}
 use mathlib.Core.Bool.{Bool, true, false, _&&_, cond}
-use mathlib.Core.List.{List, [], _∷_, _++_}
-use mathlib.Core.Logic.{_≢_}
-use Prim.Native.Nat.{ℕ, zero, suc, _<_}
+use mathlib.Core.List.{List, [], _∷_}
+use Prim.Native.Nat.{ℕ, _<_}
 use native.Mathlib.Omega.{arith}
 use lib.Dec.{eqb, ltb}
-use lib.ListN.{getD, length}
+use lib.ListN.{getD}
 use borrow.Author.Tests.{ltb-true, eqb-true}
-use Rattle.model.specs.Scans.{any-below, all-below, largest-below, filter-below}
+use Rattle.model.specs.Scans.{any-below, all-below, filter-below}
 use Rattle.model.specs.Trees.{Tree, read-word, tree-of, is-ticket, is-child, is-leaf, depth-from, depth, level, meets, on-path, child-from, child, own-record, is-record, is-member, owner-domain, under}
 use Rattle.model.specs.Places.{place-of, is-idle, is-watch}
 use Rattle.model.specs.States.{fresh-words, fresh-state, numbers-at, store-numbers}
 use Rattle.model.specs.Steps.{is-kind, is-entry, prep-row, swap-row, link-row, wait-row, leave-row, check-row, help-row, cas-row, linger-row, grant-row, draw-row, watch-row, is-watched, shown-members, raise-row, row, step}
-use Rattle.model.specs.Runs.{steps, state-after, how-many, entering, counts-of, run-of, run, ended-in, entries-under, occurrences}
+use Rattle.model.specs.Runs.{steps, state-after, run-of, run, ended-in, entries-under, occurrences}
 use Rattle.model.specs.Tenures.{finds-none, taken-from, given, starts, checks-at, word-to-grant, tenure-length, domain-entries, domain-tenures, longest-tenure}
-use Rattle.model.specs.Counters.{fresh-counters, fresh-lock, each-with-index, counters-after, good-count, good-counts, count-above, any-above}
+use Rattle.model.specs.Counters.{fresh-counters, each-with-index, counters-after, good-count, good-counts, count-above, any-above}
 use Rattle.model.specs.WellFormed.{good-tail, good-next, good-status, queue-on-path, good-place, good-watch, good-thread, good-counters, well-formed}
 use Rattle.model.specs.Refusals.{refusal, accepted, lowest-bad, first-refusal, bad-domains, bad-threads, bad-parent, too-deep, no-threshold, bad-home, empty-domain, tree-tests, bad-state, bad-length, bad-entry, bad-room, bad-counter, step-tests, run-tests, tree-refusal, step-refusal, run-refusal}
 use Rattle.model.specs.Answers.{counters-behind}
-use Rattle.model.specs.Laws.{All-threads, Form-law, Unread-law}
-use Rattle.model.specs.CounterLaws.{Counter-form-law, Room-law}
+use Rattle.model.specs.Laws.{All-threads, Form-law}
+use Rattle.model.specs.CounterLaws.{Room-law}
 use Rattle.model.specs.Search.{with-parent, six-levels}
 use Rattle.model.specs.Cases.Marked.{padded, tree, at-ticket-root, count-up, two-homes, first-entries, three-levels}
 use Rattle.model.specs.Cases.Counters.{counters, one-pass}
 use Rattle.model.specs.Cases.Claim.{two-homes-again}
-use Rattle.model.specs.Cases.Witnesses.{Meets, crossing, Trees-meet, States-met, counted-before, Counters-met, kinds-of, Kinds-met, Tests-numbered, Unread-met, status-after, Words-met, Domains-met, Own-parent, Witnesses}
+use Rattle.model.specs.Cases.Witnesses.{crossing, Trees-meet, States-met, counted-before, Counters-met, kinds-of, Kinds-met, Tests-numbered, Unread-met, status-after, Words-met, Domains-met, Own-parent, Witnesses}
 use Rattle.model.proofs.Tests.{and-both}
-use Rattle.model.proofs.Lists.{same-or}
 use Rattle.model.proofs.Trees.Accepted.{sixteen-bit}
 use Rattle.model.proofs.Laws.Form.{form-law}
 use Rattle.model.proofs.Laws.Counters.{fresh-good, fresh-room, room-law}
 use Rattle.model.proofs.Laws.Refusals.{tree-numbered, run-numbered-before-19}
+use Rattle.model.proofs.ClaimCases.{below-three}
 
 -- a schedule whose entries pass a test
 unfoldable known : Tree → List ℕ → Bool
@@ -88,13 +87,6 @@ kinds-met = record { of-two-homes = refl; of-three-levels = refl }
 tests-numbered : Tests-numbered
 unfolding Tests-numbered
 tests-numbered t s is room = (tree-numbered t, run-numbered-before-19 t s is room)
-
--- what holds of 0, 1 and 2 holds below 3
-below-three : (P : ℕ → Type 0) → P 0 → P 1 → P 2 → (k : ℕ) → k < 3 → P k
-below-three P a b c zero h = a
-below-three P a b c (suc zero) h = b
-below-three P a b c (suc (suc zero)) h = c
-below-three P a b c (suc (suc (suc k))) h = absurd (omega arith)
 
 unread-met : Unread-met
 unfolding two-homes two-homes-again tree padded

@@ -87,9 +87,6 @@ mutual
 pub parents-longer : (l m : Laid) → Extends l m → length (l .parents) ≤ length (m .parents)
 parents-longer l m a = omega (arith, ap length (a .parents-extend), length-append (l .parents) (a .more-parents))
 
-pub homes-longer : (l m : Laid) → Extends l m → length (l .homes) ≤ length (m .homes)
-homes-longer l m a = omega (arith, ap length (a .homes-extend), length-append (l .homes) (a .more-homes))
-
 -- one threshold to each domain
 abbrev pub As-many : Laid → Type 0
 As-many l = length (l .thresholds) ≡ length (l .parents)

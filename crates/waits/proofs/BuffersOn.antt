@@ -17,6 +17,7 @@ use Rattle.model.specs.Refusals.{Refusal, refusal, accepted, lowest-bad, first-
 use Rattle.model.specs.Answers.{counters-behind, run-reply, run-buffer, run-answer, trace-answer}
 use Rattle.model.proofs.Trees.Accepted as trees
 use Rattle.model.proofs.Laws.Calls.{run-facts}
+use Rattle.model.proofs.Places.{zero-everywhere}
 use Rattle.schedules.specs.Answers.{row-buffer}
 use Rattle.waits.specs.Attempts.{under-way-from, under-way-below, waits-below-from}
 use Rattle.waits.specs.Rows.{rows-below-from, row-of-all, all-rows-from}
@@ -25,7 +26,7 @@ use Rattle.waits.specs.Answers.{waits-reply, refused-by, refused-on, wai
 use Rattle.waits.specs.Laws.{Waits-refusal-law, row-at}
 use Rattle.waits.specs.GoingOn.{Runs-on-as, Waits-on-run-law, Says-on, Row-on-law, Keeps-rest-on, Buffers-on-law}
 use Rattle.waits.proofs.Bounds.{totals-few}
-use Rattle.waits.proofs.Zeros.{uncut, zero-at}
+use Rattle.waits.proofs.Zeros.{uncut}
 use Rattle.waits.proofs.Refusing.{early, early-passes, early-zero, waits-refusal-law}
 use Rattle.waits.proofs.RefusingOn.{on-early, waits-refused, numbers-decide, on-early-decides, on-early-passes, numbers-fit, on-accepted}
 use Rattle.waits.proofs.Buffers.{same-refusal, taken-all, row-there, row-after, attempts-column, totals-column, largest-column, numbers-long, all-from-long, front-long, front-rest}
@@ -36,7 +37,7 @@ at-seam [] x rest = refl
 at-seam (y ∷ l) x rest = at-seam l x rest
 
 after-front : (l : List ℕ) (m i : ℕ) → length l ≤ i → getD (l ++ replicate m 0) i 0 ≡ 0
-after-front [] m i h = zero-at m i
+after-front [] m i h = zero-everywhere m i
 after-front (y ∷ l) m zero h = absurd (omega arith)
 after-front (y ∷ l) m (suc i) h = after-front l m i (omega arith)
 

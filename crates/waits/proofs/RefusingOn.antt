@@ -8,7 +8,7 @@ use native.Mathlib.Omega.{arith}
 use native.Mathlib.Decide.{ℕ-discrete}
 use lib.Dec.{eqb, ltb, leb}
 use lib.ListN.{getD}
-use borrow.Author.Tests.{lt-ltb, le-ltb, ltb-false, le-leb, leb-true, eq-eqb, ne-eqb, eqb-true, not-false}
+use borrow.Author.Tests.{le-ltb, ltb-false, le-leb, leb-true, eq-eqb, eqb-true, not-false}
 use Rattle.model.specs.declared.LockState.{LockState}
 use Rattle.model.specs.Trees.{Tree}
 use Rattle.model.specs.Counters.{most-counted}
@@ -16,7 +16,7 @@ use Rattle.model.specs.Refusals as model
 use Rattle.model.specs.Refusals.{refusal, accepted, first-refusal, tree-tests, counter-tests, has-number}
 use Rattle.model.specs.Laws.{Numbered, Refusal-law, Refuses-exactly}
 use Rattle.model.proofs.Refusing.{tests-pass, numbered}
-use Rattle.model.proofs.Tests.{or-neither, or-right}
+use Rattle.model.proofs.Tests.{or-neither}
 use Rattle.model.proofs.Laws.Refusals.{accepted-number, refusal-law}
 use Rattle.refusals.specs.Lowest.{Lowest}
 use Rattle.refusals.proofs.Joining.{first-decides, other-decides}
@@ -39,14 +39,6 @@ fits-passes t us i f = rw (le-ltb most-counted (getD us i 0) (f .0)) (by (leb (t
     by : (b : Bool) → leb (t .threads) i ≡ b → b && not (eqb (getD us i 0) 0) ≡ false
     by true e = rw (eq-eqb (getD us i 0) 0 (f .1 (leb-true (t .threads) i e)))
     by false e = refl
-
-refused-above : (t : Tree) (us : List ℕ) (i : ℕ) → most-counted < getD us i 0 → bad-under-way t us i ≡ true
-unfolding bad-under-way
-refused-above t us i h = rw (lt-ltb most-counted (getD us i 0) h)
-
-refused-after : (t : Tree) (us : List ℕ) (i : ℕ) → t .threads ≤ i → getD us i 0 ≢ 0 → bad-under-way t us i ≡ true
-unfolding bad-under-way
-refused-after t us i h n = or-right (ltb most-counted (getD us i 0)) _ (rw (le-leb (t .threads) i h, ne-eqb (getD us i 0) 0 n))
 
 module _ (t : Tree) (s : LockState) (is : List ℕ) (room n : ℕ) (us : List ℕ) where
   -- what is refused before 19 is tested

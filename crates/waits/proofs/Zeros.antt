@@ -5,7 +5,7 @@ use Prim.Native.Nat.{ℕ, zero, suc, _*_, _≤_}
 use native.Mathlib.Omega.{arith}
 use native.Mathlib.Nat.{suc-mul}
 use native.Mathlib.Decide.{ℕ-discrete}
-use lib.ListN.{length, getD, replicate}
+use lib.ListN.{length, replicate}
 use borrow.Author.Tests.{eq-eqb, ne-eqb}
 use Rattle.model.specs.declared.TreeWords.{TreeWords}
 use Rattle.model.specs.declared.LockState.{LockState}
@@ -17,6 +17,7 @@ use Rattle.model.proofs.Counted.{how-many-most}
 use Rattle.model.proofs.Trees.Accepted.{accepted}
 use Rattle.model.proofs.Laws.Runs.{steps-length}
 use Rattle.model.proofs.Laws.Calls.{run-facts}
+use Rattle.model.proofs.Places.{zero-everywhere}
 use Rattle.schedules.specs.Rows.{total}
 use Rattle.schedules.specs.Answers.{row-buffer}
 use Rattle.waits.specs.Attempts.{waits-below-from, waits-below}
@@ -27,11 +28,6 @@ use Rattle.waits.specs.GoingOn.{Number-fits, Zeros-law}
 use Rattle.waits.proofs.Bounds.{entries-in, totals-few}
 use Rattle.waits.proofs.Refusing.{early, early-passes, early-zero, waits-refusal-law}
 use Rattle.waits.proofs.RefusingOn.{waits-refused, numbers-fit}
-
-pub zero-at : (m n : ℕ) → getD {A = ℕ} (replicate m 0) n 0 ≡ 0
-zero-at zero n = refl
-zero-at (suc m) zero = refl
-zero-at (suc m) (suc n) = zero-at m n
 
 -- a total that is a number of 64 bits is not cut
 pub uncut : (n : ℕ) → n ≤ 18446744073709551615 → capped n ≡ n
@@ -46,12 +42,12 @@ module _ (t : Tree) (m : ℕ) (xs : List Step) where
   rows-zero : (n : ℕ) → rows-below-from t (replicate m 0) n xs ≡ rows-below t n xs
   unfolding rows-below-from
   rows-zero zero = refl
-  rows-zero (suc n) = rw (rows-zero n, zero-at m n)
+  rows-zero (suc n) = rw (rows-zero n, zero-everywhere m n)
 
   waits-zero : (n : ℕ) → waits-below-from t (replicate m 0) n xs ≡ waits-below t n xs
   unfolding waits-below-from
   waits-zero zero = refl
-  waits-zero (suc n) = rw (waits-zero n, zero-at m n)
+  waits-zero (suc n) = rw (waits-zero n, zero-everywhere m n)
 
   pub rows-by-zeros : t .threads ≤ 256 → length xs ≤ 65536 → all-rows-from t (replicate m 0) xs ≡ all-rows t xs
   unfolding all-rows-from all-rows row-of-all row-of total
@@ -65,7 +61,7 @@ module _ (w : TreeWords) (s : LockState) (is b rs : List ℕ) where
   t = tree-of w
 
   zero-fits : (i : ℕ) → Number-fits t (replicate 256 0) i
-  zero-fits i = (omega (arith, zero-at 256 i), λ _. zero-at 256 i)
+  zero-fits i = (omega (arith, zero-everywhere 256 i), λ _. zero-everywhere 256 i)
 
   same-refusal : refused-on w s is b rs (replicate 256 0) ≡ refused-by w s is b rs
   unfolding refused-on refused-by

@@ -3,8 +3,8 @@ use mathlib.Core.Path.{_≡_, refl, sym, ap, _∙_}
 use mathlib.Core.Bool.{true, _&&_}
 use mathlib.Core.List.{List, [], _∷_, _++_, append-nil}
 use Prim.Native.Nat.{ℕ, _<_}
-use lib.Dec.{eqb, ltb}
-use borrow.Author.Tests.{eqb-true, ltb-true}
+use lib.Dec.{eqb}
+use borrow.Author.Tests.{eqb-true}
 use Rattle.model.specs.Scans.{any-below, all-below, largest-below, filter-below}
 use Rattle.model.specs.Trees.{Tree, read-word, tree-of, is-ticket, is-child, is-leaf, depth-from, depth, level, meets, on-path, child-from, child, own-record, is-member, domain-allowance, allowance}
 use Rattle.model.specs.Places.{place-of, is-idle, is-watch}
@@ -26,6 +26,7 @@ use Rattle.bounds.specs.Cases.StarvationFreedom.{all-threads}
 use Rattle.bounds.specs.LongestWait.Bounds.{effective-threshold, effective, passes, others-passes, tenures-for-all, wait-from, member-wait, wait-bound}
 use Rattle.bounds.specs.LongestWait.InLine.{ends-at, others-entry, in-line, bypass, prompt, late-entry, count-steps}
 use Rattle.bounds.specs.Cases.LongestWait.{bound-holds, all-bounds, two-sockets, bound-cases, first-step, steps-on, wait-holds, all-waits, all-reach, Decides-attempts, three-and-one, two-below-one, one-below-one, ones, reaching-cases, two-by-three-by-two, rounded-up, equation-19, beyond-equation-19, stalled-case, Cases-hold}
+use Rattle.bounds.proofs.starvation_freedom.Cases.{threads-pass}
 
 bounds-hold : all-bounds bound-cases ≡ true
 unfolding any-below largest-below filter-below read-word tree-of is-child is-leaf domain-allowance allowance depth-from depth level is-member padded tree at-ticket-root two-homes two-in-root members sum-below effective-threshold effective passes others-passes tenures-for-all wait-from member-wait wait-bound bound-holds all-bounds two-sockets bound-cases
@@ -74,13 +75,6 @@ unfolding rounded-up equation-19
 example-holds = refl
 
 -- WHAT PASSES IS AN ATTEMPT
-threads-pass : (t : Tree) (is : List ℕ) → all-threads t is ≡ true → All-threads t is
-unfolding all-threads All-threads
-threads-pass t [] e = tt
-threads-pass t (i ∷ is) e =
-    let both = and-both (ltb i (t .threads)) (all-threads t is) e in
-    (ltb-true i (t .threads) (both .0), threads-pass t is (both .1))
-
 thread-there : (t : Tree) (xs : List ℕ) (i : ℕ) (ys : List ℕ) → All-threads t (xs ++ (i ∷ ys)) → i < t .threads
 unfolding All-threads
 thread-there t [] i ys h = h .0

@@ -1,6 +1,6 @@
 -- Where a chain ends: at the thread that enters, it has gone through all who stand before in the queue, each linked to the one before it, and on from the one who acts for the first.
 use mathlib.Core.Path.{_≡_, refl, sym, ap, _∙_}
-use mathlib.Core.Bool.{Bool, true, false, false≢true}
+use mathlib.Core.Bool.{true, false, false≢true}
 use mathlib.Core.List.{List, [], _∷_, _++_, head-eq-of-cons-eq}
 use mathlib.Core.Logic.{_≢_, _⊎_, inl, inr}
 use Prim.Native.Nat.{ℕ, suc, _+_, _≤_, _<_}
@@ -8,26 +8,27 @@ use native.Mathlib.Omega.{arith}
 use lib.Dec.{eqb}
 use borrow.Author.Tests.{eqb-true}
 use Rattle.model.specs.declared.Place.{Place}
-use Rattle.model.specs.declared.Place.the-variants.{Idle, Prep, Swap, Link, Wait, Inside, Check, Help, Cas, Linger, Grant, Draw, Watch, Raise, Invalid}
+use Rattle.model.specs.declared.Place.the-variants.{Link, Linger}
 use Rattle.model.specs.declared.State.{State as WordState}
 use Rattle.model.specs.Trees.{Tree, own-record}
-use Rattle.model.specs.States.{next, status, place, Has-room}
-use Rattle.model.specs.Steps.{is-entry, Row-result, step}
+use Rattle.model.specs.States.{next, status, place}
+use Rattle.model.specs.Steps.{is-entry, step}
 use Rattle.model.specs.Acts.{acts}
 use Rattle.model.specs.Laws.{Sixteen-bit}
 use Rattle.model.proofs.Tests.{and-both}
-use Rattle.model.proofs.Branches.{Branch, idle-draws, idle-prepares, prepares, swap-root, swap-inner, swap-behind, link-writes, wait-root-locked, wait-root-granted, wait-ungranted, wait-acquires, wait-passed, wait-crossed, inside-leaves, check-passes, check-releases, help-alone, help-linked, cas-last, cas-not-last, linger-alone, linger-linked, grant-writes, draw-shown, draw-unshown, watch-shown, watch-unshown, raise-counts, invalid-stays, branch}
 use Rattle.model.proofs.Laws.Kinds.{may-stay}
-use Rattle.model.proofs.Lists.{first}
-use Rattle.model.proofs.Places.{place-stored}
+use Rattle.model.proofs.Lists.{is, is-same}
 use Rattle.model.proofs.Trees.Index.{ancestor, height, record-at}
 use Rattle.model.proofs.Trees.Accepted.{Accepted}
 use Rattle.model.proofs.Trees.Tickets.{ticket-yes}
 use Rattle.model.proofs.Trees.Paths.{ancestor-root}
 use Rattle.model.proofs.Trees.Records.{own-record-at}
-use Rattle.claims.proofs.Queues.Moves.{Stage, queued, inside, low, State}
+use Rattle.claims.proofs.Queues.Moves.{Stage, queued, inside, low, State, Event}
 use Rattle.claims.proofs.Queues.Moves as moves
-use Rattle.claims.proofs.Queues.Invariant.{Inv}
+use Rattle.claims.proofs.Claims.Reached.{outcome-at, queued-after}
+use Rattle.claims.proofs.Queues.Changes.{change-shown}
+use Rattle.claims.proofs.Queues.Order.{hit}
+use Rattle.claims.proofs.Words.Outcome.{shown-sum, row-sum}
 use Rattle.chain.specs.Chain.{stays, acts-ahead, links, acts-holding, ticket-before, looked-to, chain}
 use Rattle.chain.specs.Laws.{Chain-on, ends, goes-on, Chain-law}
 use Rattle.chain.proofs.Chains.{looks-small, chain-law}
@@ -35,13 +36,14 @@ use Rattle.chain.proofs.Stays.{stays-at, moves-on}
 use Rattle.chain.proofs.Reached.Actors.{Waits, waits, lingers, watches, stay-waits, acting-there, stands-before}
 use Rattle.chain.proofs.Reached.Ahead.{link-place, Looked, looked-one, looks-one, watch-before}
 use Rattle.bounds.proofs.starvation_freedom.Situations as situations
-use Rattle.bounds.proofs.starvation_freedom.Situations.{Situation, queues, next-words, next-change}
-use Rattle.bounds.proofs.starvation_freedom.Says.{Says, says, stands, woken, granted}
+use Rattle.bounds.proofs.starvation_freedom.Situations.{Situation, queues, next-change}
+use Rattle.bounds.proofs.starvation_freedom.Says.{Says, says}
 use Rattle.bounds.proofs.starvation_freedom.Queues.{tag}
 use Rattle.bounds.specs.LongestWait.InLine.{ends-at}
 use Rattle.bounds.proofs.starvation_freedom.Line.{Lined, line-after}
 use Rattle.bounds.proofs.starvation_freedom.Stages.{Leads, same, is-handed, is-granted, steps-on}
 use Rattle.bounds.proofs.starvation_freedom.Over.{letting-go-tag}
+use Rattle.bounds.proofs.starvation_freedom.Left.{hits-shown, hits-enters}
 
 -- LISTS
 pub ends-last : (x i : ℕ) (front : List ℕ) → ends-at x (front ++ (i ∷ [])) ≡ eqb i x
@@ -49,57 +51,6 @@ unfolding ends-at
 ends-last x i [] = refl
 ends-last x i (a ∷ []) = refl
 ends-last x i (a ∷ b ∷ bs) = ends-last x i (b ∷ bs)
-
--- ENTRIES arrive Inside, from one of these places
-unfoldable may-enter : Place → Bool
-may-enter Idle = true
-may-enter (Prep l) = false
-may-enter (Swap l) = true
-may-enter (Link l p) = false
-may-enter (Wait l) = true
-may-enter Inside = false
-may-enter (Check l) = false
-may-enter (Help l) = false
-may-enter (Cas l) = false
-may-enter (Linger l) = false
-may-enter (Grant l r w) = false
-may-enter Draw = true
-may-enter Watch = true
-may-enter Raise = false
-may-enter Invalid = false
-
-entry-branch : (t : Tree) (s : WordState) (x : ℕ) → Has-room (s .places) x → {p : Place} {y : Row-result} → Branch t x s p y → is-entry (y .kind) ≡ true → (place (y .state) x ≡ Inside) × (may-enter p ≡ true)
-unfolding is-entry may-enter
-entry-branch t s x room (idle-draws z (draw-shown e)) f = (place-stored x Inside s room, refl)
-entry-branch t s x room (idle-draws z (draw-unshown e)) f = absurd (false≢true f)
-entry-branch t s x room (idle-prepares z (prepares l v at)) f = absurd (false≢true f)
-entry-branch t s x room (prepares l v at) f = absurd (false≢true f)
-entry-branch t s x room (swap-root l z e) f = (place-stored x Inside s room, refl)
-entry-branch t s x room (swap-inner l z e) f = absurd (false≢true f)
-entry-branch t s x room (swap-behind l e) f = absurd (false≢true f)
-entry-branch t s x room (link-writes l p) f = absurd (false≢true f)
-entry-branch t s x room (wait-root-locked l z e) f = absurd (false≢true f)
-entry-branch t s x room (wait-root-granted l z e) f = (place-stored x Inside s room, refl)
-entry-branch t s x room (wait-ungranted l z e) f = absurd (false≢true f)
-entry-branch t s x room (wait-acquires l z e) f = absurd (false≢true f)
-entry-branch t s x room (wait-passed l z e w v) f = (place-stored x Inside s room, refl)
-entry-branch t s x room (wait-crossed l z e w v) f = (place-stored x Inside s room, refl)
-entry-branch t s x room inside-leaves f = absurd (false≢true f)
-entry-branch t s x room (check-passes l e w) f = absurd (false≢true f)
-entry-branch t s x room (check-releases l e) f = absurd (false≢true f)
-entry-branch t s x room (help-alone l e) f = absurd (false≢true f)
-entry-branch t s x room (help-linked l v e at) f = absurd (false≢true f)
-entry-branch t s x room (cas-last l e) f = absurd (false≢true f)
-entry-branch t s x room (cas-not-last l e) f = absurd (false≢true f)
-entry-branch t s x room (linger-alone l e) f = absurd (false≢true f)
-entry-branch t s x room (linger-linked l v e at) f = absurd (false≢true f)
-entry-branch t s x room (grant-writes l p w) f = absurd (false≢true f)
-entry-branch t s x room (draw-shown e) f = (place-stored x Inside s room, refl)
-entry-branch t s x room (draw-unshown e) f = absurd (false≢true f)
-entry-branch t s x room (watch-shown e) f = (place-stored x Inside s room, refl)
-entry-branch t s x room (watch-unshown e) f = absurd (false≢true f)
-entry-branch t s x room raise-counts f = absurd (false≢true f)
-entry-branch t s x room invalid-stays f = absurd (false≢true f)
 
 -- a thread that stands does not get Inside by one step
 not-from-queued : (j : ℕ) (y : Stage) → y ≡ inside → Leads (queued j) y → ⊥
@@ -115,52 +66,25 @@ module _ (t : Tree) (valid : Accepted t) (bits : Sixteen-bit t) (c : Situation t
   abbrev g : State
   g = queues c
 
-  abbrev inv : Inv t g
-  inv = c .queued .represents .invariant
-
   -- the step of a thread is an entry
   abbrev pub Enters : (thread : ℕ) → Type 0
   Enters x = is-entry (step t x s .kind) ≡ true
 
-  pub entry-inside : (x : ℕ) (h : x < t .threads) → Enters x → queues (situations.next t valid bits c x h) .stage x ≡ inside
-  unfolding step Says
-  entry-inside x h e =
-      let room : Has-room (s .places) x = (c .queued .room .places-room, omega (arith, valid .few-threads)) in
-      let p : place (situations.next t valid bits c x h .words) x ≡ Inside = ap (λ u. place u x) (next-words t valid bits c x h) ∙ entry-branch t s x room (branch t x s (place s x)) e .0 in
-      says t valid (situations.next t valid bits c x h) x h Inside p
+  -- it is one of the moves that the step is, so it was still to come, and the thread is inside after it
+  entry-made : (x : ℕ) (h : x < t .threads) → Enters x → (moves.pending (g .stage x) ≡ 1) × (queues (situations.next t valid bits c x h) .stage x ≡ inside)
+  unfolding step situations.next queued-after hit
+  entry-made x h e =
+      let o = outcome-at t valid bits s (c .queued) x h in
+      let f : Event → ℕ = λ ev. hit ev x in
+      let shown : shown-sum f (change-shown t (o .change)) ≡ is x x = ap (shown-sum f) (o .shows) ∙ row-sum f (λ d m. refl) (λ d m. refl) x _ _ ∙ rw e refl in
+      hits-enters t (o .change) x (omega (arith, shown, is-same x x refl, hits-shown t (o .change) x))
 
-  enter-pending : (x : ℕ) → x < t .threads → (p : Place) → place s x ≡ p → may-enter p ≡ true → moves.pending (g .stage x) ≡ 1
-  unfolding may-enter Says moves.pending
-  enter-pending x h Idle z m = ap moves.pending (says t valid c x h Idle z)
-  enter-pending x h (Swap l) z m = ap moves.pending (says t valid c x h (Swap l) z .2)
-  enter-pending x h (Wait l) z m =
-      elim (says t valid c x h (Wait l) z .2) [
-        | stands u v ↦ ap moves.pending u
-        | woken q u v ↦ ap moves.pending u
-        | granted u v n ↦ ap moves.pending u
-      ]
-  enter-pending x h Draw z m = ap moves.pending (says t valid c x h Draw z .0)
-  enter-pending x h Watch z m = elim (says t valid c x h Watch z .0) [ inl u ↦ ap moves.pending u | inr u ↦ ap moves.pending u ]
-  enter-pending x h (Prep l) z m = absurd (false≢true m)
-  enter-pending x h (Link l p) z m = absurd (false≢true m)
-  enter-pending x h Inside z m = absurd (false≢true m)
-  enter-pending x h (Check l) z m = absurd (false≢true m)
-  enter-pending x h (Help l) z m = absurd (false≢true m)
-  enter-pending x h (Cas l) z m = absurd (false≢true m)
-  enter-pending x h (Linger l) z m = absurd (false≢true m)
-  enter-pending x h (Grant l r w) z m = absurd (false≢true m)
-  enter-pending x h Raise z m = absurd (false≢true m)
-  enter-pending x h Invalid z m = absurd (false≢true m)
+  pub entry-inside : (x : ℕ) (h : x < t .threads) → Enters x → queues (situations.next t valid bits c x h) .stage x ≡ inside
+  entry-inside x h e = entry-made x h e .1
 
   -- its entry is still to come
   pub enters-pending : (x : ℕ) → x < t .threads → Enters x → moves.pending (g .stage x) ≡ 1
-  unfolding step
-  enters-pending x h e =
-      let room : Has-room (s .places) x = (c .queued .room .places-room, omega (arith, valid .few-threads)) in
-      by (place s x) refl (entry-branch t s x room (branch t x s (place s x)) e .1)
-    where
-      by : (p : Place) → place s x ≡ p → may-enter p ≡ true → moves.pending (g .stage x) ≡ 1
-      by p z m = enter-pending x h p z m
+  enters-pending x h e = entry-made x h e .0
 
   queued-enters : (x k : ℕ) → x < t .threads → g .stage x ≡ queued k → Enters x → ⊥
   unfolding tag

@@ -20,13 +20,17 @@ use Rattle.bounds.specs.LongestWait.Bounds.{effective-threshold, effecti
 use Rattle.bounds.specs.LongestWait.Laws.{Equal-levels}
 use Rattle.bounds.proofs.starvation_freedom.Effective.{effective-accepted}
 use Rattle.bounds.proofs.longest_wait.Passes.{same-member}
-use Rattle.bounds.proofs.starvation_freedom.Sums.{sum-same, sum-of-value, sum-but-one}
+use Rattle.claims.proofs.Sums.{sum-same, sum-of-value, sum-but-one}
 use Rattle.bounds.proofs.longest_wait.Waits.{some-members}
 
 pub largest-within : (n : ℕ) (f : ℕ → ℕ) (v : ℕ) → ((j : ℕ) → j < n → f j ≤ v) → largest-below n f ≤ v
 unfolding largest-below
 largest-within zero f v h = omega arith
 largest-within (suc n) f v h = let r = largest-within n f v (λ j b. h j (omega arith)) in let x = h n (omega arith) in omega arith
+
+pub effective-there : (t : Tree) (d : ℕ) → effective t .threshold d ≡ effective-threshold t d
+unfolding effective
+effective-there t d = refl
 
 module _ (t : Tree) (ok : tree-refusal t .number ≡ 0) (equal : Equal-levels t) (i : ℕ) (hi : i < t .threads) where
   abbrev valid : Accepted t
@@ -83,10 +87,6 @@ module _ (t : Tree) (ok : tree-refusal t .number ≡ 0) (equal : Equal-levels t)
       let x = thread-under d h in
       let y = path-index t valid (x .thread) (x .real) d (x .on) in
       rw (y .there) at (some-members t valid (x .thread) (x .real) (y .index) (y .within))
-
-  effective-there : (d : ℕ) → effective t .threshold d ≡ effective-threshold t d
-  unfolding effective
-  effective-there d = refl
 
   pub home-depth : (j : ℕ) → depth t (t .home j) ≡ height t j
   unfolding height
@@ -145,7 +145,7 @@ module _ (t : Tree) (ok : tree-refusal t .number ≡ 0) (equal : Equal-levels t)
           let y : depth t (t .parent c) ≡ depth t d = ap (depth t) z in
           let there : depth t c + k ≡ top = omega arith in
           allowance-domain (effective t) (effective-accepted t valid) c
-          ∙ ap (λ v. v * member-allowance (effective t) c) (effective-there c ∙ effect c p u ∙ same-threshold k c p u there)
+          ∙ ap (λ v. v * member-allowance (effective t) c) (effective-there t c ∙ effect c p u ∙ same-threshold k c p u there)
           ∙ ap (λ v. t .threshold (ancestor t i k) * v) (most-at k c u (omega arith) (λ r n. rec c u there r n))
 
   -- W's own sum

@@ -10,7 +10,7 @@ use borrow.Author.Tests.{ltb-false}
 use Rattle.model.specs.Scans.{filter-below}
 use Rattle.model.specs.Trees.{Tree, is-child, is-leaf, depth, on-path, is-member}
 use Rattle.model.specs.Refusals.{tree-refusal}
-use Rattle.model.proofs.Tests.{by-test, any-found}
+use Rattle.model.proofs.Tests.{by-test, any-found, false-by}
 use Rattle.model.proofs.Trees.Index.{ancestor, height, record-at}
 use Rattle.model.proofs.Trees.Accepted.{Accepted, accepted, child-yes, child-facts}
 use Rattle.model.proofs.Trees.Paths.{depth-child, depth-zero, ancestor-home, ancestor-real, ancestor-depth, ancestor-inner, ancestor-parent-of, ancestor-root, path-index, on-path-home, on-path-root}
@@ -20,13 +20,9 @@ use Rattle.claims.proofs.tenures.Children.{one-child}
 use Rattle.bounds.specs.StarvationFreedom.Bounds.{members}
 use Rattle.bounds.specs.LongestWait.Bounds.{sum-below, effective-threshold, others-passes, tenures-for-all, member-wait, wait-bound}
 use Rattle.bounds.specs.LongestWait.Laws.{Even, Even-tree-law}
-use Rattle.bounds.proofs.starvation_freedom.Sums.{sum-same, sum-zero, sum-each, sum-swaps, sum-stretches, sum-of-value}
+use Rattle.claims.proofs.Sums.{sum-same, sum-zero, sum-each, sum-swaps, sum-stretches, sum-of-value}
 use Rattle.bounds.proofs.longest_wait.Waits.{above-wait, above-root, wait-at, above-next}
 use Rattle.bounds.proofs.longest_wait.Even.{top, same-home, home-depth, thread-under, deep, same-many, has-members, P, N, others-at}
-
-not-true-false : (b : Bool) → (b ≡ true → ⊥) → b ≡ false
-not-true-false true n = absurd (n refl)
-not-true-false false n = refl
 
 -- THE SUM AT THE ROOT, and one level lower
 root-sum : (W p M n T : ℕ) → W + p ≡ M * p → M * n ≡ T → (W + p) * n ≡ T * p
@@ -96,7 +92,7 @@ module _ (t : Tree) (ok : tree-refusal t .number ≡ 0) (even : Even t) (i : ℕ
             let y = index-there j d u e in
             let z : y .0 ≡ 0 = let w = y .3 in omega arith in
             member-thread t valid d j u (sym (ancestor-home t j) ∙ ap (ancestor t j) (sym z) ∙ y .2)
-        by false e = not-true-false (is-member t d j) (λ m. true≢false (sym (member-home (member-facts t d j m) u) ∙ e))
+        by false e = false-by (is-member t d j) (λ m. true≢false (sym (member-home (member-facts t d j m) u) ∙ e))
 
     count-lowest : threads-under d ≡ members t d
     unfolding members
@@ -106,7 +102,7 @@ module _ (t : Tree) (ok : tree-refusal t .number ≡ 0) (even : Even t) (i : ℕ
         let long : t .threads + m ≡ 320 = omega arith in
         let all : sum-below (t .threads + m) (λ r. one-if (is-member t d r)) ≡ length (filter-below 320 (is-member t d)) * 1 = rw long (sum-of-value 320 (is-member t d) 1) in
         let split = sum-stretches (t .threads) m (λ r. one-if (is-member t d r)) in
-        let none-after = sum-zero m (λ a. one-if (is-member t d (t .threads + a))) (λ a b. let z = not-true-false (is-member t d (t .threads + a)) (λ e. let w = only-threads (member-facts t d (t .threads + a) e) in omega arith) in rw z refl) in
+        let none-after = sum-zero m (λ a. one-if (is-member t d (t .threads + a))) (λ a b. let z = false-by (is-member t d (t .threads + a)) (λ e. let w = only-threads (member-facts t d (t .threads + a) e) in omega arith) in rw z refl) in
         let same = sum-same (t .threads) (λ j. one-if (on-path t j d)) (λ j. one-if (is-member t d j)) (λ j b. ap one-if (sym (same-test j b))) in
         omega arith
 
@@ -141,10 +137,10 @@ module _ (t : Tree) (ok : tree-refusal t .number ≡ 0) (even : Even t) (i : ℕ
         let m = 64 - t .domains in
         let all = sum-of-value 320 (is-member t d) 1 in
         let split = sum-stretches 256 64 f in
-        let no-threads = sum-zero 256 f (λ r b. let z = not-true-false (is-member t d r) (λ e. let w = no-thread (member-facts t d r e) in omega arith) in rw z refl) in
+        let no-threads = sum-zero 256 f (λ r b. let z = false-by (is-member t d r) (λ e. let w = no-thread (member-facts t d r e) in omega arith) in rw z refl) in
         let long : t .domains + m ≡ 64 = omega arith in
         let split-domains : sum-below 64 (λ c. f (256 + c)) ≡ sum-below (t .domains) (λ c. f (256 + c)) + sum-below m (λ c. f (256 + (t .domains + c))) = ap (λ n. sum-below n (λ c. f (256 + c))) (sym long) ∙ sum-stretches (t .domains) m (λ c. f (256 + c)) in
-        let none-after = sum-zero m (λ c. f (256 + (t .domains + c))) (λ c b. let z = not-true-false (is-member t d (256 + (t .domains + c))) (λ e. let w = child-there (member-facts t d (256 + (t .domains + c)) e) (t .domains + c) refl .1 in omega arith) in rw z refl) in
+        let none-after = sum-zero m (λ c. f (256 + (t .domains + c))) (λ c b. let z = false-by (is-member t d (256 + (t .domains + c))) (λ e. let w = child-there (member-facts t d (256 + (t .domains + c)) e) (t .domains + c) refl .1 in omega arith) in rw z refl) in
         let same = sum-same (t .domains) (λ c. f (256 + c)) (λ c. one-if (is-child t d c)) (λ c b. ap one-if (same-child c b)) in
         let children = sum-of-value (t .domains) (is-child t d) 1 in
         omega arith
@@ -154,7 +150,7 @@ module _ (t : Tree) (ok : tree-refusal t .number ≡ 0) (even : Even t) (i : ℕ
           where
             by : (b : Bool) → is-child t d c ≡ b → is-member t d (256 + c) ≡ b
             by true e = let f = child-facts t d c e in member-domain t d c (f .no-root) u (f .hangs)
-            by false e = not-true-false (is-member t d (256 + c)) (λ m. true≢false (sym (child-there (member-facts t d (256 + c) m) c refl .0) ∙ e))
+            by false e = false-by (is-member t d (256 + c)) (λ m. true≢false (sym (child-there (member-facts t d (256 + c) m) c refl .0) ∙ e))
 
     count-higher : (n : ℕ) → ((c : ℕ) → is-child t d c ≡ true → c < t .domains → threads-under c ≡ n) → threads-under d ≡ members t d * n
     unfolding children-sum

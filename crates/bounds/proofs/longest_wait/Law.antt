@@ -35,14 +35,13 @@ use Rattle.waits.specs.Attempts.{swaps-at, draws, begins-from, begins as begins
 use Rattle.bounds.proofs.starvation_freedom.Situations as situations
 use Rattle.bounds.proofs.starvation_freedom.Situations.{Situation, queues, next-words, place-other}
 use Rattle.bounds.proofs.starvation_freedom.Queues.{tag}
-use Rattle.bounds.proofs.starvation_freedom.Says.{Says, says, stands, woken, granted, pass, release}
+use Rattle.bounds.proofs.starvation_freedom.Says.{Says, says, stands, Staged, staged}
 use Rattle.bounds.proofs.starvation_freedom.Turns.{From-idle, to-swap, drawn-inside, drawn-watch, idle-turn}
 use Rattle.bounds.specs.LongestWait.Bounds.{effective, wait-bound}
 use Rattle.bounds.specs.LongestWait.InLine.{ends-at, others-entry, in-line, bypass, prompt, late-entry, count-steps}
 use Rattle.bounds.specs.LongestWait.Laws.{Bounded-wait, Wait-bound-law}
 use Rattle.bounds.proofs.starvation_freedom.Law.{counts-run}
 use Rattle.bounds.proofs.starvation_freedom.Stages.{ones-empty}
-use Rattle.bounds.proofs.starvation_freedom.Over.{letting-go-tag}
 use Rattle.bounds.proofs.longest_wait.Ends.{chain-ends}
 use Rattle.bounds.proofs.longest_wait.Owes as owes
 use Rattle.bounds.proofs.longest_wait.Owes.{Sound, sound-next, W, Owes}
@@ -108,33 +107,9 @@ module _ (t : Tree) (ok : tree-refusal t .number ≡ 0) (bits : Sixteen-bit t) w
 
   module _ (i : ℕ) (hi : i < t .threads) where
     -- a thread whose stage is inside is Inside
-    inside-place : (c : Situation t) → queues c .stage i ≡ inside → (p : Place) → place (c .words) i ≡ p → p ≡ Inside
-    unfolding Says tag
-    inside-place c z Idle e = absurd (let o = ap tag (sym z ∙ says t valid c i hi Idle e) in omega arith)
-    inside-place c z (Prep l) e = absurd (let o = ap tag (sym z ∙ says t valid c i hi (Prep l) e .2) in omega arith)
-    inside-place c z (Swap l) e = absurd (let o = ap tag (sym z ∙ says t valid c i hi (Swap l) e .2) in omega arith)
-    inside-place c z (Link l p) e = absurd (let o = ap tag (sym z ∙ says t valid c i hi (Link l p) e .2) in omega arith)
-    inside-place c z (Wait l) e =
-        elim (says t valid c i hi (Wait l) e .2) [
-          | stands u v ↦ absurd (let o = ap tag (sym z ∙ u) in omega arith)
-          | woken q u v ↦ absurd (let o = ap tag (sym z ∙ u) in omega arith)
-          | granted u v m ↦ absurd (let o = ap tag (sym z ∙ u) in omega arith)
-        ]
-    inside-place c z Inside e = refl
-    inside-place c z (Check l) e = absurd (let o = ap tag (sym z ∙ says t valid c i hi (Check l) e .3) in omega arith)
-    inside-place c z (Help l) e = absurd (let y = says t valid c i hi (Help l) e in let o = ap tag (sym z ∙ y .2) in omega (arith, letting-go-tag (height t i) (y .0)))
-    inside-place c z (Cas l) e = absurd (let y = says t valid c i hi (Cas l) e in let o = ap tag (sym z ∙ y .2) in omega (arith, letting-go-tag (height t i) (y .0)))
-    inside-place c z (Linger l) e = absurd (let y = says t valid c i hi (Linger l) e in let o = ap tag (sym z ∙ y .2) in omega (arith, letting-go-tag (height t i) (y .0)))
-    inside-place c z (Grant l r w) e =
-        let y = says t valid c i hi (Grant l r w) e in
-        elim (y .2) [
-          | pass q u f ↦ absurd (let o = ap tag (sym z ∙ u) in omega arith)
-          | release u f ↦ absurd (let o = ap tag (sym z ∙ u) in omega (arith, letting-go-tag (height t i) (y .0)))
-        ]
-    inside-place c z Draw e = absurd (let o = ap tag (sym z ∙ says t valid c i hi Draw e .0) in omega arith)
-    inside-place c z Watch e = elim (says t valid c i hi Watch e .0) [ inl u ↦ absurd (let o = ap tag (sym z ∙ u) in omega arith) | inr u ↦ absurd (let o = ap tag (sym z ∙ u) in omega arith) ]
-    inside-place c z Raise e = absurd (let o = ap tag (sym z ∙ says t valid c i hi Raise e) in omega arith)
-    inside-place c z Invalid e = absurd (says t valid c i hi Invalid e)
+    inside-place : (c : Situation t) → queues c .stage i ≡ inside → place (c .words) i ≡ Inside
+    unfolding Staged
+    inside-place c z = staged t valid c i hi inside z
 
     -- who may still see entries is on its way: neither Idle nor Inside
     owes-way : (c : Situation t) (n : ℕ) → Owes t valid bits c i n → (1 ≤ tag (queues c .stage i)) × (tag (queues c .stage i) ≤ 3)
@@ -220,7 +195,7 @@ module _ (t : Tree) (ok : tree-refusal t .number ≡ 0) (bits : Sixteen-bit t) w
         let way = owes-way c n w in
         let there = not-inside c a h (way-not-inside c (way .1)) (own-entry s a h ys o′) in
         let f : ℕ = cond (in-line t i (c .words) z) 1 0 in
-        let next-owes = owes-step t valid bits c (s .sound) a h i n f hi w (count-of s a h (in-line t i (c .words) z) refl) (λ q. there (inside-place (situations.next t valid bits c a h) q _ refl)) in
+        let next-owes = owes-step t valid bits c (s .sound) a h i n f hi w (count-of s a h (in-line t i (c .words) z) refl) (λ q. there (inside-place (situations.next t valid bits c a h) q)) in
         let words = stepped c a h in
         let rec = along ys is (go s a h) (next-owes .left) later (l .1) (ap (steps t is) words ∙ tail-eq-of-cons-eq e) (later-none i z ys o′) (next-owes .owes) in
         let moved-count : (p : WordState → Step → Bool) → count-steps p (situations.next t valid bits c a h .words) ys ≡ count-steps p (z .state) ys = λ p. ap (λ u. count-steps p u ys) words in
@@ -250,28 +225,7 @@ module _ (t : Tree) (ok : tree-refusal t .number ≡ 0) (bits : Sixteen-bit t) w
       unfolding tag
       climbed e =
           let there = not-inside from i h (way-not-inside from (rw e (omega arith))) (λ _. quiet) in
-          owes-step t valid bits from (s .sound) i h i (W t valid bits i 0) 0 hi (owes.climbs i 0 (W t valid bits i 0) e (omega arith)) none (λ q. there (inside-place to q _ refl))
-
-      by-swap : (p : Place) → place (from .words) i ≡ p → swaps-at (t .home i) p ≡ true → Owed t valid bits to i (W t valid bits i 0) 0
-      unfolding swaps-at Says
-      by-swap (Swap l) e b =
-          let y = says t valid from i hi (Swap l) e in
-          let home : ancestor t i 0 ≡ ancestor t i (y .0) = ancestor-home t i ∙ sym (eqb-true l (t .home i) b) ∙ y .1 .0 in
-          climbed (y .2 ∙ ap climb (sym (ancestor-injective t valid i hi 0 (y .0) (omega arith) (y .1 .1) home)))
-      by-swap Idle e b = absurd (false≢true b)
-      by-swap (Prep l) e b = absurd (false≢true b)
-      by-swap (Link l p) e b = absurd (false≢true b)
-      by-swap (Wait l) e b = absurd (false≢true b)
-      by-swap Inside e b = absurd (false≢true b)
-      by-swap (Check l) e b = absurd (false≢true b)
-      by-swap (Help l) e b = absurd (false≢true b)
-      by-swap (Cas l) e b = absurd (false≢true b)
-      by-swap (Linger l) e b = absurd (false≢true b)
-      by-swap (Grant l r w) e b = absurd (false≢true b)
-      by-swap Draw e b = absurd (false≢true b)
-      by-swap Watch e b = absurd (false≢true b)
-      by-swap Raise e b = absurd (false≢true b)
-      by-swap Invalid e b = absurd (false≢true b)
+          owes-step t valid bits from (s .sound) i h i (W t valid bits i 0) 0 hi (owes.climbs i 0 (W t valid bits i 0) e (omega arith)) none (λ q. there (inside-place to q))
 
       -- Idle's own draw
       drawn : place (from .words) i ≡ Idle → 0 ≡ height t i → From-idle t i (place (to .words) i) → Owed t valid bits to i (W t valid bits i 0) 0
@@ -287,31 +241,42 @@ module _ (t : Tree) (ok : tree-refusal t .number ≡ 0) (bits : Sixteen-bit t) w
             | inr y ↦ record { left = 0; owes = owes.free i 0 y; less = omega arith }
           ]
 
-      by-draw : 0 ≡ height t i → (p : Place) → place (from .words) i ≡ p → draws p ≡ true → Owed t valid bits to i (W t valid bits i 0) 0
-      unfolding draws Says
-      by-draw top Idle e b = drawn e top (idle-turn t valid bits from i h e)
-      by-draw top Draw e b = climbed (says t valid from i hi Draw e .0 ∙ ap climb (sym top))
-      by-draw top (Prep l) e b = absurd (false≢true b)
-      by-draw top (Swap l) e b = absurd (false≢true b)
-      by-draw top (Link l p) e b = absurd (false≢true b)
-      by-draw top (Wait l) e b = absurd (false≢true b)
-      by-draw top Inside e b = absurd (false≢true b)
-      by-draw top (Check l) e b = absurd (false≢true b)
-      by-draw top (Help l) e b = absurd (false≢true b)
-      by-draw top (Cas l) e b = absurd (false≢true b)
-      by-draw top (Linger l) e b = absurd (false≢true b)
-      by-draw top (Grant l r w) e b = absurd (false≢true b)
-      by-draw top Watch e b = absurd (false≢true b)
-      by-draw top Raise e b = absurd (false≢true b)
-      by-draw top Invalid e b = absurd (false≢true b)
+      -- the places from which an attempt begins
+      at-home : is-ticket t (t .home i) ≡ true → 0 ≡ height t i
+      at-home z = ancestor-zero t valid i hi 0 (omega arith) (ancestor-home t i ∙ ticket-facts t (t .home i) z .1)
+
+      never : {C : Type 0} (k : Bool) → cond k false false ≡ true → C
+      never true b = absurd (false≢true b)
+      never false b = absurd (false≢true b)
+
+      by-place :
+          (p : Place) → place (from .words) i ≡ p → (k : Bool) → is-ticket t (t .home i) ≡ k → cond k (draws p) (swaps-at (t .home i) p) ≡ true → Owed t valid bits to i (W t valid bits i 0) 0
+      unfolding swaps-at draws Says
+      by-place Idle e true z b = drawn e (at-home z) (idle-turn t valid bits from i h e)
+      by-place Idle e false z b = absurd (false≢true b)
+      by-place (Swap l) e true z b = absurd (false≢true b)
+      by-place (Swap l) e false z b =
+          let y = says t valid from i hi (Swap l) e in
+          let home : ancestor t i 0 ≡ ancestor t i (y .0) = ancestor-home t i ∙ sym (eqb-true l (t .home i) b) ∙ y .1 .0 in
+          climbed (y .2 ∙ ap climb (sym (ancestor-injective t valid i hi 0 (y .0) (omega arith) (y .1 .1) home)))
+      by-place Draw e true z b = climbed (says t valid from i hi Draw e .0 ∙ ap climb (sym (at-home z)))
+      by-place Draw e false z b = absurd (false≢true b)
+      by-place (Prep l) e k z b = never k b
+      by-place (Link l p) e k z b = never k b
+      by-place (Wait l) e k z b = never k b
+      by-place Inside e k z b = never k b
+      by-place (Check l) e k z b = never k b
+      by-place (Help l) e k z b = never k b
+      by-place (Cas l) e k z b = never k b
+      by-place (Linger l) e k z b = never k b
+      by-place (Grant l r w) e k z b = never k b
+      by-place Watch e k z b = never k b
+      by-place Raise e k z b = never k b
+      by-place Invalid e k z b = never k b
 
       first-owed : begins-from t i (place (from .words) i) ≡ true → Owed t valid bits to i (W t valid bits i 0) 0
       unfolding begins-from
-      first-owed b = by (is-ticket t (t .home i)) refl
-        where
-          by : (k : Bool) → is-ticket t (t .home i) ≡ k → Owed t valid bits to i (W t valid bits i 0) 0
-          by true z = by-draw (ancestor-zero t valid i hi 0 (omega arith) (ancestor-home t i ∙ ticket-facts t (t .home i) z .1)) (place (from .words) i) refl (rw z at b)
-          by false z = by-swap (place (from .words) i) refl (rw z at b)
+      first-owed b = by-place (place (from .words) i) refl _ refl b
 
     bound-is : W t valid bits i 0 ≡ wait-bound t i
     unfolding wait-bound

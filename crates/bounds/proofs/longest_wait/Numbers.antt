@@ -20,7 +20,7 @@ use Rattle.bounds.specs.LongestWait.Bounds.{effective-threshold, effecti
 use Rattle.bounds.specs.LongestWait.Laws.{Numbers-law}
 use Rattle.bounds.proofs.starvation_freedom.Effective.{effective-accepted}
 use Rattle.bounds.proofs.longest_wait.Passes.{same-member}
-use Rattle.bounds.proofs.longest_wait.Even.{largest-within}
+use Rattle.bounds.proofs.longest_wait.Even.{largest-within, effective-there}
 use Rattle.bounds.proofs.longest_wait.Waits.{above-wait, above-root, wait-at}
 
 module _ (t : Tree) (ok : tree-refusal t .number ≡ 0) where
@@ -68,15 +68,11 @@ module _ (t : Tree) (ok : tree-refusal t .number ≡ 0) where
       by true e = rw e (leaf-most d h e)
       by false e = rw e (largest-within (t .domains) _ (most d) (λ c u. child-within c u (is-child t d c) refl))
 
-  threshold-there : (d : ℕ) → effective t .threshold d ≡ effective-threshold t d
-  unfolding effective
-  threshold-there d = refl
-
   of-domain : (d : ℕ) → d < t .domains → passes t (256 + d) ≡ effective-threshold t d * most d
   unfolding passes
   of-domain d h =
       allowance-domain (effective t) (effective-accepted t valid) d
-      ∙ ap (λ v. v * member-allowance (effective t) d) (threshold-there d) ∙ ap (λ v. effective-threshold t d * v) (most-is d h)
+      ∙ ap (λ v. v * member-allowance (effective t) d) (effective-there t d) ∙ ap (λ v. effective-threshold t d * v) (most-is d h)
 
   -- W
   at-root : (m : ℕ) → member-wait t 0 m ≡ others-passes t 0 m

@@ -1,25 +1,19 @@
 -- Passes bound the entries under a member while another stands ungranted.
 use mathlib.Core.Path.{_≡_, refl, ap, _∙_}
-use mathlib.Core.Bool.{Bool, true, false, not, cond}
+use mathlib.Core.Bool.{cond}
 use mathlib.Core.List.{List, [], _∷_}
-use Prim.Native.Nat.{ℕ, zero, suc, _+_, _*_, _-_, _≤_, _<_}
+use Prim.Native.Nat.{ℕ, _+_}
 use native.Mathlib.Omega.{arith}
-use native.Mathlib.Nat.{mul-le-mul}
-use lib.Dec.{eqb, ltb}
-use borrow.Author.Tests.{ltb-true, eqb-false, not-true}
-use Rattle.model.specs.Scans.{largest-below}
-use Rattle.model.specs.Trees.{Tree, is-child, is-leaf, meets, on-path, is-record, is-member, under, domain-allowance, allowance}
+use Rattle.model.specs.Trees.{Tree, is-child, meets, on-path, is-member, under}
 use Rattle.model.specs.Steps.{is-entry, Step}
 use Rattle.model.specs.Runs.{entries-under}
-use Rattle.model.proofs.Tests.{and-both, by-test}
-use Rattle.model.proofs.Trees.Accepted.{Accepted, accepted, child-facts}
+use Rattle.model.proofs.Trees.Accepted.{Accepted, accepted}
 use Rattle.claims.proofs.Queues.Paths.{laws}
 use Rattle.claims.proofs.Queues.Moves.{State, Event, Run, done, silent, more}
 use Rattle.claims.proofs.Queues.Invariant.{Inv, inv-empty}
 use Rattle.claims.proofs.Queues.Keeps.{keeps}
 use Rattle.claims.proofs.Claims.Reached.{All-real, from-fresh}
 use Rattle.claims.proofs.Claims.Bounded.{bounded}
-use Rattle.bounds.specs.StarvationFreedom.Bounds.{members}
 use Rattle.bounds.specs.LongestWait.Bounds.{effective, passes}
 use Rattle.bounds.specs.LongestWait.Laws.{Fewer-passes-law, Passes-law}
 use Rattle.bounds.proofs.starvation_freedom.Fewer.{fewer-passes}

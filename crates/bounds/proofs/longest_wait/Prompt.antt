@@ -20,6 +20,7 @@ use Rattle.model.specs.Laws.{Sixteen-bit}
 use Rattle.model.specs.Refusals.{tree-refusal}
 use Rattle.model.proofs.Tests.{and-both, and-false, or-cases, all-each}
 use Rattle.model.proofs.Counted.{occurrences-join}
+use Rattle.model.proofs.Places.{idle-facts}
 use Rattle.model.proofs.Trees.Accepted.{Accepted, accepted}
 use Rattle.chain.specs.Chain.{stays, acts-ahead, links, ticket-before, acts-holding, looked-to, chain}
 use Rattle.chain.proofs.Reached.Actors.{row-stays}
@@ -55,24 +56,6 @@ either-way t i s (y ∷ ys) o = by (is-entry (y .kind)) refl (ends-at (y .thread
     by false e f g rec = rw e (omega arith)
     by true e true g rec = let own = own-entry i y ys o e in rw (e, own, g) (omega arith)
     by true e false g rec = let own = own-entry i y ys o e in rw (e, own, g) (omega arith)
-
-idle-place : (p : Place) → is-idle p ≡ true → p ≡ Idle
-unfolding is-idle
-idle-place Idle e = refl
-idle-place (Prep l) e = absurd (false≢true e)
-idle-place (Swap l) e = absurd (false≢true e)
-idle-place (Link l p) e = absurd (false≢true e)
-idle-place (Wait l) e = absurd (false≢true e)
-idle-place Inside e = absurd (false≢true e)
-idle-place (Check l) e = absurd (false≢true e)
-idle-place (Help l) e = absurd (false≢true e)
-idle-place (Cas l) e = absurd (false≢true e)
-idle-place (Linger l) e = absurd (false≢true e)
-idle-place (Grant l r w) e = absurd (false≢true e)
-idle-place Draw e = absurd (false≢true e)
-idle-place Watch e = absurd (false≢true e)
-idle-place Raise e = absurd (false≢true e)
-idle-place Invalid e = absurd (false≢true e)
 
 -- A THREAD LOOKED TO is not Idle
 idle-acts : (t : Tree) (s : WordState) (j d : ℕ) → place s j ≡ Idle → acts t s j d ≡ false
@@ -123,7 +106,7 @@ module _ (t : Tree) (ok : tree-refusal t .number ≡ 0) (bits : Sixteen-bit t) (
       elim (or-cases (eqb last (y .thread)) (is-idle (place s last) || stays t s last) each) [
         | inl z ↦ ends-there (y .thread) ∙ z
         | inr z ↦ elim (or-cases (is-idle (place s last)) (stays t s last) z) [
-          | inl w ↦ absurd (busy .1 (idle-place (place s last) w))
+          | inl w ↦ absurd (busy .1 (idle-facts (place s last) w))
           | inr w ↦ absurd (x .last-moves (row-stays t s last w))
         ]
       ]

@@ -15,7 +15,8 @@ use Rattle.model.specs.Refusals.{tree-refusal}
 use Rattle.model.specs.Laws.{All-threads, Sixteen-bit}
 use Rattle.model.proofs.Tests.{and-both}
 use Rattle.model.proofs.Lists.{same-or, less-or}
-use Rattle.model.proofs.Counted.{occurrences-join}
+use Rattle.model.proofs.Counted.{occurrences-join, occurrences-one}
+use Rattle.model.proofs.Laws.Runs.{entering-join, how-many-join}
 use Rattle.waits.specs.Attempts.{begins, enters, begun, counted, under-way-after, finished, finished-by, waits-from, waits}
 use Rattle.bounds.specs.LongestWait.InLine.{late-entry, count-steps}
 use Rattle.bounds.specs.LongestWait.Laws.{Bounded-wait, Wait-bound-law, Waited, Waits-bound-law}
@@ -23,16 +24,6 @@ use Rattle.bounds.proofs.longest_wait.Law.{wait-bound-law}
 use Rattle.bounds.specs.LongestWait.Bounds.{wait-bound}
 
 -- LISTS OF STEPS
-entering-join : (xs ys : List Step) → entering (xs ++ ys) ≡ entering xs ++ entering ys
-unfolding entering
-entering-join [] ys = refl
-entering-join (x ∷ xs) ys = ap (λ zs. cond (is-entry (x .kind)) (x .thread ∷ []) [] ++ zs) (entering-join xs ys) ∙ sym (append-assoc (cond (is-entry (x .kind)) (x .thread ∷ []) []) (entering xs) (entering ys))
-
-many-join : (xs ys : List Step) → how-many is-entry (xs ++ ys) ≡ how-many is-entry xs + how-many is-entry ys
-unfolding how-many
-many-join [] ys = omega arith
-many-join (x ∷ xs) ys = omega (arith, many-join xs ys)
-
 count-join : (p : State → Step → Bool) (s : State) (xs ys : List Step) → count-steps p s (xs ++ ys) ≡ count-steps p s xs + count-steps p (state-after s xs) ys
 unfolding count-steps state-after
 count-join p s [] ys = omega arith
@@ -77,7 +68,7 @@ module _ (t : Tree) (i : ℕ) where
       let more = entering-join (u .first ∷ u .mid) (y ∷ []) in
       let o = occurrences-join i (entering (u .first ∷ u .mid)) (entering (y ∷ [])) in
       let q = quiet-step y e in
-      let m = many-join (u .mid) (y ∷ []) in
+      let m = how-many-join is-entry (u .mid) (y ∷ []) in
       record {
         before = u .before;
         first = u .first;
@@ -124,20 +115,16 @@ module _ (t : Tree) (i : ℕ) where
     not-entered : occurrences i (entering (first ∷ mid)) ≡ 0
     many : how-many is-entry mid ≡ w
 
-  one-number : (w n : ℕ) → 1 ≤ occurrences w (n ∷ []) → w ≡ n
-  unfolding occurrences
-  one-number w n h = same-or w n _ (λ e. e) (λ e. absurd (let z : 1 ≤ 0 + 0 = rw (ne-eqb w n e) at h in omega arith))
-
   finished-here : (so-far : List Step) (a : ℕ) (y : Step) (ys all : List Step) (w : ℕ) → Way so-far a → all ≡ so-far ++ (y ∷ ys) → 1 ≤ w → 1 ≤ occurrences w (finished (begun t i y a)) → Found all w
   unfolding Way begun finished occurrences
   finished-here so-far a y ys all w way e some h = by (begins t i y) refl a way h
     where
       by : (b : Bool) → begins t i y ≡ b → (a : ℕ) → Way so-far a → 1 ≤ occurrences w (finished (cond (begins t i y) 1 a)) → Found all w
-      by true z a way h = absurd (let h′ : 1 ≤ occurrences w (finished 1) = rw z at h in let q = one-number w 0 h′ in omega arith)
+      by true z a way h = absurd (let h′ : 1 ≤ occurrences w (finished 1) = rw z at h in let q = occurrences-one w 0 h′ in omega arith)
       by false z zero way h = absurd (let h′ : 1 ≤ occurrences w (finished 0) = rw z at h in omega arith)
       by false z (suc n) u h =
           let h′ : 1 ≤ occurrences w (finished (suc n)) = rw z at h in
-          let q = one-number w n h′ in
+          let q = occurrences-one w n h′ in
           record {
             before = u .before;
             first = u .first;

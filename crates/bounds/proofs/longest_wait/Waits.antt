@@ -14,7 +14,7 @@ use Rattle.model.proofs.Trees.Records.{record-suc, member-at}
 use Rattle.bounds.specs.LongestWait.Bounds.{others-passes, tenures-for-all, wait-from, member-wait}
 use Rattle.bounds.specs.StarvationFreedom.Bounds.{members}
 use Rattle.bounds.proofs.starvation_freedom.Positions.{some-member}
-use Rattle.bounds.proofs.longest_wait.Arithmetic.{rounded-up}
+use Rattle.bounds.proofs.starvation_freedom.Arithmetic.{rounded-up}
 
 -- W of a domain's own record in its parent; none at the root
 unfoldable pub above-wait : Tree → (domain : ℕ) → ℕ

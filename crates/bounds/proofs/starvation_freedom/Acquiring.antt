@@ -2,7 +2,7 @@
 use mathlib.Core.Path.{_≡_, refl, ap, _∙_}
 use mathlib.Core.Bool.{true, false≢true}
 use mathlib.Core.List.{List, _∷_}
-use mathlib.Core.Logic.{_≢_, _⊎_, inl, inr}
+use mathlib.Core.Logic.{_⊎_, inl, inr}
 use Prim.Native.Nat.{ℕ, zero, suc, _+_, _*_, _-_, _/_, _≤_, _<_}
 use native.Mathlib.Omega.{arith}
 use lib.ListN.{length}
@@ -11,24 +11,24 @@ use Rattle.model.specs.declared.Place.the-variants.{Idle, Prep, Swap, Link, Wai
 use Rattle.model.specs.Trees.{Tree, level}
 use Rattle.model.specs.States.{place}
 use Rattle.model.specs.Laws.{Sixteen-bit}
-use Rattle.model.proofs.Lists.{less-or, first, rest, count, count-rest}
+use Rattle.model.proofs.Lists.{less-or, first, count-rest}
 use Rattle.model.proofs.Trees.Index.{ancestor, height, record-at}
 use Rattle.model.proofs.Trees.Accepted.{Accepted}
 use Rattle.model.proofs.Trees.Paths.{ancestor-real, ancestor-home}
 use Rattle.model.proofs.Trees.Records.{member-at}
 use Rattle.claims.proofs.Queues.Paths.{Laws, laws}
 use Rattle.claims.proofs.Queues.Meeting.{same-height}
-use Rattle.claims.proofs.Queues.Moves.{queued, ready, low, acts}
+use Rattle.claims.proofs.Queues.Moves.{queued, ready}
+use Rattle.claims.proofs.Queues.Unblocked.{holder}
 use Rattle.chain.proofs.Reached.Orders.{position}
 use Rattle.bounds.specs.StarvationFreedom.Bounds.{members, passes, others-passes, entry-rounds, tenure-length, tenures-for, link-rounds, standing-rounds, acquire-rounds, acquire-bound}
 use Rattle.bounds.specs.StarvationFreedom.Laws.{is-acquiring}
 use Rattle.bounds.proofs.starvation_freedom.Situations.{Situation, queues, next, next-change}
-use Rattle.bounds.proofs.starvation_freedom.Within.{Within, then, longer, at-once, one-round, meanwhile}
+use Rattle.bounds.proofs.starvation_freedom.Within.{Within, then, longer, at-once, meanwhile}
 use Rattle.bounds.proofs.starvation_freedom.Turns.{Acquires, by-prep, by-draw, From-swap, entered, alone, behind, From-idle, to-swap, drawn-inside, drawn-watch, prep-turn, draw-turn, swap-turn, idle-turn}
 use Rattle.bounds.proofs.starvation_freedom.Says.{Says, says}
 use Rattle.bounds.proofs.starvation_freedom.Releasing.{place-round}
-use Rattle.bounds.proofs.starvation_freedom.Queues.{tag, holder, queue-change}
-use Rattle.bounds.proofs.starvation_freedom.Ready.{ready-enters, ready-lasts}
+use Rattle.bounds.proofs.starvation_freedom.Queues.{tag, queue-change}
 use Rattle.bounds.proofs.starvation_freedom.Tenures.{Actor, until-ended}
 use Rattle.bounds.proofs.starvation_freedom.Positions.{queue-short, some-member, position-within, behind-first}
 use Rattle.bounds.proofs.starvation_freedom.Quotients as quotients
@@ -38,12 +38,12 @@ use Rattle.bounds.proofs.starvation_freedom.Lines.{low-real, weight-bef
 use Rattle.bounds.proofs.starvation_freedom.Weights.{weight}
 use Rattle.bounds.proofs.starvation_freedom.Arithmetic.{one-tenure}
 use Rattle.bounds.proofs.starvation_freedom.Held.{Held}
-use Rattle.bounds.proofs.starvation_freedom.Linking.{Linked-up, all-up, has-lock, has-domain, has-entered, link-round}
+use Rattle.bounds.proofs.starvation_freedom.Linking.{Linked-up, all-up, has-lock, has-domain, has-entered, link-round, standing}
 use Rattle.bounds.proofs.starvation_freedom.Served.{held-served, climb-served}
 use Rattle.bounds.proofs.starvation_freedom.Ahead.{ahead, ahead-first, nearer, ahead-others}
 use Rattle.bounds.proofs.starvation_freedom.Bounds.{mul-add, above-rounds, first-rounds, acquire-at, above-some, fewer, above-next}
 use Rattle.bounds.proofs.starvation_freedom.Waiting.{Woken, woken-round, Stood, stands-on, is-ready, is-woken, is-inside, waits, links, watches, stands-step}
-use Rattle.bounds.proofs.starvation_freedom.First.{Enters, Climbing, prepares, swaps, stands, goes-on, Acquired, climbs, held-leaves, first-leaves}
+use Rattle.bounds.proofs.starvation_freedom.First.{Enters, Climbing, prepares, swaps, stands, goes-on, Acquired, climbs, held-leaves, first-leaves, ready-inside}
 
 module _ (t : Tree) (valid : Accepted t) (bits : Sixteen-bit t) where
   tree-laws : Laws t
@@ -64,12 +64,6 @@ module _ (t : Tree) (valid : Accepted t) (bits : Sixteen-bit t) where
         by-domain : Woken t valid bits a ha m c → Freed c
         by-entry : Enters t valid bits a c → Freed c
 
-      standing : (c : Situation t) → queues c .stage a ≡ queued m → 1 ≤ count mine (rest (queues c .queue d))
-      unfolding low acts
-      standing c e =
-          let s = c .queued .represents .invariant .threads a .stands (rw e (omega arith)) in
-          rw e at s
-
       -- those before it in the queue, and their passes
       abbrev place-of : Situation t → ℕ
       place-of c = position mine (queues c .queue d)
@@ -88,8 +82,8 @@ module _ (t : Tree) (valid : Accepted t) (bits : Sixteen-bit t) where
           let c′ = next t valid bits c x h in
           let once = c .queued .represents .invariant .once d mine in
           let ch = queue-change t d (next-change t valid bits c x h) in
-          let b = behind-first mine (queues c .queue d) (standing c e) once in
-          let near = nearer (passes t) d mine (b .0) (ch .0) (queues c .queue d) (queues c′ .queue d) (ch .1) (standing c e) once (b .1) in
+          let b = behind-first mine (queues c .queue d) (standing t valid bits a m ha (omega arith) c e) once in
+          let near = nearer (passes t) d mine (b .0) (ch .0) (queues c .queue d) (queues c′ .queue d) (ch .1) (standing t valid bits a m ha (omega arith) c e) once (b .1) in
           elim (stands-step t valid bits a ha m (omega arith) c e x h) [
             | stands-on e′ ↦ inl (
               e′,
@@ -117,12 +111,12 @@ module _ (t : Tree) (valid : Accepted t) (bits : Sixteen-bit t) where
       -- each member before it is first for the rounds of its tenure
       stands-rounds : (n w : ℕ) (c : Situation t) → queues c .stage a ≡ queued m → place-of c ≤ n → passes-of c ≤ w → Within t valid bits (before-rounds n w) Freed c
       stands-rounds zero w c e p y =
-          absurd (let b = behind-first mine (queues c .queue d) (standing c e) (c .queued .represents .invariant .once d mine) in let o = b .2 in omega arith)
+          absurd (let b = behind-first mine (queues c .queue d) (standing t valid bits a m ha (omega arith) c e) (c .queued .represents .invariant .once d mine) in let o = b .2 in omega arith)
       stands-rounds (suc n) w c e p y =
           let inv = c .queued .represents .invariant in
-          let b = behind-first mine (queues c .queue d) (standing c e) (inv .once d mine) in
+          let b = behind-first mine (queues c .queue d) (standing t valid bits a m ha (omega arith) c e) (inv .once d mine) in
           let r = b .0 in
-          let enough = ahead-first (passes t) mine r (queues c .queue d) (standing c e) (inv .once d mine) (b .1) in
+          let enough = ahead-first (passes t) mine r (queues c .queue d) (standing t valid bits a m ha (omega arith) c e) (inv .once d mine) (b .1) in
           let w′ = w - passes t r in
           let o = holder t tree-laws (queues c) inv d r (b .1) in
           let A : Actor t valid bits d r (o .thread) (o .index) = record { real = o .real; within = o .within; there = o .there; mine = o .mine } in
@@ -138,11 +132,6 @@ module _ (t : Tree) (valid : Accepted t) (bits : Sixteen-bit t) where
           ]))
 
       -- FROM THE END of its standing on
-      ready-inside : (c : Situation t) → queues c .stage a ≡ ready → Within t valid bits 1 (Enters t valid bits a) c
-      ready-inside c e =
-          one-round t valid bits a ha (λ x. queues x .stage a ≡ ready) (Enters t valid bits a)
-          (λ x y h n u. inl (ready-lasts t valid bits a ha x u y h n)) (λ x h u. ready-enters t valid bits a ha x u h) e
-
       next-inside : (c : Situation t) → m < height t a → Climbing t valid bits a (suc m) ha c → Within t valid bits (above-rounds t d) (Enters t valid bits a) c
       next-inside c b x =
           rw (above-next t valid a ha m b) (nearer-root (height t a - suc m) (omega arith) a (suc m) ha (omega arith) c x)
@@ -151,7 +140,7 @@ module _ (t : Tree) (valid : Accepted t) (bits : Sixteen-bit t) where
       some-above = above-some t valid d (ancestor-real t valid a ha m)
 
       freed-inside : (c : Situation t) → Freed c → Within t valid bits (above-rounds t d) (Enters t valid bits a) c
-      freed-inside c (by-lock y) = longer t valid bits 1 (above-rounds t d) some-above (ready-inside c y)
+      freed-inside c (by-lock y) = longer t valid bits 1 (above-rounds t d) some-above (ready-inside t valid bits a ha c y)
       freed-inside c (by-domain y) = next-inside c (y .below) (goes-on m refl y)
       freed-inside c (by-entry y) = at-once t valid bits (above-rounds t d) y
 
@@ -173,7 +162,7 @@ module _ (t : Tree) (valid : Accepted t) (bits : Sixteen-bit t) where
       unfolding standing-rounds
       singly-inside z c e =
           let inv = c .queued .represents .invariant in
-          let s = standing c e in
+          let s = standing t valid bits a m ha (omega arith) c e in
           let p = position-within mine (queues c .queue d) (omega (arith, count-rest mine (queues c .queue d))) in
           let w = others-passes t d mine in
           let n = members t d - 1 in
@@ -352,7 +341,7 @@ module _ (t : Tree) (valid : Accepted t) (bits : Sixteen-bit t) where
     home-rest = rest-rounds tall (acquired tall) a 0 ha (omega arith)
 
     from-ready : (c : Situation t) → queues c .stage a ≡ ready → Within t valid bits home-rounds (Enters t valid bits a) c
-    from-ready c e = longer t valid bits 1 home-rounds (let z = enough in omega arith) (ready-inside tall (acquired tall) a 0 ha (omega arith) c e)
+    from-ready c e = longer t valid bits 1 home-rounds (let z = enough in omega arith) (ready-inside t valid bits a ha c e)
 
     idle-from : (c : Situation t) → From-idle t a (place (c .words) a) → Within t valid bits (1 + home-rest) (Enters t valid bits a) c
     idle-from c (to-swap e) = swap-inside tall (acquired tall) a 0 ha (omega arith) c e

@@ -21,6 +21,12 @@ tenure-over n v p w h l =
     let y : ((n + p) / n) * w ≡ suc (p / n) * w = ap (λ m. m * w) (one-tenure n p h) in
     omega arith
 
+-- where at most all but one are ahead
+pub rounded-up : (n p m w : ℕ) → 0 < n → suc p ≤ m → w + (p / n) * w ≤ ((m + n - 1) / n) * w
+rounded-up n p m w h l =
+    let z : m + n - 1 - p + p ≡ m + n - 1 = omega arith in
+    rw z at (tenure-over n (m + n - 1 - p) p w h (omega arith))
+
 -- members one by one
 pub by-one : (n : ℕ) → n / 1 ≡ n
 by-one n =

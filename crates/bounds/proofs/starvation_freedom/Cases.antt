@@ -47,7 +47,7 @@ unfolding any-below all-below filter-below read-word tree-of is-ticket meets on-
 rounds-hold = refl
 
 -- LISTS THAT PASS ARE ROUNDS
-threads-pass : (t : Tree) (is : List ℕ) → all-threads t is ≡ true → All-threads t is
+pub threads-pass : (t : Tree) (is : List ℕ) → all-threads t is ≡ true → All-threads t is
 unfolding all-threads All-threads
 threads-pass t [] e = tt
 threads-pass t (i ∷ is) e =

@@ -15,7 +15,7 @@ use Rattle.claims.proofs.Queues.Moves.{inside, holding, pending, acts, State, E
 use Rattle.claims.proofs.Queues.Invariant.{Inv}
 use Rattle.claims.proofs.Queues.Keeps.{keeps}
 use Rattle.claims.proofs.Queues.Remaining.{left, left-bound}
-use Rattle.bounds.proofs.starvation_freedom.Changes.{Changed, unmoved, moved, begun}
+use Rattle.claims.proofs.Queues.Changes.{Changed, unmoved, moved, begun}
 use Rattle.bounds.proofs.starvation_freedom.Positions.{queue-short}
 use Rattle.bounds.proofs.starvation_freedom.Left.{hits, Same-first, left-falls, left-some, left-inside, left-holding}
 use Rattle.bounds.specs.StarvationFreedom.Bounds.{members, effective-threshold, effective, passes}

@@ -11,28 +11,28 @@ use Rattle.model.specs.Laws.{Sixteen-bit}
 use Rattle.model.proofs.Lists.{less-or}
 use Rattle.model.proofs.Trees.Index.{ancestor, height, record-at}
 use Rattle.model.proofs.Trees.Accepted.{Accepted}
-use Rattle.claims.proofs.Queues.Paths.{Laws, laws}
-use Rattle.claims.proofs.Queues.Moves.{Stage, climb, queued, ready, holding, low, acts}
+use Rattle.claims.proofs.Queues.Moves.{Stage, climb, queued, ready, holding, low, acts, out, inside, releasing}
+use Rattle.claims.proofs.Queues.Paths.{laws}
+use Rattle.claims.proofs.Queues.Remaining.{acts-real}
 use Rattle.claims.proofs.Words.View.{words-in}
 use Rattle.claims.proofs.Words.Represents.{letting-go, letting-go-low}
+use Rattle.claims.proofs.Words.Says.{Climbs-at, preparing, swapping, going-on, drawing}
+use Rattle.claims.proofs.Queues.Invariant.{Inv}
 use Rattle.bounds.specs.StarvationFreedom.Bounds.{passes, entry-rounds, acquire-rounds}
 use Rattle.bounds.proofs.starvation_freedom.Situations.{Situation, queues}
-use Rattle.bounds.proofs.starvation_freedom.Within.{Within, then, longer}
+use Rattle.bounds.proofs.starvation_freedom.Within.{Within, then, longer, one-round}
 use Rattle.bounds.proofs.starvation_freedom.Turns.{Acquires, by-prep, by-draw, by-check}
-use Rattle.bounds.proofs.starvation_freedom.Says.{Says, says, Waiting, Granting, pass, release}
+use Rattle.bounds.proofs.starvation_freedom.Says.{Says, says, Waiting, Granting, pass, release, Staged, staged}
 use Rattle.bounds.proofs.starvation_freedom.Says as words
 use Rattle.bounds.proofs.starvation_freedom.Releasing.{Lets-go, helps, tries, lingers, grants, raises}
 use Rattle.bounds.proofs.starvation_freedom.Queues.{tag}
-use Rattle.bounds.proofs.starvation_freedom.Over.{letting-go-tag}
 use Rattle.bounds.proofs.starvation_freedom.Effective.{left-within, left-less-inside, left-less-holding}
 use Rattle.bounds.proofs.starvation_freedom.Tenures.{Gone, Actor, Left, Aim, until-gone, tenure-rest, pass-gone, releases-gone, inside-gone, ready-gone}
 use Rattle.bounds.proofs.starvation_freedom.Bounds.{one-less, checks-few, above-rounds, first-rounds, above-enough}
+use Rattle.bounds.proofs.starvation_freedom.Ready.{ready-enters, ready-lasts}
 use Rattle.bounds.proofs.starvation_freedom.Waiting.{Woken}
 
 module _ (t : Tree) (valid : Accepted t) (bits : Sixteen-bit t) where
-  tree-laws : Laws t
-  tree-laws = laws t valid
-
   abbrev pub Enters : (a : ℕ) → Situation t → Type 0
   Enters a c = place (c .words) a ≡ Inside
 
@@ -42,6 +42,12 @@ module _ (t : Tree) (valid : Accepted t) (bits : Sixteen-bit t) where
     swaps : place (c .words) a ≡ Swap (ancestor t a m) → Climbing a m ha c
     stands : queues c .stage a ≡ queued m → Climbing a m ha c
     goes-on : (k : ℕ) → m ≡ suc k → Woken t valid bits a ha k c → Climbing a m ha c
+
+  -- whoever is ready enters with its next step
+  pub ready-inside : (a : ℕ) → a < t .threads → (c : Situation t) → queues c .stage a ≡ ready → Within t valid bits 1 (Enters a) c
+  ready-inside a ha c e =
+      one-round t valid bits a ha (λ x. queues x .stage a ≡ ready) (Enters a)
+      (λ x y h n u. inl (ready-lasts t valid bits a ha x u y h n)) (λ x h u. ready-enters t valid bits a ha x u h) e
 
   -- an acquisition from a domain that is so far from the root
   abbrev pub Acquired : (distance : ℕ) → Type 0
@@ -80,51 +86,29 @@ module _ (t : Tree) (valid : Accepted t) (bits : Sixteen-bit t) where
       pub within : index ≤ height t a
       pub climbing : Climbing a index ha c
 
-    wait-climbs : (c : Situation t) (k : ℕ) → First-at c → tag (queues c .stage a) ≤ 2 → place (c .words) a ≡ Wait (ancestor t a k) → k ≤ height t a →
-        Waiting t (words-in (c .words)) (queues c) a k (queues c .stage a) → Climbs c
-    unfolding low tag
-    wait-climbs c k b w p l (words.stands y v) = record { index = k; above = first-by c (queued k) b y; within = l; climbing = stands y }
-    wait-climbs c k b w p l (words.woken u y v) =
-        record { index = suc k; above = first-by c (climb (suc k)) b y; within = u; climbing = goes-on k refl (record { below = u; there = p; stage = y }) }
-    wait-climbs c k b w p l (words.granted y v n) = absurd (let o = ap tag y in omega arith)
-
-    climbs-by : (c : Situation t) (p : Place) → place (c .words) a ≡ p → First-at c → tag (queues c .stage a) ≤ 2 → Climbs c
-    unfolding Says low tag
-    climbs-by c Idle e b w = absurd (let y = first-by c _ b (says t valid c a ha Idle e) in omega arith)
-    climbs-by c (Prep l) e b w =
-        let y = says t valid c a ha (Prep l) e in
-        record { index = y .0; above = first-by c (climb (y .0)) b (y .2); within = y .1 .1; climbing = prepares (by-prep (e ∙ ap Prep (y .1 .0))) }
-    climbs-by c (Swap l) e b w =
-        let y = says t valid c a ha (Swap l) e in
-        record { index = y .0; above = first-by c (climb (y .0)) b (y .2); within = y .1 .1; climbing = swaps (e ∙ ap Swap (y .1 .0)) }
-    climbs-by c (Link l q) e b w =
-        let y = says t valid c a ha (Link l q) e in
-        record { index = y .0; above = first-by c (queued (y .0)) b (y .2); within = y .1 .1; climbing = stands (y .2) }
-    climbs-by c (Wait l) e b w = let y = says t valid c a ha (Wait l) e in wait-climbs c (y .0) b w (e ∙ ap Wait (y .1 .0)) (y .1 .1) (y .2)
-    climbs-by c Draw e b w =
-        let y = says t valid c a ha Draw e in
-        record { index = height t a; above = first-by c (climb (height t a)) b (y .0); within = omega arith; climbing = prepares (by-draw e refl (y .1)) }
-    climbs-by c Watch e b w =
-        elim (says t valid c a ha Watch e .0) [
-          | inl x ↦ record { index = height t a; above = first-by c (queued (height t a)) b x; within = omega arith; climbing = stands x }
-          | inr x ↦ absurd (let o = ap tag x in omega arith)
-        ]
-    climbs-by c Inside e b w = absurd (let o = ap tag (says t valid c a ha Inside e) in omega arith)
-    climbs-by c (Check l) e b w = absurd (let o = ap tag (says t valid c a ha (Check l) e .3) in omega arith)
-    climbs-by c (Help l) e b w = let y = says t valid c a ha (Help l) e in absurd (let o = ap tag (y .2) in omega (arith, letting-go-tag (height t a) (y .0)))
-    climbs-by c (Cas l) e b w = let y = says t valid c a ha (Cas l) e in absurd (let o = ap tag (y .2) in omega (arith, letting-go-tag (height t a) (y .0)))
-    climbs-by c (Linger l) e b w = let y = says t valid c a ha (Linger l) e in absurd (let o = ap tag (y .2) in omega (arith, letting-go-tag (height t a) (y .0)))
-    climbs-by c (Grant l m v) e b w =
-        let y = says t valid c a ha (Grant l m v) e in
-        elim (y .2) [
-          | pass u x z ↦ absurd (let o = ap tag x in omega arith)
-          | release x z ↦ absurd (let o = ap tag x in omega (arith, letting-go-tag (height t a) (y .0)))
-        ]
-    climbs-by c Raise e b w = absurd (let o = ap tag (says t valid c a ha Raise e) in omega arith)
-    climbs-by c Invalid e b w = absurd (says t valid c a ha Invalid e)
-
     pub climbs : (c : Situation t) → First-at c → tag (queues c .stage a) ≤ 2 → Climbs c
-    climbs c b w = climbs-by c _ refl b w
+    unfolding low acts tag Staged
+    climbs c b w = by (queues c .stage a) refl w
+      where
+        inv : Inv t (queues c)
+        inv = c .queued .represents .invariant
+
+        up : (m : ℕ) → queues c .stage a ≡ climb m → Climbs-at t (words-in (c .words)) a m (place (c .words) a) → Climbs c
+        up m z (preparing l e) = record { index = m; above = first-by c (climb m) b z; within = l; climbing = prepares (by-prep e) }
+        up m z (swapping l e) = record { index = m; above = first-by c (climb m) b z; within = l; climbing = swaps e }
+        up m z (going-on k q l e) =
+            record { index = m; above = first-by c (climb m) b z; within = omega arith; climbing = goes-on k q (record { below = l; there = e; stage = z ∙ ap climb q }) }
+        up m z (drawing q r e) = record { index = m; above = first-by c (climb m) b z; within = omega arith; climbing = prepares (by-draw e q r) }
+
+        by : (x : Stage) → queues c .stage a ≡ x → tag x ≤ 2 → Climbs c
+        by out z h = absurd (let y = first-by c out b z in omega arith)
+        by (climb m) z h = up m z (staged t valid c a ha (climb m) z)
+        by (queued m) z h =
+            record { index = m; above = first-by c (queued m) b z; within = acts-real t (laws t valid) (queues c) inv a m (rw z (omega arith)) .2; climbing = stands z }
+        by ready z h = absurd (omega arith)
+        by inside z h = absurd (omega arith)
+        by holding z h = absurd (omega arith)
+        by (releasing m) z h = absurd (omega arith)
 
     -- WITH THE LOCK
     module _ (q : Aim t valid bits d r) where
@@ -169,9 +153,9 @@ module _ (t : Tree) (valid : Accepted t) (bits : Sixteen-bit t) where
       wait-leaves c k w (words.granted y v n) = ready-leaves c y
 
       grant-leaves : (c : Situation t) (k m v : ℕ) → First-at c → place (c .words) a ≡ Grant (ancestor t a k) m v → k ≤ height t a →
-          Granting t a k v (queues c .stage a) → Within t valid bits held-rounds (q .met) c
+          Granting t (queues c) a k v (queues c .stage a) → Within t valid bits held-rounds (q .met) c
       grant-leaves c k m v b p l (release x z) = letting-leaves c k l (letting-by c k b x) (grants m (p ∙ ap (Grant (ancestor t a k) m) z))
-      grant-leaves c k m v b p l (pass u x z) =
+      grant-leaves c k m v b p l (pass u x (_, z)) =
           let y = holding-left c x in
           let some = y .0 in
           longer t valid bits (1 + less-rounds) held-rounds (let z = one-less one most some in let few = checks-few t valid a ha in omega arith)

@@ -6,16 +6,15 @@ use Prim.Native.Nat.{ℕ, suc, _+_, _-_, _≤_, _<_}
 use native.Mathlib.Omega.{arith}
 use Rattle.model.specs.Trees.{Tree}
 use Rattle.model.proofs.Trees.Index.{ancestor, height, record-at}
-use Rattle.model.proofs.Lists.{same-or, less-or, put, put-same, put-other, first-in, count}
+use Rattle.model.proofs.Lists.{same-or, less-or, put, put-same, put-other}
 use Rattle.claims.proofs.Queues.Paths.{Laws}
 use Rattle.claims.proofs.Queues.Meeting.{follow, follow-record-at, same-height}
 use Rattle.claims.proofs.Queues.Moves.{Stage, out, climb, queued, ready, inside, holding, releasing, down, low, acts, reach, State, Event, Move, start, join-empty, join-root, join-behind, enter, leave, hand-on, release, let-go}
-use Rattle.claims.proofs.Queues.Invariant.{low-acts, low-down, Thread, Inv, unique, fresh}
+use Rattle.claims.proofs.Queues.Invariant.{low-down, Thread, Inv}
 use Rattle.claims.proofs.Queues.Keeps.{last-low, standing-not, keeps}
-use Rattle.claims.proofs.Queues.Remaining.{acts-real}
-use Rattle.bounds.proofs.starvation_freedom.Changes.{Changed, unmoved, moved, begun}
+use Rattle.claims.proofs.Queues.Remaining.{acts-real, joining-far, standing-far}
+use Rattle.claims.proofs.Queues.Changes.{started-by, Changed, unmoved, moved, begun}
 use Rattle.bounds.proofs.starvation_freedom.Queues.{tag}
-use Rattle.claims.proofs.tenures.StepMoves.{started-by}
 
 -- thread b is first at index k
 pub data After (T : Tree) (st st′ : State) (b k : ℕ) : Type 0 where
@@ -37,21 +36,6 @@ pub data After (T : Tree) (st st′ : State) (b k : ℕ) : Type 0 where
 
 module _ (T : Tree) (tree-laws : Laws T) where
   module _ (st : State) (inv : Inv T st) where
-    -- a thread that is first, and one that joins or stands
-    pub not-joining : (i j : ℕ) → st .stage i ≡ climb j → (n l : ℕ) → l < low (height T n) (st .stage n) → record-at T n l ≢ record-at T i j
-    not-joining i j e n l h z =
-        let o : count (record-at T n l) (st .queue (ancestor T n l)) ≡ 0 = rw z (fresh T tree-laws st inv i j (ancestor T n l) e) in
-        omega (arith, first-in (record-at T n l) (st .queue (ancestor T n l)) (inv .threads n .heads l h))
-
-    pub not-standing : (s l : ℕ) → st .stage s ≡ queued l → (n k : ℕ) → k < low (height T n) (st .stage n) → record-at T n k ≢ record-at T s l
-    unfolding low acts
-    not-standing s l e n k h z =
-        let a : l < acts (height T s) (st .stage s) = rw e (omega arith) in
-        let u = unique T tree-laws st inv n s k l (omega (arith, low-acts (height T n) (st .stage n))) a z in
-        let b : low (height T n) (st .stage n) ≡ l = ap (λ m. low (height T m) (st .stage m)) (u .0) ∙ rw e refl in
-        let c = u .1 in
-        omega arith
-
     module _ (b k : ℕ) (first-there : k < low (height T b) (st .stage b)) where
       -- b itself stays first
       itself : (st′ : State) → k < low (height T b) (st′ .stage b) → st′ .tally (record-at T b k) ≡ st .tally (record-at T b k) → After T st st′ b k
@@ -88,7 +72,7 @@ module _ (T : Tree) (tree-laws : Laws T) where
         }
 
         kept-tally : after .tally (record-at T b k) ≡ st .tally (record-at T b k)
-        kept-tally = put-other (st .tally) (record-at T s l) v (record-at T b k) (not-standing s l waits b k first-there)
+        kept-tally = put-other (st .tally) (record-at T s l) v (record-at T b k) (standing-far T tree-laws st inv s l waits b k first-there)
 
         -- not the one who hands over, or one of its domains below
         lower-there : ((b ≡ i) → k < j) → After T st after b k
@@ -121,7 +105,7 @@ module _ (T : Tree) (tree-laws : Laws T) where
       after-move (start i h e) = itself _ (one-stage i (climb 0) (λ z. let x = low-is i out z e in omega arith)) refl
       after-move (join-empty i j e n q) =
           itself _ (one-stage i (climb (suc j)) (λ z. let x = low-is i (climb j) z e in omega arith))
-          (put-other (st .tally) (record-at T i j) 1 (record-at T b k) (not-joining i j e b k first-there))
+          (put-other (st .tally) (record-at T i j) 1 (record-at T b k) (joining-far T tree-laws st inv i j e b k first-there))
       after-move (join-root i j e r q) =
           let th : Thread T (st .queue) i (climb j) = rw e at (inv .threads i) in
           itself _ (one-stage i inside (λ z. let x = low-is i (climb j) z e in omega (arith, th .range, ap (height T) z))) refl
@@ -166,7 +150,7 @@ module _ (T : Tree) (tree-laws : Laws T) where
     after-one mv b k h = after-move b k h mv
 
   -- a thread that is first is not one about to start
-  not-starting : (st : State) (i b k : ℕ) → st .stage i ≡ out → k < low (height T b) (st .stage b) → b ≢ i
+  pub not-starting : (st : State) (i b k : ℕ) → st .stage i ≡ out → k < low (height T b) (st .stage b) → b ≢ i
   unfolding low
   not-starting st i b k e h z = let y : low (height T b) (st .stage b) ≡ 0 = ap (λ n. low (height T b) (st .stage n)) z ∙ ap (low (height T b)) e in omega arith
 

@@ -196,7 +196,7 @@ module _ (t : Tree) (valid : Accepted t) (bits : Sixteen-bit t) (c : Situation t
         full : t .threshold top ≤ v
         full =
             let L = H .line in
-            H .at-threshold (λ z. omega (arith, inner)) (rw (L .there) at (releasing-over t valid bits b (first-b .0) c k below o (place (c .words) b) refl))
+            H .at-threshold (λ z. omega (arith, inner)) (rw (L .there) at (releasing-over t valid bits b (first-b .0) c k below o))
 
         hs : s < t .threads
         hs = stands-real t valid bits c s l w .0

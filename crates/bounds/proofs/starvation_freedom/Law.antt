@@ -31,7 +31,7 @@ use Rattle.claims.proofs.Queues.Keeps.{keeps}
 use Rattle.claims.proofs.Claims.Reached.{from-fresh, threads-take, threads-join}
 use Rattle.bounds.specs.StarvationFreedom.Bounds.{effective, acquire-bound, release-bound, everyone-bound}
 use Rattle.bounds.specs.StarvationFreedom.Laws.{is-acquiring, is-releasing, Rounds, none, one-more, Arrives, Bounded, Starvation-law, in-order, round-robin, Everyone-law, Windows, Bounded-in-windows, Window-law}
-use Rattle.bounds.proofs.starvation_freedom.Changes.{moved}
+use Rattle.claims.proofs.Queues.Changes.{moved}
 use Rattle.bounds.proofs.starvation_freedom.Effective.{effective-keeps}
 use Rattle.bounds.proofs.starvation_freedom.Stages.{Ones, ones-empty, ones-step}
 use Rattle.bounds.proofs.starvation_freedom.Situations.{Situation, next, next-words, place-other}

@@ -1,26 +1,50 @@
 -- What is left of a tenure, in entries: no step leaves more, and an entry leaves less.
 use mathlib.Core.Path.{_≡_, refl, sym, ap, _∙_}
-use mathlib.Core.Logic.{_≢_}
 use Prim.Native.Nat.{ℕ, zero, suc, _+_, _≤_, _<_}
 use native.Mathlib.Omega.{arith}
 use Rattle.model.specs.Trees.{Tree, allowance}
 use Rattle.model.proofs.Trees.Index.{ancestor, height, record-at}
-use Rattle.model.proofs.Lists.{same-or, put, put-same, put-other, first, is-same}
+use Rattle.model.proofs.Lists.{same-or, put, put-same, put-other, first, is-same, is-cases}
 use Rattle.claims.proofs.Queues.Paths.{Laws}
-use Rattle.claims.proofs.Queues.Moves.{Stage, out, climb, queued, ready, inside, holding, down, low, acts, reach, pending, State, Event, root, lower, Move, start, join-empty, join-root, join-behind, enter, leave, hand-on, release, let-go}
+use Rattle.claims.proofs.Queues.Moves.{Stage, climb, queued, ready, inside, holding, down, low, acts, reach, pending, State, Event, root, lower, Move, start, join-empty, join-root, join-behind, enter, leave, hand-on, release, let-go, entered, nothing, begins, ends}
 use Rattle.claims.proofs.Queues.Invariant.{low-acts, Thread, Inv, unique}
 use Rattle.claims.proofs.Queues.Joined.{restaged}
 use Rattle.claims.proofs.Queues.Keeps.{keeps}
 use Rattle.claims.proofs.Queues.Order.{hit}
 use Rattle.claims.proofs.Queues.Remaining.{left, left-bound, falls}
-use Rattle.claims.proofs.tenures.StepMoves.{started-by}
-use Rattle.bounds.proofs.starvation_freedom.Changes.{Changed, unmoved, moved, begun}
+use Rattle.claims.proofs.Queues.Changes.{started-by, Changed, unmoved, moved, begun, change-shown}
+use Rattle.claims.proofs.Words.Outcome.{shown-sum, event-sum}
+use Rattle.bounds.proofs.starvation_freedom.Heads.{not-starting}
 
 -- the entries of a thread that a step makes
 unfoldable pub hits : (T : Tree) {st st′ : State} → Changed T st st′ → (thread : ℕ) → ℕ
 hits T unmoved n = 0
 hits T (moved {e = e} mv) n = hit e n
 hits T (begun i h e c) n = hits T c n
+
+-- they are those that the moves show
+pub hits-shown : (T : Tree) {st st′ : State} (c : Changed T st st′) (n : ℕ) → shown-sum (λ e. hit e n) (change-shown T c) ≡ hits T c n
+unfolding hits change-shown shown-sum hit
+hits-shown T unmoved n = refl
+hits-shown T (moved {e = e} mv) n = event-sum (λ e. hit e n) refl e
+hits-shown T (begun i h e c) n = hits-shown T c n
+
+-- an entry was still to come, and the thread is inside after it
+entered-move : (T : Tree) {st st′ : State} {i : ℕ} → Move T st (entered i) st′ → (pending (st .stage i) ≡ 1) × (st′ .stage i ≡ inside)
+unfolding pending
+entered-move T {st} (join-root i j e r z) = (ap pending e, put-same (st .stage) i inside i refl)
+entered-move T {st} (enter i e) = (ap pending e, put-same (st .stage) i inside i refl)
+
+pub hits-enters : (T : Tree) {st st′ : State} (c : Changed T st st′) (a : ℕ) → 1 ≤ hits T c a → (pending (st .stage a) ≡ 1) × (st′ .stage a ≡ inside)
+unfolding hits hit pending
+hits-enters T unmoved a h = absurd (omega arith)
+hits-enters T (moved {e = nothing} mv) a h = absurd (omega arith)
+hits-enters T (moved {e = begins d m} mv) a h = absurd (omega arith)
+hits-enters T (moved {e = ends d m} mv) a h = absurd (omega arith)
+hits-enters T (moved {e = entered i} mv) a h = rw (is-cases i a h) at (entered-move T mv)
+hits-enters T (begun {st = st} i r e c) a h =
+    let x = hits-enters T c a h in
+    (same-or a i _ (λ z. ap (λ n. pending (st .stage n)) z ∙ ap pending e) (λ z. ap pending (sym (put-other (st .stage) i (climb 0) a z)) ∙ x .0), x .1)
 
 -- a thread first at an index before, and whoever is first there with the same record after
 pub record Same-first (T : Tree) (st st′ : State) (a j b k : ℕ) : Type 0 where
@@ -30,11 +54,6 @@ pub record Same-first (T : Tree) (st st′ : State) (a j b k : ℕ) : Type 0 whe
   pub mine : record-at T b k ≡ record-at T a j
 
 module _ (T : Tree) (tree-laws : Laws T) where
-  -- a thread about to start is first nowhere
-  not-starting : (st : State) (i a j : ℕ) → st .stage i ≡ out → j < low (height T a) (st .stage a) → a ≢ i
-  unfolding low
-  not-starting st i a j e b z = let y : low (height T a) (st .stage a) ≡ 0 = ap (λ n. low (height T a) (st .stage n)) z ∙ ap (low (height T a)) e in omega arith
-
   pub left-falls :
       {st st′ : State} (c : Changed T st st′) → Inv T st → (a j b k : ℕ) → Same-first T st st′ a j b k →
       left T (st′ .tally) (st′ .stage b) b k + hits T c b ≤ left T (st .tally) (st .stage a) a j
@@ -49,7 +68,7 @@ module _ (T : Tree) (tree-laws : Laws T) where
       let y = x .falls in
       rw (u .0, u .1) at y
   left-falls (begun {st = st} {st′ = st′} i h e c) inv a j b k f =
-      let n = not-starting st i a j e (f .before) in
+      let n = not-starting T tree-laws st i a j e (f .before) in
       let z = put-other (st .stage) i (climb 0) a n in
       let g : Same-first T (started-by st i) st′ a j b k = record { before = rw z (f .before); after = f .after; there = f .there; mine = f .mine } in
       rw z at (left-falls c (keeps T tree-laws st inv (start i h e)) a j b k g)

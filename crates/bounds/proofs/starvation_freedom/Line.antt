@@ -12,8 +12,9 @@ use Rattle.model.specs.Laws.{Sixteen-bit}
 use Rattle.model.proofs.Lists.{less-or, first, rest, first-rest, is-same, count, count-append, count-cons}
 use Rattle.model.proofs.Trees.Index.{ancestor, height, record-at}
 use Rattle.model.proofs.Trees.Accepted.{Accepted}
-use Rattle.claims.proofs.Queues.Moves.{Stage, out, climb, queued, ready, inside, holding, releasing, low, acts, State}
+use Rattle.claims.proofs.Queues.Moves.{queued, low, acts, State}
 use Rattle.claims.proofs.Queues.Invariant.{Inv}
+use Rattle.claims.proofs.Queues.Order.{standing}
 use Rattle.claims.proofs.Words.Links.{after, after-here, after-past}
 use Rattle.bounds.proofs.starvation_freedom.Situations.{Situation, queues}
 use Rattle.bounds.proofs.starvation_freedom.Linked.{All-linked, linked-join}
@@ -55,17 +56,6 @@ module _ (t : Tree) (valid : Accepted t) (bits : Sixteen-bit t) (c : Situation t
       pub line : Line i j head thread index between
       pub real : thread < t .threads
       pub end : E thread
-
-    -- whoever acts at an index from where it is not first stands there
-    standing : (h k : ℕ) (x : Stage) → low h x ≤ k → k < acts h x → x ≡ queued k
-    unfolding low acts
-    standing h k out a b = absurd (omega arith)
-    standing h k (climb j) a b = absurd (omega arith)
-    standing h k (queued j) a b = ap queued (omega arith)
-    standing h k ready a b = absurd (omega arith)
-    standing h k inside a b = absurd (omega arith)
-    standing h k holding a b = absurd (omega arith)
-    standing h k (releasing j) a b = absurd (omega arith)
 
     -- after the one who acts for the record just before
     pub line-after :

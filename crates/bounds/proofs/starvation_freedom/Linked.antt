@@ -2,19 +2,16 @@
 use mathlib.Core.Path.{_≡_, refl, sym, ap, _∙_}
 use mathlib.Core.List.{List, [], _∷_, _++_}
 use mathlib.Core.Logic.{_≢_}
-use Prim.Native.Nat.{ℕ, _+_, _≤_, _<_}
+use Prim.Native.Nat.{ℕ, _≤_, _<_}
 use native.Mathlib.Omega.{arith}
-use lib.ListN.{length, getD, set}
-use lib.Seq.{getD-set-same, getD-set-other}
-use Rattle.model.specs.declared.Place.{Place}
+use lib.ListN.{length}
 use Rattle.model.specs.declared.Place.the-variants.{Idle, Prep}
 use Rattle.model.specs.declared.State.{State as WordState}
 use Rattle.model.specs.Trees.{Tree, own-record}
-use Rattle.model.specs.States.{none, next, place}
-use Rattle.model.specs.Steps.{Row-result, row}
+use Rattle.model.specs.States.{next, place}
+use Rattle.model.specs.Steps.{row}
 use Rattle.model.specs.Laws.{Sixteen-bit}
-use Rattle.model.proofs.Branches.{Branch, idle-draws, idle-prepares, prepares, swap-root, swap-inner, swap-behind, link-writes, wait-root-locked, wait-root-granted, wait-ungranted, wait-acquires, wait-passed, wait-crossed, inside-leaves, check-passes, check-releases, help-alone, help-linked, cas-last, cas-not-last, linger-alone, linger-linked, grant-writes, draw-shown, draw-unshown, watch-shown, watch-unshown, raise-counts, invalid-stays, branch}
-use Rattle.model.proofs.Lists.{same-or, is-same, count, count-cons}
+use Rattle.model.proofs.Lists.{is-same, count, count-cons}
 use Rattle.model.proofs.Trees.Index.{record-at}
 use Rattle.model.proofs.Trees.Accepted.{Accepted}
 use Rattle.model.proofs.Trees.Paths.{ancestor-home}
@@ -27,6 +24,7 @@ use Rattle.bounds.proofs.starvation_freedom.Situations as situations
 use Rattle.bounds.proofs.starvation_freedom.Situations.{Situation, queues, next-words}
 use Rattle.bounds.proofs.starvation_freedom.Says.{Says, says}
 use Rattle.bounds.proofs.starvation_freedom.Queues.{gone}
+use Rattle.chain.proofs.Reached.Rows.{next-left}
 
 -- every record of a list has a next
 unfoldable pub All-linked : WordState → List ℕ → Type 0
@@ -43,48 +41,6 @@ pub linked-join : (s : WordState) (rs bs : List ℕ) → All-linked s rs → All
 unfolding All-linked
 linked-join s [] bs l m = m
 linked-join s (a ∷ rs) bs l m = (l .0, linked-join s rs bs (l .1) m)
-
--- a row unsets the next of the own record, at Prep alone
-branch-next :
-    (t : Tree) (s : WordState) (x a : ℕ) → a < length (s .nexts) → {p : Place} {y : Row-result} → Branch t x s p y → ((l : ℕ) → p ≡ Prep l → own-record t x l ≢ a) →
-    (p ≡ Idle → own-record t x (t .home x) ≢ a) → next s a ≢ 0 → next (y .state) a ≢ 0
-branch-next t s x a room (idle-draws z (draw-shown e)) f g n = n
-branch-next t s x a room (idle-draws z (draw-unshown e)) f g n = n
-branch-next t s x a room (idle-prepares z (prepares l v at)) f g n =
-    let apart : a ≢ own-record t x l = λ e. g refl (sym e) in
-    λ e. n (sym (getD-set-other (s .nexts) (own-record t x l) a none 0 apart) ∙ e)
-branch-next t s x a room (prepares l v at) f g n =
-    let apart : a ≢ own-record t x l = λ e. f l refl (sym e) in
-    λ e. n (sym (getD-set-other (s .nexts) (own-record t x l) a none 0 apart) ∙ e)
-branch-next t s x a room (swap-root l z e) f g n = n
-branch-next t s x a room (swap-inner l z e) f g n = n
-branch-next t s x a room (swap-behind l e) f g n = n
-branch-next t s x a room (link-writes l p) f g n =
-    same-or a p _
-    (λ z. let y : getD (set (s .nexts) p (own-record t x l + 1)) a 0 ≡ own-record t x l + 1 = rw z (getD-set-same (s .nexts) p (own-record t x l + 1) 0 (rw z at room)) in λ e. omega arith)
-    (λ z. λ e. n (sym (getD-set-other (s .nexts) p a (own-record t x l + 1) 0 z) ∙ e))
-branch-next t s x a room (wait-root-locked l z e) f g n = n
-branch-next t s x a room (wait-root-granted l z e) f g n = n
-branch-next t s x a room (wait-ungranted l z e) f g n = n
-branch-next t s x a room (wait-acquires l z e) f g n = n
-branch-next t s x a room (wait-passed l z e w v) f g n = n
-branch-next t s x a room (wait-crossed l z e w v) f g n = n
-branch-next t s x a room inside-leaves f g n = n
-branch-next t s x a room (check-passes l e w) f g n = n
-branch-next t s x a room (check-releases l e) f g n = n
-branch-next t s x a room (help-alone l e) f g n = n
-branch-next t s x a room (help-linked l v e at) f g n = n
-branch-next t s x a room (cas-last l e) f g n = n
-branch-next t s x a room (cas-not-last l e) f g n = n
-branch-next t s x a room (linger-alone l e) f g n = n
-branch-next t s x a room (linger-linked l v e at) f g n = n
-branch-next t s x a room (grant-writes l p w) f g n = n
-branch-next t s x a room (draw-shown e) f g n = n
-branch-next t s x a room (draw-unshown e) f g n = n
-branch-next t s x a room (watch-shown e) f g n = n
-branch-next t s x a room (watch-unshown e) f g n = n
-branch-next t s x a room raise-counts f g n = n
-branch-next t s x a room invalid-stays f g n = n
 
 module _ (t : Tree) (valid : Accepted t) (bits : Sixteen-bit t) (c : Situation t) (x : ℕ) (hx : x < t .threads) where
   -- a record in a queue keeps its next
@@ -107,7 +63,7 @@ module _ (t : Tree) (valid : Accepted t) (bits : Sixteen-bit t) (c : Situation t
       let w : count a (queues c .queue d) ≡ 0 = rw (← own, z) at o in
       omega arith in
       let e : next (situations.next t valid bits c x hx .words) a ≡ next (row t x (place s x) s .state) a = ap (λ u. next u a) (next-words t valid bits c x hx) in
-      rw e (branch-next t s x a room (branch t x s (place s x)) at-prep at-idle n)
+      rw e (next-left t s x a (place s x) room (at-prep, at-idle) n)
 
   pub linked-stays : (d : ℕ) (rs : List ℕ) → ((a : ℕ) → 1 ≤ count a rs → 1 ≤ count a (queues c .queue d)) → All-linked (c .words) rs → All-linked (situations.next t valid bits c x hx .words) rs
   linked-stays d rs within l = linked-same (c .words) _ rs (λ a h n. next-stays d a (within a h) n) l

@@ -12,7 +12,7 @@ use Rattle.model.specs.Places.{words-of}
 use Rattle.model.specs.States.{place}
 use Rattle.model.specs.Runs.{occurrences}
 use Rattle.model.specs.Laws.{All-threads, Sixteen-bit}
-use Rattle.model.proofs.Lists.{same-or, first, rest, rest-cons, rest-nil, is, is-same, is-other, count, count-nil, count-cons, count-rest}
+use Rattle.model.proofs.Lists.{same-or, rest, rest-cons, rest-nil, is, is-same, is-other, count, count-nil, count-cons, count-rest}
 use Rattle.model.proofs.Trees.Index.{ancestor, height, record-at}
 use Rattle.model.proofs.Trees.Accepted.{Accepted}
 use Rattle.model.proofs.Trees.Paths.{ancestor-root}
@@ -23,7 +23,7 @@ use Rattle.claims.proofs.Queues.Order.{Change, stays, opens, grows, moves, clos
 use Rattle.claims.proofs.Queues.Remaining.{acts-real}
 use Rattle.claims.proofs.Words.View.{words-in}
 use Rattle.claims.proofs.Words.Links.{after-in}
-use Rattle.claims.proofs.Words.Releasing.{Ungranted, linking, waiting, watching, ungranted}
+use Rattle.claims.proofs.Words.Says.{Ungranted, linking, waiting, watching, ungranted}
 use Rattle.chain.proofs.Reached.Orders.{position, position-here, position-past, position-next}
 use Rattle.bounds.proofs.starvation_freedom.Situations.{Situation, queues, next, next-change, place-other}
 use Rattle.bounds.proofs.starvation_freedom.Queues.{tag, gone, queue-change}
@@ -72,6 +72,13 @@ order-kept d m r e q q′ (moves a x xs y z b g n) h o p =
     (λ w. let v : position r q ≡ suc (position r (x ∷ xs)) = ap (position r) y ∙ position-past r a (x ∷ xs) w in omega arith)
 order-kept d m r e q q′ (closes a y z b g) h o p = absurd (let w : count m (rest q) ≡ 0 = rw (y, rest-cons a []) (count-nil m) in omega arith)
 
+-- a thread that stands at an index is behind the first there
+pub standing :
+    (t : Tree) → Accepted t → Sixteen-bit t → (a m : ℕ) → a < t .threads → m ≤ height t a → (c : Situation t) → queues c .stage a ≡ queued m →
+    1 ≤ count (record-at t a m) (rest (queues c .queue (ancestor t a m)))
+unfolding low acts
+standing t valid bits a m ha l c e = let s = c .queued .represents .invariant .threads a .stands (rw e (omega arith)) in rw e at s
+
 module _ (t : Tree) (valid : Accepted t) (bits : Sixteen-bit t) (a m : ℕ) (ha : a < t .threads) (l : m ≤ height t a) (inner : 0 < ancestor t a m) where
   tree-laws : Laws t
   tree-laws = laws t valid
@@ -89,12 +96,6 @@ module _ (t : Tree) (valid : Accepted t) (bits : Sixteen-bit t) (a m : ℕ) (ha 
   abbrev Pending : List ℕ → Situation t → Type 0
   Pending S c =
       (y k q : ℕ) → y < t .threads → k ≤ height t y → ancestor t y k ≡ d → place (c .words) y ≡ Link d q → there (record-at t y k) c ≤ there mine c → 1 ≤ occurrences y S
-
-  standing : (c : Situation t) → queues c .stage a ≡ queued m → 1 ≤ count mine (rest (queues c .queue d))
-  unfolding low acts
-  standing c e =
-      let s = c .queued .represents .invariant .threads a .stands (rw e (omega arith)) in
-      rw e at s
 
   -- NOBODY HAS TO LINK: all are linked, from the first on
   module _ (c : Situation t) (none : Pending [] c) where
@@ -150,7 +151,7 @@ module _ (t : Tree) (valid : Accepted t) (bits : Sixteen-bit t) (a m : ℕ) (ha 
         by (watching y v r w) = let o : ancestor t x k ≡ 0 = ap (ancestor t x) v ∙ ancestor-root t valid x h in omega arith
 
     abbrev inv-before : there mine c < length (queues c .queue d)
-    inv-before = position-within mine (queues c .queue d) (let s = standing c e in omega (arith, count-rest mine (queues c .queue d)))
+    inv-before = position-within mine (queues c .queue d) (let s = standing t valid bits a m ha l c e in omega (arith, count-rest mine (queues c .queue d)))
 
     not-new : (k q : ℕ) → k ≤ height t x → ancestor t x k ≡ d → place (c′ .words) x ≡ Link d q → there (record-at t x k) c ≤ there mine c → ⊥
     unfolding Rattle.claims.proofs.Queues.Moves.down
@@ -167,7 +168,7 @@ module _ (t : Tree) (valid : Accepted t) (bits : Sixteen-bit t) (a m : ℕ) (ha 
     pending-step : (S : List ℕ) → Pending (x ∷ S) c → Pending S c′
     pending-step S more y k q hy u z p o =
         let ch = queue-change t d (next-change t valid bits c x h) in
-        let before = order-kept d mine (record-at t y k) (ch .0) (queues c .queue d) (queues c′ .queue d) (ch .1) (standing c e) (c .queued .represents .invariant .once d mine) o in
+        let before = order-kept d mine (record-at t y k) (ch .0) (queues c .queue d) (queues c′ .queue d) (ch .1) (standing t valid bits a m ha l c e) (c .queued .represents .invariant .once d mine) o in
         same-or x y _
         (λ w. absurd (let new : (k : ℕ) → k ≤ height t y → ancestor t y k ≡ d → place (c′ .words) y ≡ Link d q → there (record-at t y k) c ≤ there mine c → ⊥ = rw (← w) (λ k. not-new k q) in new k u z p before))
         (λ w.

@@ -24,10 +24,11 @@ use Rattle.model.proofs.Places.{place-stored}
 use Rattle.claims.proofs.Queues.Moves.{Stage, queued, holding, releasing, low}
 use Rattle.claims.proofs.Queues.Invariant.{low-down}
 use Rattle.claims.proofs.Words.View.{words-in}
-use Rattle.claims.proofs.Words.Represents.{letting-go, Fits, at-idle, at-prep, at-swap, at-link, at-wait, at-woken, at-ready, at-inside, at-check, at-pass, at-help, at-cas, at-linger, at-grant, at-draw, at-watch, at-shown, at-raise}
+use Rattle.claims.proofs.Words.Represents.{letting-go}
+use Rattle.claims.proofs.Words.Says.{Lets-go, helping, comparing, lingering, granting}
 use Rattle.bounds.proofs.starvation_freedom.Situations as situations
 use Rattle.bounds.proofs.starvation_freedom.Situations.{Situation, queues, next-words}
-use Rattle.bounds.proofs.starvation_freedom.Says.{Says, says, stands, woken, granted, pass, release, done-stage}
+use Rattle.bounds.proofs.starvation_freedom.Says.{Says, says, stands, woken, granted, pass, release, done-stage, Staged, staged}
 use Rattle.bounds.proofs.starvation_freedom.Turns.{Releases, by-check, by-help, by-raise, From-check, passes, goes-up, inside-turn, check-turn, grant-turn}
 use Rattle.bounds.proofs.starvation_freedom.Ready.{ready-enters}
 use Rattle.bounds.proofs.starvation_freedom.Queues.{tag}
@@ -57,14 +58,6 @@ letting-go-tag h k = by (eqb k h)
     by : (b : Bool) → 5 ≤ tag (cond b holding (releasing k))
     by true = omega arith
     by false = omega arith
-
-letting-go-index : (h k m : ℕ) → letting-go h k ≡ releasing m → k ≡ m
-unfolding letting-go tag low
-letting-go-index h k m = by (eqb k h)
-  where
-    by : (b : Bool) → cond b holding (releasing k) ≡ releasing m → k ≡ m
-    by true e = absurd (let o = ap tag e in omega arith)
-    by false e = let o = ap (low h) e in omega arith
 
 module _ (t : Tree) (valid : Accepted t) (bits : Sixteen-bit t) (b : ℕ) (hb : b < t .threads) where
   module _ (c : Situation t) where
@@ -99,41 +92,15 @@ module _ (t : Tree) (valid : Accepted t) (bits : Sixteen-bit t) (b : ℕ) (hb : 
     not-over d Invalid e h o = o
 
     -- releasing its domain, it is
-    pub releasing-over : (k : ℕ) → k < height t b → x ≡ releasing k → (p : Place) → place s b ≡ p → Over (ancestor t b k) p
-    unfolding Over Says tag
-    releasing-over k h z (Help l) e = tt
-    releasing-over k h z (Cas l) e = tt
-    releasing-over k h z (Linger l) e = tt
-    releasing-over k h z Raise e = tt
-    releasing-over k h z (Grant l r w) e =
-        let y = says t valid c b hb (Grant l r w) e in
-        elim (y .2) [
-          | pass q u f ↦ absurd (let v = ap tag (sym z ∙ u) in omega arith)
-          | release u f ↦ (
-              let same = letting-go-index (height t b) (y .0) k (sym u ∙ z) in
-              let n = ne-eqb (ancestor t b k) 0 (omega (arith, ancestor-inner t valid b hb k h)) in
-              let f′ : w ≡ acquire-parent = rw (same, n) at f in
-              inr (omega arith))
-        ]
-    releasing-over k h z (Check l) e = absurd (let y = says t valid c b hb (Check l) e in let v = ap tag (sym z ∙ y .3) in omega arith)
-    releasing-over k h z Idle e = absurd (let y = says t valid c b hb Idle e in let v = ap tag (sym z ∙ y) in omega arith)
-    releasing-over k h z (Prep l) e = absurd (let y = says t valid c b hb (Prep l) e in let v = ap tag (sym z ∙ y .2) in omega arith)
-    releasing-over k h z (Swap l) e = absurd (let y = says t valid c b hb (Swap l) e in let v = ap tag (sym z ∙ y .2) in omega arith)
-    releasing-over k h z (Link l p) e = absurd (let y = says t valid c b hb (Link l p) e in let v = ap tag (sym z ∙ y .2) in omega arith)
-    releasing-over k h z (Wait l) e =
-        elim (says t valid c b hb (Wait l) e .2) [
-          | stands u v ↦ absurd (let o = ap tag (sym z ∙ u) in omega arith)
-          | woken q u v ↦ absurd (let o = ap tag (sym z ∙ u) in omega arith)
-          | granted u v m ↦ absurd (let o = ap tag (sym z ∙ u) in omega arith)
-        ]
-    releasing-over k h z Inside e = absurd (let y = says t valid c b hb Inside e in let v = ap tag (sym z ∙ y) in omega arith)
-    releasing-over k h z Draw e = absurd (let y = says t valid c b hb Draw e in let v = ap tag (sym z ∙ y .0) in omega arith)
-    releasing-over k h z Watch e =
-        elim (says t valid c b hb Watch e .0) [
-          | inl u ↦ absurd (let o = ap tag (sym z ∙ u) in omega arith)
-          | inr u ↦ absurd (let o = ap tag (sym z ∙ u) in omega arith)
-        ]
-    releasing-over k h z Invalid e = absurd (says t valid c b hb Invalid e)
+    pub releasing-over : (k : ℕ) → k < height t b → x ≡ releasing k → Over (ancestor t b k) (place s b)
+    unfolding Over Staged
+    releasing-over k h z = by (staged t valid c b hb (releasing k) z)
+      where
+        by : Lets-go t b k (place s b) → Over (ancestor t b k) (place s b)
+        by (helping e) = rw e tt
+        by (comparing e) = rw e tt
+        by (lingering e) = rw e tt
+        by (granting r e) = let n = ne-eqb (ancestor t b k) 0 (omega (arith, ancestor-inner t valid b hb k h)) in rw (e, n) (inr (omega arith))
 
     -- ITS OWN STEP, where its record is first at index k before and after it
     abbrev c′ : Situation t
@@ -141,28 +108,6 @@ module _ (t : Tree) (valid : Accepted t) (bits : Sixteen-bit t) (b : ℕ) (hb : 
 
     abbrev after : Place
     after = place (c′ .words) b
-
-    -- at Check the status is the count
-    counted : (k : ℕ) → k < height t b → {p : Place} {y : Stage} (l : ℕ) → p ≡ Check l → Fits t (words-in s) (queues c) b p y → status s (record-at t b k) ≡ queues c .tally (record-at t b k)
-    unfolding words-in
-    counted k h l e (at-check m a o) = o k h h
-    counted k h l e at-idle = absurd (let o = ap (λ u. words-of u .row) e in omega arith)
-    counted k h l e (at-prep m a o) = absurd (let o = ap (λ u. words-of u .row) e in omega arith)
-    counted k h l e (at-swap m a o n v) = absurd (let o = ap (λ u. words-of u .row) e in omega arith)
-    counted k h l e (at-link m p a o d f n v) = absurd (let o = ap (λ u. words-of u .row) e in omega arith)
-    counted k h l e (at-wait m p a o d f n v) = absurd (let o = ap (λ u. words-of u .row) e in omega arith)
-    counted k h l e (at-woken m a o v z) = absurd (let o = ap (λ u. words-of u .row) e in omega arith)
-    counted k h l e (at-ready m a o v p) = absurd (let o = ap (λ u. words-of u .row) e in omega arith)
-    counted k h l e (at-inside o) = absurd (let o = ap (λ u. words-of u .row) e in omega arith)
-    counted k h l e (at-pass m u v a o n z f) = absurd (let o = ap (λ u. words-of u .row) e in omega arith)
-    counted k h l e (at-help m a o) = absurd (let o = ap (λ u. words-of u .row) e in omega arith)
-    counted k h l e (at-cas m a o) = absurd (let o = ap (λ u. words-of u .row) e in omega arith)
-    counted k h l e (at-linger m a o n) = absurd (let o = ap (λ u. words-of u .row) e in omega arith)
-    counted k h l e (at-grant m u a o n) = absurd (let o = ap (λ u. words-of u .row) e in omega arith)
-    counted k h l e (at-draw m a u o) = absurd (let o = ap (λ u. words-of u .row) e in omega arith)
-    counted k h l e (at-watch m a u o) = absurd (let o = ap (λ u. words-of u .row) e in omega arith)
-    counted k h l e (at-shown u o) = absurd (let o = ap (λ u. words-of u .row) e in omega arith)
-    counted k h l e (at-raise u o) = absurd (let o = ap (λ u. words-of u .row) e in omega arith)
 
     -- why Check does not pass the lock on
     not-granting : (m l r w : ℕ) → Releases t b m after → after ≡ Grant l r w → ⊥
@@ -196,7 +141,7 @@ module _ (t : Tree) (valid : Accepted t) (bits : Sixteen-bit t) (b : ℕ) (hb : 
 
       -- from Check at index m
       check-over : (m : ℕ) → m < height t b → place s b ≡ Check (ancestor t b m) → (Over d (place s b) → t .threshold d ≤ v) → From-check t b m after → Over d after → t .threshold d ≤ v
-      unfolding Over words-in
+      unfolding Over words-in Says
       check-over m l e before (passes r w g small) o =
           elim (let o′ : (ancestor t b m < d) ⊎ (acquire-parent ≤ w) = rw g at o in o′) [
             | inl y ↦ before (rw e y)
@@ -210,7 +155,7 @@ module _ (t : Tree) (valid : Accepted t) (bits : Sixteen-bit t) (b : ℕ) (hb : 
           let e′ : place s b ≡ Check d = e ∙ ap (λ n. Check (ancestor t b n)) z in
           let own = own-record-at t valid b hb k (omega arith) in
           elim (check-fact (suc m) d e′ rel) [
-            | inl f ↦ (let f′ : t .threshold d ≤ status s (record-at t b k) = rw own at f in omega (arith, counted k h d e′ (c .queued .represents .fits b hb)))
+            | inl f ↦ (let f′ : t .threshold d ≤ status s (record-at t b k) = rw own at f in omega (arith, says t valid c b hb (Check d) e′ .4 k h h))
             | inr f ↦ absurd (named (rw own at f))
           ])
           (λ z. before (rw e (ancestor-strict t valid b hb k m (omega arith) (omega arith)))))

@@ -3,12 +3,12 @@ use mathlib.Core.Path.{_≡_, refl, sym, ap, _∙_}
 use mathlib.Core.Bool.{Bool, true, cond}
 use mathlib.Core.List.{List, [], _∷_, _++_}
 use mathlib.Core.Logic.{_≢_}
-use Prim.Native.Nat.{ℕ, zero, suc, _+_, _≤_, _<_}
+use Prim.Native.Nat.{ℕ, zero, suc, _≤_, _<_}
 use native.Mathlib.Omega.{arith}
 use lib.ListN.{length, length-append}
 use Rattle.model.specs.Scans.{filter-below}
 use Rattle.model.specs.Trees.{Tree, is-member}
-use Rattle.model.proofs.Lists.{same-or, less-or, first, rest, first-cons, rest-cons, rest-nil, is, is-same, is-other, count, count-nil, count-cons}
+use Rattle.model.proofs.Lists.{same-or, less-or, first, rest, first-cons, rest-cons, rest-nil, is-same, is-other, count, count-nil, count-cons}
 use Rattle.model.proofs.Trees.Accepted.{Accepted}
 use Rattle.model.proofs.Trees.Records.{member-at, member-small}
 use Rattle.claims.proofs.Queues.Paths.{laws}

@@ -6,14 +6,14 @@ use Prim.Native.Nat.{ℕ, zero, suc, _+_, _≤_, _<_}
 use native.Mathlib.Omega.{arith}
 use Rattle.model.specs.Trees.{Tree}
 use Rattle.model.proofs.Trees.Index.{ancestor, height, record-at}
-use Rattle.model.proofs.Lists.{same-or, less-or, put, put-same, put-other, first, rest, first-in, first-count, first-cons, first-nil, first-snoc, rest-nil, is, is-same, count, count-nil, count-cons, count-rest}
+use Rattle.model.proofs.Lists.{same-or, put, put-same, put-other, first, rest, first-count, first-cons, first-nil, first-snoc, rest-nil, is, is-same, count, count-nil, count-cons, count-rest}
 use Rattle.claims.proofs.Queues.Paths.{Laws}
 use Rattle.claims.proofs.Queues.Moves.{Stage, out, climb, queued, ready, inside, holding, releasing, down, low, acts, State, Event, nothing, root, lower, Move, start, join-empty, join-root, join-behind, enter, leave, hand-on, release, let-go}
-use Rattle.claims.proofs.Queues.Invariant.{acts-low, low-down, acts-down, Below, Inv, same-user, acts-small, below}
+use Rattle.claims.proofs.Queues.Invariant.{low-down, acts-down, Inv, absent}
 use Rattle.claims.proofs.Queues.Keeps.{keeps}
 use Rattle.claims.proofs.Queues.Order.{Change, stays, opens, grows, moves, closes, change}
 use Rattle.claims.proofs.Queues.Remaining.{acts-real}
-use Rattle.bounds.proofs.starvation_freedom.Changes.{Changed, unmoved, moved, begun}
+use Rattle.claims.proofs.Queues.Changes.{Changed, unmoved, moved, begun}
 
 -- the number of a stage, without its index
 unfoldable pub tag : Stage → ℕ
@@ -34,41 +34,8 @@ module _ (T : Tree) (tree-laws : Laws T) (st : State) (inv : Inv T st) where
   -- WHO HAS LET GO of its domain at an index is in no queue with its record there
   pub gone : (a j : ℕ) → a < T .threads → st .stage a ≡ down j → (d : ℕ) → count (record-at T a j) (st .queue d) ≡ 0
   gone a j ha e d =
-      less-or 0 (count (record-at T a j) (st .queue d)) _
-      (λ h.
-      let x = inv .acted d (record-at T a j) h in
-      let heads : Below T (st .queue) a j = λ n b. inv .threads a .heads n (rw (e, low-down (height T a) j) b) in
-      let u = same-user T (st .queue) (x .thread) a (acts-small T tree-laws st inv (x .thread) (x .index) (x .acting)) (omega (arith, tree-laws .few)) (x .index) j
-      (below T tree-laws st inv (x .thread) (x .index) (x .acting)) heads (x .mine) in
-      let z : acts (height T (x .thread)) (st .stage (x .thread)) ≡ acts (height T a) (st .stage a) = ap (λ n. acts (height T n) (st .stage n)) (u .0) in
-      let w : acts (height T a) (st .stage a) ≡ j = ap (acts (height T a)) e ∙ acts-down (height T a) j in
-      let y = x .acting in
-      let q = u .1 in
-      absurd (omega arith))
-      (λ h. omega arith)
-
-  -- WHO ACTS FOR THE FIRST of a queue
-  pub record Holder (d r : ℕ) : Type 0 where
-    pub thread : ℕ
-    pub index : ℕ
-    pub real : thread < T .threads
-    pub within : index ≤ height T thread
-    pub first-at : index < low (height T thread) (st .stage thread)
-    pub there : ancestor T thread index ≡ d
-    pub mine : record-at T thread index ≡ r
-
-  pub holder : (d r : ℕ) → first (st .queue d) ≡ suc r → Holder d r
-  holder d r f =
-      let c = inv .acted d r (first-in r (st .queue d) f) in
-      let n = c .thread in
-      let real = acts-real T tree-laws st inv n (c .index) (c .acting) in
-      less-or (c .index) (low (height T n) (st .stage n)) _
-      (λ h. record { thread = n; index = c .index; real = real .0; within = real .2; first-at = h; there = c .place; mine = c .mine })
-      (λ h.
-      let z : c .index ≡ low (height T n) (st .stage n) = omega (arith, acts-low (height T n) (st .stage n), c .acting) in
-      let s = inv .threads n .stands (omega (arith, c .acting)) in
-      let s′ : 1 ≤ count r (rest (st .queue d)) = rw (← z, c .place, c .mine) at s in
-      absurd (omega (arith, first-count r (st .queue d) f, inv .once d r)))
+      absent T tree-laws st inv a j d (ap (acts (height T a)) e ∙ acts-down (height T a) j) (omega (arith, tree-laws .few))
+      (λ n b. inv .threads a .heads n (rw (e, low-down (height T a) j) b))
 
 -- ONE QUEUE in a step
 pub queue-change : (T : Tree) (d : ℕ) {st st′ : State} → Changed T st st′ → (e : Event) × Change d e (st .queue d) (st′ .queue d)

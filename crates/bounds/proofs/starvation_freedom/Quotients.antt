@@ -8,7 +8,6 @@ use native.Mathlib.Nat.{mul-le-mul, mul-le-mul-right}
 use lib.Dec.{eqb, ltb}
 use borrow.Author.Tests.{eq-eqb, ne-eqb, lt-ltb, ltb-true}
 use Rattle.model.specs.Trees.{Tree, level}
-use Rattle.model.proofs.Tests.{by-test}
 use Rattle.model.proofs.Lists.{same-or}
 use Rattle.model.proofs.Trees.Accepted.{Accepted}
 use Rattle.bounds.specs.StarvationFreedom.Bounds.{members, effective-threshold, others-passes, entry-rounds, tenure-length, tenures-for, link-rounds, standing-rounds}
@@ -48,10 +47,6 @@ module _ (t : Tree) (valid : Accepted t) (d : ℕ) (h : d < t .domains) where
   pub no-link : tenure-length t d ≡ 1 → link-rounds t d ≡ 0
   unfolding link-rounds
   no-link z = rw z refl
-
-  pub one-link : link-rounds t d ≤ 1
-  unfolding link-rounds
-  one-link = by-test (λ n. n ≤ 1) (ltb 1 (tenure-length t d)) 1 0 (λ _. omega arith) (λ _. omega arith)
 
   pub a-link : 1 < tenure-length t d → link-rounds t d ≡ 1
   unfolding link-rounds

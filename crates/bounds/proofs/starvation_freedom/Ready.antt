@@ -1,13 +1,10 @@
 -- A thread that was granted the lock: it stays so until its own step, and that step enters.
-use mathlib.Core.Path.{_≡_, refl, sym, ap, _∙_}
-use mathlib.Core.Bool.{Bool, true, false, cond}
+use mathlib.Core.Path.{_≡_, sym, ap, _∙_}
 use mathlib.Core.Logic.{_≢_, _⊎_, inl, inr}
 use Prim.Native.Nat.{ℕ, zero, suc, _≤_, _<_}
 use native.Mathlib.Omega.{arith}
-use lib.Dec.{eqb}
 use borrow.Author.Tests.{eq-eqb, ne-eqb}
-use Rattle.model.specs.declared.Place.{Place}
-use Rattle.model.specs.declared.Place.the-variants.{Wait, Inside, Watch}
+use Rattle.model.specs.declared.Place.the-variants.{Inside, Watch}
 use Rattle.model.specs.Trees.{Tree}
 use Rattle.model.specs.States.{wait-word, locked, place, status}
 use Rattle.model.specs.Laws.{Sixteen-bit}
@@ -15,52 +12,17 @@ use Rattle.model.proofs.Lists.{same-or, first}
 use Rattle.model.proofs.Trees.Index.{ancestor, height, record-at}
 use Rattle.model.proofs.Trees.Accepted.{Accepted}
 use Rattle.model.proofs.Trees.Paths.{ancestor-root, ancestor-inner}
-use Rattle.claims.proofs.Queues.Moves.{Stage, queued, ready, holding, releasing, low, acts, State}
+use Rattle.claims.proofs.Queues.Moves.{queued, ready, low, acts}
 use Rattle.claims.proofs.Queues.Invariant.{Inv}
-use Rattle.claims.proofs.Words.View.{Words, words-in}
-use Rattle.claims.proofs.Words.Represents.{letting-go, Fits, at-idle, at-prep, at-swap, at-link, at-wait, at-woken, at-ready, at-inside, at-check, at-pass, at-help, at-cas, at-linger, at-grant, at-draw, at-watch, at-shown, at-raise}
-use Rattle.claims.proofs.Words.Tickets.{tickets-first}
+use Rattle.claims.proofs.Words.Drawing.{is-shown}
+use Rattle.claims.proofs.Words.Frame.{others-of}
+use Rattle.claims.proofs.Words.View.{words-in}
+use Rattle.claims.proofs.Words.Says.{Ready-place, in-wait, in-watch, ready-place}
 use Rattle.chain.proofs.Reached.Holding.{status-same, not-first}
 use Rattle.bounds.proofs.starvation_freedom.Situations.{Situation, queues, next, next-words, next-change, place-other}
 use Rattle.bounds.proofs.starvation_freedom.Turns.{ready-turn, shown-turn}
 use Rattle.bounds.proofs.starvation_freedom.Says.{Says, says, Waiting, stands, woken, granted, wait-stage}
-use Rattle.bounds.proofs.starvation_freedom.Queues.{tag, queue-change, first-not-behind}
-
-letting-go-tag : (h k : ℕ) → tag (letting-go h k) ≢ 3
-unfolding letting-go tag
-letting-go-tag h k = by (eqb k h)
-  where
-    by : (b : Bool) → tag (cond b holding (releasing k)) ≢ 3
-    by true e = omega arith
-    by false e = omega arith
-
--- the place of a thread that is ready: Wait with a status that sends Inside, or Watch
-pub data Ready-place (t : Tree) (w : Words) (g : State) (i : ℕ) (p : Place) : Type 0 where
-  in-wait :
-      (k : ℕ) → k ≤ height t i → p ≡ Wait (ancestor t i k) → (k ≡ height t i → w .statuses (record-at t i k) ≡ 0) →
-      (k < height t i → w .statuses (record-at t i k) ≡ g .tally (record-at t i k)) → Ready-place t w g i p
-  in-watch : p ≡ Watch → t .ticket-root ≡ true → Ready-place t w g i p
-
-ready-place : (t : Tree) (w : Words) (g : State) (i : ℕ) {p : Place} {x : Stage} → x ≡ ready → Fits t w g i p x → Ready-place t w g i p
-unfolding tag
-ready-place t w g i e (at-ready k l c v p) = in-wait k l refl v (λ b. c k b b)
-ready-place t w g i e (at-shown r c) = in-watch refl r
-ready-place t w g i e at-idle = absurd (let o = ap tag e in omega arith)
-ready-place t w g i e (at-prep k l c) = absurd (let o = ap tag e in omega arith)
-ready-place t w g i e (at-swap k l c n v) = absurd (let o = ap tag e in omega arith)
-ready-place t w g i e (at-link k p l c d a n v) = absurd (let o = ap tag e in omega arith)
-ready-place t w g i e (at-wait k p l c d a n v) = absurd (let o = ap tag e in omega arith)
-ready-place t w g i e (at-woken k b c v z) = absurd (let o = ap tag e in omega arith)
-ready-place t w g i e (at-inside c) = absurd (let o = ap tag e in omega arith)
-ready-place t w g i e (at-check k b c) = absurd (let o = ap tag e in omega arith)
-ready-place t w g i e (at-pass k r v b c n z f) = absurd (let o = ap tag e in omega arith)
-ready-place t w g i e (at-help k l c) = absurd (letting-go-tag (height t i) k (ap tag e))
-ready-place t w g i e (at-cas k l c) = absurd (letting-go-tag (height t i) k (ap tag e))
-ready-place t w g i e (at-linger k l c n) = absurd (letting-go-tag (height t i) k (ap tag e))
-ready-place t w g i e (at-grant k r l c n) = absurd (letting-go-tag (height t i) k (ap tag e))
-ready-place t w g i e (at-draw k l r c) = absurd (let o = ap tag e in omega arith)
-ready-place t w g i e (at-watch k l r c) = absurd (let o = ap tag e in omega arith)
-ready-place t w g i e (at-raise r c) = absurd (let o = ap tag e in omega arith)
+use Rattle.bounds.proofs.starvation_freedom.Queues.{queue-change, first-not-behind}
 
 module _ (t : Tree) (valid : Accepted t) (bits : Sixteen-bit t) (a : ℕ) (ha : a < t .threads) where
   module _ (c : Situation t) (e : queues c .stage a ≡ ready) where
@@ -69,7 +31,7 @@ module _ (t : Tree) (valid : Accepted t) (bits : Sixteen-bit t) (a : ℕ) (ha : 
 
     there : Ready-place t (words-in (c .words)) (queues c) a (place (c .words) a)
     unfolding words-in
-    there = ready-place t (words-in (c .words)) (queues c) a e (c .queued .represents .fits a ha)
+    there = ready-place e (c .queued .represents .fits a ha)
 
     heads : (k : ℕ) → k ≤ height t a → first (queues c .queue (ancestor t a k)) ≡ suc (record-at t a k)
     unfolding low
@@ -86,10 +48,7 @@ module _ (t : Tree) (valid : Accepted t) (bits : Sixteen-bit t) (a : ℕ) (ha : 
     unfolding words-in
     enters-from (in-wait k l p v n) h = ready-turn t valid bits c a h k l p v (λ b. omega (arith, n b, count-small k b))
     enters-from (in-watch p root) h =
-        let R = record-at t a (height t a) in
-        let head : first (queues c .queue 0) ≡ suc R = rw (ancestor-root t valid a ha) at (heads (height t a) (omega arith)) in
-        let same = tickets-first (λ r. status (c .words) r) (c .words .grant) (c .words .ticket) R (queues c .queue 0) (c .queued .represents .numbered root .held) head in
-        shown-turn t valid bits c a h p same
+        shown-turn t valid bits c a h p (is-shown t valid (c .words) (c .queued .room) (queues c) a ha (others-of (c .queued .represents) a) root e)
 
     pub ready-enters : (h : a < t .threads) → place (next t valid bits c a h .words) a ≡ Inside
     ready-enters h = enters-from there h

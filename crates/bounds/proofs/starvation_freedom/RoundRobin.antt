@@ -1,15 +1,14 @@
 -- In round robin every thread occurs in each window of as many entries as there are threads.
 use mathlib.Core.Path.{_≡_, refl, sym, ap, _∙_}
-use mathlib.Core.List.{List, [], _∷_, _++_}
+use mathlib.Core.List.{_++_}
 use Prim.Native.Nat.{ℕ, zero, suc, _+_, _-_, _≤_, _<_}
 use native.Mathlib.Omega.{arith}
 use native.Mathlib.Decide.{decLt}
 use lib.ListN.{length, take, drop, length-append, length-drop, take-append-drop}
 use lib.Seq.{take-append-le, drop-append-le, take-append-add, drop-append-add}
-use Rattle.model.specs.Trees.{Tree}
 use Rattle.model.specs.Runs.{occurrences}
 use Rattle.model.proofs.Counted.{occurrences-join}
-use Rattle.bounds.specs.StarvationFreedom.Laws.{in-order, round-robin, Windows, Round-robin-law}
+use Rattle.bounds.specs.StarvationFreedom.Laws.{in-order, round-robin, Round-robin-law}
 use Rattle.bounds.proofs.starvation_freedom.Law.{in-order-everyone, in-order-length, robin-rounds, rounds-threads}
 
 -- its first entries, up to one round, are the threads in order

@@ -1,84 +1,36 @@
 -- What a thread's place says of its stage, for each place by itself.
-use mathlib.Core.Path.{_≡_, refl, sym, ap, _∙_}
-use mathlib.Core.Bool.{true}
-use mathlib.Core.Logic.{_⊎_, inl, inr}
+use mathlib.Core.Path.{_≡_, sym, ap, _∙_}
 use Prim.Native.Nat.{ℕ, zero, suc, _≤_, _<_}
 use native.Mathlib.Omega.{arith}
 use borrow.Author.Tests.{ne-eqb}
 use Rattle.model.specs.declared.Place.{Place}
-use Rattle.model.specs.declared.Place.the-variants.{Idle, Prep, Swap, Link, Wait, Inside, Check, Help, Cas, Linger, Grant, Draw, Watch, Raise, Invalid}
+use Rattle.model.specs.declared.Place.the-variants.{Link, Wait, Check, Help, Cas, Linger, Grant, Raise}
 use Rattle.model.specs.Trees.{Tree}
 use Rattle.model.specs.States.{acquire-parent, place}
 use Rattle.model.specs.Steps.{release-word}
-use Rattle.model.proofs.Trees.Index.{ancestor, height, record-at}
+use Rattle.model.proofs.Trees.Index.{ancestor, height}
 use Rattle.model.proofs.Trees.Accepted.{Accepted}
 use Rattle.model.proofs.Trees.Paths.{ancestor-inner, ancestor-injective}
-use Rattle.claims.proofs.Queues.Moves.{Stage, out, climb, queued, ready, inside, holding, down, State}
+use Rattle.claims.proofs.Queues.Moves.{queued, holding, down, Stage}
 use Rattle.claims.proofs.Words.View.{Words, words-in}
-use Rattle.claims.proofs.Words.Represents.{waiting-word, letting-go, letting-go-lower, Fits, at-idle, at-prep, at-swap, at-link, at-wait, at-woken, at-ready, at-inside, at-check, at-pass, at-help, at-cas, at-linger, at-grant, at-draw, at-watch, at-shown, at-raise}
+use Rattle.claims.proofs.Words.Represents.{letting-go, letting-go-lower}
+pub use Rattle.claims.proofs.Words.Says.{Waiting, stands, woken, granted, Granting, pass, release, At}
+unfoldable pub use Rattle.claims.proofs.Words.Says.{Says}
+unfoldable pub use Rattle.claims.proofs.Words.Says.{Staged}
+use Rattle.claims.proofs.Words.Says.{says-at, staged-at}
 use Rattle.claims.proofs.Words.Releasing.{done-at}
 use Rattle.bounds.proofs.starvation_freedom.Situations.{Situation, queues}
-
--- in Wait: ungranted, granted the domain alone, or granted the lock
-pub data Waiting (t : Tree) (w : Words) (g : State) (i k : ℕ) (x : Stage) : Type 0 where
-  stands : x ≡ queued k → w .statuses (record-at t i k) ≡ waiting-word (ancestor t i k) → Waiting t w g i k x
-  woken : k < height t i → x ≡ climb (suc k) → w .statuses (record-at t i k) ≡ acquire-parent → Waiting t w g i k x
-  granted :
-      x ≡ ready → (k ≡ height t i → w .statuses (record-at t i k) ≡ 0) → (k < height t i → w .statuses (record-at t i k) ≡ g .tally (record-at t i k)) →
-      Waiting t w g i k x
-
--- in Grant: a pass, or a release
-pub data Granting (t : Tree) (i k v : ℕ) (x : Stage) : Type 0 where
-  pass : k < height t i → x ≡ holding → v ≤ t .threshold (ancestor t i k) → Granting t i k v x
-  release : x ≡ letting-go (height t i) k → v ≡ release-word (ancestor t i k) → Granting t i k v x
-
--- a domain by its index on the thread's path
-abbrev pub At : Tree → (thread domain index : ℕ) → Type 0
-At t i l k = (l ≡ ancestor t i k) × (k ≤ height t i)
-
-unfoldable pub Says : Tree → Words → State → (thread : ℕ) → Place → Stage → Type 0
-Says t w g i Idle x = x ≡ out
-Says t w g i (Prep l) x = (k : ℕ) × At t i l k × (x ≡ climb k)
-Says t w g i (Swap l) x = (k : ℕ) × At t i l k × (x ≡ climb k)
-Says t w g i (Link l p) x = (k : ℕ) × At t i l k × (x ≡ queued k)
-Says t w g i (Wait l) x = (k : ℕ) × At t i l k × Waiting t w g i k x
-Says t w g i Inside x = x ≡ inside
-Says t w g i (Check l) x = (k : ℕ) × At t i l k × (k < height t i) × (x ≡ holding)
-Says t w g i (Help l) x = (k : ℕ) × At t i l k × (x ≡ letting-go (height t i) k)
-Says t w g i (Cas l) x = (k : ℕ) × At t i l k × (x ≡ letting-go (height t i) k)
-Says t w g i (Linger l) x = (k : ℕ) × At t i l k × (x ≡ letting-go (height t i) k)
-Says t w g i (Grant l r v) x = (k : ℕ) × At t i l k × Granting t i k v x
-Says t w g i Draw x = (x ≡ climb (height t i)) × (t .ticket-root ≡ true)
-Says t w g i Watch x = ((x ≡ queued (height t i)) ⊎ (x ≡ ready)) × (t .ticket-root ≡ true)
-Says t w g i Raise x = x ≡ holding
-Says t w g i Invalid x = ⊥
-
-fits-says : (t : Tree) (w : Words) (g : State) (i : ℕ) {p : Place} {x : Stage} → Fits t w g i p x → Says t w g i p x
-unfolding Says
-fits-says t w g i at-idle = refl
-fits-says t w g i (at-prep k l c) = (k, (refl, l), refl)
-fits-says t w g i (at-swap k l c n v) = (k, (refl, l), refl)
-fits-says t w g i (at-link k p l c d a n v) = (k, (refl, l), refl)
-fits-says t w g i (at-wait k p l c d a n v) = (k, (refl, l), stands refl v)
-fits-says t w g i (at-woken k b c v z) = (k, (refl, omega arith), woken b refl v)
-fits-says t w g i (at-ready k l c v p) = (k, (refl, l), granted refl v (λ b. c k b b))
-fits-says t w g i (at-inside c) = refl
-fits-says t w g i (at-check k b c) = (k, (refl, omega arith), b, refl)
-fits-says t w g i (at-pass k r v b c n z f) = (k, (refl, omega arith), pass b refl f)
-fits-says t w g i (at-help k l c) = (k, (refl, l), refl)
-fits-says t w g i (at-cas k l c) = (k, (refl, l), refl)
-fits-says t w g i (at-linger k l c n) = (k, (refl, l), refl)
-fits-says t w g i (at-grant k r l c n) = (k, (refl, l), release refl refl)
-fits-says t w g i (at-draw k l r c) = (ap climb l, r)
-fits-says t w g i (at-watch k l r c) = (inl (ap queued l), r)
-fits-says t w g i (at-shown r c) = (inr refl, r)
-fits-says t w g i (at-raise r c) = refl
 
 module _ (t : Tree) (valid : Accepted t) (c : Situation t) (i : ℕ) (h : i < t .threads) where
   -- of a thread in a situation, by its place
   pub says : (p : Place) → place (c .words) i ≡ p → Says t (words-in (c .words)) (queues c) i p (queues c .stage i)
   unfolding words-in
-  says p e = rw e at (fits-says t (words-in (c .words)) (queues c) i (c .queued .represents .fits i h))
+  says p e = says-at e (c .queued .represents .fits i h)
+
+  -- and by its stage
+  pub staged : (x : Stage) → queues c .stage i ≡ x → Staged t (words-in (c .words)) (queues c) i (place (c .words) i) x
+  unfolding words-in
+  staged x e = staged-at e (c .queued .represents .fits i h)
 
   same-index : (k m : ℕ) → k ≤ height t i → At t i (ancestor t i k) m → m ≡ k
   same-index k m l (e, b) = sym (ancestor-injective t valid i h k m l b e)
@@ -116,7 +68,7 @@ module _ (t : Tree) (valid : Accepted t) (c : Situation t) (i : ℕ) (h : i < t 
       let y = says _ e in
       let z = same-index k (y .0) l (y .1) in
       elim (y .2) [
-        | pass o x f ↦ absurd (
+        | pass o x (_, f) ↦ absurd (
             let b : k < height t i = rw z at o in
             let n = ne-eqb (ancestor t i k) 0 (omega (arith, ancestor-inner t valid i h k b)) in
             let f′ : acquire-parent ≤ t .threshold (ancestor t i k) = rw (z, n) at f in

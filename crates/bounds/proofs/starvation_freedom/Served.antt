@@ -17,20 +17,19 @@ use Rattle.model.proofs.Trees.Accepted.{Accepted}
 use Rattle.model.proofs.Trees.Paths.{ancestor-real, ancestor-not-root}
 use Rattle.claims.proofs.Queues.Paths.{Laws, laws}
 use Rattle.claims.proofs.Queues.Meeting.{same-height}
-use Rattle.claims.proofs.Queues.Moves.{queued, ready, releasing, low}
+use Rattle.claims.proofs.Queues.Moves.{queued, releasing, low}
 use Rattle.claims.proofs.Queues.Invariant.{low-acts, unique}
 use Rattle.claims.proofs.Words.Represents.{letting-go, letting-go-low, letting-go-lower}
 use Rattle.claims.proofs.Words.Releasing.{done-at}
 use Rattle.bounds.specs.StarvationFreedom.Bounds.{passes, entry-rounds}
 use Rattle.bounds.proofs.starvation_freedom.Situations.{Situation, queues, next, next-change, place-other}
 use Rattle.bounds.proofs.starvation_freedom.Queues.{tag, gone}
-use Rattle.bounds.proofs.starvation_freedom.Within.{Within, then, longer, one-round, meanwhile}
+use Rattle.bounds.proofs.starvation_freedom.Within.{Within, then, longer, meanwhile}
 use Rattle.bounds.proofs.starvation_freedom.Effective.{left-there, left-within, left-pending-some}
 use Rattle.bounds.proofs.starvation_freedom.Says.{Says, says, done-stage}
 use Rattle.bounds.proofs.starvation_freedom.Heads.{After, kept, passed, released, closed, after-step}
 use Rattle.bounds.proofs.starvation_freedom.Stages.{steps-on, way-lasts, way-pending}
 use Rattle.bounds.proofs.starvation_freedom.Over.{Over, not-over}
-use Rattle.bounds.proofs.starvation_freedom.Ready.{ready-enters, ready-lasts}
 use Rattle.bounds.proofs.starvation_freedom.Releasing.{Lets-go, helps, tries, lingers, grants, raises, Done, go-turn, lets-stage}
 use Rattle.bounds.proofs.starvation_freedom.Tenures.{Actor, Ended, is-gone, lets-go, until-ended, out-rounds, lets-gone}
 use Rattle.bounds.proofs.starvation_freedom.Weights.{weight}
@@ -39,7 +38,7 @@ use Rattle.bounds.proofs.starvation_freedom.Line.{Line}
 use Rattle.bounds.proofs.starvation_freedom.Lines.{low-real, line-kept}
 use Rattle.bounds.proofs.starvation_freedom.Held.{Held, Given, own-domain, domain, Turned, own-lock, lock, given, still, turned, not-closed, same-tally, held-itself, released-given, held-step}
 use Rattle.bounds.proofs.starvation_freedom.Bounds.{above-rounds, above-next, checks-few, mul-add, mul-one}
-use Rattle.bounds.proofs.starvation_freedom.First.{Enters, stands, goes-on, Acquired, Climbs, climbing-inside, less-rounds, inside-leaves, inside-less, held-leaves}
+use Rattle.bounds.proofs.starvation_freedom.First.{Enters, goes-on, Acquired, Climbs, climbing-inside, less-rounds, inside-leaves, inside-less, held-leaves, ready-inside}
 
 zero-or : (n : ℕ) → (n ≡ 0) ⊎ (0 < n)
 zero-or zero = inl refl
@@ -169,11 +168,6 @@ module _ (t : Tree) (valid : Accepted t) (bits : Sixteen-bit t) (a m : ℕ) (inn
         (c : Situation t) (r b k : ℕ) (hb : b < t .threads) (A : Actor t valid bits d r b k) → Line t valid bits c a m r b k xs → tag (queues c .stage b) ≤ 2 → Climbs t valid bits d r b k A c →
         Within t valid bits (above + (entries (r ∷ xs) + cycles 1 xs)) (Enters t valid bits a) c
 
-    ready-inside : (c : Situation t) → queues c .stage a ≡ ready → Within t valid bits 1 (Enters t valid bits a) c
-    ready-inside c e =
-        one-round t valid bits a ha (λ x. queues x .stage a ≡ ready) (Enters t valid bits a)
-        (λ x y h n u. inl (ready-lasts t valid bits a ha x u y h n)) (λ x h u. ready-enters t valid bits a ha x u h) e
-
     unfoldable Rest : List ℕ → Type 0
     Rest [] = Unit {0}
     Rest (y ∷ ys) = Held-claim ys × Climb-claim ys
@@ -197,7 +191,7 @@ module _ (t : Tree) (valid : Accepted t) (bits : Sixteen-bit t) (a m : ℕ) (inn
     -- the next has the lock, or the domain alone
     turned-inside : (xs : List ℕ) → Rest xs → (v u : ℕ) → 1 ≤ u → cycles v xs ≤ u → (c : Situation t) → Turned t valid bits c a m v xs → Within t valid bits (entries xs + u) (Enters t valid bits a) c
     unfolding Rest weight until-ended low tag
-    turned-inside [] rest v u some-left o c (own-lock y) = longer t valid bits 1 (entries [] + u) (omega arith) (ready-inside c y)
+    turned-inside [] rest v u some-left o c (own-lock y) = longer t valid bits 1 (entries [] + u) (omega arith) (ready-inside t valid bits a ha c y)
     turned-inside (_ ∷ ys) rest v u some-left o c (lock y s l H z) =
         let L = H .line in
         let real = low-real t valid bits c s l (L .first-there) in

@@ -1,5 +1,5 @@
 -- The bounds are at most those by allowances.
-use mathlib.Core.Path.{_≡_, refl, ap}
+use mathlib.Core.Path.{_≡_, refl}
 use mathlib.Core.Bool.{Bool, true, false, _&&_, not, cond}
 use Prim.Native.Nat.{ℕ, zero, suc, _+_, _*_, _-_, _≤_, _<_}
 use native.Mathlib.Omega.{arith}
@@ -15,7 +15,7 @@ use Rattle.model.proofs.Trees.Records.{member-thread, member-domain, member-rec
 use Rattle.bounds.specs.StarvationFreedom.Bounds.{members, passes, others-passes, entry-rounds, tenures-for, link-rounds, standing-rounds, acquire-from, acquire-rounds, acquire-bound, release-bound, everyone-bound, largest-allowance, allowance-from, allowance-acquire-bound, allowance-everyone-bound}
 use Rattle.bounds.specs.StarvationFreedom.Laws.{Sharper-law}
 use Rattle.bounds.proofs.starvation_freedom.Fewer.{largest-grows, fewer-passes}
-use Rattle.bounds.proofs.starvation_freedom.Sums.{sum-grows, sum-of-value, sum-but-one}
+use Rattle.claims.proofs.Sums.{sum-grows, sum-of-value, sum-but-one}
 use Rattle.bounds.proofs.starvation_freedom.Positions.{some-member}
 use Rattle.bounds.proofs.starvation_freedom.Quotients.{Tenure-length, singly, longer, length-of, tenures-singly, no-link, a-link, tenures-fewer}
 

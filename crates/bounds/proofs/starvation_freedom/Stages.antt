@@ -13,10 +13,9 @@ use Rattle.claims.proofs.Queues.Paths.{Laws, laws}
 use Rattle.claims.proofs.Queues.Moves.{Stage, out, climb, queued, ready, inside, holding, releasing, down, low, acts, reach, pending, State, empty, Event, root, lower, Move, start, join-empty, join-root, join-behind, enter, leave, hand-on, release, let-go}
 use Rattle.claims.proofs.Queues.Invariant.{Thread, Inv}
 use Rattle.claims.proofs.Queues.Keeps.{keeps}
-use Rattle.claims.proofs.Queues.Remaining.{acts-real}
-use Rattle.bounds.proofs.starvation_freedom.Changes.{Changed, unmoved, moved, begun}
+use Rattle.claims.proofs.Queues.Remaining.{acts-real, joining-far, standing-far}
+use Rattle.claims.proofs.Queues.Changes.{Changed, unmoved, moved, begun}
 use Rattle.bounds.proofs.starvation_freedom.Queues.{tag}
-use Rattle.bounds.proofs.starvation_freedom.Heads.{not-joining, not-standing}
 
 -- a thread's way: where a stage leads in one move
 pub data Leads : Stage → Stage → Type 0 where
@@ -122,7 +121,7 @@ module _ (T : Tree) (valid : Accepted T) where
         (λ n.
         let p : put (put (st .stage) i (down j)) s y b ≡ st .stage b = u ∙ put-other (st .stage) i (down j) b n in
         let o′ : k < low (height T b) (st .stage b) = rw p at o in
-        put-other (st .tally) (record-at T s l) v (record-at T b k) (not-standing T tree-laws st inv s l w b k o′) ∙ ones b k (rw p at h) o′))
+        put-other (st .tally) (record-at T s l) v (record-at T b k) (standing-far T tree-laws st inv s l w b k o′) ∙ ones b k (rw p at h) o′))
 
     ones-move : {e : Event} {st′ : State} → Move T st e st′ → Ones T st′
     unfolding tag low acts reach
@@ -130,7 +129,7 @@ module _ (T : Tree) (valid : Accepted T) where
     ones-move (join-empty i j e n z) =
         let th : Thread T (st .queue) i (climb j) = rw e at (inv .threads i) in
         one-changes i (climb (suc j)) (put (st .tally) (record-at T i j) 1)
-        (λ n l b. put-other (st .tally) (record-at T i j) 1 (record-at T n l) (not-joining T tree-laws st inv i j e n l b))
+        (λ n l b. put-other (st .tally) (record-at T i j) 1 (record-at T n l) (joining-far T tree-laws st inv i j e n l b))
         (λ k h l. same-or k j _
         (λ y. put-same (st .tally) (record-at T i j) 1 (record-at T i k) (ap (record-at T i) y))
         (λ y. put-other (st .tally) (record-at T i j) 1 (record-at T i k) (own-apart i j k (th .real (omega arith)) (omega (arith, th .range)) (omega arith)) ∙ before-there i j (climb j) e (omega arith) refl k (omega arith)))

@@ -13,8 +13,8 @@ use Rattle.model.proofs.Trees.Index.{ancestor, height, record-at}
 use Rattle.model.proofs.Trees.Accepted.{Accepted}
 use Rattle.model.proofs.Trees.Paths.{ancestor-inner}
 use Rattle.claims.proofs.Queues.Moves.{climb, queued, ready, low}
+use Rattle.claims.proofs.Words.Says.{Ungranted, linking, waiting, watching, ungranted}
 use Rattle.claims.proofs.Words.View.{words-in}
-use Rattle.claims.proofs.Words.Releasing.{Ungranted, linking, waiting, watching, ungranted}
 use Rattle.chain.proofs.Reached.Holding.{status-same, not-first}
 use Rattle.bounds.proofs.starvation_freedom.Situations.{Situation, queues, next, next-words, place-other}
 use Rattle.bounds.proofs.starvation_freedom.Within.{Within, one-round}
@@ -64,7 +64,7 @@ module _ (t : Tree) (valid : Accepted t) (bits : Sixteen-bit t) (a : ℕ) (ha : 
           let inv = d .queued .represents .invariant in
           let b = w .below in
           let f = inv .counts (ancestor t a k) (record-at t a k) (λ z. omega (arith, ancestor-inner t valid a ha k b)) (inv .threads a .heads k (rw y (omega arith))) .1 in
-          absurd (let o = kept-status in let same = m b in omega (arith, bits (ancestor t a k)))
+          absurd (let o = kept-status in let same = m b .0 in omega (arith, bits (ancestor t a k)))
 
       woken-lasts : Woken k d
       woken-lasts = stays-woken (wait-stage t valid d a ha k (let b = w .below in omega arith) same-place)

@@ -10,7 +10,7 @@ use borrow.Author.Tests.{ne-eqb}
 use Rattle.model.specs.Trees.{Tree, is-member}
 use Rattle.model.proofs.Lists.{less-or, is, is-same, count, count-cons}
 use Rattle.bounds.specs.StarvationFreedom.Bounds.{sum-below, passes, others-passes}
-use Rattle.bounds.proofs.starvation_freedom.Sums.{sum-grows, sum-zero, sum-adds, sum-one}
+use Rattle.claims.proofs.Sums.{sum-grows, sum-zero, sum-adds, sum-one}
 
 -- the sum of a value over a list
 unfoldable pub weight : (ℕ → ℕ) → List ℕ → ℕ

@@ -1,6 +1,6 @@
 -- In a state reached from fresh, a thread whose next step is a stay looks to exactly one thread.
 use mathlib.Core.Path.{_≡_, refl, sym, ap, _∙_}
-use mathlib.Core.Bool.{Bool, true, false, false≢true}
+use mathlib.Core.Bool.{true, false, false≢true}
 use mathlib.Core.List.{List, [], _∷_}
 use mathlib.Core.Logic.{_≢_}
 use Prim.Native.Nat.{ℕ, suc, _+_, _≤_, _<_}
@@ -12,12 +12,11 @@ use Rattle.model.specs.declared.Place.{Place}
 use Rattle.model.specs.declared.Place.the-variants.{Idle, Prep, Swap, Link, Wait, Inside, Check, Help, Cas, Linger, Grant, Draw, Watch, Raise, Invalid}
 use Rattle.model.specs.declared.State.{State as WordState}
 use Rattle.model.specs.Trees.{Tree, is-ticket, own-record}
-use Rattle.model.specs.Places.{words-of}
 use Rattle.model.specs.States.{next, status, place, wrap}
 use Rattle.model.specs.Acts.{acts}
 use Rattle.model.specs.WellFormed.{good-place}
 use Rattle.model.specs.Laws.{Sixteen-bit}
-use Rattle.model.proofs.Tests.{and-both, filter-one}
+use Rattle.model.proofs.Tests.{and-both, filter-one, false-by}
 use Rattle.model.proofs.Trees.Index.{ancestor, height, record-at}
 use Rattle.model.proofs.Trees.Accepted.{Accepted}
 use Rattle.model.proofs.Trees.Tickets.{ticket-yes, queue-facts}
@@ -26,25 +25,21 @@ use Rattle.model.proofs.Trees.Records.{own-record-at, root-record}
 use Rattle.model.proofs.Lists.{rest, count, first-rest, first-cons}
 use Rattle.model.proofs.Laws.Form.{wrap-fits}
 use Rattle.claims.proofs.Queues.Paths.{laws}
-use Rattle.claims.proofs.Queues.Moves.{Stage, queued, low, reach, State}
+use Rattle.claims.proofs.Queues.Moves.{queued, low, reach, State}
 use Rattle.claims.proofs.Queues.Moves as moves
 use Rattle.claims.proofs.Queues.Invariant.{Inv, one-queue}
 use Rattle.claims.proofs.Queues.Order.{Second, second}
 use Rattle.claims.proofs.Words.Links.{after, after-in, after-here, before-second}
 use Rattle.claims.proofs.Words.View.{Words, words-in}
-use Rattle.claims.proofs.Words.Represents.{Tickets, Fits, at-idle, at-prep, at-swap, at-link, at-wait, at-woken, at-ready, at-inside, at-check, at-pass, at-help, at-cas, at-linger, at-grant, at-draw, at-watch, at-shown, at-raise}
+use Rattle.claims.proofs.Words.Represents.{Tickets}
+use Rattle.claims.proofs.Words.Says.{Says, says-at, Ungranted, linking, waiting, watching, ungranted}
 use Rattle.claims.proofs.Words.Tickets.{list-short, tickets-held}
 use Rattle.claims.proofs.Words.Outcome.{member-small}
-use Rattle.claims.proofs.Words.Releasing.{Ungranted, linking, waiting, watching, ungranted}
 use Rattle.claims.proofs.Claims.Reached.{Queued}
 use Rattle.claims.proofs.Claims.Moving.{two-there}
 use Rattle.chain.specs.Chain.{stays, acts-ahead, links, ticket-before, acts-holding, looked-to, looks-to}
 use Rattle.chain.proofs.Reached.Orders.{Once, after-same, just-before, ticket-next, ticket-same}
 use Rattle.chain.proofs.Reached.Actors.{Waits, waits, lingers, watches, stay-waits, same-thread, acting-there, actor, queued-there, stands-before}
-
-pub false-by : (b : Bool) → (b ≡ true → ⊥) → b ≡ false
-false-by true n = absurd (n refl)
-false-by false n = refl
 
 -- a place in Link with a record
 pub link-place : (p : Place) (r : ℕ) → links p r ≡ true → (l : ℕ) × (p ≡ Link l r)
@@ -81,32 +76,11 @@ module _ (t : Tree) (valid : Accepted t) (bits : Sixteen-bit t) (s : WordState) 
     pub behind : after (g .queue (ancestor t j index)) r ≡ suc (record-at t j index)
     pub quiet : next s r ≡ 0
 
-  linking-fits : {p : Place} {x : Stage} (j l r : ℕ) → p ≡ Link l r → g .stage j ≡ x → Fits t w g j p x → Linking j r
-  unfolding words-in moves.acts
-  linking-fits j l r e y (at-link k p a c d f n v) =
-      let z : p ≡ r = ap (λ u. words-of u .peer) e in
-      record { index = k; acting = rw y (omega arith); behind = rw z at f; quiet = rw z at n }
-  linking-fits j l r e y at-idle = absurd (let o = ap (λ u. words-of u .row) e in omega arith)
-  linking-fits j l r e y (at-prep k a c) = absurd (let o = ap (λ u. words-of u .row) e in omega arith)
-  linking-fits j l r e y (at-swap k a c n v) = absurd (let o = ap (λ u. words-of u .row) e in omega arith)
-  linking-fits j l r e y (at-wait k p a c d f n v) = absurd (let o = ap (λ u. words-of u .row) e in omega arith)
-  linking-fits j l r e y (at-woken k a c v z) = absurd (let o = ap (λ u. words-of u .row) e in omega arith)
-  linking-fits j l r e y (at-ready k a c v p) = absurd (let o = ap (λ u. words-of u .row) e in omega arith)
-  linking-fits j l r e y (at-inside c) = absurd (let o = ap (λ u. words-of u .row) e in omega arith)
-  linking-fits j l r e y (at-check k a c) = absurd (let o = ap (λ u. words-of u .row) e in omega arith)
-  linking-fits j l r e y (at-pass k u v a c n z f) = absurd (let o = ap (λ u. words-of u .row) e in omega arith)
-  linking-fits j l r e y (at-help k a c) = absurd (let o = ap (λ u. words-of u .row) e in omega arith)
-  linking-fits j l r e y (at-cas k a c) = absurd (let o = ap (λ u. words-of u .row) e in omega arith)
-  linking-fits j l r e y (at-linger k a c n) = absurd (let o = ap (λ u. words-of u .row) e in omega arith)
-  linking-fits j l r e y (at-grant k u a c n) = absurd (let o = ap (λ u. words-of u .row) e in omega arith)
-  linking-fits j l r e y (at-draw k a u c) = absurd (let o = ap (λ u. words-of u .row) e in omega arith)
-  linking-fits j l r e y (at-watch k a u c) = absurd (let o = ap (λ u. words-of u .row) e in omega arith)
-  linking-fits j l r e y (at-shown u c) = absurd (let o = ap (λ u. words-of u .row) e in omega arith)
-  linking-fits j l r e y (at-raise u c) = absurd (let o = ap (λ u. words-of u .row) e in omega arith)
-
   pub linking-there : (j l r : ℕ) → j < t .threads → place s j ≡ Link l r → Linking j r
-  unfolding words-in
-  linking-there j l r h e = linking-fits j l r e refl (q .represents .fits j h)
+  unfolding words-in moves.acts Says
+  linking-there j l r h e =
+      let y : Says t w g j (Link l r) (g .stage j) = says-at e (q .represents .fits j h) in
+      record { index = y .0; acting = omega (arith, ap (moves.acts (height t j)) (y .2)); behind = y .3; quiet = y .4 }
 
   once : (d : ℕ) → Once (g .queue d)
   once d a = inv .once d a

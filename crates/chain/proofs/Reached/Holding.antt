@@ -17,6 +17,7 @@ use Rattle.model.specs.Acts.{sends-inside, acts-at, acts}
 use Rattle.model.specs.WellFormed.{queue-on-path, good-place}
 use Rattle.model.specs.Laws.{Sixteen-bit}
 use Rattle.model.proofs.Tests.{and-both}
+use Rattle.model.proofs.Places.{row-place}
 use Rattle.model.proofs.Trees.Index.{ancestor, height, record-at}
 use Rattle.model.proofs.Trees.Accepted.{Accepted}
 use Rattle.model.proofs.Trees.Tickets.{ticket-yes, queue-facts}
@@ -24,13 +25,14 @@ use Rattle.model.proofs.Trees.Paths.{ancestor-root, ancestor-strict}
 use Rattle.model.proofs.Trees.Records.{own-record-at, root-record}
 use Rattle.model.proofs.Lists.{same-or, less-or, first, count, first-count, first-in, count-rest, count-later}
 use Rattle.claims.proofs.Queues.Paths.{laws}
-use Rattle.claims.proofs.Queues.Moves.{Stage, queued, low, State}
+use Rattle.claims.proofs.Queues.Moves.{queued, low, State}
 use Rattle.claims.proofs.Queues.Moves as moves
 use Rattle.claims.proofs.Queues.Invariant.{Inv, acts-low, low-acts, one-queue}
 use Rattle.claims.proofs.Words.Links.{after, after-behind, after-in}
 use Rattle.claims.proofs.Words.View.{Words, words-in}
-use Rattle.claims.proofs.Words.Represents.{letting-go-low, Fits, at-idle, at-prep, at-swap, at-link, at-wait, at-woken, at-ready, at-inside, at-check, at-pass, at-help, at-cas, at-linger, at-grant, at-draw, at-watch, at-shown, at-raise}
+use Rattle.claims.proofs.Words.Says.{pass, release, Says, says-at}
 use Rattle.claims.proofs.Words.Tickets.{tickets-rest}
+use Rattle.claims.proofs.Words.Releasing.{letting-go-acts}
 use Rattle.claims.proofs.Words.Frame.{others-of, other-record}
 use Rattle.claims.proofs.Claims.Reached.{Queued}
 use Rattle.claims.proofs.Claims.QueueLaw.{Acting, in-queue}
@@ -43,21 +45,7 @@ use Rattle.chain.proofs.Reached.Ahead.{link-place, Linking, linking-the
 
 -- a place is Raise, or not
 raise-or : (p : Place) (C : Type 0) → (p ≡ Raise → C) → (p ≢ Raise → C) → C
-raise-or Raise C f n = f refl
-raise-or Idle C f n = n (λ e. let o = ap (λ u. words-of u .row) e in omega arith)
-raise-or (Prep l) C f n = n (λ e. let o = ap (λ u. words-of u .row) e in omega arith)
-raise-or (Swap l) C f n = n (λ e. let o = ap (λ u. words-of u .row) e in omega arith)
-raise-or (Link l p) C f n = n (λ e. let o = ap (λ u. words-of u .row) e in omega arith)
-raise-or (Wait l) C f n = n (λ e. let o = ap (λ u. words-of u .row) e in omega arith)
-raise-or Inside C f n = n (λ e. let o = ap (λ u. words-of u .row) e in omega arith)
-raise-or (Check l) C f n = n (λ e. let o = ap (λ u. words-of u .row) e in omega arith)
-raise-or (Help l) C f n = n (λ e. let o = ap (λ u. words-of u .row) e in omega arith)
-raise-or (Cas l) C f n = n (λ e. let o = ap (λ u. words-of u .row) e in omega arith)
-raise-or (Linger l) C f n = n (λ e. let o = ap (λ u. words-of u .row) e in omega arith)
-raise-or (Grant l p w) C f n = n (λ e. let o = ap (λ u. words-of u .row) e in omega arith)
-raise-or Draw C f n = n (λ e. let o = ap (λ u. words-of u .row) e in omega arith)
-raise-or Watch C f n = n (λ e. let o = ap (λ u. words-of u .row) e in omega arith)
-raise-or Invalid C f n = n (λ e. let o = ap (λ u. words-of u .row) e in omega arith)
+raise-or p C f n = same-or (words-of p .row) 13 C (λ z. f (row-place p 13 z)) (λ z. n (λ e. z (ap (λ u. words-of u .row) e)))
 
 module _ (t : Tree) (valid : Accepted t) (bits : Sixteen-bit t) (s : WordState) (q : Queued t s) where
   abbrev g : State
@@ -76,52 +64,19 @@ module _ (t : Tree) (valid : Accepted t) (bits : Sixteen-bit t) (s : WordState) 
     acting : index < moves.acts (height t c) (g .stage c)
     names : next s (record-at t c index) ≡ suc r
 
-  granting-fits : {p : Place} {x : Stage} (c l r v : ℕ) → p ≡ Grant l r v → g .stage c ≡ x → Fits t w g c p x → Granting c l r
-  unfolding words-in moves.acts
-  granting-fits c l r v e y (at-pass k u x a o n z f) =
-      let d : u ≡ r = ap (λ m. words-of m .peer) e in
-      record { index = k; there = ap (λ m. words-of m .domain) e; acting = rw y (omega arith); names = rw d at n }
-  granting-fits c l r v e y (at-grant k u a o n) =
-      let d : u ≡ r = ap (λ m. words-of m .peer) e in
-      record { index = k; there = ap (λ m. words-of m .domain) e; acting = let z : k < low (height t c) (g .stage c) = rw y (omega (arith, letting-go-low (height t c) k)) in omega (arith, low-acts (height t c) (g .stage c)); names = rw d at n }
-  granting-fits c l r v e y at-idle = absurd (let b = ap (λ m. words-of m .row) e in omega arith)
-  granting-fits c l r v e y (at-prep k a o) = absurd (let b = ap (λ m. words-of m .row) e in omega arith)
-  granting-fits c l r v e y (at-swap k a o n x) = absurd (let b = ap (λ m. words-of m .row) e in omega arith)
-  granting-fits c l r v e y (at-link k p a o d f n x) = absurd (let b = ap (λ m. words-of m .row) e in omega arith)
-  granting-fits c l r v e y (at-wait k p a o d f n x) = absurd (let b = ap (λ m. words-of m .row) e in omega arith)
-  granting-fits c l r v e y (at-woken k a o x z) = absurd (let b = ap (λ m. words-of m .row) e in omega arith)
-  granting-fits c l r v e y (at-ready k a o x p) = absurd (let b = ap (λ m. words-of m .row) e in omega arith)
-  granting-fits c l r v e y (at-inside o) = absurd (let b = ap (λ m. words-of m .row) e in omega arith)
-  granting-fits c l r v e y (at-check k a o) = absurd (let b = ap (λ m. words-of m .row) e in omega arith)
-  granting-fits c l r v e y (at-help k a o) = absurd (let b = ap (λ m. words-of m .row) e in omega arith)
-  granting-fits c l r v e y (at-cas k a o) = absurd (let b = ap (λ m. words-of m .row) e in omega arith)
-  granting-fits c l r v e y (at-linger k a o n) = absurd (let b = ap (λ m. words-of m .row) e in omega arith)
-  granting-fits c l r v e y (at-draw k a u o) = absurd (let b = ap (λ m. words-of m .row) e in omega arith)
-  granting-fits c l r v e y (at-watch k a u o) = absurd (let b = ap (λ m. words-of m .row) e in omega arith)
-  granting-fits c l r v e y (at-shown u o) = absurd (let b = ap (λ m. words-of m .row) e in omega arith)
-  granting-fits c l r v e y (at-raise u o) = absurd (let b = ap (λ m. words-of m .row) e in omega arith)
-
-  -- a thread in Raise is first at the root
-  raising-fits : {p : Place} {x : Stage} (c : ℕ) → p ≡ Raise → g .stage c ≡ x → Fits t w g c p x → height t c < low (height t c) (g .stage c)
-  unfolding low
-  raising-fits c e y (at-raise u o) = rw y (omega arith)
-  raising-fits c e y at-idle = absurd (let b = ap (λ m. words-of m .row) e in omega arith)
-  raising-fits c e y (at-prep k a o) = absurd (let b = ap (λ m. words-of m .row) e in omega arith)
-  raising-fits c e y (at-swap k a o n x) = absurd (let b = ap (λ m. words-of m .row) e in omega arith)
-  raising-fits c e y (at-link k p a o d f n x) = absurd (let b = ap (λ m. words-of m .row) e in omega arith)
-  raising-fits c e y (at-wait k p a o d f n x) = absurd (let b = ap (λ m. words-of m .row) e in omega arith)
-  raising-fits c e y (at-woken k a o x z) = absurd (let b = ap (λ m. words-of m .row) e in omega arith)
-  raising-fits c e y (at-ready k a o x p) = absurd (let b = ap (λ m. words-of m .row) e in omega arith)
-  raising-fits c e y (at-inside o) = absurd (let b = ap (λ m. words-of m .row) e in omega arith)
-  raising-fits c e y (at-check k a o) = absurd (let b = ap (λ m. words-of m .row) e in omega arith)
-  raising-fits c e y (at-pass k u v a o n z f) = absurd (let b = ap (λ m. words-of m .row) e in omega arith)
-  raising-fits c e y (at-help k a o) = absurd (let b = ap (λ m. words-of m .row) e in omega arith)
-  raising-fits c e y (at-cas k a o) = absurd (let b = ap (λ m. words-of m .row) e in omega arith)
-  raising-fits c e y (at-linger k a o n) = absurd (let b = ap (λ m. words-of m .row) e in omega arith)
-  raising-fits c e y (at-grant k u a o n) = absurd (let b = ap (λ m. words-of m .row) e in omega arith)
-  raising-fits c e y (at-draw k a u o) = absurd (let b = ap (λ m. words-of m .row) e in omega arith)
-  raising-fits c e y (at-watch k a u o) = absurd (let b = ap (λ m. words-of m .row) e in omega arith)
-  raising-fits c e y (at-shown u o) = absurd (let b = ap (λ m. words-of m .row) e in omega arith)
+  granting-at : (c l r v : ℕ) → c < t .threads → place s c ≡ Grant l r v → Granting c l r
+  unfolding words-in moves.acts Says
+  granting-at c l r v hc e =
+      let y : Says t w g c (Grant l r v) (g .stage c) = says-at e (q .represents .fits c hc) in
+      record {
+        index = y .0;
+        there = sym (y .1 .0);
+        acting = elim (y .2) [
+          | pass o x f ↦ omega (arith, ap (moves.acts (height t c)) x)
+          | release x f ↦ omega (arith, ap (moves.acts (height t c)) x, letting-go-acts (height t c) (y .0))
+        ];
+        names = y .3;
+      }
 
   -- so in its queue the member is after the first
   pub record Granted (c r : ℕ) : Type 0 where
@@ -134,7 +89,7 @@ module _ (t : Tree) (valid : Accepted t) (bits : Sixteen-bit t) (s : WordState) 
     granted : (l r v : ℕ) → place s c ≡ Grant l r v → Granted c r
     unfolding words-in good-place
     granted l r v e =
-        let x = granting-fits c l r v e refl (q .represents .fits c hc) in
+        let x = granting-at c l r v hc e in
         let good : good-place t c (Grant l r v) ≡ true = rw e at (q .facts .places c .used hc) in
         let nt : is-ticket t (ancestor t c (x .index)) ≡ false = rw (x .there) (queue-facts t c l (and-both (queue-on-path t c l) (is-member t l r) good .0) .1) in
         record {
@@ -303,9 +258,10 @@ module _ (t : Tree) (valid : Accepted t) (bits : Sixteen-bit t) (s : WordState) 
 
         -- whoever raises the grant to this ticket has the one just before
         raised-other : place s c ≡ Raise → v ≢ wrap (s .grant + 1)
-        unfolding words-in
+        unfolding words-in Says low
         raised-other e z =
-            let low-there = raising-fits c e refl (q .represents .fits c hc) in
+            let holds : g .stage c ≡ moves.holding = says-at e (q .represents .fits c hc) in
+            let low-there : height t c < low (height t c) (g .stage c) = rw holds (omega arith) in
             let C = record-at t c (height t c) in
             let B = own-record t b 0 in
             let head : first (g .queue 0) ≡ suc C = rw (ancestor-root t valid c hc) at (inv .threads c .heads (height t c) low-there) in

@@ -2,9 +2,10 @@
 use mathlib.Core.Path.{_≡_, refl, sym, ap}
 use mathlib.Core.Bool.{true}
 use mathlib.Core.Logic.{_≢_}
-use Prim.Native.Nat.{ℕ, _+_, _-_}
-use lib.ListN.{set}
-use lib.Seq.{getD-set-other}
+use Prim.Native.Nat.{ℕ, _+_, _-_, _<_}
+use native.Mathlib.Omega.{arith}
+use lib.ListN.{set, length}
+use lib.Seq.{getD-set-other, getD-set-same}
 use Rattle.model.specs.declared.Place.{Place}
 use Rattle.model.specs.declared.Place.the-variants.{Idle, Prep, Swap, Link, Wait, Inside, Check, Help, Cas, Linger, Grant, Draw, Watch, Raise, Invalid}
 use Rattle.model.specs.declared.PlaceWords.{PlaceWords}
@@ -14,6 +15,7 @@ use Rattle.model.specs.Places.{words-of, place-of, place-domain}
 use Rattle.model.specs.States.{cohort-start, unlocked, none, tail, next, status, place, wrap, numbers-at, store-numbers}
 use Rattle.model.specs.Steps.{Row-result, acquired-place, release-place, done-place, row}
 use Rattle.model.proofs.Branches.{Branch, idle-draws, idle-prepares, prepares, swap-root, swap-inner, swap-behind, link-writes, wait-root-locked, wait-root-granted, wait-ungranted, wait-acquires, wait-passed, wait-crossed, inside-leaves, check-passes, check-releases, help-alone, help-linked, cas-last, cas-not-last, linger-alone, linger-linked, grant-writes, draw-shown, draw-unshown, watch-shown, watch-unshown, raise-counts, invalid-stays, branch}
+use Rattle.model.proofs.Lists.{same-or}
 use Rattle.model.proofs.Trees.Tickets.{ticket-facts}
 use Rattle.model.proofs.Places.{numbers-other}
 
@@ -22,11 +24,16 @@ module _ (t : Tree) (s : State) (c : ℕ) where
   abbrev own : Place → ℕ
   own p = own-record t c (place-domain (t .home c) p)
 
+  -- a record that is not the own one where a row sets the own next to none: in Prep, and from Idle at home
+  abbrev pub Unprepared : Place → (record-number : ℕ) → Type 0
+  Unprepared p r = ((l : ℕ) → p ≡ Prep l → own-record t c l ≢ r) × (p ≡ Idle → own-record t c (t .home c) ≢ r)
+
   -- what a row of thread c leaves alone: the places of others; the status and the next of other records than the own one there, the one that is granted and the one in Link; the grant, but for Raise
   record Leaves (p : Place) (n : State) : Type 0 where
     places : (j : ℕ) → j ≢ c → place n j ≡ place s j
     statuses : (r : ℕ) → r ≢ own p → ((l w : ℕ) → p ≢ Grant l r w) → status n r ≡ status s r
     nexts : (r : ℕ) → r ≢ own p → ((l : ℕ) → p ≢ Link l r) → next n r ≡ next s r
+    next-some : (r : ℕ) → r < length (s .nexts) → Unprepared p r → next s r ≢ 0 → next n r ≢ 0
     grant : p ≢ Raise → n .grant ≡ s .grant
 
   elsewhere : (q : PlaceWords) (j : ℕ) → j ≢ c → place-of (numbers-at (store-numbers (s .places) c q) j) ≡ place s j
@@ -34,7 +41,7 @@ module _ (t : Tree) (s : State) (c : ℕ) where
 
   -- a stay
   unmoved : (p : Place) → Leaves p s
-  unmoved p = record { places = λ j n. refl; statuses = λ r n g. refl; nexts = λ r n g. refl; grant = λ g. refl }
+  unmoved p = record { places = λ j n. refl; statuses = λ r n g. refl; nexts = λ r n g. refl; next-some = λ r h u n. n; grant = λ g. refl }
 
   -- only a place, a tail or the ticket are stored
   placed : (p q : Place) {n : State} → n .places ≡ store-numbers (s .places) c (words-of q) → n .statuses ≡ s .statuses → n .nexts ≡ s .nexts → n .grant ≡ s .grant → Leaves p n
@@ -43,6 +50,7 @@ module _ (t : Tree) (s : State) (c : ℕ) where
         places = λ j n. rw e (elsewhere (words-of q) j n);
         statuses = λ r n g. rw f;
         nexts = λ r n g. rw h;
+        next-some = λ r b u n. rw h n;
         grant = λ g. k;
       }
 
@@ -53,16 +61,18 @@ module _ (t : Tree) (s : State) (c : ℕ) where
         places = λ j n. rw e (elsewhere (words-of q) j n);
         statuses = λ r n g. rw f (getD-set-other (s .statuses) (own p) r v 0 n);
         nexts = λ r n g. rw h;
+        next-some = λ r b u n. rw h n;
         grant = λ g. k;
       }
 
   -- and the own next
-  readied : (p q : Place) (v : ℕ) {n : State} → n .places ≡ store-numbers (s .places) c (words-of q) → n .statuses ≡ set (s .statuses) (own p) v → n .nexts ≡ set (s .nexts) (own p) none → n .grant ≡ s .grant → Leaves p n
-  readied p q v e f h k =
+  readied : (p q : Place) (v : ℕ) {n : State} → ((r : ℕ) → Unprepared p r → own p ≢ r) → n .places ≡ store-numbers (s .places) c (words-of q) → n .statuses ≡ set (s .statuses) (own p) v → n .nexts ≡ set (s .nexts) (own p) none → n .grant ≡ s .grant → Leaves p n
+  readied p q v apart e f h k =
       record {
         places = λ j n. rw e (elsewhere (words-of q) j n);
         statuses = λ r n g. rw f (getD-set-other (s .statuses) (own p) r v 0 n);
         nexts = λ r n g. rw h (getD-set-other (s .nexts) (own p) r none 0 n);
+        next-some = λ r b u n. rw (h, getD-set-other (s .nexts) (own p) r none 0 (λ z. apart r u (sym z))) n;
         grant = λ g. k;
       }
 
@@ -73,8 +83,8 @@ module _ (t : Tree) (s : State) (c : ℕ) where
   branch-leaves : {p : Place} {x : Row-result} → Branch t c s p x → Leaves p (x .state)
   branch-leaves (idle-draws z (draw-shown e)) = marked Idle Inside (s .ticket) refl (at-home (s .ticket) z) refl refl
   branch-leaves (idle-draws z (draw-unshown e)) = marked Idle Watch (s .ticket) refl (at-home (s .ticket) z) refl refl
-  branch-leaves (idle-prepares z (prepares l v at)) = readied Idle (Swap l) v refl refl refl refl
-  branch-leaves (prepares l v at) = readied (Prep l) (Swap l) v refl refl refl refl
+  branch-leaves (idle-prepares z (prepares l v at)) = readied Idle (Swap l) v (λ r u. u .1 refl) refl refl refl refl
+  branch-leaves (prepares l v at) = readied (Prep l) (Swap l) v (λ r u. u .0 l refl) refl refl refl refl
   branch-leaves (swap-root l z e) = marked (Swap l) Inside unlocked refl refl refl refl
   branch-leaves (swap-inner l z e) = marked (Swap l) (acquired-place t l) cohort-start refl refl refl refl
   branch-leaves (swap-behind l e) = placed (Swap l) (Link l (tail s l - 1)) refl refl refl refl
@@ -83,6 +93,9 @@ module _ (t : Tree) (s : State) (c : ℕ) where
         places = elsewhere (words-of (Wait l));
         statuses = λ r n g. refl;
         nexts = λ r n g. getD-set-other (s .nexts) p r (own-record t c l + 1) 0 (λ e. g l (ap (Link l) (sym e)));
+        next-some = λ r b u n. same-or r p _
+            (λ z. rw (z, getD-set-same (s .nexts) p (own-record t c l + 1) 0 (rw z at b)) (λ e. omega arith))
+            (λ z. rw (getD-set-other (s .nexts) p r (own-record t c l + 1) 0 z) n);
         grant = λ g. refl;
       }
   branch-leaves (wait-root-locked l z e) = unmoved (Wait l)
@@ -105,6 +118,7 @@ module _ (t : Tree) (s : State) (c : ℕ) where
         places = elsewhere (words-of (done-place t c l));
         statuses = λ r n g. getD-set-other (s .statuses) p r w 0 (λ e. g l w (ap (λ y. Grant l y w) (sym e)));
         nexts = λ r n g. refl;
+        next-some = λ r h u n. n;
         grant = λ g. refl;
       }
   branch-leaves (draw-shown e) = marked Draw Inside (s .ticket) refl refl refl refl
@@ -112,7 +126,7 @@ module _ (t : Tree) (s : State) (c : ℕ) where
   branch-leaves (watch-shown e) = placed Watch Inside refl refl refl refl
   branch-leaves (watch-unshown e) = unmoved Watch
   branch-leaves raise-counts =
-      record { places = elsewhere (words-of (done-place t c 0)); statuses = λ r n g. refl; nexts = λ r n g. refl; grant = λ g. absurd (g refl) }
+      record { places = elsewhere (words-of (done-place t c 0)); statuses = λ r n g. refl; nexts = λ r n g. refl; next-some = λ r h u n. n; grant = λ g. absurd (g refl) }
   branch-leaves invalid-stays = unmoved Invalid
 
   row-leaves : (p : Place) → Leaves p (row t c p s .state)
@@ -126,6 +140,9 @@ module _ (t : Tree) (s : State) (c : ℕ) where
 
   pub next-kept : (r : ℕ) (p : Place) → r ≢ own-record t c (place-domain (t .home c) p) → ((l : ℕ) → p ≢ Link l r) → next (row t c p s .state) r ≡ next s r
   next-kept r p n g = row-leaves p .nexts r n g
+
+  pub next-left : (r : ℕ) (p : Place) → r < length (s .nexts) → Unprepared p r → next s r ≢ 0 → next (row t c p s .state) r ≢ 0
+  next-left r p h u n = row-leaves p .next-some r h u n
 
   pub grant-kept : (p : Place) → p ≢ Raise → row t c p s .state .grant ≡ s .grant
   grant-kept p g = row-leaves p .grant g

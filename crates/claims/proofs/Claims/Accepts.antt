@@ -7,7 +7,6 @@ use native.Mathlib.Omega.{arith}
 use lib.ListN.{length, replicate, length-replicate}
 use Rattle.model.specs.declared.LockState.{LockState}
 use Rattle.model.specs.Trees.{Tree, tree-of}
-use Rattle.model.specs.Runs.{steps, state-after, run-of, run}
 use Rattle.model.specs.Counters.{good-counts}
 use Rattle.model.specs.CounterLaws.{Counter-form-law, Room-law, Fresh-room-law}
 use Rattle.model.specs.Refusals.{accepted, tree-refusal}

@@ -11,7 +11,7 @@ use Rattle.model.specs.Trees.{Tree}
 use Rattle.model.specs.States.{acquire-parent, wait-word, locked}
 use Rattle.model.specs.Acts.{sends-inside, acts-at}
 use Rattle.model.specs.Laws.{Sixteen-bit}
-use Rattle.model.proofs.Tests.{or-right}
+use Rattle.model.proofs.Tests.{or-right, or-none}
 use Rattle.model.proofs.Trees.Index.{ancestor, height, record-at}
 use Rattle.model.proofs.Trees.Accepted.{Accepted}
 use Rattle.model.proofs.Trees.Paths.{ancestor-inner, ancestor-root, ancestor-strict, ancestor-zero, ancestor-not-root}
@@ -43,10 +43,6 @@ module _ (t : Tree) (valid : Accepted t) (i : ℕ) (h : i < t .threads) (n : ℕ
 
   everywhere : true ≡ ltb n (suc (height t i))
   everywhere = sym (lt-ltb n (suc (height t i)) (omega arith))
-
-  or-false : (b c : Bool) → c ≡ false → b || c ≡ b
-  or-false true c e = refl
-  or-false false c e = e
 
   -- the words that send a thread in Wait inside
   stays-out : (k v : ℕ) → v ≡ waiting-word (ancestor t i k) → sends-inside (ancestor t i k) v ≡ false
@@ -91,10 +87,10 @@ module _ (t : Tree) (valid : Accepted t) (i : ℕ) (h : i < t .threads) (n : ℕ
     acts-stage e (at-swap k l c a v) = higher-test k l
     acts-stage e (at-link k p l c d a z v) = there-test k l
     acts-stage e (at-wait k p l c d a z v) =
-        rw (own-record-at t valid i h k l) (or-false _ _ (stays-out k _ v) ∙ there-test k l)
+        rw (own-record-at t valid i h k l) (or-none _ _ (stays-out k _ v) ∙ there-test k l)
     acts-stage e (at-woken k b c v y) =
         let l : k ≤ height t i = omega arith in
-        rw (own-record-at t valid i h k l) (or-false _ _ (woken-out k _ b v) ∙ there-test k l)
+        rw (own-record-at t valid i h k l) (or-none _ _ (woken-out k _ b v) ∙ there-test k l)
     acts-stage e (at-ready k l c v p) =
         let all : low (height t i) (g .stage i) ≡ suc (height t i) = ap (low (height t i)) e in
         rw (own-record-at t valid i h k l)
@@ -118,4 +114,4 @@ module _ (t : Tree) (valid : Accepted t) (i : ℕ) (h : i < t .threads) (n : ℕ
         by true z =
             let root = ancestor-zero t valid i h k l (eqb-true (ancestor t i k) 0 z) in
             rw z (or-right (leb (ancestor t i k) (ancestor t i n)) _ (lt-ltb 0 acquire-parent (omega arith)) ∙ sym (lt-ltb n (suc k) (omega arith)))
-        by false z = rw z (or-false _ _ (le-ltb acquire-parent acquire-parent (omega arith)) ∙ there-test k l)
+        by false z = rw z (or-none _ _ (le-ltb acquire-parent acquire-parent (omega arith)) ∙ there-test k l)

@@ -1,12 +1,12 @@
 -- THE THIRD DEMAND, proved.
-use mathlib.Core.Path.{_≡_, refl}
+use mathlib.Core.Path.{_≡_}
 use mathlib.Core.List.{List, []}
 use Prim.Native.Nat.{ℕ}
 use lib.ListN.{take}
 use Rattle.model.specs.declared.LockState.{LockState}
 use Rattle.model.specs.Trees.{Tree, tree-of}
 use Rattle.model.specs.States.{fresh-state}
-use Rattle.model.specs.Runs.{steps, state-after, run-of, run}
+use Rattle.model.specs.Runs.{steps, run-of, run}
 use Rattle.model.specs.Counters.{lock-state, fresh-counters}
 use Rattle.model.specs.Refusals.{tree-refusal}
 use Rattle.model.specs.Answers.{fresh-answer}

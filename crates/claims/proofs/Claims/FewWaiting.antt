@@ -2,13 +2,11 @@
 use mathlib.Core.Path.{_≡_, refl, sym, ap, _∙_}
 use mathlib.Core.Bool.{Bool, true, false, false≢true}
 use mathlib.Core.List.{List}
-use Prim.Native.Nat.{ℕ, zero, suc, _+_, _-_, _≤_, _<_}
+use Prim.Native.Nat.{ℕ, zero, suc, _-_, _≤_, _<_}
 use native.Mathlib.Omega.{arith}
 use lib.ListN.{length}
-use Rattle.model.specs.declared.State.{State}
-use Rattle.model.specs.Trees.{Tree, is-leaf, is-member}
-use Rattle.model.specs.Runs.{occurrences}
-use Rattle.claims.specs.Reached.{Has-queues, Few-waiting-law}
+use Rattle.model.specs.Trees.{Tree, is-leaf}
+use Rattle.claims.specs.Reached.{Few-waiting-law}
 use Rattle.model.proofs.Trees.Accepted.{Accepted, accepted, leaf-childless}
 use Rattle.model.proofs.Trees.Records.{Member, a-thread, a-domain, member-facts}
 use Rattle.model.proofs.Lists.{count, same-or}

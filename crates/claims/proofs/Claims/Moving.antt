@@ -9,7 +9,7 @@ use lib.Dec.{eqb}
 use Rattle.model.specs.declared.Place.{Place}
 use Rattle.model.specs.declared.Place.the-variants.{Idle, Link, Linger, Watch}
 use Rattle.model.specs.declared.State.{State as WordState}
-use Rattle.model.specs.Trees.{Tree, tree-of, is-ticket, own-record}
+use Rattle.model.specs.Trees.{Tree, tree-of, is-ticket}
 use Rattle.model.specs.Places.{words-of}
 use Rattle.model.specs.States.{acquire-parent, next, status, place, fresh-state}
 use Rattle.model.specs.Steps.{Kind, stay, other, root-entry, is-kind, is-entry, Row-result, wait-row, watch-row, row, step}
@@ -21,15 +21,15 @@ use Rattle.model.specs.Calls.{joined}
 use Rattle.claims.specs.Reached.{Move-law, List-move-law}
 use Rattle.model.proofs.Places.{not-idle}
 use Rattle.model.proofs.Branches.{Branch, linger-alone, linger-linked, watch-shown, watch-unshown, watch-branch, branch}
-use Rattle.model.proofs.Waiting.{acquiring-row, Granted, granted-root, granted-inner, granted-row}
+use Rattle.model.proofs.Waiting.{acquiring-row, Granted, granted-root, granted-inner}
 use Rattle.model.proofs.Trees.Index.{ancestor, height, record-at}
 use Rattle.model.proofs.Trees.Accepted.{Accepted, accepted, sixteen-bit}
 use Rattle.model.proofs.Trees.Tickets.{ticket-yes, queue-facts}
-use Rattle.model.proofs.Trees.Paths.{ancestor-inner, ancestor-root, ancestor-zero, ancestor-not-root}
+use Rattle.model.proofs.Trees.Paths.{ancestor-inner, ancestor-root}
 use Rattle.model.proofs.Trees.Records.{own-record-at, root-record}
 use Rattle.model.proofs.Laws.Form.{form-law}
 use Rattle.model.proofs.Laws.Kinds.{may-stay, goes-on, no-stay, kind-law}
-use Rattle.model.proofs.Lists.{less-or, first, first-rest, count}
+use Rattle.model.proofs.Lists.{less-or, first-rest, count}
 use Rattle.claims.proofs.Queues.Paths.{laws}
 use Rattle.claims.proofs.Queues.Moves.{Stage, out, queued, ready, low, acts, reach, State}
 use Rattle.claims.proofs.Queues.Invariant.{Inv}
@@ -38,11 +38,14 @@ use Rattle.claims.proofs.Queues.Unblocked.{Unblocked, unblocked}
 use Rattle.claims.proofs.Words.Links.{final, after, before-second}
 use Rattle.claims.proofs.Words.View.{Words, words-in}
 use Rattle.claims.proofs.Words.Represents.{letting-go, letting-go-low, Fits, at-idle, at-prep, at-swap, at-link, at-wait, at-woken, at-ready, at-inside, at-check, at-pass, at-help, at-cas, at-linger, at-grant, at-draw, at-watch, at-shown, at-raise, Represents}
-use Rattle.claims.proofs.Words.Tickets.{tickets-first}
-use Rattle.claims.proofs.Words.Releasing.{Ungranted, linking, waiting, watching, firm, ungranted}
+use Rattle.claims.proofs.Words.Releasing.{firm}
 use Rattle.claims.proofs.Claims.Reached.{Queued, from-fresh}
 use Rattle.claims.proofs.Claims.Calls.{starts-here, joined-threads}
 use Rattle.claims.proofs.Claims.Accepts.{last-reached}
+use Rattle.claims.proofs.Words.Acquiring.{ready-row}
+use Rattle.claims.proofs.Words.Drawing.{is-shown}
+use Rattle.claims.proofs.Words.Frame.{others-of}
+use Rattle.claims.proofs.Words.Says.{Ungranted, linking, waiting, watching, ungranted}
 
 abbrev pub Moves : Row-result → Type 0
 Moves x = x .kind ≢ stay
@@ -104,19 +107,8 @@ module _ (t : Tree) (valid : Accepted t) (bits : Sixteen-bit t) (s : WordState) 
         (k : ℕ) → k ≤ height t i → g .stage i ≡ ready → (k < height t i → w .statuses (record-at t i k) ≡ g .tally (record-at t i k)) →
         (k ≡ height t i → w .statuses (record-at t i k) ≡ 0) → Moves (wait-row t i (ancestor t i k) s)
     unfolding words-in low is-kind
-    ready-moves k l e c v =
-        by (granted-row t i s (ancestor t i k)
-        (λ z. let free = v (ancestor-zero t valid i h k l z) in rw own (λ y. omega arith))
-        (λ n.
-        let b = ancestor-not-root t valid i h k l (omega (arith, n)) in
-        let first-there = inv .threads i .heads k (rw e (omega arith)) in
-        let fits = inv .counts (ancestor t i k) (record-at t i k) n first-there .1 in
-        let count = c b in
-        rw own (omega (arith, bits (ancestor t i k)))))
+    ready-moves k l e c v = by (ready-row t valid s (q .room) g i h (others-of rep i) bits k l e c v)
       where
-        own : own-record t i (ancestor t i k) ≡ record-at t i k
-        own = own-record-at t valid i h k l
-
         by : {x : Row-result} → Granted t i s (ancestor t i k) x → Moves x
         by (granted-root z) = no-stay root-entry refl
         by (granted-inner n kind entry) = entry-moves kind entry
@@ -127,10 +119,7 @@ module _ (t : Tree) (valid : Accepted t) (bits : Sixteen-bit t) (s : WordState) 
     shown-moves root e = by (watch-branch t i s)
       where
         shown : status s (record-at t i (height t i)) ≡ s .grant
-        shown =
-            let R = record-at t i (height t i) in
-            let head : first (g .queue 0) ≡ suc R = rw (ancestor-root t valid i h) at (inv .threads i .heads (height t i) (rw e (omega arith))) in
-            tickets-first (w .statuses) (w .grant) (w .ticket) R (g .queue 0) (rep .numbered root .held) head
+        shown = is-shown t valid s (q .room) g i h (others-of rep i) root e
 
         by : {x : Row-result} → Branch t i s Watch x → Moves x
         by (watch-shown _) = no-stay root-entry refl
@@ -139,8 +128,8 @@ module _ (t : Tree) (valid : Accepted t) (bits : Sixteen-bit t) (s : WordState) 
   -- whoever stands after a record without next is in Link, and moves
   link-behind :
       (d r m : ℕ) (ys : List ℕ) → is-ticket t d ≡ false → g .queue d ≡ r ∷ m ∷ ys → next s r ≡ 0 → Mover t s
-  unfolding words-in reach may-stay
-  link-behind d r m ys nt shape quiet = by (ungranted N (b .waits) (rep .fits S real))
+  unfolding words-in may-stay
+  link-behind d r m ys nt shape quiet = by (ungranted N (b .waits) (rep .fits S (b .real)))
     where
       b : Second t g d m
       b = second t g inv d r m ys shape
@@ -151,18 +140,15 @@ module _ (t : Tree) (valid : Accepted t) (bits : Sixteen-bit t) (s : WordState) 
       N : ℕ
       N = b .index
 
-      real : S < t .threads
-      real = inv .threads S .real (rw (b .waits) (omega arith))
-
       by : Ungranted t w g S N (place s S) → Mover t s
-      by (linking p e nd a z) = someone S real (Link (ancestor t S N) p) e (not-idle _ refl) (row-moves S real (Link (ancestor t S N) p) refl)
+      by (linking p e nd a z) = someone S (b .real) (Link (ancestor t S N) p) e (not-idle _ refl) (row-moves S (b .real) (Link (ancestor t S N) p) refl)
       by (waiting p e c a z) =
           let a′ : after (r ∷ m ∷ ys) p ≡ suc m = rw (b .place, b .mine, shape) at a in
           let one : count m (r ∷ m ∷ ys) ≤ 1 = rw shape at (inv .once d m) in
           let same = before-second p r m ys a′ one in
           absurd (let z′ : next s r ≡ suc (record-at t S N) = rw same at z in omega arith)
       by (watching e z y c) =
-          absurd (false≢true (sym nt ∙ ticket-yes t d y (sym (b .place) ∙ ap (ancestor t S) z ∙ ancestor-root t valid S real)))
+          absurd (false≢true (sym nt ∙ ticket-yes t d y (sym (b .place) ∙ ap (ancestor t S) z ∙ ancestor-root t valid S (b .real))))
 
   module _ (i : ℕ) (h : i < t .threads) where
     -- LINGER: with a next it moves; without one, the member behind is in Link

@@ -3,7 +3,7 @@ use mathlib.Core.Path.{_≡_, refl, sym, ap, _∙_}
 use mathlib.Core.Bool.{Bool, true, false, _&&_, not, false≢true}
 use mathlib.Core.List.{List, [], _∷_, _++_}
 use mathlib.Core.Logic.{_≢_}
-use Prim.Native.Nat.{ℕ, suc, _+_, _≤_, _<_}
+use Prim.Native.Nat.{ℕ, suc, _≤_, _<_}
 use native.Mathlib.Omega.{arith}
 use lib.Dec.{eqb}
 use borrow.Author.Tests.{ne-eqb, eqb-false}
@@ -23,38 +23,13 @@ use Rattle.model.proofs.Trees.Index.{ancestor, height, record-at}
 use Rattle.model.proofs.Trees.Accepted.{Accepted, accepted}
 use Rattle.model.proofs.Trees.Paths.{ancestor-not-root}
 use Rattle.model.proofs.Trees.Records.{own-record-at}
-use Rattle.claims.proofs.Queues.Moves.{Stage, ready, low, State}
+use Rattle.claims.proofs.Queues.Moves.{low}
 use Rattle.claims.proofs.Words.View.{Words, words-in}
-use Rattle.claims.proofs.Words.Represents.{waiting-word, Fits, at-idle, at-prep, at-swap, at-link, at-wait, at-woken, at-ready, at-inside, at-check, at-pass, at-help, at-cas, at-linger, at-grant, at-draw, at-watch, at-shown, at-raise}
+use Rattle.claims.proofs.Words.Represents.{waiting-word}
+use Rattle.claims.proofs.Words.Says.{Waiting, stands, woken, granted, At, Says, says-at}
 use Rattle.model.proofs.Laws.Runs.{run-join}
 use Rattle.model.proofs.Laws.Passed.{passed-law}
 use Rattle.claims.proofs.Claims.Reached.{Queued, from-fresh, threads-join}
-
--- what the place Wait says below the root: not granted, to acquire the parent, or a count that was passed on
-data Waiting (t : Tree) (w : Words) (g : State) (i l : ℕ) (x : Stage) : Type 0 where
-  ungranted : (k : ℕ) → k ≤ height t i → l ≡ ancestor t i k → w .statuses (record-at t i k) ≡ waiting-word (ancestor t i k) → Waiting t w g i l x
-  woken : (k : ℕ) → k ≤ height t i → l ≡ ancestor t i k → w .statuses (record-at t i k) ≡ acquire-parent → Waiting t w g i l x
-  passed-on : (k : ℕ) → k ≤ height t i → l ≡ ancestor t i k → x ≡ ready → (k < height t i → 2 ≤ g .tally (record-at t i k)) → Waiting t w g i l x
-
-waiting : {t : Tree} {w : Words} {g : State} {i : ℕ} (l : ℕ) {p : Place} {x : Stage} → p ≡ Wait l → Fits t w g i p x → Waiting t w g i l x
-waiting l e (at-wait k p b c d a n v) = ungranted k b (cc) v
-waiting l e (at-woken k b c v y) = woken k (omega arith) (cc) v
-waiting l e (at-ready k b c v p) = passed-on k b (cc) refl p
-waiting l e at-idle = absurd (let z : _≡_ {A = ℕ} 0 1 = cc in omega arith)
-waiting l e (at-prep k b c) = absurd (let z : _≡_ {A = ℕ} 0 1 = cc in omega arith)
-waiting l e (at-swap k b c n v) = absurd (let z : _≡_ {A = ℕ} 0 1 = cc in omega arith)
-waiting l e (at-link k p b c d a n v) = absurd (let z : _≡_ {A = ℕ} 0 1 = cc in omega arith)
-waiting l e (at-inside c) = absurd (let z : _≡_ {A = ℕ} 0 1 = cc in omega arith)
-waiting l e (at-check k b c) = absurd (let z : _≡_ {A = ℕ} 0 1 = cc in omega arith)
-waiting l e (at-pass k r v b c n q y) = absurd (let z : _≡_ {A = ℕ} 0 1 = cc in omega arith)
-waiting l e (at-help k b c) = absurd (let z : _≡_ {A = ℕ} 0 1 = cc in omega arith)
-waiting l e (at-cas k b c) = absurd (let z : _≡_ {A = ℕ} 0 1 = cc in omega arith)
-waiting l e (at-linger k b c n) = absurd (let z : _≡_ {A = ℕ} 0 1 = cc in omega arith)
-waiting l e (at-grant k r b c n) = absurd (let z : _≡_ {A = ℕ} 0 1 = cc in omega arith)
-waiting l e (at-draw k b r c) = absurd (let z : _≡_ {A = ℕ} 0 1 = cc in omega arith)
-waiting l e (at-watch k b r c) = absurd (let z : _≡_ {A = ℕ} 0 1 = cc in omega arith)
-waiting l e (at-shown r c) = absurd (let z : _≡_ {A = ℕ} 0 1 = cc in omega arith)
-waiting l e (at-raise r c) = absurd (let z : _≡_ {A = ℕ} 0 1 = cc in omega arith)
 
 module _ (t : Tree) (valid : Accepted t) (s : WordState) (q : Queued t s) (i l : ℕ) (h : i < t .threads) (n : l ≢ 0) where
   abbrev w : Words
@@ -72,24 +47,25 @@ module _ (t : Tree) (valid : Accepted t) (s : WordState) (q : Queued t s) (i l :
   unfolding is-entry
   climbs v = rw (acquiring-row t i s l n v)
 
-  enough : Waiting t w (q .queues) i l (q .queues .stage i) → is-entry (wait-row t i l s .kind) ≡ true → 2 ≤ t .threshold l
+  enough : (k : ℕ) → At t i l k → Waiting t w (q .queues) i k (q .queues .stage i) → is-entry (wait-row t i l s .kind) ≡ true → 2 ≤ t .threshold l
   unfolding words-in low
-  enough (ungranted k b z v) e = absurd (false≢true (sym (stays-out (ap (status s) (own k b z) ∙ v ∙ ap waiting-word (sym z) ∙ rw (ne-eqb l 0 n))) ∙ e))
-  enough (woken k b z v) e = absurd (false≢true (sym (climbs (ap (status s) (own k b z) ∙ v)) ∙ e))
-  enough (passed-on k b z r p) e =
+  enough k (z, b) (stands y v) e = absurd (false≢true (sym (stays-out (ap (status s) (own k b z) ∙ v ∙ ap waiting-word (sym z) ∙ rw (ne-eqb l 0 n))) ∙ e))
+  enough k (z, b) (woken o y v) e = absurd (false≢true (sym (climbs (ap (status s) (own k b z) ∙ v)) ∙ e))
+  enough k (z, b) (granted r v p) e =
       let inv = q .represents .invariant in
       let inner : ancestor t i k ≢ 0 = λ y. n (z ∙ y) in
       let below : k < height t i = ancestor-not-root t valid i h k b (omega (arith, inner)) in
       let all : low (height t i) (q .queues .stage i) ≡ suc (height t i) = ap (low (height t i)) r in
       let limit = inv .counts (ancestor t i k) (record-at t i k) inner (inv .threads i .heads k (omega arith)) .1 in
-      rw z (omega (arith, p below, limit))
+      rw z (omega (arith, p below .1, limit))
 
 pub passing-law : Passing-law
-unfolding Passing-law run run-of step row words-in
+unfolding Passing-law run run-of step row words-in Says
 passing-law t bits ok v is all i l h e n f =
     let valid = accepted t ok in
     let q = from-fresh t valid bits v is all .there in
-    enough t valid (run t is (fresh-state t v) .state) q i l h n (waiting l e (q .represents .fits i h)) (rw e at f)
+    let x : Says t (words-in (run t is (fresh-state t v) .state)) (q .queues) i (Wait l) (q .queues .stage i) = says-at e (q .represents .fits i h) in
+    enough t valid (run t is (fresh-state t v) .state) q i l h n (x .0) (x .1) (x .2) (rw e at f)
 
 -- ALL THRESHOLDS 1
 -- one entry behind others

@@ -4,11 +4,11 @@ use mathlib.Core.List.{List, [], _∷_, _++_}
 use Prim.Native.Nat.{ℕ, zero, suc, _<_}
 use native.Mathlib.Omega.{arith}
 use lib.ListN.{take, getD, replicate}
-use Rattle.model.specs.declared.Place.the-variants.{Idle}
 use Rattle.model.specs.declared.State.{State as WordState}
 use Rattle.model.specs.Trees.{Tree}
+use Rattle.model.specs.Places.{place-domain}
 use Rattle.model.specs.States.{place, fresh-words, fresh-state}
-use Rattle.model.specs.Steps.{Step, step}
+use Rattle.model.specs.Steps.{Step, row, step}
 use Rattle.model.specs.Runs.{steps, state-after}
 use Rattle.model.specs.Laws.{All-threads, Sixteen-bit}
 use Rattle.model.proofs.Trees.Accepted.{Accepted}
@@ -17,12 +17,13 @@ use Rattle.model.proofs.Laws.Form.{replicate-all, fresh-facts, step-keeps}
 use Rattle.model.proofs.Lists.{count-nil}
 use Rattle.model.proofs.Places.{fresh-idle}
 use Rattle.claims.proofs.Queues.Moves.{State, Event, empty, Run, done}
+use Rattle.claims.proofs.Queues.Changes.{change-run}
 use Rattle.claims.proofs.Queues.Invariant.{inv-empty}
 use Rattle.claims.proofs.Queues.Order.{join-runs}
 use Rattle.claims.proofs.Words.Links.{final-nil}
 use Rattle.claims.proofs.Words.View.{words-in, Room}
 use Rattle.claims.proofs.Words.Represents.{Tickets, at-idle, Represents}
-use Rattle.claims.proofs.Words.Outcome.{row-shown, shown}
+use Rattle.claims.proofs.Words.Outcome.{row-shown, shown, Outcome}
 use Rattle.claims.proofs.Words.Steps.{step-outcome}
 
 -- what some steps show, in order
@@ -71,13 +72,23 @@ pub record Led (t : Tree) (s : WordState) (g : State) (xs : List Step) : Type 0 
   pub follows : Run t g (all-shown xs) (there .queues)
 
 module _ (t : Tree) (valid : Accepted t) (bits : Sixteen-bit t) where
+  -- a step of a thread: its moves, and the queues after it
+  pub outcome-at : (s : WordState) (q : Queued t s) (i : ℕ) → i < t .threads → Outcome t (q .queues) i (place-domain (t .home i) (place s i)) (place s i) (row t i (place s i) s)
+  outcome-at s q i h = step-outcome t valid bits s (q .room) (q .queues) (q .represents) (λ j b. q .facts .places j .used b) i h
+
+  unfoldable pub queued-after : (s : WordState) (q : Queued t s) (i : ℕ) → i < t .threads → Queued t (step t i s .state)
+  unfolding step
+  queued-after s q i h =
+      let x = outcome-at s q i h in
+      record { queues = x .state; room = x .room; facts = step-keeps t bits valid i h s (q .facts); represents = x .represents }
+
   pub led : (is : List ℕ) → All-threads t is → (s : WordState) (q : Queued t s) → Led t s (q .queues) (steps t is s)
-  unfolding steps state-after step shown row-shown all-shown All-threads All-real
+  unfolding steps state-after step shown row-shown all-shown All-threads All-real queued-after
   led [] l s q = record { real = tt; there = q; follows = done }
   led (i ∷ is) l s q =
-      let x = step-outcome t valid bits s (q .room) (q .queues) (q .represents) (λ j b. q .facts .places j .used b) i (l .0) in
-      let rest = led is (l .1) (step t i s .state) (record { queues = x .state; room = x .room; facts = step-keeps t bits valid i (l .0) s (q .facts); represents = x .represents }) in
-      record { real = (l .0, rest .real); there = rest .there; follows = join-runs t (x .follows) (rest .follows) }
+      let x = outcome-at s q i (l .0) in
+      let rest = led is (l .1) (step t i s .state) (queued-after s q i (l .0)) in
+      record { real = (l .0, rest .real); there = rest .there; follows = join-runs t (rw (x .shows) at (change-run t (x .change))) (rest .follows) }
 
   pub from-fresh : (v : ℕ) (is : List ℕ) → All-threads t is → Led t (fresh-state t v) empty (steps t is (fresh-state t v))
   unfolding fresh-queued

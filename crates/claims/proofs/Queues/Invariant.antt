@@ -11,35 +11,24 @@ use Rattle.claims.proofs.Queues.Paths.{Laws}
 use Rattle.claims.proofs.Queues.Moves.{Stage, out, climb, queued, ready, inside, holding, releasing, down, low, acts, reach, State, empty}
 
 -- NUMBERS OF A STAGE
+stage-numbers : (h : ℕ) (x : Stage) → (low h x ≤ acts h x) × (acts h x ≤ suc (low h x)) × (acts h x ≤ reach h x)
+unfolding low acts reach
+stage-numbers h out = (omega arith, omega arith, omega arith)
+stage-numbers h (climb j) = (omega arith, omega arith, omega arith)
+stage-numbers h (queued j) = (omega arith, omega arith, omega arith)
+stage-numbers h ready = (omega arith, omega arith, omega arith)
+stage-numbers h inside = (omega arith, omega arith, omega arith)
+stage-numbers h holding = (omega arith, omega arith, omega arith)
+stage-numbers h (releasing j) = (omega arith, omega arith, omega arith)
+
 pub low-acts : (h : ℕ) (x : Stage) → low h x ≤ acts h x
-unfolding low acts
-low-acts h out = omega arith
-low-acts h (climb j) = omega arith
-low-acts h (queued j) = omega arith
-low-acts h ready = omega arith
-low-acts h inside = omega arith
-low-acts h holding = omega arith
-low-acts h (releasing j) = omega arith
+low-acts h x = stage-numbers h x .0
 
 pub acts-low : (h : ℕ) (x : Stage) → acts h x ≤ suc (low h x)
-unfolding low acts
-acts-low h out = omega arith
-acts-low h (climb j) = omega arith
-acts-low h (queued j) = omega arith
-acts-low h ready = omega arith
-acts-low h inside = omega arith
-acts-low h holding = omega arith
-acts-low h (releasing j) = omega arith
+acts-low h x = stage-numbers h x .1
 
 pub acts-reach : (h : ℕ) (x : Stage) → acts h x ≤ reach h x
-unfolding acts reach
-acts-reach h out = omega arith
-acts-reach h (climb j) = omega arith
-acts-reach h (queued j) = omega arith
-acts-reach h ready = omega arith
-acts-reach h inside = omega arith
-acts-reach h holding = omega arith
-acts-reach h (releasing j) = omega arith
+acts-reach h x = stage-numbers h x .2
 
 pub low-down : (h j : ℕ) → low h (down j) ≡ j
 unfolding low down
@@ -147,21 +136,20 @@ module _ (T : Tree) (tree-laws : Laws T) (st : State) (inv : Inv T st) where
       let q = u .1 in
       cc
 
-  -- the record of a thread about to join stands in no queue
-  pub fresh : (i j d : ℕ) → st .stage i ≡ climb j → count (record-at T i j) (st .queue d) ≡ 0
-  unfolding low acts reach
-  fresh i j d e =
+  -- the record after those for which a thread acts stands in no queue
+  pub absent : (i j d : ℕ) → acts (height T i) (st .stage i) ≡ j → i < 256 → Below T (st .queue) i j → count (record-at T i j) (st .queue d) ≡ 0
+  absent i j d w few b =
       less-or 0 (count (record-at T i j) (st .queue d)) _
       (λ h.
       let a = inv .acted d (record-at T i j) h in
-      let t = inv .threads i in
-      let r : j < reach (height T i) (st .stage i) = rw e (omega arith) in
-      let b : Below T (st .queue) i j = λ n g. t .heads n (rw e g) in
-      let u = same-user T (st .queue) (a .thread) i (acts-small (a .thread) (a .index) (a .acting)) (small i j r)
-      (a .index) j (below (a .thread) (a .index) (a .acting)) b (a .mine) in
+      let u = same-user T (st .queue) (a .thread) i (acts-small (a .thread) (a .index) (a .acting)) few (a .index) j (below (a .thread) (a .index) (a .acting)) b (a .mine) in
       let z : acts (height T (a .thread)) (st .stage (a .thread)) ≡ acts (height T i) (st .stage i) = ap (λ n. acts (height T n) (st .stage n)) (u .0) in
-      let w : acts (height T i) (st .stage i) ≡ j = rw e refl in
       let y = a .acting in
       let q = u .1 in
       absurd (omega arith))
       (λ h. omega arith)
+
+  -- so that of a thread about to join
+  pub fresh : (i j d : ℕ) → st .stage i ≡ climb j → count (record-at T i j) (st .queue d) ≡ 0
+  unfolding low acts reach
+  fresh i j d e = absent i j d (rw e refl) (small i j (rw e (omega arith))) (λ n g. inv .threads i .heads n (rw e g))

@@ -31,7 +31,7 @@ one-inside T tree-laws st inv i j e f =
     one-head T tree-laws st inv i j (height T i) (height T j) (rw e (omega arith)) (rw f (omega arith)) (tree-laws .top i hi ∙ sym (tree-laws .top j hj)) .0
 
 -- WHO STANDS SECOND: a thread queued there acts for it. (For whoever has to make a hand-over.)
-standing : (h k : ℕ) (x : Stage) → low h x ≤ k → k < acts h x → x ≡ queued k
+pub standing : (h k : ℕ) (x : Stage) → low h x ≤ k → k < acts h x → x ≡ queued k
 unfolding low acts
 standing h k out a b = absurd (omega arith)
 standing h k (climb j) a b = absurd (omega arith)
@@ -47,8 +47,11 @@ pub record Second (T : Tree) (st : State) (d m : ℕ) : Type 0 where
   pub waits : st .stage thread ≡ queued index
   pub place : ancestor T thread index ≡ d
   pub mine : record-at T thread index ≡ m
+  pub real : thread < T .threads
+  pub within : index ≤ height T thread
 
 pub second : (T : Tree) (st : State) → Inv T st → (d a m : ℕ) (xs : List ℕ) → st .queue d ≡ a ∷ m ∷ xs → Second T st d m
+unfolding reach
 second T st inv d a m xs shape =
     let two : count m (st .queue d) ≡ is m a + (1 + count m xs) =
     ap (count m) shape ∙ count-cons m a (m ∷ xs) ∙ ap (λ n. is m a + n) (count-cons m m xs ∙ ap (λ n. n + count m xs) (is-same m m refl)) in
@@ -58,12 +61,17 @@ second T st inv d a m xs shape =
     let f : first (st .queue d) ≡ suc m = rw (c .place, c .mine) at (inv .threads (c .thread) .heads (c .index) h) in
     let g : first (st .queue d) ≡ suc a = ap first shape ∙ first-cons a (m ∷ xs) in
     absurd (omega (arith, is-same m a (omega arith), inv .once d m)))
-    (λ h. record {
+    (λ h.
+    let waits = standing (height T (c .thread)) (c .index) (st .stage (c .thread)) h (c .acting) in
+    let range : suc (c .index) ≤ suc (height T (c .thread)) = rw waits at (inv .threads (c .thread) .range) in
+    record {
       thread = c .thread;
       index = c .index;
-      waits = standing (height T (c .thread)) (c .index) (st .stage (c .thread)) h (c .acting);
+      waits = waits;
       place = c .place;
       mine = c .mine;
+      real = inv .threads (c .thread) .real (rw waits (omega arith));
+      within = omega arith;
     })
 
 -- WHAT A MOVE DOES TO ONE QUEUE

@@ -104,12 +104,12 @@ module _ (T : Tree) (tree-laws : Laws T) (st : State) (inv : Inv T st) where
       record { thread = i; index = k; was-first = h; same = refl; falls = left-same T (st .tally) t′ (st .stage i) x′ i n k p g }
 
   -- a tally written at the record of a thread about to join, or that stands, is no tally of a first record
-  joining-far : (i j : ℕ) → st .stage i ≡ climb j → (n l : ℕ) → l < low (height T n) (st .stage n) → record-at T n l ≢ record-at T i j
+  pub joining-far : (i j : ℕ) → st .stage i ≡ climb j → (n l : ℕ) → l < low (height T n) (st .stage n) → record-at T n l ≢ record-at T i j
   joining-far i j e n l h z =
       let o : count (record-at T n l) (st .queue (ancestor T n l)) ≡ 0 = rw z (fresh T tree-laws st inv i j (ancestor T n l) e) in
       omega (arith, first-in (record-at T n l) (st .queue (ancestor T n l)) (inv .threads n .heads l h))
 
-  standing-far : (s l : ℕ) → st .stage s ≡ queued l → (n k : ℕ) → k < low (height T n) (st .stage n) → record-at T n k ≢ record-at T s l
+  pub standing-far : (s l : ℕ) → st .stage s ≡ queued l → (n k : ℕ) → k < low (height T n) (st .stage n) → record-at T n k ≢ record-at T s l
   unfolding low acts
   standing-far s l e n k h z =
       let a : l < acts (height T s) (st .stage s) = rw e (omega arith) in

@@ -10,6 +10,7 @@ use Rattle.claims.proofs.Queues.Paths.{Laws}
 use Rattle.claims.proofs.Queues.Meeting.{same-height}
 use Rattle.claims.proofs.Queues.Moves.{low, acts, reach, State}
 use Rattle.claims.proofs.Queues.Invariant.{low-acts, acts-low, acts-reach, Inv}
+use Rattle.claims.proofs.Queues.Remaining.{acts-real}
 
 -- a thread on its way whose record is first wherever it acts
 pub record Unblocked (T : Tree) (st : State) : Type 0 where
@@ -24,27 +25,31 @@ some-first r [] h = absurd (omega arith)
 some-first r (x ∷ xs) h = (x, refl)
 
 module _ (T : Tree) (tree-laws : Laws T) (st : State) (inv : Inv T st) where
-  abbrev lo : ℕ → ℕ
+  abbrev pub lo : ℕ → ℕ
   lo i = low (height T i) (st .stage i)
 
-  -- the thread that acts for the first of a queue, with its record first there
-  record Holder (d : ℕ) : Type 0 where
-    thread : ℕ
-    index : ℕ
-    first-at : index < lo thread
-    there : ancestor T thread index ≡ d
+  -- WHO ACTS FOR THE FIRST of a queue
+  pub record Holder (d r : ℕ) : Type 0 where
+    pub thread : ℕ
+    pub index : ℕ
+    pub real : thread < T .threads
+    pub within : index ≤ height T thread
+    pub first-at : index < lo thread
+    pub there : ancestor T thread index ≡ d
+    pub mine : record-at T thread index ≡ r
 
-  holder : (d a : ℕ) → first (st .queue d) ≡ suc a → Holder d
-  holder d a f =
-      let c = inv .acted d a (first-in a (st .queue d) f) in
+  pub holder : (d r : ℕ) → first (st .queue d) ≡ suc r → Holder d r
+  holder d r f =
+      let c = inv .acted d r (first-in r (st .queue d) f) in
       let n = c .thread in
+      let real = acts-real T tree-laws st inv n (c .index) (c .acting) in
       less-or (c .index) (lo n) _
-      (λ h. record { thread = n; index = c .index; first-at = h; there = c .place })
+      (λ h. record { thread = n; index = c .index; real = real .0; within = real .2; first-at = h; there = c .place; mine = c .mine })
       (λ h.
       let z : c .index ≡ lo n = omega (arith, acts-low (height T n) (st .stage n), c .acting) in
       let s = inv .threads n .stands (omega (arith, c .acting)) in
-      let s′ : 1 ≤ count a (rest (st .queue d)) = rw (← z, c .place, c .mine) at s in
-      absurd (omega (arith, first-count a (st .queue d) f, inv .once d a)))
+      let s′ : 1 ≤ count r (rest (st .queue d)) = rw (← z, c .place, c .mine) at s in
+      absurd (omega (arith, first-count r (st .queue d) f, inv .once d r)))
 
   -- whoever stands has such a thread before it, whose own place is higher up
   record Higher (i : ℕ) : Type 0 where
@@ -62,8 +67,7 @@ module _ (T : Tree) (tree-laws : Laws T) (st : State) (inv : Inv T st) where
       let a = low-acts (height T n) (st .stage n) in
       let b = acts-reach (height T n) (st .stage n) in
       let a′ = acts-reach (height T i) (st .stage i) in
-      let u = inv .threads n in
-      let e = same-height T tree-laws n (c .index) i (lo i) (u .real (omega arith)) (t .real (omega arith)) (omega (arith, u .range)) (omega (arith, t .range)) (c .there) in
+      let e = same-height T tree-laws n (c .index) i (lo i) (c .real) (t .real (omega arith)) (c .within) (omega (arith, t .range)) (c .there) in
       record { thread = n; higher = omega arith; busy = omega arith }
 
   -- from one who stands up the tree, which ends

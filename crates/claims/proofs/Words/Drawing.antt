@@ -12,6 +12,8 @@ use Rattle.model.specs.declared.State.{State as WordState}
 use Rattle.model.specs.Trees.{Tree, is-ticket}
 use Rattle.model.specs.States.{wrap, status}
 use Rattle.model.specs.Steps.{Row-result, is-entry, draw-row, watch-row}
+use Rattle.model.specs.Runs.{ended-in}
+use Rattle.model.specs.Tenures.{taken-from, given}
 use Rattle.model.proofs.Branches.{Branch, draw-shown, draw-unshown, watch-shown, watch-unshown, draw-branch, watch-branch}
 use Rattle.model.proofs.Trees.Index.{ancestor, height, record-at}
 use Rattle.model.proofs.Trees.Accepted.{Accepted}
@@ -20,7 +22,8 @@ use Rattle.model.proofs.Trees.Paths.{ancestor-root}
 use Rattle.model.proofs.Trees.Records.{root-record, record-small}
 use Rattle.model.proofs.Lists.{put, put-same, put-other, first, first-cons, rest, count}
 use Rattle.claims.proofs.Queues.Paths.{laws}
-use Rattle.claims.proofs.Queues.Moves.{climb, queued, ready, inside, low, acts, State, Move, begins, join-root, join-behind, enter, done, more}
+use Rattle.claims.proofs.Queues.Moves.{climb, queued, ready, inside, low, acts, State, Move, begins, join-root, join-behind, enter}
+use Rattle.claims.proofs.Queues.Changes.{unmoved, moved, event-shown, change-shown, made-first, change-firsts, made-begins}
 use Rattle.claims.proofs.Queues.Invariant.{Inv}
 use Rattle.claims.proofs.Queues.Keeps.{keeps}
 use Rattle.claims.proofs.Words.View.{Words, words-in, Room, status-to, place-to, ticket-to}
@@ -132,20 +135,21 @@ module _ (t : Tree) (valid : Accepted t) (s : WordState) (room : Room s) (g : St
         (λ j hj n. join-apart t valid w g i h o k within (drawn Watch) g′ refl refl e j hj n (put-other (w .places) i Watch j n)
         (put-other (g .stage) i (queued k) j n) others-kept (λ r q. refl) (λ d r q z. z))
 
-    pub draw-outcome : (d : ℕ) → L ≡ d → g .stage i ≡ climb k → Counted t w g i k → Outcome t g i d (draw-row t i s)
-    unfolding row-shown standing-shown entry-shown is-entry words-in
+    pub draw-outcome : (d : ℕ) → L ≡ d → g .stage i ≡ climb k → Counted t w g i k → Outcome t g i d Draw (draw-row t i s)
+    unfolding row-shown standing-shown entry-shown is-entry words-in given taken-from ended-in change-shown change-firsts event-shown made-first
     draw-outcome d z e c = by (draw-branch t i s)
       where
-        by : {x : Row-result} → Branch t i s Draw x → Outcome t g i d x
+        by : {x : Row-result} → Branch t i s Draw x → Outcome t g i d Draw x
         by (draw-shown same) =
             rw (root-record t valid i h, ← top)
             (outcome _ _ (draw-placed s room i few Inside R (s .ticket) (wrap (s .ticket + 1)) (record-small t valid i h k within)) (draw-enters e c same)
-            (more (join-root i k e there (nobody-there same)) done))
+            (moved (join-root i k e there (nobody-there same))) refl (rw (root-record t valid i h, ← top) refl))
         by (draw-unshown other) =
             let f = somebody-there other in
+            let mv = begins-at t g _ L d R z (join-behind i k (f .0) e (f .1)) in
             rw (root-record t valid i h, ← top)
             (outcome _ _ (draw-placed s room i few Watch R (s .ticket) (wrap (s .ticket + 1)) (record-small t valid i h k within)) (draw-watches e c other)
-            (more (begins-at t g _ L d R z (join-behind i k (f .0) e (f .1))) done))
+            (moved mv) refl (made-begins t mv))
 
   -- WATCH: not shown yet
   pub not-shown : g .stage i ≡ queued (height t i) → status s (record-at t i (height t i)) ≢ s .grant
@@ -157,13 +161,13 @@ module _ (t : Tree) (valid : Accepted t) (s : WordState) (room : Room s) (g : St
       let behind : 1 ≤ count R (rest (g .queue 0)) = rw (ancestor-root t valid i h) at stands in
       tickets-rest (w .statuses) (w .grant) (w .ticket) R (g .queue 0) (old .small) (root-short t valid g inv) (old .held) behind
 
-  pub watch-outcome : Represents t w g → g .stage i ≡ queued (height t i) → Outcome t g i 0 (watch-row t i s)
-  unfolding row-shown standing-shown entry-shown is-entry words-in low acts
+  pub watch-outcome : Represents t w g → g .stage i ≡ queued (height t i) → Outcome t g i 0 Watch (watch-row t i s)
+  unfolding row-shown standing-shown entry-shown is-entry words-in low acts given taken-from ended-in change-shown change-firsts
   watch-outcome rep e = by (watch-branch t i s)
     where
-      by : {x : Row-result} → Branch t i s Watch x → Outcome t g i 0 x
+      by : {x : Row-result} → Branch t i s Watch x → Outcome t g i 0 Watch x
       by (watch-shown same) = absurd (not-shown e (rw (root-record t valid i h) at same))
-      by (watch-unshown _) = outcome _ g (record { same = refl; room = room }) rep done
+      by (watch-unshown _) = outcome _ g (record { same = refl; room = room }) rep unmoved refl refl
 
   -- shown: the first at the root
   pub is-shown : g .stage i ≡ ready → status s (record-at t i (height t i)) ≡ s .grant
@@ -173,10 +177,10 @@ module _ (t : Tree) (valid : Accepted t) (s : WordState) (room : Room s) (g : St
       let head : first (g .queue 0) ≡ suc R = rw (ancestor-root t valid i h) at (inv .threads i .heads (height t i) (rw e (omega arith))) in
       tickets-first (w .statuses) (w .grant) (w .ticket) R (g .queue 0) (o .numbered root .held) head
 
-  pub shown-outcome : g .stage i ≡ ready → Counted t w g i (height t i) → Outcome t g i 0 (watch-row t i s)
-  unfolding row-shown standing-shown entry-shown is-entry
+  pub shown-outcome : g .stage i ≡ ready → Counted t w g i (height t i) → Outcome t g i 0 Watch (watch-row t i s)
+  unfolding row-shown standing-shown entry-shown is-entry given taken-from ended-in change-shown change-firsts event-shown made-first
   shown-outcome e c = by (watch-branch t i s)
     where
-      by : {x : Row-result} → Branch t i s Watch x → Outcome t g i 0 x
-      by (watch-shown _) = outcome _ (entered-state t valid s room g i h o) (placed s room i few Inside) (entered t valid s room g i h o e c) (more (enter i e) done)
+      by : {x : Row-result} → Branch t i s Watch x → Outcome t g i 0 Watch x
+      by (watch-shown _) = outcome _ (entered-state t valid s room g i h o) (placed s room i few Inside) (entered t valid s room g i h o e c) (moved (enter i e)) refl refl
       by (watch-unshown other) = absurd ((rw (root-record t valid i h) at other) (is-shown e))

@@ -10,7 +10,7 @@ use Rattle.model.specs.Trees.{Tree, is-ticket}
 use Rattle.model.proofs.Trees.Index.{ancestor, height, record-at}
 use Rattle.model.proofs.Trees.Accepted.{Accepted}
 use Rattle.model.proofs.Trees.Records.{record-injective}
-use Rattle.model.proofs.Lists.{same-or, put, put-same, put-other, is-same, count, count-cons}
+use Rattle.model.proofs.Lists.{same-or, put-same, put-other, is-same, count, count-cons}
 use Rattle.claims.proofs.Queues.Moves.{Stage, queued, low, State}
 use Rattle.claims.proofs.Queues.Invariant.{Inv, Below, same-user}
 use Rattle.claims.proofs.Words.Links.{after}

@@ -1,19 +1,23 @@
 -- What a step of the table is to the queues: a move of them, or none.
-use mathlib.Core.Path.{_≡_, refl, ap, _∙_}
-use mathlib.Core.Bool.{cond}
+use mathlib.Core.Path.{_≡_, refl, ap, _∙_, sym}
+use mathlib.Core.Bool.{cond, Bool, true, false}
 use mathlib.Core.List.{List, [], _∷_, _++_}
-use Prim.Native.Nat.{ℕ, _+_, _≤_, _<_}
+use Prim.Native.Nat.{ℕ, _≤_, _<_, _+_}
+use native.Mathlib.Omega.{arith}
+use native.Mathlib.Nat.{add-zero}
 use Rattle.model.specs.declared.Place.{Place}
 use Rattle.model.specs.declared.State.{State as WordState}
 use Rattle.model.specs.Trees.{Tree}
 use Rattle.model.specs.States.{with-tail, with-next, with-status, with-place, with-ticket, with-grant}
-use Rattle.model.specs.Steps.{Kind, is-entry, Standing, unchanged, begins, ends, Row-result, Step}
+use Rattle.model.specs.Steps.{Kind, is-entry, Standing, unchanged, begins, ends, Row-result, Step, step-from}
+use Rattle.model.specs.Tenures.{given}
 use Rattle.model.proofs.Trees.Accepted.{Accepted}
 use Rattle.model.proofs.Trees.Records.{record-small}
 use Rattle.model.proofs.Lists.{count}
 use Rattle.claims.proofs.Queues.Paths.{laws}
 use Rattle.claims.proofs.Queues.Moves as moves
-use Rattle.claims.proofs.Queues.Moves.{State, Event, Run}
+use Rattle.claims.proofs.Queues.Moves.{State, Event}
+use Rattle.claims.proofs.Queues.Changes.{Changed, change-shown, change-firsts, event-shown}
 use Rattle.claims.proofs.Queues.Invariant.{Inv}
 use Rattle.claims.proofs.Queues.Remaining.{acts-real}
 use Rattle.claims.proofs.Words.View.{Words, words-in, Room, tail-to, next-to, status-to, place-to, ticket-to, grant-to, tail-stored, next-stored, status-stored, place-stored, ticket-stored, grant-stored, tail-room, next-room, status-room, place-room, ticket-room, grant-room}
@@ -39,20 +43,62 @@ row-shown i d x = standing-shown (x .standing) d ++ entry-shown (x .kind) i
 unfoldable pub shown : Step → List Event
 shown x = standing-shown (x .standing) (x .domain) ++ entry-shown (x .kind) (x .thread)
 
--- a row of thread i at domain d takes the queues to others, and shows what their moves show
-pub record Outcome (t : Tree) (g : State) (i d : ℕ) (x : Row-result) : Type 0 where
+-- ENTRIES THAT ARE SHOWN: the sum over events of a number that only entries have
+unfoldable pub shown-sum : (Event → ℕ) → List Event → ℕ
+shown-sum f [] = 0
+shown-sum f (e ∷ es) = f e + shown-sum f es
+
+pub event-sum : (f : Event → ℕ) → f moves.nothing ≡ 0 → (e : Event) → shown-sum f (event-shown e) ≡ f e
+unfolding shown-sum event-shown
+event-sum f z moves.nothing = sym z
+event-sum f z (moves.begins d m) = add-zero _
+event-sum f z (moves.ends d m) = add-zero _
+event-sum f z (moves.entered i) = add-zero _
+
+module _ (f : Event → ℕ) (begin : (d m : ℕ) → f (moves.begins d m) ≡ 0) (end : (d m : ℕ) → f (moves.ends d m) ≡ 0) where
+  ends-none : (d : ℕ) (ms : List ℕ) → shown-sum f (ends-shown d ms) ≡ 0
+  unfolding shown-sum ends-shown
+  ends-none d [] = refl
+  ends-none d (m ∷ ms) = omega (arith, end d m, ends-none d ms)
+
+  standing-none : (x : Standing) (d : ℕ) → shown-sum f (standing-shown x d) ≡ 0
+  unfolding shown-sum standing-shown
+  standing-none unchanged d = refl
+  standing-none (begins m) d = omega (arith, begin d m)
+  standing-none (ends ms) d = ends-none d ms
+
+  sum-append : (xs ys : List Event) → shown-sum f (xs ++ ys) ≡ shown-sum f xs + shown-sum f ys
+  unfolding shown-sum
+  sum-append [] ys = omega arith
+  sum-append (x ∷ xs) ys = omega (arith, sum-append xs ys)
+
+  pub row-sum : (i d : ℕ) (x : Row-result) → shown-sum f (row-shown i d x) ≡ cond (is-entry (x .kind)) (f (moves.entered i)) 0
+  unfolding row-shown entry-shown
+  row-sum i d x =
+      sum-append (standing-shown (x .standing) d) (cond (is-entry (x .kind)) (moves.entered i ∷ []) []) ∙ rw (standing-none (x .standing) d) (by (is-entry (x .kind)))
+    where
+      by : (b : Bool) → 0 + shown-sum f (cond b (moves.entered i ∷ []) []) ≡ cond b (f (moves.entered i)) 0
+      by true = unfold shown-sum in omega arith
+      by false = unfold shown-sum in omega arith
+
+-- a row of thread i from a place at domain d: the queues after it, and the moves to them, which show what the row shows. Where the tree has two domains, the records that they make first are those that the row gives
+pub record Outcome (t : Tree) (g : State) (i d : ℕ) (p : Place) (x : Row-result) : Type 0 where
   pub state : State
   pub room : Room (x .state)
   pub represents : Represents t (words-in (x .state)) state
-  pub follows : Run t g (row-shown i d x) state
+  pub change : Changed t g state
+  pub shows : change-shown t change ≡ row-shown i d x
+  pub gives : 1 < t .domains → change-firsts t change ≡ given t (step-from t i p x)
 
 -- stores within the room, as changes of the words
 pub record Stored (s : WordState) (w : Words) : Type 0 where
   pub same : words-in s ≡ w
   pub room : Room s
 
-pub outcome : {t : Tree} {g : State} {i d : ℕ} (x : Row-result) (g′ : State) {w′ : Words} → Stored (x .state) w′ → Represents t w′ g′ → Run t g (row-shown i d x) g′ → Outcome t g i d x
-outcome x g′ e p f = record { state = g′; room = e .room; represents = rw (e .same) p; follows = f }
+pub outcome :
+    {t : Tree} {g : State} {i d : ℕ} {p : Place} (x : Row-result) (g′ : State) {w′ : Words} → Stored (x .state) w′ → Represents t w′ g′ → (c : Changed t g g′) →
+    change-shown t c ≡ row-shown i d x → change-firsts t c ≡ given t (step-from t i p x) → Outcome t g i d p x
+outcome x g′ e r c shows gives = record { state = g′; room = e .room; represents = rw (e .same) r; change = c; shows = shows; gives = λ _. gives }
 
 module _ (s : WordState) (w : Words) (e : Stored s w) where
   pub then-tail : (d v : ℕ) → d < 64 → Stored (with-tail d v s) (tail-to d v w)

@@ -2,65 +2,48 @@
 use mathlib.Core.Path.{_≡_, refl, sym, ap, _∙_}
 use mathlib.Core.Bool.{Bool, true, false, _&&_, false≢true}
 use mathlib.Core.List.{List, [], _∷_}
-use mathlib.Core.Logic.{_≢_, _⊎_, inl, inr}
+use mathlib.Core.Logic.{_≢_, inl, inr}
 use Prim.Native.Nat.{ℕ, suc, _+_, _≤_, _<_}
 use native.Mathlib.Omega.{arith}
 use lib.Dec.{eqb}
 use lib.ListN.{length}
 use borrow.Author.Tests.{eqb-true, eq-eqb}
-use Rattle.model.specs.declared.Place.{Place}
 use Rattle.model.specs.declared.Place.the-variants.{Wait, Watch, Raise}
 use Rattle.model.specs.declared.State.{State as WordState}
 use Rattle.model.specs.Trees.{Tree, is-ticket, own-record}
 use Rattle.model.specs.Places.{is-watch}
 use Rattle.model.specs.States.{wrap, status, place}
 use Rattle.model.specs.Steps.{Row-result, is-entry, done-place, is-watched, shown-members, raise-row}
+use Rattle.model.specs.Runs.{ended-in}
 use Rattle.model.specs.WellFormed.{good-place}
+use Rattle.model.specs.Tenures.{taken-from, given}
 use Rattle.model.proofs.Tests.{and-both, any-found, any-one, filter-none, filter-one}
+use Rattle.model.proofs.Places.{watch-facts}
 use Rattle.model.proofs.Branches.{Branch, raise-counts, raise-branch}
 use Rattle.model.proofs.Trees.Index.{ancestor, height, record-at}
 use Rattle.model.proofs.Trees.Accepted.{Accepted}
 use Rattle.model.proofs.Trees.Tickets.{ticket-yes, queue-lower, queue-facts}
 use Rattle.model.proofs.Trees.Paths.{ancestor-root}
-use Rattle.model.proofs.Trees.Records.{root-record, record-small, record-injective}
-use Rattle.model.proofs.Lists.{same-or, put, put-same, put-other, first, first-rest, rest, rest-cons, is-other, count, count-cons, count-nil}
+use Rattle.model.proofs.Trees.Records.{root-record, record-small}
+use Rattle.model.proofs.Lists.{put, put-same, put-other, first, first-rest, rest, rest-cons, is-other, count, count-cons, count-nil}
 use Rattle.model.proofs.Laws.Form.{wrap-fits}
 use Rattle.claims.proofs.Queues.Paths.{laws}
 use Rattle.claims.proofs.Queues.Moves as moves
-use Rattle.claims.proofs.Queues.Moves.{Stage, queued, ready, holding, down, low, acts, reach, State, Move, root, let-go, done, silent, more}
+use Rattle.claims.proofs.Queues.Moves.{ready, holding, down, low, acts, State, Move, root, let-go, queued}
 use Rattle.claims.proofs.Queues.Handovers.{hands-on}
-use Rattle.claims.proofs.Queues.Invariant.{Inv, same-user, one-head}
+use Rattle.claims.proofs.Queues.Changes.{moved, event-shown, change-shown, made-first, change-firsts, made-ends}
+use Rattle.claims.proofs.Queues.Invariant.{Inv, one-head}
 use Rattle.claims.proofs.Queues.Keeps.{keeps}
 use Rattle.claims.proofs.Queues.Order.{Second, second}
 use Rattle.claims.proofs.Words.View.{Words, words-in, Room, place-to, grant-to}
-use Rattle.claims.proofs.Words.Represents.{Linked, Tickets, Numbered, Counted, Fits, at-idle, at-prep, at-swap, at-link, at-wait, at-woken, at-ready, at-inside, at-check, at-pass, at-help, at-cas, at-linger, at-grant, at-draw, at-watch, at-shown, at-raise, Represents, Apart, left-alone}
+use Rattle.claims.proofs.Words.Represents.{Linked, Tickets, Numbered, Counted, at-shown, Represents}
+use Rattle.claims.proofs.Words.Says.{Says, says-at, Ungranted, linking, waiting, watching, ungranted}
 use Rattle.claims.proofs.Words.Tickets.{tickets-rest}
-use Rattle.claims.proofs.Words.Frame.{Others, below-low, other-record, apart, assembled}
-use Rattle.claims.proofs.Words.Releasing.{done-at, done-place-at, done-fits, Ungranted, linking, waiting, watching, ungranted, firm}
+use Rattle.claims.proofs.Words.Frame.{Others, apart, assembled}
+use Rattle.claims.proofs.Words.Releasing.{done-at, done-place-at, done-fits, firm}
+use Rattle.claims.proofs.Words.Handing as hand
 use Rattle.claims.proofs.Words.Drawing.{root-short}
 use Rattle.claims.proofs.Words.Outcome.{ends-shown, standing-shown, entry-shown, row-shown, Outcome, outcome, grant-placed}
-
--- a thread that watches stands ungranted at the root, or has been shown its ticket
-watcher : {t : Tree} {w : Words} {g : State} {j : ℕ} {p : Place} {x : Stage} → Fits t w g j p x → is-watch p ≡ true → (x ≡ queued (height t j)) ⊎ (x ≡ ready)
-unfolding is-watch
-watcher (at-watch k l r c) e = inl (ap queued l)
-watcher (at-shown r c) e = inr refl
-watcher at-idle e = absurd (false≢true e)
-watcher (at-prep k l c) e = absurd (false≢true e)
-watcher (at-swap k l c n v) e = absurd (false≢true e)
-watcher (at-link k p l c d a n v) e = absurd (false≢true e)
-watcher (at-wait k p l c d a n v) e = absurd (false≢true e)
-watcher (at-woken k l c v y) e = absurd (false≢true e)
-watcher (at-ready k l c v p) e = absurd (false≢true e)
-watcher (at-inside c) e = absurd (false≢true e)
-watcher (at-check k l c) e = absurd (false≢true e)
-watcher (at-pass k r v l c n q y) e = absurd (false≢true e)
-watcher (at-help k l c) e = absurd (false≢true e)
-watcher (at-cas k l c) e = absurd (false≢true e)
-watcher (at-linger k l c n) e = absurd (false≢true e)
-watcher (at-grant k r l c n) e = absurd (false≢true e)
-watcher (at-draw k l r c) e = absurd (false≢true e)
-watcher (at-raise r c) e = absurd (false≢true e)
 
 pub ends-at : (t : Tree) (g g′ : State) (d e m : ℕ) → d ≡ e → Move t g (moves.ends d m) g′ → Move t g (moves.ends e m) g′
 ends-at t g g′ d e m z mv = rw z at mv
@@ -114,7 +97,7 @@ module _ (t : Tree) (valid : Accepted t) (s : WordState) (room : Room s) (g : St
 
   -- WHO IS SHOWN: somebody after the first
   behind-first : (x : ℕ) → is-watched t s x ≡ true → 1 ≤ count x (rest (g .queue 0))
-  unfolding is-watched low acts words-in
+  unfolding is-watched low acts words-in Says
   behind-first x y =
       let found = any-one (t .threads) _ y in
       let j = found .index in
@@ -122,7 +105,8 @@ module _ (t : Tree) (valid : Accepted t) (s : WordState) (room : Room s) (g : St
       let both = and-both (is-watch (place s j)) (eqb (own-record t j 0) x) (found .holds) in
       let mine : record-at t j (height t j) ≡ x = sym (root-record t valid j hj) ∙ eqb-true (own-record t j 0) x (both .1) in
       let other : j ≢ i = λ z. false≢true (let f : is-watch (place s j) ≡ false = rw (z, raising) (unfold is-watch in refl) in sym f ∙ both .0) in
-      elim (watcher (o .others j hj other) (both .0)) [
+      let stage : Says t w g j Watch (g .stage j) = says-at (watch-facts (place s j) (both .0)) (o .others j hj other) in
+      elim (stage .0) [
         | inl q ↦
             let stands : 1 ≤ count (record-at t j (height t j)) (rest (g .queue (ancestor t j (height t j)))) = rw q at (inv .threads j .stands (rw q (omega arith))) in
             rw (mine, ancestor-root t valid j hj) at stands
@@ -168,38 +152,29 @@ module _ (t : Tree) (valid : Accepted t) (s : WordState) (room : Room s) (g : St
         (put-other (g .stage) i (down k) j n) (λ r q. refl) (λ r q. refl) (λ r q. refl)
         (λ m p q nd a. (rw (put-other (g .queue) L [] (ancestor t j m) (λ y. queue-lower t (ancestor t j m) nd ticket (y ∙ there))) a, refl)) (λ d r q z. z))
 
-    raise-alone : {x : Row-result} → Branch t i s Raise x → Outcome t g i 0 x
-    unfolding row-shown standing-shown ends-shown entry-shown is-entry words-in
+    raise-alone : {x : Row-result} → Branch t i s Raise x → Outcome t g i 0 Raise x
+    unfolding row-shown standing-shown ends-shown entry-shown is-entry words-in given taken-from ended-in change-shown change-firsts event-shown made-first
     raise-alone raise-counts =
         rw (nobody-shown, done-root)
-        (outcome _ empty-state (grant-placed s room i few (done-at t i k) raised) emptied (silent (let-go i k (root e refl) shape) done))
+        (outcome _ empty-state (grant-placed s room i few (done-at t i k) raised) emptied (moved (let-go i k (root e refl) shape)) refl refl)
 
   -- SOMEBODY BEHIND: the second becomes the first
   module _ (r : ℕ) (ys : List ℕ) (shape : g .queue L ≡ R ∷ r ∷ ys) where
-    pub behind : Second t g L r
+    behind : Second t g L r
     behind = second t g inv L R r ys shape
 
-    abbrev pub S : ℕ
+    abbrev S : ℕ
     S = behind .thread
 
-    abbrev pub N : ℕ
+    abbrev N : ℕ
     N = behind .index
 
-    S-real : S < t .threads
-    unfolding reach
-    S-real = inv .threads S .real (rw (behind .waits) (omega arith))
-
-    S-within : N ≤ height t S
-    unfolding reach
-    S-within = let b : suc N ≤ suc (height t S) = rw (behind .waits) at (inv .threads S .range) in omega arith
+    S-stands : g .stage i ≢ queued N
+    unfolding low acts
+    S-stands z = firm (height t i) N (g .stage i) z (rw e refl)
 
     S-other : S ≢ i
-    unfolding low acts
-    S-other z = firm (height t i) N (g .stage i) (ap (g .stage) (sym z) ∙ behind .waits) (rw e refl)
-
-    low-S : low (height t S) (g .stage S) ≡ N
-    unfolding low
-    low-S = rw (behind .waits) refl
+    S-other z = S-stands (ap (g .stage) (sym z) ∙ behind .waits)
 
     root-S : ancestor t S N ≡ 0
     root-S = behind .place ∙ there
@@ -212,12 +187,12 @@ module _ (t : Tree) (valid : Accepted t) (s : WordState) (room : Room s) (g : St
 
     S-watches : Watches
     unfolding words-in good-place
-    S-watches = by (ungranted N (behind .waits) (o .others S S-real S-other))
+    S-watches = by (ungranted N (behind .waits) (o .others S (behind .real) S-other))
       where
         by : Ungranted t w g S N (w .places S) → Watches
         by (linking q p d a z) = absurd (false≢true (sym d ∙ ticket-yes t (ancestor t S N) ticket root-S))
         by (waiting q p f a z) =
-            let there-good : good-place t S (Wait (ancestor t S N)) ≡ true = rw p at (good S S-real) in
+            let there-good : good-place t S (Wait (ancestor t S N)) ≡ true = rw p at (good S (behind .real)) in
             absurd (false≢true (sym (queue-facts t S (ancestor t S N) there-good .1) ∙ ticket-yes t (ancestor t S N) ticket root-S))
         by (watching p n q f) = record { watching-there = p; at-top = n; counted = f }
 
@@ -229,14 +204,14 @@ module _ (t : Tree) (valid : Accepted t) (s : WordState) (room : Room s) (g : St
     shown-ticket = all-held .1 .0
 
     r-small : r < 320
-    r-small = rw (behind .mine) at (record-small t valid S S-real N S-within)
+    r-small = rw (behind .mine) at (record-small t valid S (behind .real) N (behind .within))
 
     S-record : own-record t S 0 ≡ r
-    S-record = root-record t valid S S-real ∙ ap (record-at t S) (sym (S-watches .at-top)) ∙ behind .mine
+    S-record = root-record t valid S (behind .real) ∙ ap (record-at t S) (sym (S-watches .at-top)) ∙ behind .mine
 
     r-watched : is-watched t s r ≡ true
     unfolding is-watched is-watch
-    r-watched = any-found (t .threads) _ S S-real (rw (S-watches .watching-there, eq-eqb (own-record t S 0) r S-record))
+    r-watched = any-found (t .threads) _ S (behind .real) (rw (S-watches .watching-there, eq-eqb (own-record t S 0) r S-record))
 
     -- the others after it hold other tickets
     only-r : (x : ℕ) → x ≢ r → is-shown x ≡ true → _≡_ {A = ℕ} 0 1
@@ -251,7 +226,7 @@ module _ (t : Tree) (valid : Accepted t) (s : WordState) (room : Room s) (g : St
         absurd (tickets-rest (w .statuses) raised (w .ticket) x (r ∷ ys) (wrap-fits (w .grant + 1)) (omega arith) (all-held .1)
         (rw (rest-cons r ys) in-ys) same)
 
-    pub r-shown : shown-members t s raised ≡ r ∷ []
+    r-shown : shown-members t s raised ≡ r ∷ []
     unfolding shown-members
     r-shown = filter-one 320 is-shown r r-small (rw (eq-eqb (status s r) raised shown-ticket, r-watched)) (λ x b n. by x n (is-shown x) refl)
       where
@@ -259,15 +234,13 @@ module _ (t : Tree) (valid : Accepted t) (s : WordState) (room : Room s) (g : St
         by x n true y = absurd (let z = only-r x n y in omega arith)
         by x n false y = y
 
-    abbrev pub handed-state : State
-    handed-state =
-        record {
-          queue = put (g .queue) L (r ∷ ys);
-          stage = put (put (g .stage) i (down k)) S ready;
-          tally = put (g .tally) r (suc (g .tally R));
-        }
+    first-there : k < low (height t i) (g .stage i)
+    first-there = omega (arith, low-i)
 
-    pub handed : Move t g (moves.ends L r) handed-state
+    abbrev handed-state : State
+    handed-state = hand.handed-state t valid w g i h o k (omega arith) first-there r ys shape behind (suc (g .tally R)) ready S-stands
+
+    handed : Move t g (moves.ends L r) handed-state
     handed = hands-on t g i k S N r ys (behind .waits) (behind .place) (behind .mine) shape e (omega arith) (λ n. absurd (n there))
 
     handed-numbered : t .ticket-root ≡ true → Numbered raised-words (handed-state .queue 0)
@@ -275,66 +248,23 @@ module _ (t : Tree) (valid : Accepted t) (s : WordState) (room : Room s) (g : St
     handed-numbered z =
         rw (put-same (g .queue) L (r ∷ ys) 0 (sym there)) (record { small = wrap-fits (w .grant + 1); held = all-held .1 })
 
-    tally-far : (q : ℕ) → q ≢ r → handed-state .tally q ≡ g .tally q
-    tally-far q n = put-other (g .tally) r (suc (g .tally R)) q n
-
-    own-far : (m : ℕ) → m ≤ low (height t i) (g .stage i) → record-at t i m ≢ r
-    own-far m b z = other-record t valid w g i h o S m N S-real S-other b (omega (arith, low-S)) (behind .mine ∙ sym z)
-
-    S-far : (m : ℕ) → m < N → record-at t S m ≢ r
-    S-far m b z = let y = record-injective t valid S S-real m N (omega (arith, S-within)) S-within (z ∙ sym (behind .mine)) in omega arith
-
-    others-far : (j m : ℕ) → j < t .threads → j ≢ S → m ≤ low (height t j) (g .stage j) → record-at t j m ≢ r
-    others-far j m hj ns b z =
-        let f = valid .few-threads in
-        let hs = S-real in
-        ns (same-user t (g .queue) j S (omega arith) (omega arith) m N (below-low t valid w g i h o j m b) (below-low t valid w g i h o S N (omega (arith, low-S)))
-        (z ∙ sym (behind .mine)) .0)
-
-    handed-apart : (j : ℕ) → j < t .threads → j ≢ i → j ≢ S → Apart t w g raised-words handed-state j
-    handed-apart j hj ni ns =
-        record {
-          same-place = put-other (w .places) i (done-at t i k) j ni;
-          same-stage = put-other (put (g .stage) i (down k)) S ready j ns ∙ put-other (g .stage) i (down k) j ni;
-          same-status = λ m b. refl;
-          same-tally = λ m b. tally-far (record-at t j m) (others-far j m hj ns (omega arith));
-          next-set = λ m q b z. z;
-          next-none = λ m q z. z;
-          same-link = λ m p q nd a. (
-            rw (put-other (g .queue) L (r ∷ ys) (ancestor t j m) (λ y. queue-lower t (ancestor t j m) nd ticket (y ∙ there))) a,
-            refl,
-          );
-          not-last = λ m b z. z;
-        }
-
-    pub handed-over : Represents t raised-words handed-state
+    handed-over : Represents t raised-words handed-state
     unfolding words-in
     handed-over =
-        record {
-          invariant = keeps t (laws t valid) g inv handed;
-          linked = kept-linked handed-state (r ∷ ys) refl;
-          numbered = handed-numbered;
-          fits = λ j hj. same-or j i _
-              (λ z. rw (z, put-same (w .places) i (done-at t i k) i refl, put-other (put (g .stage) i (down k)) S ready i (λ y. S-other (sym y)), put-same (g .stage) i (down k) i refl)
-              (done-fits t raised-words handed-state i k (omega arith)
-              (λ m b q. c m b q ∙ sym (tally-far (record-at t i m) (own-far m (omega (arith, low-i)))))))
-              (λ z. same-or j S _
-              (λ y. rw (y, put-other (w .places) i (done-at t i k) S S-other, put-same (put (g .stage) i (down k)) S ready S refl, S-watches .watching-there)
-              (at-shown ticket (λ m b q.
-              let below : m < N = omega (arith, S-watches .at-top) in
-              S-watches .counted m below q ∙ sym (tally-far (record-at t S m) (S-far m below)))))
-              (λ y. left-alone (handed-apart j hj z y) (o .others j hj z)));
-        }
+        hand.hand t valid w g i h o k (omega arith) first-there r ys shape behind (suc (g .tally R)) ready S-stands raised-words (put-same (w .places) i (done-at t i k) i refl)
+        (λ j n. put-other (w .places) i (done-at t i k) j n) (λ q n. refl) (λ q. refl) (λ d. refl) (keeps t (laws t valid) g inv handed) (kept-linked handed-state (r ∷ ys) refl)
+        handed-numbered c (S-watches .counted)
+        (λ f. rw (S-watches .watching-there) (at-shown ticket (λ m b q. f m (omega (arith, S-watches .at-top)) q)))
 
-    raise-hands : {x : Row-result} → Branch t i s Raise x → Outcome t g i 0 x
-    unfolding row-shown standing-shown ends-shown entry-shown is-entry words-in
+    raise-hands : {x : Row-result} → Branch t i s Raise x → Outcome t g i 0 Raise x
+    unfolding row-shown standing-shown ends-shown entry-shown is-entry words-in given taken-from ended-in change-shown change-firsts event-shown
     raise-hands raise-counts =
         rw (r-shown, done-root)
-        (outcome _ handed-state (grant-placed s room i few (done-at t i k) raised) handed-over (more (ends-at t g _ L 0 r there handed) done))
+        (outcome _ handed-state (grant-placed s room i few (done-at t i k) raised) handed-over (moved (ends-at t g _ L 0 r there handed)) refl (made-ends t _))
 
-  raise-by : (xs : List ℕ) → g .queue L ≡ R ∷ xs → Outcome t g i 0 (raise-row t i s)
+  raise-by : (xs : List ℕ) → g .queue L ≡ R ∷ xs → Outcome t g i 0 Raise (raise-row t i s)
   raise-by [] q = raise-alone q (raise-branch t i s)
   raise-by (r ∷ ys) q = raise-hands r ys q (raise-branch t i s)
 
-  pub raise-outcome : Outcome t g i 0 (raise-row t i s)
+  pub raise-outcome : Outcome t g i 0 Raise (raise-row t i s)
   raise-outcome = raise-by (rest (g .queue L)) (first-rest R (g .queue L) head)

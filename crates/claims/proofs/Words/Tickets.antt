@@ -6,7 +6,7 @@ use Prim.Native.Nat.{ℕ, zero, suc, _+_, _≤_, _<_}
 use native.Mathlib.Omega.{arith}
 use lib.ListN.{length}
 use Rattle.model.specs.States.{wrap}
-use Rattle.model.proofs.Lists.{same-or, first, rest, is, is-same, is-other, count, count-cons, count-nil, first-cons, first-nil, rest-cons, rest-nil}
+use Rattle.model.proofs.Lists.{same-or, first, rest, is-same, is-other, count, count-cons, count-nil, first-cons, first-nil, rest-cons, rest-nil}
 use Rattle.model.proofs.Laws.Form.{wrap-fits}
 use Rattle.claims.proofs.Words.Represents.{Tickets}
 

@@ -88,39 +88,19 @@ module _ (s : State) (room : Room s) where
 
   pub tail-room : (d v : ℕ) → Room (with-tail d v s)
   tail-room d v =
-      record {
-        tails-room = length-set (s .tails) d v ∙ room .tails-room;
-        nexts-room = room .nexts-room;
-        statuses-room = room .statuses-room;
-        places-room = room .places-room;
-      }
+      record { tails-room = length-set (s .tails) d v ∙ room .tails-room; nexts-room = room .nexts-room; statuses-room = room .statuses-room; places-room = room .places-room }
 
   pub next-room : (r v : ℕ) → Room (with-next r v s)
   next-room r v =
-      record {
-        tails-room = room .tails-room;
-        nexts-room = length-set (s .nexts) r v ∙ room .nexts-room;
-        statuses-room = room .statuses-room;
-        places-room = room .places-room;
-      }
+      record { tails-room = room .tails-room; nexts-room = length-set (s .nexts) r v ∙ room .nexts-room; statuses-room = room .statuses-room; places-room = room .places-room }
 
   pub status-room : (r v : ℕ) → Room (with-status r v s)
   status-room r v =
-      record {
-        tails-room = room .tails-room;
-        nexts-room = room .nexts-room;
-        statuses-room = length-set (s .statuses) r v ∙ room .statuses-room;
-        places-room = room .places-room;
-      }
+      record { tails-room = room .tails-room; nexts-room = room .nexts-room; statuses-room = length-set (s .statuses) r v ∙ room .statuses-room; places-room = room .places-room }
 
   pub place-room : (i : ℕ) (p : Place) → Room (with-place i p s)
   place-room i p =
-      record {
-        tails-room = room .tails-room;
-        nexts-room = room .nexts-room;
-        statuses-room = room .statuses-room;
-        places-room = room-kept (s .places) i (words-of p) (room .places-room);
-      }
+      record { tails-room = room .tails-room; nexts-room = room .nexts-room; statuses-room = room .statuses-room; places-room = room-kept (s .places) i (words-of p) (room .places-room) }
 
   pub ticket-stored : (v : ℕ) → words-in (with-ticket v s) ≡ ticket-to v (words-in s)
   unfolding words-in

@@ -1,22 +1,22 @@
 -- The moves of a step keep what holds of a domain's tenures.
 use mathlib.Core.Path.{_≡_, refl, sym, ap, _∙_}
-use mathlib.Core.Bool.{Bool, true, false, cond}
-use mathlib.Core.List.{List, [], _∷_, _++_}
+use mathlib.Core.Bool.{true, cond}
+use mathlib.Core.List.{List, [], _∷_}
 use Prim.Native.Nat.{ℕ, zero, suc, _+_, _*_, _≤_, _<_}
 use native.Mathlib.Omega.{arith}
 use native.Mathlib.Nat.{mul-le-mul-left, add-zero}
-use Rattle.model.specs.Trees.{Tree, is-leaf, on-path, under}
-use Rattle.model.specs.Steps.{is-entry, Standing, unchanged, begins, ends, Row-result}
+use Rattle.model.specs.Trees.{Tree, is-leaf, under}
+use Rattle.model.specs.Steps.{is-entry, ends, Row-result}
 use Rattle.model.proofs.Trees.Accepted.{Accepted}
 use Rattle.model.proofs.Lists.{same-or, put-same, put-other, first, count}
 use Rattle.model.proofs.Laws.Empty.{under-domain}
 use Rattle.claims.proofs.Queues.Paths.{laws}
 use Rattle.claims.proofs.Queues.Moves as moves
-use Rattle.claims.proofs.Queues.Moves.{climb, holding, low, pending, State, Event, nothing, start}
+use Rattle.claims.proofs.Queues.Moves.{climb, holding, low, pending, State, Event, start}
+use Rattle.claims.proofs.Queues.Changes.{started-by, Changed, unmoved, moved, begun, event-shown, change-shown, made-first, change-firsts}
 use Rattle.claims.proofs.Queues.Invariant.{Inv}
 use Rattle.claims.proofs.Queues.Keeps.{keeps}
-use Rattle.claims.proofs.Words.Outcome.{ends-shown, standing-shown, entry-shown, row-shown}
-use Rattle.claims.proofs.tenures.StepMoves.{made-first, started-by, Moved, still, quiet, shows, starts}
+use Rattle.claims.proofs.Words.Outcome.{row-shown, shown-sum, event-sum, row-sum}
 use Rattle.claims.proofs.tenures.Firsts.{P, R, some-started}
 use Rattle.claims.proofs.tenures.LeafTenures.{entered-by, Leaf, runner-first}
 use Rattle.claims.proofs.tenures.LeafMoves.{leaf-move}
@@ -24,17 +24,17 @@ use Rattle.claims.proofs.tenures.LeafMoves.{leaf-move}
 module _ (T : Tree) (valid : Accepted T) (d : ℕ) where
   -- where the tenure runs, one has started
   pub started-along :
-      {st st′ : State} {es : List Event} {gs : List ℕ} → Moved T st es gs st′ → Inv T st → (n : ℕ) → (first (st .queue (P T valid d)) ≡ suc (R T valid d) → 1 ≤ n) →
-      first (st′ .queue (P T valid d)) ≡ suc (R T valid d) → 1 ≤ n + count (R T valid d) gs
-  started-along still inv n b f = omega (arith, b f)
-  started-along (quiet {st = st} mv) inv n b f = some-started T valid d st inv mv n b f
-  started-along (shows {st = st} mv) inv n b f = some-started T valid d st inv mv n b f
-  started-along (starts {st = st} i h x c) inv n b f = started-along c (keeps T (laws T valid) st inv (start i h x)) n b f
+      {st st′ : State} (c : Changed T st st′) → Inv T st → (n : ℕ) → (first (st .queue (P T valid d)) ≡ suc (R T valid d) → 1 ≤ n) →
+      first (st′ .queue (P T valid d)) ≡ suc (R T valid d) → 1 ≤ n + count (R T valid d) (change-firsts T c)
+  unfolding change-firsts
+  started-along unmoved inv n b f = omega (arith, b f)
+  started-along (moved {st = st} mv) inv n b f = some-started T valid d st inv mv n b f
+  started-along (begun {st = st} i h x c) inv n b f = started-along c (keeps T (laws T valid) st inv (start i h x)) n b f
 
 module _ (T : Tree) (valid : Accepted T) (d : ℕ) (pos : 0 < d) (leaf : is-leaf T d ≡ true) where
-  unfoldable pub entered-in : List Event → ℕ
-  entered-in [] = 0
-  entered-in (e ∷ es) = entered-by T valid d pos leaf e + entered-in es
+  -- the entries of the leaf's threads that events show
+  abbrev pub entered-in : List Event → ℕ
+  entered-in es = shown-sum (entered-by T valid d pos leaf) es
 
   -- a pass at the leaf that the events show gives no count above the longest
   abbrev pub Passes : State → List Event → (longest : ℕ) → Type 0
@@ -49,15 +49,13 @@ module _ (T : Tree) (valid : Accepted T) (d : ℕ) (pos : 0 < d) (leaf : is-leaf
       (λ z. sym (put-other (st .stage) i (climb 0) k z) ∙ e)
 
   pub leaf-along :
-      {st st′ : State} {es : List Event} {gs : List ℕ} → Moved T st es gs st′ → Inv T st → (n e l : ℕ) → Leaf T valid d pos leaf st n e l →
-      (1 ≤ count (R T valid d) gs → 1 ≤ l) → Passes st es l → Leaf T valid d pos leaf st′ (n + count (R T valid d) gs) (e + entered-in es) l
-  unfolding entered-in entered-by made-first count
-  leaf-along (still {st = st}) inv n e l old lengths p = rw (add-zero n, add-zero e) old
-  leaf-along (quiet {st = st} mv) inv n e l old lengths p =
-      leaf-move T valid d pos leaf st inv n e l old mv lengths (λ m q. absurd (let z : _≡_ {A = ℕ} 0 1 = cc in omega arith))
-  leaf-along (shows {st = st} {e = ev} mv) inv n e l old lengths p =
-      rw (add-zero (entered-by T valid d pos leaf ev)) (leaf-move T valid d pos leaf st inv n e l old mv lengths (λ m q. p m (ap (λ x. x ∷ []) q)))
-  leaf-along (starts {st = st} i h x c) inv n e l old lengths p =
+      {st st′ : State} (c : Changed T st st′) → Inv T st → (n e l : ℕ) → Leaf T valid d pos leaf st n e l →
+      (1 ≤ count (R T valid d) (change-firsts T c) → 1 ≤ l) → Passes st (change-shown T c) l →
+      Leaf T valid d pos leaf st′ (n + count (R T valid d) (change-firsts T c)) (e + entered-in (change-shown T c)) l
+  unfolding shown-sum entered-by event-shown change-shown made-first change-firsts count
+  leaf-along (unmoved {st = st}) inv n e l old lengths p = rw (add-zero n, add-zero e) old
+  leaf-along (moved {st = st} {e = ev} mv) inv n e l old lengths p = rw (event-sum (entered-by T valid d pos leaf) refl ev) (leaf-move T valid d pos leaf st inv n e l old mv lengths (λ m q. p m (ap event-shown q)))
+  leaf-along (begun {st = st} i h x c) inv n e l old lengths p =
       let inv′ = keeps T (laws T valid) st inv (start i h x) in
       let old′ = leaf-move T valid d pos leaf st inv n e l old (start i h x) (λ y. absurd (omega arith)) (λ m q. absurd (let z : _≡_ {A = ℕ} 0 1 = cc in omega arith)) in
       leaf-along c inv′ n e l (rw (add-zero n, add-zero e) at old′) lengths (λ m q k y z. p m q k (start-not st i k y) z)
@@ -78,29 +76,7 @@ module _ (T : Tree) (valid : Accepted T) (d : ℕ) (pos : 0 < d) (leaf : is-leaf
       wider a v zero one q = absurd (omega arith)
       wider a v (suc n) one q = let c = mul-le-mul-left {m = l} {n = l′} n b in omega arith
 
-  -- what a step's events show of entries
-  ends-none : (c : ℕ) (ms : List ℕ) → entered-in (ends-shown c ms) ≡ 0
-  unfolding entered-in entered-by ends-shown
-  ends-none c [] = refl
-  ends-none c (m ∷ ms) = omega (arith, ends-none c ms)
-
-  standing-none : (x : Standing) (c : ℕ) → entered-in (standing-shown x c) ≡ 0
-  unfolding entered-in entered-by standing-shown
-  standing-none unchanged c = refl
-  standing-none (begins m) c = refl
-  standing-none (ends ms) c = ends-none c ms
-
-  entered-append : (xs ys : List Event) → entered-in (xs ++ ys) ≡ entered-in xs + entered-in ys
-  unfolding entered-in
-  entered-append [] ys = omega arith
-  entered-append (x ∷ xs) ys = omega (arith, entered-append xs ys)
-
+  -- what a row's events show of entries
   pub entered-shown : (i c : ℕ) (x : Row-result) → entered-in (row-shown i c x) ≡ cond (is-entry (x .kind)) (cond (under T (256 + d) i) 1 0) 0
-  unfolding row-shown entry-shown
-  entered-shown i c x =
-      entered-append (standing-shown (x .standing) c) (cond (is-entry (x .kind)) (moves.entered i ∷ []) [])
-      ∙ rw (standing-none (x .standing) c, under-domain T d i) (by (is-entry (x .kind)))
-    where
-      by : (b : Bool) → 0 + entered-in (cond b (moves.entered i ∷ []) []) ≡ cond b (cond (on-path T i d) 1 0) 0
-      by true = unfold entered-in in unfold entered-by in omega arith
-      by false = unfold entered-in in omega arith
+  unfolding entered-by
+  entered-shown i c x = rw (under-domain T d i) (row-sum (entered-by T valid d pos leaf) (λ e m. refl) (λ e m. refl) i c x)

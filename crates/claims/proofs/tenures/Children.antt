@@ -3,53 +3,23 @@ use mathlib.Core.Path.{_≡_, refl, sym, ap, _∙_}
 use mathlib.Core.Bool.{Bool, true, false, cond, true≢false}
 use mathlib.Core.List.{List, [], _∷_}
 use mathlib.Core.Logic.{_≢_}
-use Prim.Native.Nat.{ℕ, zero, suc, _+_, _-_, _≤_, _<_}
+use Prim.Native.Nat.{ℕ, zero, suc, _+_, _≤_, _<_}
 use native.Mathlib.Omega.{arith}
 use lib.Dec.{eqb}
 use borrow.Author.Tests.{ne-eqb}
 use Rattle.model.specs.declared.State.{State}
-use Rattle.model.specs.Trees.{Tree, is-child, is-leaf, on-path, child, under}
+use Rattle.model.specs.Trees.{Tree, is-child, is-leaf, on-path}
 use Rattle.model.specs.Steps.{is-entry, Step, step}
 use Rattle.model.specs.Runs.{steps, how-many, entries-under, counts-of, run-of, run}
 use Rattle.model.specs.Tenures.{domain-entries}
 use Rattle.model.specs.Laws.{All-threads}
-use Rattle.model.proofs.Lists.{same-or}
 use Rattle.model.proofs.Trees.Accepted.{Accepted, accepted, child-yes, child-facts}
 use Rattle.model.proofs.Trees.Index.{ancestor, height}
 use Rattle.model.proofs.Trees.Paths.{ancestor-home, ancestor-parent-of, ancestor-real, ancestor-inner, ancestor-not-root, ancestor-injective, path-index, on-path-at, on-path-root, on-path-parent}
 use Rattle.model.proofs.Laws.Empty.{under-domain}
+use Rattle.claims.proofs.Sums.{sum-same, sum-zero, sum-adds, sum-single}
 use Rattle.claims.proofs.Claims.Reached.{All-real}
-use Rattle.claims.specs.Tenures.Laws.{sum-below, children-sum, Children-law}
-
--- SUMS
-sum-none : (n : ℕ) (f : ℕ → ℕ) → ((c : ℕ) → c < n → f c ≡ 0) → sum-below n f ≡ 0
-unfolding sum-below
-sum-none zero f z = refl
-sum-none (suc n) f z = let a = sum-none n f (λ c h. z c (omega arith)) in let b = z n (omega arith) in omega arith
-
-sum-one : (n : ℕ) (f : ℕ → ℕ) (k : ℕ) → k < n → ((c : ℕ) → c < n → c ≢ k → f c ≡ 0) → sum-below n f ≡ f k
-unfolding sum-below
-sum-one zero f k h z = absurd (omega arith)
-sum-one (suc n) f k h z =
-    same-or k n _
-    (λ e. let a = sum-none n f (λ c b. z c (omega arith) (λ q. omega arith)) in rw (a, e) (omega arith))
-    (λ e.
-    let a = sum-one n f k (omega arith) (λ c b q. z c (omega arith) q) in
-    let b = z n (omega arith) (λ q. e (sym q)) in
-    omega arith)
-
-sum-add : (n : ℕ) (f g : ℕ → ℕ) → sum-below n (λ c. f c + g c) ≡ sum-below n f + sum-below n g
-unfolding sum-below
-sum-add zero f g = refl
-sum-add (suc n) f g = let a = sum-add n f g in omega arith
-
-sum-same : (n : ℕ) (f g : ℕ → ℕ) → ((c : ℕ) → f c ≡ g c) → sum-below n f ≡ sum-below n g
-unfolding sum-below
-sum-same zero f g e = refl
-sum-same (suc n) f g e = rw (sum-same n f g e, e n)
-
-sum-zero : (n : ℕ) → sum-below n (λ c. 0) ≡ 0
-sum-zero n = sum-none n (λ c. 0) (λ c h. refl)
+use Rattle.claims.specs.Tenures.Laws.{children-sum, Children-law}
 
 either-none : (b : Bool) → _≡_ {A = ℕ} (cond b 0 0) 0
 either-none true = refl
@@ -82,7 +52,7 @@ module _ (t : Tree) (valid : Accepted t) (i : ℕ) (h : i < t .threads) (d : ℕ
   on (suc k) l e =
       let a = ancestor t i k in
       let here : is-child t d a ≡ true = child-yes t d a (ancestor-inner t valid i h k l) (ancestor-parent-of t valid i h k l ∙ e) in
-      sum-one (t .domains) _ a (ancestor-real t valid i h k) (λ c b n. others c b n (is-child t d c) (on-path t i c) refl refl)
+      sum-single (t .domains) _ a (ancestor-real t valid i h k) (λ c b n. others c b n (is-child t d c) (on-path t i c) refl refl)
       ∙ rw (here, on-path-at t valid i h k (omega arith))
     where
       others : (c : ℕ) → c < t .domains → c ≢ ancestor t i k → (x y : Bool) → is-child t d c ≡ x → on-path t i c ≡ y → cond x (one-if y) 0 ≡ 0
@@ -103,7 +73,7 @@ module _ (t : Tree) (valid : Accepted t) (i : ℕ) (h : i < t .threads) (d : ℕ
     where
       by : (b : Bool) → on-path t i d ≡ b → one-if b ≡ children-sum t d (λ c. one-if (on-path t i c))
       by true e = let o = path-index t valid i h d e in sym (on (o .index) (o .within) (o .there))
-      by false e = sym (sum-none (t .domains) _ (off e))
+      by false e = sym (sum-zero (t .domains) _ (off e))
 
 -- A LIST OF STEPS. Every step is a thread's of the tree
 real-steps : (t : Tree) (is : List ℕ) (s : State) → All-threads t is → All-real t (steps t is s)
@@ -119,7 +89,7 @@ one-step : (t : Tree) (d : ℕ) (x : Step) (b : Bool) → children-sum t d (λ c
     children-sum t d (λ c. cond b (one-if (on-path t (x .thread) c)) 0) ≡ cond b (one-if (on-path t (x .thread) d)) 0
 unfolding children-sum
 one-step t d x true e = e
-one-step t d x false e = sum-none (t .domains) _ (λ c h. either-none (is-child t d c))
+one-step t d x false e = sum-zero (t .domains) _ (λ c h. either-none (is-child t d c))
 
 -- entries of a domain, by paths
 path-entries : Tree → (d : ℕ) → List Step → ℕ
@@ -133,7 +103,7 @@ entries-by-paths t d (x ∷ xs) = rw (under-domain t d (x .thread), entries-by-p
 
 children-add : (t : Tree) (d : ℕ) (f g : ℕ → ℕ) → children-sum t d (λ c. f c + g c) ≡ children-sum t d f + children-sum t d g
 unfolding children-sum
-children-add t d f g = sum-same (t .domains) _ _ (λ c. by (is-child t d c) (f c) (g c)) ∙ sum-add (t .domains) _ _
+children-add t d f g = sum-same (t .domains) _ _ (λ c h. by (is-child t d c) (f c) (g c)) ∙ sum-adds (t .domains) _ _
   where
     by : (b : Bool) (m n : ℕ) → cond b (m + n) 0 ≡ cond b m 0 + cond b n 0
     by true m n = refl
@@ -141,7 +111,7 @@ children-add t d f g = sum-same (t .domains) _ _ (λ c. by (is-child t d c) (f c
 
 children-none : (t : Tree) (d : ℕ) → children-sum t d (λ c. 0) ≡ 0
 unfolding children-sum
-children-none t d = sum-none (t .domains) _ (λ c h. either-none (is-child t d c))
+children-none t d = sum-zero (t .domains) _ (λ c h. either-none (is-child t d c))
 
 module _ (t : Tree) (valid : Accepted t) (d : ℕ) (inner : is-leaf t d ≡ false) where
   along : (xs : List Step) → All-real t xs → path-entries t d xs ≡ children-sum t d (λ c. path-entries t c xs)
@@ -155,7 +125,7 @@ module _ (t : Tree) (valid : Accepted t) (d : ℕ) (inner : is-leaf t d ≡ fals
 -- a child is not the root, so its entries are counted
 child-entries : (t : Tree) (d : ℕ) (xs : List Step) → children-sum t d (λ c. domain-entries t c xs) ≡ children-sum t d (λ c. path-entries t c xs)
 unfolding children-sum domain-entries
-child-entries t d xs = sum-same (t .domains) _ _ (λ c. by c (is-child t d c) refl)
+child-entries t d xs = sum-same (t .domains) _ _ (λ c h. by c (is-child t d c) refl)
   where
     by : (c : ℕ) (b : Bool) → is-child t d c ≡ b → cond b (cond (eqb c 0) 0 (entries-under t (256 + c) xs)) 0 ≡ cond b (path-entries t c xs) 0
     by c false e = refl

@@ -1,31 +1,28 @@
 -- The counters in a lock's state are what the steps of a list's schedule tell.
 use mathlib.Core.Path.{_≡_, refl, sym, ap, _∙_}
-use mathlib.Core.Bool.{Bool, true, false, cond}
+use mathlib.Core.Bool.{cond}
 use mathlib.Core.List.{List, []}
-use Prim.Native.Nat.{ℕ, zero, suc, _+_, _≤_, _<_, max}
+use Prim.Native.Nat.{ℕ, _+_, _≤_, _<_, max}
 use native.Mathlib.Omega.{arith}
 use native.Mathlib.Nat.{zero-add, zero-max}
 use lib.ListN.{getD, length, replicate, length-replicate}
-use Rattle.model.specs.declared.TreeWords.{TreeWords}
-use Rattle.model.specs.declared.Counters.{Counters}
 use Rattle.model.specs.declared.LockState.{LockState}
 use Rattle.model.specs.Trees.{Tree, tree-of, is-child}
-use Rattle.model.specs.States.{fresh-state}
 use Rattle.model.specs.Steps.{Step}
-use Rattle.model.specs.Runs.{steps, run}
+use Rattle.model.specs.Runs.{steps}
 use Rattle.model.specs.Tenures.{domain-entries, domain-tenures, longest-tenure}
-use Rattle.model.specs.Counters.{lock-state, fresh-counters, counters-after}
+use Rattle.model.specs.Counters.{fresh-counters, counters-after}
 use Rattle.model.specs.CounterLaws.{Counter-law}
-use Rattle.model.specs.Laws.{All-threads}
 use Rattle.model.specs.Answers.{fresh-answer, counters-behind}
-use Rattle.model.specs.Calls.{Call, joined, Names}
+use Rattle.model.specs.Calls.{joined}
 use Rattle.claims.specs.Reached.{last-state}
 use Rattle.model.proofs.Trees.Accepted.{accepted, sixteen-bit}
 use Rattle.model.proofs.Laws.Form.{replicate-all}
 use Rattle.model.proofs.Laws.Counters.{counter-law}
-use Rattle.claims.proofs.Claims.Calls.{reached, starts-here, joined-threads}
+use Rattle.claims.proofs.Claims.Calls.{starts-here, joined-threads}
 use Rattle.claims.proofs.Claims.Accepts.{last-reached}
-use Rattle.claims.specs.Tenures.Laws.{sum-below, children-sum, Children-law, Has-tenures, Tenure-law, Counters-hold, Counts-tenures, Counted-law}
+use Rattle.claims.specs.Tenures.Laws.{children-sum, Children-law, Has-tenures, Tenure-law, Counters-hold, Counted-law}
+use Rattle.claims.proofs.Sums.{sum-same}
 use Rattle.claims.proofs.tenures.Children.{children-law}
 use Rattle.claims.proofs.tenures.Law.{tenure-law}
 
@@ -41,12 +38,6 @@ counters-from-fresh t xs =
       tenures = λ d h. g .tenures d (omega (arith, room)) ∙ ap (λ v. v + domain-tenures t d xs) (zeros d) ∙ zero-add (domain-tenures t d xs);
       longest = λ d h. g .longest d (omega (arith, room)) ∙ ap (λ v. max v (longest-tenure t d xs)) (zeros d) ∙ zero-max (longest-tenure t d xs);
     }
-
--- sums of equal numbers
-sum-same : (n : ℕ) (f g : ℕ → ℕ) → ((k : ℕ) → k < n → f k ≡ g k) → sum-below n f ≡ sum-below n g
-unfolding sum-below
-sum-same zero f g h = refl
-sum-same (suc n) f g h = rw (sum-same n f g (λ k l. h k (omega arith)), h n (omega arith))
 
 children-same : (t : Tree) (d : ℕ) (f g : ℕ → ℕ) → ((k : ℕ) → k < t .domains → f k ≡ g k) → children-sum t d f ≡ children-sum t d g
 unfolding children-sum

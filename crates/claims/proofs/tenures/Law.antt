@@ -6,7 +6,6 @@ use Prim.Native.Nat.{ℕ, suc, _+_, _*_, _≤_, _<_, max}
 use native.Mathlib.Omega.{arith}
 use native.Mathlib.Nat.{le-antisymm, zero-add, zero-max, add-zero, add-assoc, le-max-left, le-max-right, max-le, max-zero}
 use borrow.Author.Tests.{ne-eqb}
-use Rattle.model.specs.declared.Place.the-variants.{Idle}
 use Rattle.model.specs.declared.State.{State as WordState}
 use Rattle.model.specs.Trees.{Tree, is-leaf, under}
 use Rattle.model.specs.States.{place, fresh-state}
@@ -23,11 +22,11 @@ use Rattle.claims.proofs.Queues.Moves.{out, low, acts, State}
 use Rattle.claims.proofs.Queues.Invariant.{Inv, acts-low}
 use Rattle.claims.proofs.Queues.Remaining.{acts-real, pending-one}
 use Rattle.claims.proofs.Words.View.{words-in}
+use Rattle.claims.proofs.Words.Says.{Says, says-at}
 use Rattle.claims.proofs.Claims.Reached.{fresh-queued}
 use Rattle.claims.specs.Tenures.Laws.{Has-tenures, Tenure-law}
 use Rattle.claims.proofs.tenures.Firsts.{P, R}
 use Rattle.claims.proofs.tenures.LeafTenures.{leaf-record}
-use Rattle.claims.proofs.tenures.Fitting.{idle-out}
 use Rattle.claims.proofs.tenures.Tracking.{Tracked, step-tracked}
 
 max-assoc : (a b c : ℕ) → max (max a b) c ≡ max a (max b c)
@@ -52,8 +51,8 @@ module _ (t : Tree) (valid : Accepted t) (bits : Sixteen-bit t) (d : ℕ) (pos :
     inv = fresh-queued t v .represents .invariant
 
     out-there : (i : ℕ) → i < t .threads → g .stage i ≡ out
-    unfolding words-in
-    out-there i h = idle-out (fresh-idle t v i) (fresh-queued t v .represents .fits i h)
+    unfolding words-in Says
+    out-there i h = says-at (fresh-idle t v i) (fresh-queued t v .represents .fits i h)
 
     low-none : (i : ℕ) → i < t .threads → low (height t i) (g .stage i) ≡ 0
     unfolding low
@@ -75,7 +74,7 @@ module _ (t : Tree) (valid : Accepted t) (bits : Sixteen-bit t) (d : ℕ) (pos :
           started = λ f. absurd (none-first _ _ f);
           some = λ b. b;
           none = λ b. b;
-          within = omega arith;
+          within = omega (arith, valid .threshold-some d pos real);
           words = λ j r w e. absurd (let y = fresh-idle t v j in let z : _≡_ {A = ℕ} 0 1 = cc in omega arith);
           of-leaf = λ q. record {
             idle = λ f. (omega arith, omega arith);

@@ -10,13 +10,13 @@ use Rattle.model.proofs.Trees.Index.{ancestor, height, record-at}
 use Rattle.model.proofs.Trees.Accepted.{Accepted}
 use Rattle.model.proofs.Trees.Paths.{ancestor-home}
 use Rattle.model.proofs.Trees.Records.{record-own}
-use Rattle.model.proofs.Lists.{same-or, less-or, put, put-same, put-other, first, grown-first, is, is-same, count, count-nil, count-cons}
+use Rattle.model.proofs.Lists.{same-or, less-or, put, put-same, put-other, first, grown-first, is-same, count, count-nil, count-cons}
 use Rattle.claims.proofs.Queues.Paths.{laws}
-use Rattle.claims.proofs.Queues.Moves.{Stage, out, climb, queued, ready, inside, holding, releasing, down, low, acts, pending, State, Event, nothing, ends, entered, Last, root, lower, Move, start, join-empty, join-root, join-behind, enter, leave, hand-on, release, let-go}
+use Rattle.claims.proofs.Queues.Moves.{Stage, out, climb, queued, ready, inside, holding, releasing, down, low, acts, pending, State, Event, ends, entered, Last, root, lower, Move, start, join-empty, join-root, join-behind, enter, leave, hand-on, release, let-go}
+use Rattle.claims.proofs.Queues.Changes.{made-first}
 use Rattle.claims.proofs.Queues.Invariant.{Inv, low-down, low-acts}
 use Rattle.claims.proofs.Queues.Keeps.{keeps, last-low}
 use Rattle.claims.proofs.Queues.Remaining.{acts-real, pending-down}
-use Rattle.claims.proofs.tenures.StepMoves.{made-first}
 use Rattle.claims.proofs.tenures.Firsts.{P, R, climbing, standing}
 use Rattle.claims.proofs.tenures.LeafTenures.{Runs, begins-run, goes-on, hands-over, leaf-index, home-height, home-record, on-home, home-on, far, entered-by, Leaf, Passing, runner-first, one-thread, same-tenures, not-running, Thread-after, kept, changed, build, idle-after, over-by}
 

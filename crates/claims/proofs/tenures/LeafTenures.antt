@@ -12,8 +12,8 @@ use Rattle.model.proofs.Trees.Records.{record-own, record-suc}
 use Rattle.model.proofs.Lists.{same-or, less-or, first, count}
 use Rattle.claims.proofs.Queues.Paths.{laws}
 use Rattle.claims.proofs.Queues.Moves.{Stage, holding, low, pending, State, Event, nothing, begins, ends, entered, Move}
+use Rattle.claims.proofs.Queues.Changes.{made-first}
 use Rattle.claims.proofs.Queues.Invariant.{Inv, one-head}
-use Rattle.claims.proofs.tenures.StepMoves.{made-first}
 use Rattle.claims.proofs.tenures.Firsts.{P, R, no-start, made-is-first}
 
 -- what holds of the thread that is first in the leaf while its tenure runs: its count, its pending entry; tenures, entries and the longest so far

@@ -1,14 +1,14 @@
 -- From fresh, step by step: a domain's tenures, entries and longest tenure.
 use mathlib.Core.Path.{_≡_, refl, sym, ap, _∙_}
-use mathlib.Core.Bool.{Bool, true, false, cond, false≢true}
-use mathlib.Core.Logic.{_≢_, _⊎_, inl, inr}
+use mathlib.Core.Bool.{Bool, true, false, cond}
+use mathlib.Core.Logic.{_⊎_, inl, inr}
 use Prim.Native.Nat.{ℕ, suc, _+_, _≤_, _<_, max}
 use native.Mathlib.Omega.{arith}
 use native.Mathlib.Nat.{le-max-left, le-max-right, max-le}
 use lib.Dec.{eqb}
-use borrow.Author.Tests.{eq-eqb, ne-eqb, eqb-true}
+use borrow.Author.Tests.{eq-eqb, ne-eqb}
 use Rattle.model.specs.declared.Place.{Place}
-use Rattle.model.specs.declared.Place.the-variants.{Idle, Prep, Swap, Link, Wait, Inside, Check, Help, Cas, Linger, Grant, Draw, Watch, Raise, Invalid}
+use Rattle.model.specs.declared.Place.the-variants.{Check, Grant}
 use Rattle.model.specs.declared.State.{State as WordState}
 use Rattle.model.specs.Trees.{Tree, is-leaf, under}
 use Rattle.model.specs.Places.{place-domain}
@@ -20,44 +20,23 @@ use Rattle.model.proofs.Trees.Index.{ancestor, height, record-at}
 use Rattle.model.proofs.Trees.Accepted.{Accepted}
 use Rattle.model.proofs.Trees.Paths.{ancestor-home, ancestor-parent-of}
 use Rattle.model.proofs.Trees.Records.{record-own, record-suc}
-use Rattle.model.proofs.Laws.Form.{step-keeps}
+use Rattle.model.proofs.Laws.Given.{check-there, tenure-length-within}
 use Rattle.model.proofs.Lists.{less-or, first, count}
 use Rattle.claims.proofs.Queues.Paths.{laws}
 use Rattle.claims.proofs.Queues.Moves as moves
 use Rattle.claims.proofs.Queues.Moves.{low, State}
+use Rattle.claims.proofs.Queues.Changes.{change-firsts}
 use Rattle.claims.proofs.Queues.Invariant.{Inv, one-head}
 use Rattle.claims.proofs.Words.View.{words-in}
 use Rattle.claims.proofs.Words.Represents.{letting-go-low, Represents}
-use Rattle.claims.proofs.Words.Outcome.{row-shown}
+use Rattle.claims.proofs.Words.Says.{pass, release, Says, says-at}
+use Rattle.claims.proofs.Words.Outcome.{row-shown, Outcome}
 use Rattle.claims.proofs.Claims.Bounded.{same-count}
-use Rattle.claims.proofs.Claims.Equality.{checking}
-use Rattle.claims.proofs.Claims.Reached.{Queued}
-use Rattle.claims.proofs.tenures.StepMoves.{Row-moves}
-use Rattle.claims.proofs.tenures.Steps.{step-moves}
+use Rattle.claims.proofs.Claims.Reached.{Queued, outcome-at, queued-after}
 use Rattle.claims.proofs.tenures.Firsts.{P, R}
 use Rattle.claims.proofs.tenures.LeafTenures.{leaf-index, home-height, Leaf}
 use Rattle.claims.proofs.tenures.Along.{started-along, Passes, leaf-along, leaf-wider, entered-shown}
-use Rattle.claims.proofs.tenures.Fitting.{granting}
-use Rattle.claims.proofs.tenures.Telling.{tenure-word, row-lands, tenure-length-within, row-ends}
-
--- a Check at the domain, from the test
-check-there : (d : ℕ) (p : Place) → checks-at d p ≡ true → p ≡ Check d
-unfolding checks-at
-check-there d (Check l) e = ap Check (eqb-true l d e)
-check-there d Idle e = absurd (false≢true e)
-check-there d (Prep l) e = absurd (false≢true e)
-check-there d (Swap l) e = absurd (false≢true e)
-check-there d (Link l p) e = absurd (false≢true e)
-check-there d (Wait l) e = absurd (false≢true e)
-check-there d Inside e = absurd (false≢true e)
-check-there d (Help l) e = absurd (false≢true e)
-check-there d (Cas l) e = absurd (false≢true e)
-check-there d (Linger l) e = absurd (false≢true e)
-check-there d (Grant l r w) e = absurd (false≢true e)
-check-there d Draw e = absurd (false≢true e)
-check-there d Watch e = absurd (false≢true e)
-check-there d Raise e = absurd (false≢true e)
-check-there d Invalid e = absurd (false≢true e)
+use Rattle.claims.proofs.tenures.Telling.{tenure-word, row-tells}
 
 module _ (t : Tree) (valid : Accepted t) (bits : Sixteen-bit t) (d : ℕ) (pos : 0 < d) (real : d < t .domains) where
   -- what holds of n tenures, e entries and the longest l after some steps
@@ -86,22 +65,27 @@ module _ (t : Tree) (valid : Accepted t) (bits : Sixteen-bit t) (d : ℕ) (pos :
     abbrev x : Row-result
     x = row t i p s
 
-    abbrev after : Row-moves t g i (place-domain (t .home i) p) p x
-    after = step-moves t valid bits (omega arith) s (old .queued .room) g rep (λ j b. old .queued .facts .places j .used b) i h
+    abbrev after : Outcome t g i (place-domain (t .home i) p) p x
+    after = outcome-at t valid bits s (old .queued) i h
 
     -- CHECK at the domain: the tenure runs
     check-runs : checks-at d p ≡ true → first (g .queue (P t valid d)) ≡ suc (R t valid d)
-    unfolding words-in low
+    unfolding words-in low Says
     check-runs q =
-        let c = checking d (check-there d p q) (rep .fits i h) in
-        let k = c .index in
-        let up : ancestor t i (suc k) ≡ P t valid d = sym (ancestor-parent-of t valid i h k (c .below)) ∙ ap (t .parent) (sym (c .there)) in
-        let all : low (height t i) (g .stage i) ≡ suc (height t i) = ap (low (height t i)) (c .stage) in
-        ap (λ y. first (g .queue y)) (sym up) ∙ inv .threads i .heads (suc k) (omega (arith, c .below)) ∙ ap suc (record-suc t i k ∙ ap (λ y. 256 + y) (sym (c .there)))
+        let c : Says t (words-in s) g i (Check d) (g .stage i) = says-at (check-there d p q) (rep .fits i h) in
+        let k = c .0 in
+        let there = c .1 .0 in
+        let up : ancestor t i (suc k) ≡ P t valid d = sym (ancestor-parent-of t valid i h k (c .2)) ∙ ap (t .parent) (sym there) in
+        let all : low (height t i) (g .stage i) ≡ suc (height t i) = ap (low (height t i)) (c .3) in
+        ap (λ y. first (g .queue y)) (sym up) ∙ inv .threads i .heads (suc k) (omega (arith, c .2)) ∙ ap suc (record-suc t i k ∙ ap (λ y. 256 + y) (sym there))
 
     -- what the step tells
     abbrev c : ℕ
     c = count (R t valid d) (given t (step t i s))
+
+    firsts-given : change-firsts t (after .change) ≡ given t (step t i s)
+    unfolding step
+    firsts-given = after .gives (omega arith)
 
     starts-counted : starts t d (step t i s) ≡ c
     unfolding starts
@@ -158,28 +142,28 @@ module _ (t : Tree) (valid : Accepted t) (bits : Sixteen-bit t) (d : ℕ) (pos :
 
     -- A PASS AT A LEAF gives a count that a Check has told
     passes : (q : is-leaf t d ≡ true) → Passes t valid d pos q g (row-shown i (place-domain (t .home i) p) x) l′
-    unfolding words-in low
+    unfolding words-in low Says
     passes q m e′ k hold zk =
-        let f = row-ends t s i d pos room p m e′ in
+        let f = row-tells t s i d pos room p .1 m e′ in
         let r = f .0 in
         let v = f .1 in
-        let a = granting d r v (f .2) (rep .fits i h) in
-        let top = leaf-index t valid d pos q i (a .index) h (a .within) (a .there) in
-        let zi : t .home i ≡ d = sym (ancestor-home t i) ∙ ap (ancestor t i) (sym top) ∙ a .there in
+        let a : Says t (words-in s) g i (Grant d r v) (g .stage i) = says-at (f .2) (rep .fits i h) in
+        let top = leaf-index t valid d pos q i (a .0) h (a .1 .1) (sym (a .1 .0)) in
+        let zi : t .home i ≡ d = sym (ancestor-home t i) ∙ ap (ancestor t i) (sym top) ∙ sym (a .1 .0) in
         let low-k : low (height t k) (g .stage k) ≡ suc (height t k) = ap (low (height t k)) hold in
         let meet : ancestor t k 0 ≡ ancestor t i 0 = ancestor-home t k ∙ zk ∙ sym zi ∙ sym (ancestor-home t i) in
-        elim (a .either) [
-          | inl b ↦
-              let low-i : low (height t i) (g .stage i) ≡ suc (height t i) = ap (low (height t i)) (b .0) in
+        elim (a .2) [
+          | pass o b (z, y) ↦
+              let low-i : low (height t i) (g .stage i) ≡ suc (height t i) = ap (low (height t i)) b in
               let same = one-head t (laws t valid) g inv k i 0 0 (omega arith) (omega arith) meet .0 in
-              let mine : record-at t i (a .index) ≡ k = ap (record-at t i) top ∙ record-own t i ∙ sym same in
-              let value : v ≡ suc (g .tally k) = b .1 ∙ ap (λ y. suc (g .tally y)) mine in
+              let mine : record-at t i (a .0) ≡ k = ap (record-at t i) top ∙ record-own t i ∙ sym same in
+              let value : v ≡ suc (g .tally k) = z ∙ ap (λ y. suc (g .tally y)) mine in
               elim (old .words i r v (f .2)) [
-                | inl y ↦ absurd (omega (arith, bits d, b .2))
-                | inr y ↦ omega (arith, no-longer)
+                | inl u ↦ absurd (omega (arith, bits (ancestor t i (a .0))))
+                | inr u ↦ omega (arith, no-longer)
               ]
-          | inr b ↦
-              let low-i : low (height t i) (g .stage i) ≡ suc (a .index) = ap (low (height t i)) b ∙ letting-go-low (height t i) (a .index) in
+          | release b y ↦
+              let low-i : low (height t i) (g .stage i) ≡ suc (a .0) = ap (low (height t i)) b ∙ letting-go-low (height t i) (a .0) in
               let same = one-head t (laws t valid) g inv k i 0 0 (omega arith) (omega arith) meet .0 in
               let low-same : low (height t k) (g .stage k) ≡ low (height t i) (g .stage i) = ap (λ y. low (height t y) (g .stage y)) same in
               let tall = home-height t valid d pos q i h zi in
@@ -193,29 +177,22 @@ module _ (t : Tree) (valid : Accepted t) (bits : Sixteen-bit t) (d : ℕ) (pos :
     leaf-after : (q : is-leaf t d ≡ true) → Leaf t valid d pos q (after .state) (n + starts t d (step t i s)) (e + entry) l′
     unfolding step
     leaf-after q =
-        rw (starts-counted, ← entered-shown t valid d pos q i (place-domain (t .home i) p) x)
-        (leaf-along t valid d pos q (after .moved) inv n e l′ (leaf-wider t valid d pos q g inv n e l l′ no-longer (old .started) (old .of-leaf q))
-        (λ b. omega (arith, start-length b, length-longer)) (passes q))
+        rw (starts-counted, ← entered-shown t valid d pos q i (place-domain (t .home i) p) x, ← firsts-given, ← after .shows)
+        (leaf-along t valid d pos q (after .change) inv n e l′ (leaf-wider t valid d pos q g inv n e l l′ no-longer (old .started) (old .of-leaf q))
+        (λ b. omega (arith, start-length (rw firsts-given at b), length-longer)) (rw (after .shows) (passes q)))
 
     pub step-tracked : Tracked (step t i s .state) (n + starts t d (step t i s)) (e + entry) l′
-    unfolding step
+    unfolding step queued-after
     step-tracked =
-        let facts = step-keeps t bits valid i h s (old .queued .facts) in
-        let y = facts .typed in
         record {
-          queued = record {
-            queues = after .state;
-            room = record { tails-room = y .tails-room; nexts-room = y .nexts-room; statuses-room = y .statuses-room; places-room = y .places-room };
-            facts = facts;
-            represents = after .represents;
-          };
-          started = λ f. omega (arith, starts-counted, started-along t valid d (after .moved) inv n (old .started) f);
+          queued = queued-after t valid bits s (old .queued) i h;
+          started = λ f. omega (arith, starts-counted, rw firsts-given at (started-along t valid d (after .change) inv n (old .started) f));
           some = λ b. less-or 0 n _
               (λ a. omega (arith, old .some a, no-longer))
               (λ a. omega (arith, start-length (omega (arith, starts-counted)), length-longer));
           none = λ b. less-or 0 (n + c) _ (λ a. omega (arith, starts-counted)) (λ a. absurd (omega (arith, none-yet (omega arith))));
-          within = max-le (old .within) (length-most (t .threshold d) (λ _. valid .threshold-some d pos real) (tenure-length-within t s i d pos room (valid .threshold-some d pos real) p));
-          words = λ j r v z. elim (row-lands t s i d pos room p j r v z) [
+          within = omega (arith, old .within, tenure-length-within t valid i h s (old .queued .facts .places i .used h) d);
+          words = λ j r v z. elim (row-tells t s i d pos room p .0 j r v z) [
             | inl a ↦ elim (old .words j r v a) [ inl b ↦ inl b | inr b ↦ inr (omega (arith, no-longer)) ]
             | inr a ↦ elim a [ inl b ↦ inl b | inr b ↦ inr (omega (arith, check-length, length-longer)) ]
           ];

@@ -1,22 +1,18 @@
 -- Before the steps: the state's check decides, then 30.
 use mathlib.Core.Path.{_≡_, refl, sym, ap, _∙_}
-use mathlib.Core.Bool.{Bool, true, false, _&&_, not}
-use mathlib.Core.List.{List, [], _∷_, _++_}
+use mathlib.Core.List.{List, []}
 use mathlib.Core.Logic.{_≢_}
 use Prim.Native.Nat.{ℕ}
 use native.Mathlib.Omega.{arith}
 use native.Mathlib.Decide.{ℕ-discrete}
-use lib.Dec.{eqb}
 use lib.ListN.{length}
-use borrow.Author.Tests.{eq-eqb, ne-eqb, eqb-true, not-false}
+use borrow.Author.Tests.{eq-eqb, ne-eqb}
 use Rattle.model.specs.declared.LockState.{LockState}
 use Rattle.model.specs.Trees.{Tree}
-use Rattle.model.specs.Refusals.{refusal, accepted, first-refusal, lowest-bad, has-number, tree-tests}
-use Rattle.model.specs.Laws.{All-pass, Refusal-law, Refuses-exactly}
+use Rattle.model.specs.Refusals.{refusal, accepted, first-refusal, has-number, tree-tests}
+use Rattle.model.specs.Laws.{Refusal-law, Refuses-exactly}
 use Rattle.model.proofs.Refusing.{numbered}
-use Rattle.model.proofs.Tests.{and-both}
-use Rattle.model.proofs.Laws.Calls.{pass-split}
-use Rattle.model.proofs.Laws.Refusals.{accepted-number, refusal-law}
+use Rattle.model.proofs.Laws.Refusals.{refusal-law}
 use Rattle.refusals.specs.Arrays.{tree-state-tests}
 use Rattle.refusals.proofs.Joining.{first-decides, other-decides, state-numbered}
 use Rattle.refusals.proofs.Scanning.{single-hit, single-missed}

@@ -1,20 +1,18 @@
 -- The journal's check agrees.
 use mathlib.Core.Path.{_≡_, refl, sym, ap, _∙_, subst}
-use mathlib.Core.Bool.{true, false}
 use mathlib.Core.List.{List, [], _∷_}
-use Prim.Native.Nat.{ℕ, suc, _≤_, _<_}
+use Prim.Native.Nat.{ℕ, suc, _≤_}
 use native.Mathlib.Omega.{arith}
 use lib.ListN.{length}
 use borrow.Author.Tests.{eq-eqb}
 use Rattle.model.specs.declared.TreeWords.{TreeWords}
-use Rattle.model.specs.declared.State.{State}
 use Rattle.model.specs.Trees.{Tree, tree-of}
 use Rattle.model.specs.States.{fresh-words}
 use Rattle.model.specs.Steps.{kind-number, Step}
 use Rattle.model.specs.Runs.{steps}
 use Rattle.model.specs.Counters.{fresh-lock, most-counted}
 use Rattle.model.specs.CounterLaws.{Room-law}
-use Rattle.model.specs.Refusals.{accepted, tree-refusal}
+use Rattle.model.specs.Refusals.{tree-refusal}
 use Rattle.model.specs.Answers.{fresh-answer}
 use Rattle.model.specs.Laws.{Form-law, Formed}
 use Rattle.model.proofs.Laws.Counters.{fresh-good, room-law, fresh-room}
@@ -22,16 +20,15 @@ use Rattle.model.proofs.Laws.Form.{form-law, fresh-at-zero}
 use Rattle.model.proofs.Laws.Refusals.{accepted-number}
 use Rattle.model.proofs.Laws.Runs.{steps-length}
 use Rattle.model.proofs.Trees.Accepted.{sixteen-bit}
-use Rattle.journal.specs.Entries.{Named-step, Journal, threads-of, kinds-of}
+use Rattle.journal.specs.Entries.{Named-step, threads-of, kinds-of}
 use Rattle.journal.specs.Answers as journal
-use Rattle.journal.specs.Answers.{journal-refusal}
 use Rattle.journal.specs.Laws as journal-laws
-use Rattle.journal.specs.Laws.{kind-numbers, Steps-of, Check-law, One-reading-law}
+use Rattle.journal.specs.Laws.{kind-numbers, Check-law, One-reading-law}
 use Rattle.journal.proofs.Deciding.{check-law}
 use Rattle.journal.proofs.Writing.{one-reading-law}
 use Rattle.refusals.specs.StateCheck.Laws.{Accepted-law}
 use Rattle.refusals.proofs.state_check.Checking.{accepted-law}
-use Rattle.journal.specs.StepCheck.Answers.{early-refusal, steps-answer}
+use Rattle.journal.specs.StepCheck.Answers.{early-refusal}
 use Rattle.journal.specs.StepCheck.Laws.{kinds-told, domains-told, Of-the-table, Exactly-law, Journal-law}
 use Rattle.journal.proofs.step_check.Early.{lengths-pass}
 use Rattle.journal.proofs.step_check.Laws.{exactly-law}

@@ -1,13 +1,12 @@
 -- Named steps that are right keep a state well formed; and where none is wrong, all are counted.
-use mathlib.Core.Path.{_≡_, refl, sym, ap, _∙_}
+use mathlib.Core.Path.{_≡_, refl}
 use mathlib.Core.Bool.{Bool, true, false, cond}
 use mathlib.Core.List.{List, [], _∷_}
-use mathlib.Core.Logic.{_≢_}
-use Prim.Native.Nat.{ℕ, zero, suc, _+_, _≤_, _<_}
+use Prim.Native.Nat.{ℕ, suc, _≤_, _<_}
 use native.Mathlib.Omega.{arith}
 use lib.Dec.{eqb, leb}
 use lib.ListN.{length}
-use borrow.Author.Tests.{eqb-true, eqb-false, leb-true, leb-false}
+use borrow.Author.Tests.{eqb-true, eqb-false, leb-false}
 use Rattle.model.specs.declared.LockState.{LockState}
 use Rattle.model.specs.Trees.{Tree}
 use Rattle.model.specs.Steps.{kind-number, Step, step}
@@ -17,8 +16,7 @@ use Rattle.model.specs.Refusals.{tree-refusal}
 use Rattle.model.specs.Laws.{Sixteen-bit, Formed, Form-law}
 use Rattle.model.proofs.Laws.Counters.{one-kept}
 use Rattle.model.proofs.Laws.Form.{form-law}
-use Rattle.journal.specs.StepCheck.Answers.{step-number, Checked, ended, stopped, one-more, next, checked}
-use Rattle.journal.proofs.step_check.Checking.{number-12, number-19, number-26, number-29}
+use Rattle.journal.specs.StepCheck.Answers.{step-number, Checked, stopped, one-more, next, checked}
 
 -- what a number of 0 says of a named step
 pub record Named-right (t : Tree) (s : LockState) (i k d : ℕ) : Type 0 where

@@ -1,12 +1,11 @@
 -- The laws of the check of steps.
-use mathlib.Core.Path.{_≡_, refl, sym, ap, _∙_}
-use mathlib.Core.Bool.{true, cond}
+use mathlib.Core.Path.{_≡_, sym, ap, _∙_}
+use mathlib.Core.Bool.{true}
 use mathlib.Core.List.{List, _++_}
 use mathlib.Core.Logic.{_≢_}
-use Prim.Native.Nat.{ℕ, _+_, _≤_, _<_}
+use Prim.Native.Nat.{ℕ, _+_, _≤_}
 use native.Mathlib.Omega.{arith}
 use native.Mathlib.Decide.{ℕ-discrete}
-use lib.Dec.{eqb}
 use lib.ListN.{length, take, getD, length-append}
 use borrow.Author.Tests.{eq-eqb, ne-eqb}
 use Rattle.model.specs.declared.TreeWords.{TreeWords}
@@ -17,7 +16,7 @@ use Rattle.model.specs.WellFormed.{well-formed}
 use Rattle.model.specs.Counters.{lock-after, good-counts}
 use Rattle.model.specs.Refusals.{tree-refusal, run-refusal}
 use Rattle.model.specs.Answers.{counters-behind, run-reply, run-answer}
-use Rattle.model.specs.Laws.{Formed, Refuses-exactly}
+use Rattle.model.specs.Laws.{Formed}
 use Rattle.model.proofs.Laws.Calls.{run-reply-number}
 use Rattle.model.proofs.Laws.Refusals.{accepted-number}
 use Rattle.model.proofs.Trees.Accepted.{sixteen-bit}
@@ -25,9 +24,9 @@ use Rattle.refusals.specs.StateCheck.Answers.{check-refusal}
 use Rattle.refusals.specs.StateCheck.Laws.{Check-refusal-law, Accepted-law}
 use Rattle.refusals.proofs.state_check.Checking.{check-refusal-law, accepted-law}
 use Rattle.journal.specs.declared.step_check.StepsReply.{StepsReply}
-use Rattle.journal.specs.StepCheck.Answers.{early-tests, early-refusal, Checked, checked, replied, refused, steps-answer}
-use Rattle.journal.specs.StepCheck.Laws.{Early-law, Of-the-table, after-first, Refused-at, Checks-exactly, Exactly-law, Leaves, State-law, Taken-up, Taken-up-law, Pieces, Pieces-law}
-use Rattle.journal.proofs.step_check.Checking.{after-none, Right, number-at, all-right, stops-at, shifted, then-checked, checked-join}
+use Rattle.journal.specs.StepCheck.Answers.{early-refusal, Checked, checked, replied, refused, steps-answer}
+use Rattle.journal.specs.StepCheck.Laws.{Early-law, Of-the-table, after-first, Refused-at, Exactly-law, State-law, Taken-up, Taken-up-law, Pieces-law}
+use Rattle.journal.proofs.step_check.Checking.{after-none, number-at, all-right, stops-at, shifted, then-checked, checked-join}
 use Rattle.journal.proofs.step_check.Keeping.{checked-kept, checked-full, checked-few}
 use Rattle.journal.proofs.step_check.Early.{exactly, early-passes, lengths-pass}
 use Rattle.journal.proofs.step_check.Tables.{right-of, first-table, first-right, table-of, refused-step, number-of, Outcome, all, first-wrong, outcome}

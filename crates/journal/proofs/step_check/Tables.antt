@@ -3,7 +3,7 @@ use mathlib.Core.Path.{_≡_, refl, sym, ap, _∙_, subst}
 use mathlib.Core.Bool.{Bool, true, false, not, cond}
 use mathlib.Core.List.{List, [], _∷_}
 use mathlib.Core.Logic.{_≢_, inl, inr}
-use Prim.Native.Nat.{ℕ, zero, suc, _+_, _≤_, _<_}
+use Prim.Native.Nat.{ℕ, zero, suc, _≤_, _<_}
 use native.Mathlib.Omega.{arith}
 use lib.Dec.{eqb, leb}
 use lib.ListN.{length, take, drop, getD}
@@ -17,9 +17,9 @@ use Rattle.model.specs.Counters.{counters-after, any-above, lock-after}
 use Rattle.model.specs.Refusals.{bad-counter}
 use Rattle.model.specs.Laws.{All-threads}
 use Rattle.model.proofs.Laws.Counters.{count-first, count-later}
-use Rattle.model.proofs.Laws.Refusals.{Lowest, lowest}
-use Rattle.journal.specs.StepCheck.Answers.{step-number, Checked, next, checked}
-use Rattle.journal.specs.StepCheck.Laws.{kinds-told, domains-told, Of-the-table, after-first, Refused-step, no-thread, counter-full, other-kind, other-domain, Refused-at}
+use Rattle.model.proofs.Laws.Refusals.{lowest}
+use Rattle.journal.specs.StepCheck.Answers.{step-number, next, checked}
+use Rattle.journal.specs.StepCheck.Laws.{kinds-told, domains-told, Of-the-table, after-first, Refused-step, no-thread, counter-full, other-kind, other-domain}
 use Rattle.journal.proofs.step_check.Checking.{number-12, number-19, number-26, number-29, number-0, number-at, Right, first-number, later-number, all-right, stops-at}
 use Rattle.journal.proofs.step_check.Keeping.{named-right}
 

@@ -1,11 +1,9 @@
 -- The witnesses of the check of steps hold.
 use mathlib.Core.Path.{_≡_, refl, subst}
-use Prim.Native.Nat.{_≤_}
 use native.Mathlib.Omega.{arith}
-use lib.ListN.{length, take, drop}
 use Rattle.model.specs.declared.State.{State}
 use Rattle.model.specs.Scans.{any-below, filter-below, all-below}
-use Rattle.model.specs.Trees.{Tree, read-word, tree-of, is-ticket, is-child, is-leaf, depth-from, depth, level, meets, on-path, child-from, child, own-record, is-record, is-member, owner-domain, under}
+use Rattle.model.specs.Trees.{read-word, tree-of, is-ticket, is-child, is-leaf, depth-from, depth, level, meets, on-path, child-from, child, own-record, is-record, is-member, owner-domain, under}
 use Rattle.model.specs.Places.{place-of, is-watch, is-idle}
 use Rattle.model.specs.States.{fresh-words, fresh-state, numbers-at}
 use Rattle.model.specs.Counters.{fresh-counters, fresh-lock, good-count, good-counts}

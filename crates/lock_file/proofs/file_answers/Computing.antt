@@ -21,6 +21,7 @@ use Rattle.model.proofs.Refusing.{test-skipped}
 use Rattle.model.proofs.Trees.Accepted.{sixteen-bit}
 use Rattle.model.proofs.Laws.Counters.{fresh-good, fresh-room, room-law}
 use Rattle.model.proofs.Laws.Form.{fresh-well-formed}
+use Rattle.model.proofs.Computing.{last-passes}
 use Rattle.lock_file.specs.Reading.{Reading, refused, described}
 use Rattle.lock_file.specs.FileAnswers.FileAnswers.{Outcome, refused-by, run-outcome, file-run, file-trace, reading-outcome}
 
@@ -31,12 +32,6 @@ passes-between :
 unfolding first-refusal
 passes-between [] y zs h = test-skipped y zs h
 passes-between (x ∷ xs) y zs h = ap (lowest-bad (x .number) (x .bad) (x .places) 0) (passes-between xs y zs h)
-
--- and the last
-passes-last : (xs : List Test) (y : Test) → ((p : ℕ) → p < y .places → y .bad p ≡ false) → first-refusal (xs ++ (y ∷ [])) ≡ first-refusal xs
-unfolding first-refusal
-passes-last [] y h = test-skipped y [] h
-passes-last (x ∷ xs) y h = ap (lowest-bad (x .number) (x .bad) (x .places) 0) (passes-last xs y h)
 
 -- the room of a trace buffer of the schedule's length
 abbrev pub own-room : (schedule : List ℕ) → ℕ
@@ -49,7 +44,7 @@ quick-refusal t is = first-refusal (tree-tests t ++ (schedule-tests t is ++ room
 same-refusal : (t : Tree) → Sixteen-bit t → (is : List ℕ) → length is ≤ 65536 → run-refusal t fresh-lock is (own-room is) ≡ quick-refusal t is
 unfolding run-refusal run-tests quick-refusal bad-state Room-law
 same-refusal t bits is short =
-    passes-last (run-tests-before-19 t fresh-lock is (own-room is)) (test 19 (length is) (bad-counter t fresh-lock is))
+    last-passes (run-tests-before-19 t fresh-lock is (own-room is)) (test 19 (length is) (bad-counter t fresh-lock is))
     (room-law t bits fresh-lock is (fresh-room (length is) (omega arith)))
     ∙ passes-between (tree-tests t) (test 10 1 (bad-state t fresh-lock)) (schedule-tests t is ++ room-tests is (own-room is)) (λ p l. rw (fresh-well-formed t, fresh-good t))
 

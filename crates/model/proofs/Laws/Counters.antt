@@ -1,25 +1,24 @@
 -- THE COUNTERS: they add up, change no step, keep their form, and have room.
 use mathlib.Core.Path.{_≡_, refl, sym, ap, _∙_}
-use mathlib.Core.Bool.{Bool, true, false, _&&_, _||_, not, cond, false≢true, true≢false}
-use mathlib.Core.List.{List, [], _∷_, _++_}
+use mathlib.Core.Bool.{Bool, true, false, _&&_, cond, false≢true, true≢false}
+use mathlib.Core.List.{List, [], _∷_}
 use mathlib.Core.Logic.{_≢_}
 use Prim.Native.Nat.{ℕ, zero, suc, _+_, _-_, _≤_, _<_, max}
 use native.Mathlib.Omega.{arith}
-use native.Mathlib.Numerals.{add-one}
 use lib.Dec.{eqb, ltb, leb}
 use lib.ListN.{length, getD, take, replicate}
-use borrow.Author.Tests.{eqb-true, eqb-false, eq-eqb, ne-eqb, lt-ltb, le-ltb, ltb-true, ltb-false, leb-true, le-leb, not-true}
+use borrow.Author.Tests.{eqb-true, eqb-false, eq-eqb, ne-eqb, lt-ltb, le-ltb, ltb-false, leb-true, le-leb}
 use Rattle.model.specs.declared.State.{State}
 use Rattle.model.specs.declared.Counters.{Counters}
 use Rattle.model.specs.declared.LockState.{LockState}
-use Rattle.model.specs.Scans.{any-below, all-below}
+use Rattle.model.specs.Scans.{any-below}
 use Rattle.model.specs.Trees.{Tree, tree-of, on-path, under}
 use Rattle.model.specs.States.{place, fresh-state}
 use Rattle.model.specs.Steps.{is-entry, Step, step}
-use Rattle.model.specs.Runs.{steps, state-after, run-of, run, entries-under}
+use Rattle.model.specs.Runs.{steps, entries-under}
 use Rattle.model.specs.WellFormed.{good-place}
 use Rattle.model.specs.Tenures.{domain-entries, domain-tenures, longest-tenure, starts, tenure-length}
-use Rattle.model.specs.Counters.{lock-state, fresh-counters, each-with-index, counters-after, most-counted, is-counted, count-fits, good-count, good-counts, count-above, any-above}
+use Rattle.model.specs.Counters.{lock-state, fresh-counters, counters-after, most-counted, is-counted, count-fits, good-count, good-counts, count-above, any-above}
 use Rattle.model.specs.Refusals.{bad-counter, tree-refusal, step-refusal, run-refusal}
 use Rattle.model.specs.Answers.{counters-behind, step-reply, step-answer, run-reply, run-buffer, run-answer, trace-answer}
 use Rattle.model.specs.Laws.{All-threads, Sixteen-bit, Formed, Form-law}

@@ -24,7 +24,7 @@ use Rattle.model.proofs.Trees.Accepted.{Accepted, accepted}
 use Rattle.model.proofs.Trees.Tickets.{ticket-facts, ticket-lower, queue-lower, queue-facts, queue-yes}
 use Rattle.model.proofs.Trees.Paths.{on-path-home, on-path-root, on-path-parent}
 use Rattle.model.proofs.Trees.Records.{member-owner, member-once, member-record, member-small, own-record-member, on-path-child, child-inner}
-use Rattle.model.proofs.Laws.Facts.{Sixty-four-bit, Good-tail, Good-next, Good-status, Good-thread, Facts, thread-idle, well-formed-facts, facts-well-formed, tail-keeps, next-keeps, status-keeps, place-keeps, ticket-keeps, grant-keeps}
+use Rattle.model.proofs.Laws.Facts.{Sixty-four-bit, Good-tail, Good-next, Good-status, Facts, thread-idle, well-formed-facts, facts-well-formed, tail-keeps, next-keeps, status-keeps, place-keeps, ticket-keeps, grant-keeps}
 use Rattle.model.proofs.Laws.Runs.{run-keeps}
 
 -- FRESH

@@ -1,5 +1,5 @@
 -- What a step gives: at most once to a record, and only to a member's; and the length that it tells.
-use mathlib.Core.Path.{_≡_, refl}
+use mathlib.Core.Path.{_≡_, refl, ap}
 use mathlib.Core.Bool.{Bool, true, false, _&&_, not, cond, false≢true}
 use mathlib.Core.List.{List, [], _∷_, _++_, append-nil}
 use mathlib.Core.Logic.{_≢_}
@@ -7,7 +7,7 @@ use Prim.Native.Nat.{ℕ, zero, suc, _+_, _-_, _≤_, _<_, max}
 use native.Mathlib.Omega.{arith}
 use lib.Dec.{eqb, ltb}
 use lib.ListN.{getD, set}
-use borrow.Author.Tests.{eqb-true, eqb-false, eq-eqb, ne-eqb, ltb-true, le-ltb}
+use borrow.Author.Tests.{eqb-true, eqb-false, eq-eqb, ne-eqb, ltb-true, le-ltb, not-true}
 use Rattle.model.specs.declared.PlaceWords.{PlaceWords}
 use Rattle.model.specs.declared.Place.{Place}
 use Rattle.model.specs.declared.Place.the-variants.{Idle, Prep, Swap, Link, Wait, Inside, Check, Help, Cas, Linger, Grant, Draw, Watch, Raise, Invalid}
@@ -263,53 +263,39 @@ check-word {t} {i} {l} {s} (check-releases _ e) = omega (arith, stored-word i (r
 abbrev pub checked-length : (domain : ℕ) → Place → (after : State) → (thread : ℕ) → ℕ
 checked-length d p n i = cond (checks-at d p) (word-to-grant (place n i)) 0
 
-checked-within : (t : Tree) (i : ℕ) (p : Place) (s : State) (d : ℕ) → checked-length d p (row t i p s .state) i ≤ t .threshold d
+-- a Check at the domain, from the test
+pub check-there : (d : ℕ) (p : Place) → checks-at d p ≡ true → p ≡ Check d
 unfolding checks-at
-checked-within t i Idle s d = omega arith
-checked-within t i (Prep l) s d = omega arith
-checked-within t i (Swap l) s d = omega arith
-checked-within t i (Link l p) s d = omega arith
-checked-within t i (Wait l) s d = omega arith
-checked-within t i Inside s d = omega arith
-checked-within t i (Check l) s d = by (eqb l d) refl
+check-there d (Check l) e = ap Check (eqb-true l d e)
+check-there d Idle e = absurd (false≢true e)
+check-there d (Prep l) e = absurd (false≢true e)
+check-there d (Swap l) e = absurd (false≢true e)
+check-there d (Link l p) e = absurd (false≢true e)
+check-there d (Wait l) e = absurd (false≢true e)
+check-there d Inside e = absurd (false≢true e)
+check-there d (Help l) e = absurd (false≢true e)
+check-there d (Cas l) e = absurd (false≢true e)
+check-there d (Linger l) e = absurd (false≢true e)
+check-there d (Grant l r w) e = absurd (false≢true e)
+check-there d Draw e = absurd (false≢true e)
+check-there d Watch e = absurd (false≢true e)
+check-there d Raise e = absurd (false≢true e)
+check-there d Invalid e = absurd (false≢true e)
+
+checked-within : (t : Tree) (i : ℕ) (p : Place) (s : State) (d : ℕ) → checked-length d p (row t i p s .state) i ≤ t .threshold d
+checked-within t i p s d = by (checks-at d p) refl
   where
-    by : (b : Bool) → eqb l d ≡ b → cond b (word-to-grant (place (row t i (Check l) s .state) i)) 0 ≤ t .threshold d
-    by true e = rw (← eqb-true l d e) (check-word (branch t i s (Check l)))
+    by : (b : Bool) → checks-at d p ≡ b → cond b (word-to-grant (place (row t i p s .state) i)) 0 ≤ t .threshold d
+    by true e = rw (check-there d p e) (check-word (branch t i s (Check d)))
     by false e = omega arith
-checked-within t i (Help l) s d = omega arith
-checked-within t i (Cas l) s d = omega arith
-checked-within t i (Linger l) s d = omega arith
-checked-within t i (Grant l r w) s d = omega arith
-checked-within t i Draw s d = omega arith
-checked-within t i Watch s d = omega arith
-checked-within t i Raise s d = omega arith
-checked-within t i Invalid s d = omega arith
 
 -- a Check is at a domain of the tree other than the root
 checks-real : (t : Tree) (valid : Accepted t) (i : ℕ) → i < t .threads → (p : Place) → good-place t i p ≡ true → (d : ℕ) → checks-at d p ≡ true → (d ≢ 0) × (d < t .domains)
-unfolding checks-at good-place
-checks-real t valid i b Idle g d e = absurd (false≢true e)
-checks-real t valid i b (Prep l) g d e = absurd (false≢true e)
-checks-real t valid i b (Swap l) g d e = absurd (false≢true e)
-checks-real t valid i b (Link l p) g d e = absurd (false≢true e)
-checks-real t valid i b (Wait l) g d e = absurd (false≢true e)
-checks-real t valid i b Inside g d e = absurd (false≢true e)
-checks-real t valid i b (Check l) g d e =
-    let z = eqb-true l d e in
-    let both = and-both (on-path t i l) (not (eqb l 0)) g in
-    (rw z at (not-zero (eqb l 0) refl (both .1)), rw z at (path-real t valid i b l (both .0)))
-  where
-    not-zero : (c : Bool) → eqb l 0 ≡ c → not c ≡ true → l ≢ 0
-    not-zero true y h = absurd (false≢true h)
-    not-zero false y h = eqb-false l 0 y
-checks-real t valid i b (Help l) g d e = absurd (false≢true e)
-checks-real t valid i b (Cas l) g d e = absurd (false≢true e)
-checks-real t valid i b (Linger l) g d e = absurd (false≢true e)
-checks-real t valid i b (Grant l r w) g d e = absurd (false≢true e)
-checks-real t valid i b Draw g d e = absurd (false≢true e)
-checks-real t valid i b Watch g d e = absurd (false≢true e)
-checks-real t valid i b Raise g d e = absurd (false≢true e)
-checks-real t valid i b Invalid g d e = absurd (false≢true e)
+unfolding good-place
+checks-real t valid i b p g d e =
+    let good : good-place t i (Check d) ≡ true = rw (check-there d p e) at g in
+    let both = and-both (on-path t i d) (not (eqb d 0)) good in
+    (eqb-false d 0 (not-true (eqb d 0) (both .1)), path-real t valid i b d (both .0))
 
 started-one : (n : ℕ) → cond (eqb n 0) 0 1 ≤ 1
 started-one n = by-test (λ v. v ≤ 1) (eqb n 0) 0 1 (λ e. omega arith) (λ e. omega arith)

@@ -1,7 +1,7 @@
 -- KINDS. A stay changes nothing, and only a stay; an entry arrives Inside; where root entries, passed entries and crossed entries come from.
 use mathlib.Core.Path.{_≡_, refl, sym, ap, _∙_}
 use mathlib.Core.Bool.{Bool, true, false, _||_, not, false≢true, true≢false}
-use mathlib.Core.Logic.{_≢_, _⊎_, inl, inr}
+use mathlib.Core.Logic.{_≢_}
 use Prim.Native.Nat.{ℕ, _+_, _-_, _<_}
 use native.Mathlib.Omega.{arith}
 use lib.Dec.{eqb}
@@ -189,15 +189,6 @@ unfolding is-kind
 no-stay k f e = eqb-false 0 (kind-number k) f (sym (ap kind-number e))
 
 -- FROM OUTCOMES TO KINDS
-pub entry-kinds : (k : Kind) → is-entry k ≡ true → (k ≡ root-entry) ⊎ ((k ≡ passed-entry) ⊎ (k ≡ crossed-entry))
-unfolding is-entry
-entry-kinds stay e = absurd (false≢true e)
-entry-kinds other e = absurd (false≢true e)
-entry-kinds root-entry e = inl refl
-entry-kinds passed-entry e = inr (inl refl)
-entry-kinds crossed-entry e = inr (inr refl)
-entry-kinds leaving e = absurd (false≢true e)
-
 kind-entry : (k j : Kind) → k ≡ j → is-entry j ≡ true → is-entry k ≡ true
 kind-entry k j e f = rw e f
 

@@ -1,7 +1,7 @@
 -- No test of a tree reads its kind of root.
 use mathlib.Core.Path.{_≡_, refl, ap, fun-ext}
 use mathlib.Core.Bool.{Bool}
-use mathlib.Core.List.{[], _∷_, _++_}
+use mathlib.Core.List.{[], _∷_}
 use Prim.Native.Nat.{ℕ, zero, suc}
 use Rattle.model.specs.Trees.{Tree, is-child, is-leaf, depth-from, depth, level, meets, on-path, under}
 use Rattle.model.specs.Refusals.{test, first-refusal, bad-domains, bad-threads, bad-parent, too-deep, no-threshold, bad-home, empty-domain, tree-tests, tree-refusal}

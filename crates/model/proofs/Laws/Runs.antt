@@ -8,7 +8,7 @@ use lib.ListN.{length, take, drop, length-append}
 use Rattle.model.specs.declared.State.{State}
 use Rattle.model.specs.Trees.{Tree}
 use Rattle.model.specs.Steps.{Kind, stay, other, root-entry, passed-entry, crossed-entry, leaving, is-kind, is-entry, Step, step}
-use Rattle.model.specs.Runs.{steps, state-after, how-many, entering, counts-of, run-of, run, begun, ended, entries-under}
+use Rattle.model.specs.Runs.{steps, state-after, how-many, entering, counts-of, run-of, run, entries-under}
 use Rattle.model.specs.Laws.{All-threads, add-counts, then-run, Run-law, Count-law}
 
 -- STEPS of two schedules, the second from the state after the first
@@ -49,16 +49,6 @@ pub entering-join : (xs ys : List Step) → entering (xs ++ ys) ≡ entering xs 
 unfolding entering
 entering-join [] ys = refl
 entering-join (x ∷ xs) ys = rw (entering-join xs ys) (simp append-assoc)
-
-pub begun-join : (d : ℕ) (xs ys : List Step) → begun d (xs ++ ys) ≡ begun d xs ++ begun d ys
-unfolding begun
-begun-join d [] ys = refl
-begun-join d (x ∷ xs) ys = rw (begun-join d xs ys) (simp append-assoc)
-
-pub ended-join : (d : ℕ) (xs ys : List Step) → ended d (xs ++ ys) ≡ ended d xs ++ ended d ys
-unfolding ended
-ended-join d [] ys = refl
-ended-join d (x ∷ xs) ys = rw (ended-join d xs ys) (simp append-assoc)
 
 pub entries-under-join : (t : Tree) (q : ℕ) (xs ys : List Step) → entries-under t q (xs ++ ys) ≡ entries-under t q xs + entries-under t q ys
 unfolding entries-under

@@ -7,10 +7,9 @@ use native.Mathlib.Omega.{arith}
 use native.Mathlib.Decide.{ℕ-discrete}
 use borrow.Author.Tests.{eq-eqb, ne-eqb}
 use Rattle.model.specs.declared.Found.{Found}
-use Rattle.model.specs.Trees.{Tree, read-word, tree-of, is-child, depth, level, on-path, child-from, child}
-use Rattle.model.specs.Refusals.{tree-refusal}
+use Rattle.model.specs.Trees.{Tree, read-word, tree-of, depth, level, on-path, child-from, child}
 use Rattle.model.specs.Cases.Marked.{padded, tree, count-up, three-levels}
-use Rattle.model.specs.Search.{found, search-from, search, Same-child-law, Same-up-to, Leaves-at-child, Searches, Search-law, Only-search-law, with-parent, Beyond-law, Up-to-law, found-of, six-levels, Six-levels-searched, Three-levels-searched, Any-parent-beyond, Another-parent-at-the-child}
+use Rattle.model.specs.Search.{found, search-from, search, Same-child-law, Same-up-to, Leaves-at-child, Search-law, Only-search-law, with-parent, Beyond-law, Up-to-law, found-of, six-levels, Six-levels-searched, Three-levels-searched, Any-parent-beyond, Another-parent-at-the-child}
 use Rattle.model.proofs.Trees.Index.{ancestor, height}
 use Rattle.model.proofs.Trees.Accepted.{Accepted, accepted, child-yes, child-facts}
 use Rattle.model.proofs.Trees.Paths.{ancestor-home, height-few, ancestor-inner, ancestor-root, ancestor-parent-of, ancestor-strict, ancestor-injective, ancestor-depth, path-index, on-path-at}

@@ -3,7 +3,6 @@ use mathlib.Core.Path.{_≡_, refl, sym, ap, _∙_}
 use mathlib.Core.Bool.{Bool, true, false, cond}
 use Prim.Native.Nat.{ℕ, zero, suc, _+_, _*_, _-_, _≤_, _<_}
 use native.Mathlib.Omega.{arith}
-use native.Mathlib.Nat.{one-le-mul}
 use borrow.Author.Tests.{not-false, lt-ltb, le-ltb}
 use Rattle.model.specs.Scans.{largest-below}
 use Rattle.model.specs.Trees.{Tree, depth, is-child, is-leaf, is-member, domain-allowance, allowance}
@@ -11,7 +10,7 @@ use Rattle.model.proofs.Trees.Index.{ancestor, height, record-at, membe
 use Rattle.model.proofs.Tests.{largest-ge, largest-same, Found, any-one}
 use Rattle.model.proofs.Trees.Accepted.{Accepted, child-yes, child-facts, leaf-childless}
 use Rattle.model.proofs.Trees.Paths.{depth-child, depth-few}
-use Rattle.model.proofs.Trees.Records.{Member, a-thread, a-domain, member-facts, member-domain, member-at}
+use Rattle.model.proofs.Trees.Records.{Member, a-thread, a-domain, member-facts, member-at}
 
 pub thread-allowance : (t : Tree) (i : ℕ) → i < 256 → allowance t i ≡ 1
 unfolding allowance
@@ -99,23 +98,6 @@ module _ (t : Tree) (valid : Accepted t) where
           by true e = absurd (leaf-childless t d c e p s q)
           by false e =
               rw e (rw (child-yes t d c p q) at (largest-ge (t .domains) (λ c. cond (is-child t d c) (allowance t (256 + c)) 0) c s))
-
-  -- no domain's largest is 0, by the levels below it
-  some-below : (n d : ℕ) → d < t .domains → 5 ≤ n + depth t d → 1 ≤ member-allowance t d
-  unfolding member-allowance
-  some-below zero d s l = rw (deepest-leaf d s (omega arith)) (omega arith)
-  some-below (suc n) d s l = go (is-leaf t d) refl (λ c b m. some-below n c b m)
-    where
-      go : (b : Bool) → is-leaf t d ≡ b → ((c : ℕ) → c < t .domains → 5 ≤ n + depth t c → 1 ≤ member-allowance t c) → 1 ≤ member-allowance t d
-      go true e r = rw e (omega arith)
-      go false e r =
-          let found = inner-child t d e in
-          let c = found .index in
-          let k = child-facts t d c (found .holds) in
-          let one = r c (found .below) (omega (arith, depth-child t valid c (k .no-root) (found .below), ap (depth t) (k .hangs))) in
-          let product = one-le-mul (valid .threshold-some c (k .no-root) (found .below)) one in
-          let most = allowance-member d (256 + c) (member-domain t d c (k .no-root) (found .below) (k .hangs)) in
-          omega (arith, allowance-domain c, product, most)
 
   -- along a thread's path
   module _ (i : ℕ) (h : i < t .threads) where

@@ -1,7 +1,8 @@
 -- Sums over all numbers below a bound.
-use mathlib.Core.Path.{_≡_, refl, sym, ap}
+use mathlib.Core.Path.{_≡_, refl, sym, _∙_}
 use mathlib.Core.Bool.{Bool, true, false, _&&_, not, cond}
 use mathlib.Core.List.{[], _∷_, _++_}
+use mathlib.Core.Logic.{_≢_}
 use Prim.Native.Nat.{ℕ, zero, suc, _+_, _*_, _≤_, _<_}
 use native.Mathlib.Omega.{arith}
 use lib.Dec.{eqb}
@@ -10,7 +11,7 @@ use borrow.Author.Tests.{eq-eqb, ne-eqb}
 use Rattle.model.specs.Scans.{filter-below}
 use Rattle.model.proofs.Tests.{and-true}
 use Rattle.model.proofs.Lists.{same-or, is, is-same, is-other}
-use Rattle.bounds.specs.StarvationFreedom.Bounds.{sum-below}
+use Rattle.claims.specs.Tenures.Laws.{sum-below}
 
 pub sum-same : (n : ℕ) (f g : ℕ → ℕ) → ((a : ℕ) → a < n → f a ≡ g a) → sum-below n f ≡ sum-below n g
 unfolding sum-below
@@ -38,19 +39,19 @@ sum-adds zero f g = refl
 sum-adds (suc n) f g = let r = sum-adds n f g in omega arith
 
 -- one value alone
-pub sum-one : (n : ℕ) (f : ℕ → ℕ) (x : ℕ) → x < n → sum-below n (λ a. is a x * f a) ≡ f x
+pub sum-single : (n : ℕ) (f : ℕ → ℕ) (k : ℕ) → k < n → ((a : ℕ) → a < n → a ≢ k → f a ≡ 0) → sum-below n f ≡ f k
 unfolding sum-below
-sum-one zero f x h = absurd (omega arith)
-sum-one (suc n) f x h =
-    same-or x n _
+sum-single zero f k h z = absurd (omega arith)
+sum-single (suc n) f k h z =
+    same-or k n _
+    (λ e. let a = sum-zero n f (λ a b. z a (omega arith) (λ q. omega arith)) in rw (a, e) (omega arith))
     (λ e.
-    let z = sum-zero n (λ a. is a x * f a) (λ a b. let o = is-other a x (λ y. omega arith) in rw o (omega arith)) in
-    let o = is-same n x (sym e) in
-    rw o (let y : f x ≡ f n = ap f e in omega arith))
-    (λ e.
-    let z = sum-one n f x (omega arith) in
-    let o = is-other n x (λ y. e (sym y)) in
-    rw o (omega arith))
+    let a = sum-single n f k (omega arith) (λ a b q. z a (omega arith) q) in
+    let b = z n (omega arith) (λ q. e (sym q)) in
+    omega arith)
+
+pub sum-one : (n : ℕ) (f : ℕ → ℕ) (x : ℕ) → x < n → sum-below n (λ a. is a x * f a) ≡ f x
+sum-one n f x h = sum-single n (λ a. is a x * f a) x h (λ a b q. rw (is-other a x q) (omega arith)) ∙ rw (is-same x x refl) (omega arith)
 
 -- in either order
 pub sum-swaps : (n m : ℕ) (f : ℕ → ℕ → ℕ) → sum-below n (λ a. sum-below m (λ b. f a b)) ≡ sum-below m (λ b. sum-below n (λ a. f a b))
