@@ -77,7 +77,8 @@ pub(crate) fn largest_member<'a>(
     d: u32,
 ) -> u64
     requires { ⌜ domains ≤ 64 ⌝ }
-    ensures { λ r. ⌜ r ≡ cond (is-leaf (parents-in domains (now (parents .entry))) d) 1 (largest-below domains (λ c. cond (is-child (parents-in domains (now (parents .entry))) d c) (getD (now (words .entry)) c 0) 0)) ⌝ }
+    ensures { λ r. ⌜ (let t = parents-in domains (now (parents .entry)) in
+        r ≡ cond (is-leaf t d) 1 (largest-below domains (λ c. cond (is-child t d c) (getD (now (words .entry)) c 0) 0))) ⌝ }
 {
     if has_child(parents, domains, d) {
         return largest_child(parents, words, domains, d);

@@ -130,7 +130,8 @@ fn link_of<'a>(
     requires { ⌜ tree-refusal (tree-at domains threads (now parents) (now thresholds) (now homes) «ticket_root») .number ≡ 0 ⌝ }
     requires { ⌜ i < threads ⌝ }
     requires { ⌜ Sound-place (tree-at domains threads (now parents) (now thresholds) (now homes) «ticket_root») (now statuses) i q ⌝ }
-    ensures { λ x. ⌜ x ≡ link-by (tree-at domains threads (now (parents .entry)) (now (thresholds .entry)) (now (homes .entry)) «ticket_root») (now (nexts .entry)) (now (statuses .entry)) (now (ahead .entry)) (now (linking .entry)) (now (tickets .entry)) grant q i ⌝ }
+    ensures { λ x. ⌜ (let t = tree-at domains threads (now (parents .entry)) (now (thresholds .entry)) (now (homes .entry)) «ticket_root» in
+        x ≡ link-by t (now (nexts .entry)) (now (statuses .entry)) (now (ahead .entry)) (now (linking .entry)) (now (tickets .entry)) grant q i) ⌝ }
 {
     let l = q.domain;
     let r = tables::own_record_at(

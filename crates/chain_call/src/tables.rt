@@ -155,7 +155,8 @@ fn note_path<'a>(
     requires { ⌜ j < threads ⌝ }
     requires { ⌜ length (now ahead) ≡ 320 ⌝ }
     requires { ⌜ Owned-nexts (tree-at domains threads (now parents) (now thresholds) (now homes) «ticket_root») (now nexts) ⌝ }
-    ensures { λ r. ⌜ Noted (tree-at domains threads (now (parents .entry)) (now (thresholds .entry)) (now (homes .entry)) «ticket_root») (now (nexts .entry)) from j (suc (height (tree-at domains threads (now (parents .entry)) (now (thresholds .entry)) (now (homes .entry)) «ticket_root») j)) (now (ahead .entry)) (now (ahead .exit)) ⌝ }
+    ensures { λ r. ⌜ (let t = tree-at domains threads (now (parents .entry)) (now (thresholds .entry)) (now (homes .entry)) «ticket_root» in
+        Noted t (now (nexts .entry)) from j (suc (height t j)) (now (ahead .entry)) (now (ahead .exit))) ⌝ }
     ensures { λ r. ⌜ length (now (ahead .exit)) ≡ 320 ⌝ }
 {
     let mut r = j;

@@ -15,7 +15,7 @@ use Rattle.model.specs.Tenures.{finds-none, taken-from, given, starts, checks-a
 use Rattle.model.specs.Counters.{fresh-counters, each-with-index, counters-after, good-count, good-counts, count-above, any-above}
 use Rattle.model.specs.WellFormed.{good-tail, good-next, good-status, queue-on-path, good-place, good-watch, good-thread, good-counters, well-formed}
 use Rattle.model.specs.Refusals.{refusal, accepted, lowest-bad, first-refusal, bad-domains, bad-threads, bad-parent, too-deep, no-threshold, bad-home, empty-domain, tree-tests, bad-state, bad-entry, bad-counter, step-tests, tree-refusal, step-refusal}
-use Rattle.model.specs.Answers.{counters-behind, first-kind, first-domain, step-reply, step-answer}
+use Rattle.model.specs.Answers.{counters-after-run, first-kind, first-domain, step-reply, step-answer}
 use Rattle.claims.specs.Reached.{Can-move}
 use Rattle.model.specs.Cases.Marked.{padded, tree, at-ticket-root, same-numbers, two-homes, two-in-root, one-home}
 use Rattle.model.specs.Cases.Ticket.{two-in-ticket, three-in-ticket}
@@ -59,7 +59,7 @@ nobody t s e x = by (is-idle (place s (x .thread))) (is-kind stay (step t (x .th
 
 of-queue : Nobody-moves three-in-root dead-queue
 unfolding occurrences ended-in entries-under finds-none taken-from given starts checks-at word-to-grant tenure-length domain-entries domain-tenures
-    longest-tenure fresh-counters each-with-index counters-after good-count good-counts count-above any-above bad-counter counters-behind is-entry any-below
+    longest-tenure fresh-counters each-with-index counters-after good-count good-counts count-above any-above bad-counter counters-after-run is-entry any-below
     all-below filter-below read-word tree-of is-ticket is-child is-leaf depth-from depth level meets on-path child-from child own-record is-record is-member
     owner-domain under place-of is-watch is-idle numbers-at store-numbers fresh-words is-kind wait-row linger-row watch-row row step steps state-after good-tail good-next good-status
     queue-on-path good-place good-watch good-thread good-counters well-formed refusal accepted lowest-bad first-refusal bad-domains bad-threads bad-parent
@@ -69,7 +69,7 @@ of-queue = record { accepted = refl; not-idle = not-idle _ refl; nobody = nobody
 
 of-ticket : Nobody-moves two-in-ticket dead-ticket
 unfolding occurrences ended-in entries-under finds-none taken-from given starts checks-at word-to-grant tenure-length domain-entries domain-tenures
-    longest-tenure fresh-counters each-with-index counters-after good-count good-counts count-above any-above bad-counter counters-behind is-entry any-below
+    longest-tenure fresh-counters each-with-index counters-after good-count good-counts count-above any-above bad-counter counters-after-run is-entry any-below
     all-below filter-below read-word tree-of is-ticket is-child is-leaf depth-from depth level meets on-path child-from child own-record is-record is-member
     owner-domain under place-of is-watch is-idle numbers-at store-numbers fresh-words is-kind wait-row linger-row watch-row row step steps state-after good-tail good-next good-status
     queue-on-path good-place good-watch good-thread good-counters well-formed refusal accepted lowest-bad first-refusal bad-domains bad-threads bad-parent

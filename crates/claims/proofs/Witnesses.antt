@@ -17,7 +17,7 @@ use Rattle.model.specs.Tenures.{finds-none, taken-from, given, starts, checks-a
 use Rattle.model.specs.Counters.{fresh-counters, fresh-lock, each-with-index, counters-after, good-count, good-counts, count-above, any-above}
 use Rattle.model.specs.WellFormed.{good-tail, good-next, good-status, queue-on-path, good-place, good-watch, good-thread, good-counters, well-formed}
 use Rattle.model.specs.Refusals.{refusal, accepted, lowest-bad, first-refusal, bad-domains, bad-threads, bad-parent, too-deep, no-threshold, bad-home, empty-domain, tree-tests, bad-state, bad-entry, bad-counter, step-tests, tree-refusal, step-refusal}
-use Rattle.model.specs.Answers.{fresh-answer, counters-behind, first-kind, first-domain, step-reply, step-answer}
+use Rattle.model.specs.Answers.{fresh-answer, counters-after-run, first-kind, first-domain, step-reply, step-answer}
 use Rattle.model.specs.Calls.{state-in, answer-to, answer, asked-entries, joined, Names}
 use Rattle.model.specs.Cases.Marked.{padded, tree, two-homes}
 use Rattle.model.specs.Cases.Counters.{one-pass}
@@ -69,7 +69,7 @@ thresholds-one (suc (suc d)) = rw (le-ltb (suc (suc d)) 2 (omega arith)) (by (le
 
 list-meets : List-meets
 unfolding occurrences ended-in entries-under finds-none taken-from given starts checks-at word-to-grant tenure-length domain-entries domain-tenures
-    longest-tenure fresh-counters each-with-index counters-after good-count good-counts count-above any-above bad-counter counters-behind is-entry any-below
+    longest-tenure fresh-counters each-with-index counters-after good-count good-counts count-above any-above bad-counter counters-after-run is-entry any-below
     all-below filter-below read-word tree-of is-ticket is-child is-leaf depth-from depth level meets on-path child-from child own-record is-record is-member
     owner-domain under place-of is-watch is-idle numbers-at store-numbers fresh-words fresh-state is-kind prep-row row step steps state-after good-tail good-next good-status
     queue-on-path good-place good-watch good-thread good-counters well-formed refusal accepted lowest-bad first-refusal bad-domains bad-threads bad-parent

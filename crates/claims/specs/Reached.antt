@@ -29,22 +29,22 @@ last-state [] s = s
 last-state (c ∷ cs) s = last-state cs (state-in (answer c s))
 
 -- existing threads, no more entries than are allowed, and a trace buffer at least as long as the schedule
-unfoldable pub Asks-well : Tree → Ask → Type 0
-Asks-well t (one-step i) = i < t .threads
-Asks-well t (a-run is b) = All-threads t is × (length is ≤ 65536) × (length is ≤ length b)
+unfoldable pub Well-asked : Tree → Ask → Type 0
+Well-asked t (one-step i) = i < t .threads
+Well-asked t (a-run is b) = All-threads t is × (length is ≤ 65536) × (length is ≤ length b)
 
 unfoldable pub Never-refused : Type 0
 Never-refused =
     (w : TreeWords) (start : ℕ) (cs : List Call) → fresh-answer w start .number ≡ 0 → Names (tree-of w) cs (fresh-answer w start .state) →
-    (c : Call) → tree-of (c .tree) ≡ tree-of w → Asks-well (tree-of w) (c .ask) →
+    (c : Call) → tree-of (c .tree) ≡ tree-of w → Well-asked (tree-of w) (c .ask) →
     length (joined cs (fresh-answer w start .state)) + length (asked-entries (c .ask)) ≤ most-counted → call-refusal c (last-state cs (fresh-answer w start .state)) ≡ accepted
 
 -- in any state, a call that is accepted asks so; and the longest run that is allowed does
 unfoldable pub Well-asked-law : Type 0
-Well-asked-law = (t : Tree) (a : Ask) (s : LockState) → ask-refusal t a s .number ≡ 0 → Asks-well t a
+Well-asked-law = (t : Tree) (a : Ask) (s : LockState) → ask-refusal t a s .number ≡ 0 → Well-asked t a
 
 unfoldable pub Longest-run-law : Type 0
-Longest-run-law = (t : Tree) → 0 < t .threads → Asks-well t (a-run (replicate 65536 0) (replicate 65536 0))
+Longest-run-law = (t : Tree) → 0 < t .threads → Well-asked t (a-run (replicate 65536 0) (replicate 65536 0))
 
 -- THE LISTING'S TEST. Check as the listing has it, by equality with the threshold
 unfoldable pub equality-check-row : Tree → (thread domain : ℕ) → State → Row-result

@@ -34,8 +34,8 @@ pub fn write_file(tree: TreeWords, schedule: &[u16], file: &mut [u8]) -> WriteRe
     if file.len() < length {
         return refused_by(17, 0);
     }
-    let behind_tree = writing::put_tree(file, tree);
-    writing::put_schedule(file, behind_tree, schedule);
+    let after_tree = writing::put_tree(file, tree);
+    writing::put_schedule(file, after_tree, schedule);
     WriteReply {
         number: 0,
         place: 0,

@@ -15,9 +15,9 @@ use Rattle.journal.specs.Laws.{Begins-with}
 use Rattle.journal.proofs.Facts.{whole-entry}
 
 -- bytes behind other bytes
-first-behind : (xs ys : List ℕ) → getD (xs ++ ys) (length xs) 0 ≡ getD ys 0 0
-first-behind [] ys = refl
-first-behind (x ∷ xs) ys = first-behind xs ys
+first-after : (xs ys : List ℕ) → getD (xs ++ ys) (length xs) 0 ≡ getD ys 0 0
+first-after [] ys = refl
+first-after (x ∷ xs) ys = first-after xs ys
 
 behind : (xs ys : List ℕ) (j : ℕ) → getD (xs ++ ys) (length xs + j) 0 ≡ getD ys j 0
 behind [] ys j = let z : 0 + j ≡ j = omega arith in rw z
@@ -28,7 +28,7 @@ module _ (bs done rest : List ℕ) (e : bs ≡ done ++ rest) where
   long = ap length e ∙ length-append done rest
 
   first-is : getD bs (length done) 0 ≡ getD rest 0 0
-  first-is = ap (λ xs. getD xs (length done) 0) e ∙ first-behind done rest
+  first-is = ap (λ xs. getD xs (length done) 0) e ∙ first-after done rest
 
   byte-is : (j : ℕ) → getD bs (length done + j) 0 ≡ getD rest j 0
   byte-is j = ap (λ xs. getD xs (length done + j) 0) e ∙ behind done rest j

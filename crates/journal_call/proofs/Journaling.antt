@@ -1,19 +1,19 @@
 -- The check of a journal piece by piece: the state so far, the entries still ahead, and what a piece comes to.
 use mathlib.Core.Path.{_≡_, sym, ap, _∙_, subst}
-use mathlib.Core.Bool.{Bool, true, false, not}
+use mathlib.Core.Bool.{Bool}
 use mathlib.Core.List.{List, [], _∷_}
 use mathlib.Core.Logic.{_≢_}
 use Prim.Native.Nat.{ℕ, zero, suc, _+_, _-_, _%_, _≤_, _<_}
 use native.Mathlib.Omega.{arith}
-use lib.Dec.{eqb, T as Holds}
-use lib.ListN.{length, getD, take, drop}
+use lib.Dec.{T as Holds}
+use lib.ListN.{length, getD, take}
 use lib.Seq.{length-take-le, getD-take}
 use borrow.Author.Tests.{eqb-true, eqb-false, eq-eqb, ne-eqb, not-false, not-true}
 use Rattle.model.specs.declared.TreeWords.{TreeWords}
 use Rattle.model.specs.declared.State.{State}
 use Rattle.model.specs.Trees.{Tree, tree-of}
 use Rattle.model.specs.States.{fresh-words}
-use Rattle.model.specs.Steps.{kind-number, Step}
+use Rattle.model.specs.Steps.{Step}
 use Rattle.model.specs.Runs.{steps, state-after, run-of, run}
 use Rattle.model.specs.Counters.{lock-state, fresh-counters}
 use Rattle.model.specs.Refusals.{Refusal, refusal, accepted, first-refusal, tree-refusal, run-tests-before-19}
@@ -36,7 +36,7 @@ use Rattle.journal_call.specs.Pieces.Pieces.{Piece-read}
 use Rattle.journal.specs.Answers.{fresh-lock, checked, journal-refusal, replied, journal-answer}
 use Rattle.journal.specs.Laws.{kind-numbers}
 use Rattle.journal_call.proofs.Stepping.{stretch-threads, stretch-moves, Same-kinds, goes-on, stops-here, stopped-by, ended}
-use Rattle.lock.specs.Steps.Running.{step-code, codes-front, fresh-from}
+use Rattle.lock.specs.Steps.Running.{codes-front, fresh-from}
 use Rattle.journal_call.specs.Kinds.{other-kind}
 use Rattle.journal_call.specs.declared.journals.Turn.{Turn}
 use Rattle.journal_call.specs.Journals.{So-far, Turned, stop-of}

@@ -1,4 +1,4 @@
-// The steps that a journal names, taken from a fresh lock, piece by piece: the entries of a piece are read, their threads stepped by the run's loop, and the kinds that it tells compared.
+// The steps that a journal names, taken from a fresh lock, piece by piece: the entries of a piece are read, their threads stepped by the run's loop, and the kinds that it tells compared. One reader walks the journal from the first byte to the last.
 ghost use mathlib.Core.Path.{_≡_};
 ghost use mathlib.Core.Bool.{cond};
 ghost use Prim.Native.Nat.{_%_, _≤_};
@@ -100,9 +100,13 @@ fn run_piece(
 )
     requires { ⌜ count ≤ length (now threads) ⌝ }
     requires { ⌜ Typed (lent-state (now tails) (now nexts) (now statuses) (now rows) (now domains) (now peers) (now words) (now ticket) (now granted)) ⌝ }
-    requires { ⌜ first-refusal (run-tests-before-19 (tree-of tree) (lock-state (lent-state (now tails) (now nexts) (now statuses) (now rows) (now domains) (now peers) (now words) (now ticket) (now granted)) fresh-counters) (take count (now threads)) (length (now trace))) .number ≡ 0 ⌝ }
-    ensures { λ r. ⌜ lent-state (now (tails .exit)) (now (nexts .exit)) (now (statuses .exit)) (now (rows .exit)) (now (domains .exit)) (now (peers .exit)) (now (words .exit)) (now (ticket .exit)) (now (granted .exit)) ≡ run (tree-of tree) (take count (now (threads .entry))) (lent-state (now (tails .entry)) (now (nexts .entry)) (now (statuses .entry)) (now (rows .entry)) (now (domains .entry)) (now (peers .entry)) (now (words .entry)) (now (ticket .entry)) (now (granted .entry))) .state ⌝ }
-    ensures { λ r. ⌜ now (codes .exit) ≡ codes-front (now (codes .entry)) (steps (tree-of tree) (take count (now (threads .entry))) (lent-state (now (tails .entry)) (now (nexts .entry)) (now (statuses .entry)) (now (rows .entry)) (now (domains .entry)) (now (peers .entry)) (now (words .entry)) (now (ticket .entry)) (now (granted .entry)))) ⌝ }
+    requires { ⌜ (let lent = lent-state (now tails) (now nexts) (now statuses) (now rows) (now domains) (now peers) (now words) (now ticket) (now granted) in
+        first-refusal (run-tests-before-19 (tree-of tree) (lock-state lent fresh-counters) (take count (now threads)) (length (now trace))) .number ≡ 0) ⌝ }
+    ensures { λ r. ⌜ (let before = lent-state (now (tails .entry)) (now (nexts .entry)) (now (statuses .entry)) (now (rows .entry)) (now (domains .entry)) (now (peers .entry)) (now (words .entry)) (now (ticket .entry)) (now (granted .entry)) in
+        let after = lent-state (now (tails .exit)) (now (nexts .exit)) (now (statuses .exit)) (now (rows .exit)) (now (domains .exit)) (now (peers .exit)) (now (words .exit)) (now (ticket .exit)) (now (granted .exit)) in
+        after ≡ run (tree-of tree) (take count (now (threads .entry))) before .state) ⌝ }
+    ensures { λ r. ⌜ (let before = lent-state (now (tails .entry)) (now (nexts .entry)) (now (statuses .entry)) (now (rows .entry)) (now (domains .entry)) (now (peers .entry)) (now (words .entry)) (now (ticket .entry)) (now (granted .entry)) in
+        now (codes .exit) ≡ codes-front (now (codes .entry)) (steps (tree-of tree) (take count (now (threads .entry))) before)) ⌝ }
 {
     let mut counts = [0u32; 6];
     let mut entries = [0u64; 64];
@@ -172,7 +176,8 @@ fn check_piece(
     codes: &mut [u16; 1024],
 ) -> Turn
     requires { ⌜ So-far tree (now journal) (lent-state (now tails) (now nexts) (now statuses) (now rows) (now domains) (now peers) (now words) (now ticket) (now granted)) position before ⌝ }
-    ensures { λ r. ⌜ Turned tree (now (journal .entry)) position r (lent-state (now (tails .exit)) (now (nexts .exit)) (now (statuses .exit)) (now (rows .exit)) (now (domains .exit)) (now (peers .exit)) (now (words .exit)) (now (ticket .exit)) (now (granted .exit))) ⌝ }
+    ensures { λ r. ⌜ (let after = lent-state (now (tails .exit)) (now (nexts .exit)) (now (statuses .exit)) (now (rows .exit)) (now (domains .exit)) (now (peers .exit)) (now (words .exit)) (now (ticket .exit)) (now (granted .exit)) in
+        Turned tree (now (journal .entry)) position r after) ⌝ }
 {
     let piece = crate::pieces::read_piece(journal, position, before, tree.threads, threads, kinds);
     let count = piece.count;

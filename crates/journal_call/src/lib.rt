@@ -1,4 +1,4 @@
-// The check of a journal, document 02, (xiv): the tree's tests, and room for the pieces that are read and stepped.
+// The check of a journal, document 02, (xiv): the tree's tests, and then its entries.
 pub mod pieces;
 pub mod reader;
 pub mod step_check;

@@ -1,4 +1,4 @@
-// Pieces of a journal, as many entries as there is room for: those that are alike many at a time, the others one by one. What is read is what the reader reads entry by entry; only how soon the next position is known differs.
+// Pieces of a journal, as many entries as there is room for: those that are alike many at a time, the others one by one. What is read is what reading entry by entry reads; only how soon the next position is known differs.
 ghost use mathlib.Core.Path.{_≡_};
 ghost use Prim.Native.Nat.{_+_, _≤_, _<_};
 ghost use lib.ListN.{length};
@@ -20,7 +20,7 @@ fn smaller(a: usize, b: usize) -> usize
 }
 
 // So many after an index, or as many as there are.
-fn end_behind(room: usize, count: usize, wanted: usize) -> usize
+fn end_after(room: usize, count: usize, wanted: usize) -> usize
     requires { ⌜ count < room ⌝ }
     requires { ⌜ (0 < wanted) × (wanted ≤ 32) ⌝ }
     ensures { λ r. ⌜ (count < r) × (r ≤ count + 32) ⌝ }
@@ -39,9 +39,9 @@ fn block_end(room: usize, count: usize, four: bool) -> usize
     ensures { λ r. ⌜ r ≤ room ⌝ }
 {
     if four {
-        return end_behind(room, count, 4);
+        return end_after(room, count, 4);
     }
-    end_behind(room, count, 32)
+    end_after(room, count, 32)
 }
 
 // Reads up to thirty-two entries from a position on into the room from one index on and up to another, or up to the journal's end or the first that 25 or 12 refuses; with a table of sizes where there are so many and the journal has bytes enough for it.
@@ -115,18 +115,18 @@ pub fn read_piece(
     let mut count: usize = 0;
     let mut at = position;
     let mut last = before;
-    let mut behind_alike = true;
+    let mut after_alike = true;
     while count < room {
         let four = alike::read_alike(journal, at, last, known, threads, kinds, count);
         if count < four.count {
             at = four.position;
             last = four.before;
             count = four.count;
-            behind_alike = true;
+            after_alike = true;
             continue;
         }
-        let end = block_end(room, count, behind_alike);
-        behind_alike = false;
+        let end = block_end(room, count, after_alike);
+        after_alike = false;
         let some = read_next(journal, at, last, known, threads, kinds, count, end);
         if some.number != 0 {
             return some;

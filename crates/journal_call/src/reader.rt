@@ -1,4 +1,4 @@
-// The reader of a journal, document 02, (xiv): it holds the lent bytes and a position in them; and what is read with it entry by entry.
+// The reader of a journal, document 02, (xiv): it holds the lent bytes and where it stands in them. Here is also how entries are read one by one, by functions on the bytes and a position; `walk_entries` holds a reader from the first byte to the last.
 ghost use mathlib.Core.Path.{_≡_};
 ghost use mathlib.Core.Bool.{cond};
 ghost use Prim.Native.Nat.{_+_, _*_, _≤_, _<_};

@@ -16,7 +16,7 @@ use Rattle.model.specs.Steps.{kind-number, Step, step}
 use Rattle.model.specs.Runs.{steps, state-after, run-of, run}
 use Rattle.model.specs.Counters.{lock-state, counters-after}
 use Rattle.model.specs.Refusals.{refusal, first-refusal, run-tests-before-19, run-refusal}
-use Rattle.model.specs.Answers.{counters-behind, run-reply, run-buffer, run-answer, trace-answer}
+use Rattle.model.specs.Answers.{counters-after-run, run-reply, run-buffer, run-answer, trace-answer}
 use Rattle.model.proofs.Counted.{counters-join}
 use Rattle.model.proofs.Laws.Runs.{steps-join, steps-length, state-after-join}
 use Rattle.schedules.specs.Answers.{row-buffer}
@@ -66,9 +66,9 @@ module _ (w : TreeWords) (s : LockState) (is b rs : List ℕ) where
   unfolding refused-by
   rows-fit e = early-passes t s is (length b) (length rs) (early-zero t s is (length b) (length rs) e) .1
 
-  all-told : refused-by w s is b rs .number ≡ 0 → kinds-answer w s is b rs .rows ≡ length is
+  all-reported : refused-by w s is b rs .number ≡ 0 → kinds-answer w s is b rs .rows ≡ length is
   unfolding kinds-answer kinds-reply
-  all-told e = rw (eq-eqb (refused-by w s is b rs .number) 0 e)
+  all-reported e = rw (eq-eqb (refused-by w s is b rs .number) 0 e)
 
   rest-kept : Keeps-rest w s is b rs
   unfolding kinds-answer kinds-reply kinds-trace run-reply run-buffer
@@ -78,14 +78,14 @@ module _ (w : TreeWords) (s : LockState) (is b rs : List ℕ) where
             record {
               long = ap length (rows-accepted e) ∙ length-append (rows-of xs) (drop (length (rows-of xs)) rs) ∙ omega (arith, length-drop (length (rows-of xs)) rs, all-long, rows-fit e);
               after = ap (drop (2 * length is)) (rows-accepted e) ∙ drop-at (rows-of xs) (drop (length (rows-of xs)) rs) (2 * length is) all-long ∙ rw all-long;
-              told = all-told;
+              told = all-reported;
               refused = λ n. absurd (n e);
             }
         | no n ↦
             record {
               long = ap length (rows-refused n);
               after = ap (drop (2 * length is)) (rows-refused n);
-              told = all-told;
+              told = all-reported;
               refused = λ _.
                   record {
                     reply = rw (ne-eqb (refused-by w s is b rs .number) 0 n);
@@ -109,15 +109,15 @@ module _ (w : TreeWords) (s : LockState) (is b rs : List ℕ) where
 
     runs-as : Runs-as w s is b rs
     unfolding kinds-answer kinds-reply kinds-trace run-answer trace-answer
-    runs-as = record { reply = ap (λ r. run-reply r s (run t is (s .words)) (counters-behind t is s)) same-refusal; traced = ap (λ r. run-buffer r b (run t is (s .words))) same-refusal }
+    runs-as = record { reply = ap (λ r. run-reply r s (run t is (s .words)) (counters-after-run t is s)) same-refusal; traced = ap (λ r. run-buffer r b (run t is (s .words))) same-refusal }
 
   -- an accepted call writes the rows of its steps, and returns the state after them
   module _ (e : refused-by w s is b rs .number ≡ 0) where
     written-rows : written w s is b rs ≡ rows-of xs
-    written-rows = rw (all-told e, rows-accepted e) (take-at (rows-of xs) (drop (length (rows-of xs)) rs) (2 * length is) all-long)
+    written-rows = rw (all-reported e, rows-accepted e) (take-at (rows-of xs) (drop (length (rows-of xs)) rs) (2 * length is) all-long)
 
     left-state : kinds-answer w s is b rs .state ≡ lock-state (state-after (s .words) xs) (counters-after t (s .counters) xs)
-    unfolding kinds-answer kinds-reply run-reply run run-of counters-behind
+    unfolding kinds-answer kinds-reply run-reply run run-of counters-after-run
     left-state = rw (eq-eqb (refused-by w s is b rs .number) 0 e)
 
 pub row-law : Row-law
@@ -145,7 +145,7 @@ kinds-join-law w s is js b rs b′ rs′ b″ rs″ e f g =
       told =
           written-rows w s (is ++ js) b″ rs″ g ∙ ap rows-of both ∙ rows-join xs ys
           ∙ sym (ap (λ v. v ++ rows-of ys) (written-rows w s is b rs e)) ∙ sym (ap (λ v. written w s is b rs ++ v) (written-rows w s′ js b′ rs′ f));
-      as-many = all-told w s (is ++ js) b″ rs″ g ∙ length-append is js ∙ sym (rw (all-told w s is b rs e, all-told w s′ js b′ rs′ f));
+      as-many = all-reported w s (is ++ js) b″ rs″ g ∙ length-append is js ∙ sym (rw (all-reported w s is b rs e, all-reported w s′ js b′ rs′ f));
       state =
           left-state w s (is ++ js) b″ rs″ g ∙ rw both (rw (state-after-join (s .words) xs ys, counters-join t (s .counters) xs ys))
           ∙ ap (λ v. lock-state (state-after (v .words) ys) (counters-after t (v .counters) ys)) (sym left) ∙ sym (left-state w s′ js b′ rs′ f);

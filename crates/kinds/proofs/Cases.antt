@@ -17,7 +17,7 @@ use Rattle.model.specs.WellFormed.{good-tail, queue-on-path, good-place, good-c
 use Rattle.model.specs.Tenures.{finds-none, taken-from, given, starts, checks-at, word-to-grant, tenure-length, domain-entries, domain-tenures, longest-tenure}
 use Rattle.model.specs.Counters.{fresh-counters, each-with-index, counters-after, good-count, good-counts, count-above, any-above}
 use Rattle.model.specs.Refusals.{Refusal, refusal, accepted, lowest-bad, first-refusal, bad-domains, bad-threads, bad-parent, too-deep, no-threshold, bad-home, empty-domain, tree-tests, bad-state, bad-length, bad-entry, bad-room, bad-counter, schedule-tests, room-tests}
-use Rattle.model.specs.Answers.{counters-behind, run-reply, run-buffer}
+use Rattle.model.specs.Answers.{counters-after-run, run-reply, run-buffer}
 use Rattle.model.specs.Cases.Marked.{padded, tree, at-ticket-root, two-homes, first-entries, two-in-root, three-levels, same-numbers, same-places, same-counts, same-state, same-counters, same-lock}
 use Rattle.schedules.specs.Answers.{row-buffer}
 use Rattle.kinds.specs.Answers.{rows-of, bad-kind-room, kind-room-tests, kinds-tests-before-19, kinds-tests, kinds-refusal, kinds-reply, refused-by, kinds-answer, kinds-trace, kinds-rows}
@@ -50,7 +50,7 @@ holds-by-walks c =
     let t = tree-of (c .words) in
     let r = walked-refusal c in
     let x = run t (c .schedule) (c .state .words) in
-    answered (kinds-reply r (c .state) x (counters-behind t (c .schedule) (c .state)) (length (c .schedule))) (run-buffer r (c .trace) x) (row-buffer r (c .rows) (rows-of (steps t (c .schedule) (c .state .words)))) c
+    answered (kinds-reply r (c .state) x (counters-after-run t (c .schedule) (c .state)) (length (c .schedule))) (run-buffer r (c .trace) x) (row-buffer r (c .rows) (rows-of (steps t (c .schedule) (c .state .words)))) c
 
 unfoldable all-hold-by-walks : List Case → Bool
 all-hold-by-walks [] = true
@@ -88,7 +88,7 @@ cases-sized = refl
 
 pub cases-hold : all-hold cases ≡ true
 unfolding zero-from first-pass first-meets counts-by-walks above-by-walks walked-counter far-below have-room occurrences ended-in entries-under finds-none taken-from given starts checks-at word-to-grant tenure-length domain-entries domain-tenures
-    longest-tenure fresh-counters each-with-index counters-after good-count good-counts count-above any-above bad-counter counters-behind any-below
+    longest-tenure fresh-counters each-with-index counters-after good-count good-counts count-above any-above bad-counter counters-after-run any-below
     filter-below all-below read-word tree-of is-ticket is-child is-leaf depth-from depth level meets on-path child-from child own-record is-record is-member
     owner-domain under place-of is-watch is-idle is-inside numbers-at store-numbers fresh-words fresh-state is-kind is-entry prep-row swap-row link-row wait-row leave-row check-row
     help-row cas-row linger-row grant-row draw-row watch-row is-watched shown-members raise-row row step steps state-after how-many entering counts-of run-of

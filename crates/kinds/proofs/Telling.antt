@@ -16,7 +16,7 @@ use Rattle.model.specs.Runs.{steps, state-after, run-of, run}
 use Rattle.model.specs.Counters.{lock-state, counters-after, good-counts, any-above}
 use Rattle.model.specs.CounterLaws.{Counter-form-law}
 use Rattle.model.specs.Refusals.{refusal, accepted, bad-counter, step-refusal, run-refusal}
-use Rattle.model.specs.Answers.{counters-behind, first-kind, first-domain, step-reply, step-answer, run-reply, run-answer}
+use Rattle.model.specs.Answers.{counters-after-run, first-kind, first-domain, step-reply, step-answer, run-reply, run-answer}
 use Rattle.model.specs.Laws.{All-threads, Formed, Form-law}
 use Rattle.model.proofs.Counted.{counters-join}
 use Rattle.model.proofs.Laws.Calls.{Good-run, Counts-pass, step-accepted, run-accepted, run-facts, run-counted}
@@ -55,7 +55,7 @@ module _ (w : TreeWords) (s : LockState) (is b : List ℕ) (f : Formed (tree-of 
   js = take k is
 
   abbrev s′ : LockState
-  s′ = lock-state (run t js (s .words) .state) (counters-behind t js s)
+  s′ = lock-state (run t js (s .words) .state) (counters-after-run t js s)
 
   good : Good-run t s is (length b)
   good = run-facts t s is (length b) e
@@ -91,7 +91,7 @@ module _ (w : TreeWords) (s : LockState) (is b : List ℕ) (f : Formed (tree-of 
 
   -- 19 refuses the one step no more than it does the whole run
   one-low : Counts-pass t s′ (i ∷ [])
-  unfolding bad-counter steps counters-behind run run-of
+  unfolding bad-counter steps counters-after-run run run-of
   one-low p l =
       let z : p ≡ 0 = omega arith in
       let y : k + 1 ≡ suc k = omega arith in

@@ -12,7 +12,7 @@ use Rattle.model.specs.Trees.{Tree, tree-of}
 use Rattle.model.specs.Steps.{kind-number, Step}
 use Rattle.model.specs.Runs.{steps, Run, run}
 use Rattle.model.specs.Refusals.{Refusal, Test, test, first-refusal, counter-tests, run-tests-before-19}
-use Rattle.model.specs.Answers.{counters-behind, run-reply, run-buffer}
+use Rattle.model.specs.Answers.{counters-after-run, run-reply, run-buffer}
 use Rattle.schedules.specs.Answers.{row-buffer}
 use Rattle.kinds.specs.declared.KindsReply.{KindsReply}
 
@@ -57,7 +57,7 @@ refused-by w s is b rs = kinds-refusal (tree-of w) s is (length b) (length rs)
 -- its reply
 unfoldable pub kinds-answer : TreeWords → LockState → (schedule trace rows : List ℕ) → KindsReply
 kinds-answer w s is b rs =
-    kinds-reply (refused-by w s is b rs) s (run (tree-of w) is (s .words)) (counters-behind (tree-of w) is s) (length is)
+    kinds-reply (refused-by w s is b rs) s (run (tree-of w) is (s .words)) (counters-after-run (tree-of w) is s) (length is)
 
 -- the trace buffer: the entering threads at its front; refused, as it came
 unfoldable pub kinds-trace : TreeWords → LockState → (schedule trace rows : List ℕ) → List ℕ

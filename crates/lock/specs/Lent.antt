@@ -20,13 +20,13 @@ abbrev pub lent-lock : (tails nexts statuses rows domains peers words : List ℕ
 lent-lock ts ns vs rs ds ps ws v g es ms ls = lock-state (lent-state ts ns vs rs ds ps ws v g) (counters-in es ms ls)
 
 -- kind and domain of a schedule's first step, by the number that tells what it was
-abbrev pub told-by : (homes schedule : List ℕ) → (code : ℕ) → Told
-told-by hs is v =
+abbrev pub reported-by : (homes schedule : List ℕ) → (code : ℕ) → Told
+reported-by hs is v =
     let none = eqb (length is) 0 in
     record { kind = cond none 0 (v % 8); domain = cond none 0 (row-domain (getD hs (getD is 0 0) 0) ((v / 8) % 16) (v / 128)) }
 
 -- all of a run's answer but the state, with kind and domain of its first step
-unfoldable pub run-told : RunReply → (taken : List Step) → Ran
-run-told r xs =
+unfoldable pub run-reported : RunReply → (taken : List Step) → Ran
+run-reported r xs =
     let accepted = eqb (r .number) 0 in
     record { number = r .number; place = r .place; kind = cond accepted (first-kind xs) 0; domain = cond accepted (first-domain xs) 0; counts = r .counts }

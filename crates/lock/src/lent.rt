@@ -7,7 +7,7 @@ ghost use Rattle.model.specs.Trees.{tree-of};
 ghost use Rattle.model.specs.Runs.{steps};
 ghost use Rattle.model.specs.Answers.{run-answer, trace-answer};
 ghost use Rattle.refusals.specs.Arrays.{lent-state};
-ghost use Rattle.lock.specs.Lent.{lent-lock, told-by, run-told};
+ghost use Rattle.lock.specs.Lent.{lent-lock, reported-by, run-reported};
 use crate::steps::limits;
 use crate::steps::run;
 use model::Counters;
@@ -24,9 +24,9 @@ struct Told {
 }
 
 // The first step of a schedule, by what the loop told of it; 0 and 0 where there is none.
-fn first_told(homes: &[u8; 256], schedule: &[u16], code: u16) -> Told
+fn first_reported(homes: &[u8; 256], schedule: &[u16], code: u16) -> Told
     requires { ⌜ (0 < length (now schedule) → getD (now schedule) 0 0 < 256) ⌝ }
-    ensures { λ r. ⌜ r ≡ told-by (now (homes .entry)) (now (schedule .entry)) code ⌝ }
+    ensures { λ r. ⌜ r ≡ reported-by (now (homes .entry)) (now (schedule .entry)) code ⌝ }
 {
     if schedule.len() == 0 {
         return Told { kind: 0, domain: 0 };
@@ -67,9 +67,14 @@ pub(crate) fn run_tested(
     trace: &mut [u16],
 ) -> Ran
     requires { ⌜ Typed (lent-state (now tails) (now nexts) (now statuses) (now rows) (now domains) (now peers) (now words) (now ticket) (now granted)) ⌝ }
-    ensures { λ r. ⌜ r ≡ run-told (run-answer tree (lent-lock (now (tails .entry)) (now (nexts .entry)) (now (statuses .entry)) (now (rows .entry)) (now (domains .entry)) (now (peers .entry)) (now (words .entry)) (now (ticket .entry)) (now (granted .entry)) (now (entries .entry)) (now (tenures .entry)) (now (longest .entry))) (now (schedule .entry)) (now (trace .entry))) (steps (tree-of tree) (now (schedule .entry)) (lent-state (now (tails .entry)) (now (nexts .entry)) (now (statuses .entry)) (now (rows .entry)) (now (domains .entry)) (now (peers .entry)) (now (words .entry)) (now (ticket .entry)) (now (granted .entry)))) ⌝ }
-    ensures { λ r. ⌜ lent-lock (now (tails .exit)) (now (nexts .exit)) (now (statuses .exit)) (now (rows .exit)) (now (domains .exit)) (now (peers .exit)) (now (words .exit)) (now (ticket .exit)) (now (granted .exit)) (now (entries .exit)) (now (tenures .exit)) (now (longest .exit)) ≡ run-answer tree (lent-lock (now (tails .entry)) (now (nexts .entry)) (now (statuses .entry)) (now (rows .entry)) (now (domains .entry)) (now (peers .entry)) (now (words .entry)) (now (ticket .entry)) (now (granted .entry)) (now (entries .entry)) (now (tenures .entry)) (now (longest .entry))) (now (schedule .entry)) (now (trace .entry)) .state ⌝ }
-    ensures { λ r. ⌜ now (trace .exit) ≡ trace-answer tree (lent-lock (now (tails .entry)) (now (nexts .entry)) (now (statuses .entry)) (now (rows .entry)) (now (domains .entry)) (now (peers .entry)) (now (words .entry)) (now (ticket .entry)) (now (granted .entry)) (now (entries .entry)) (now (tenures .entry)) (now (longest .entry))) (now (schedule .entry)) (now (trace .entry)) ⌝ }
+    ensures { λ r. ⌜ (let before = lent-lock (now (tails .entry)) (now (nexts .entry)) (now (statuses .entry)) (now (rows .entry)) (now (domains .entry)) (now (peers .entry)) (now (words .entry)) (now (ticket .entry)) (now (granted .entry)) (now (entries .entry)) (now (tenures .entry)) (now (longest .entry)) in
+        let before-words = lent-state (now (tails .entry)) (now (nexts .entry)) (now (statuses .entry)) (now (rows .entry)) (now (domains .entry)) (now (peers .entry)) (now (words .entry)) (now (ticket .entry)) (now (granted .entry)) in
+        r ≡ run-reported (run-answer tree before (now (schedule .entry)) (now (trace .entry))) (steps (tree-of tree) (now (schedule .entry)) before-words)) ⌝ }
+    ensures { λ r. ⌜ (let before = lent-lock (now (tails .entry)) (now (nexts .entry)) (now (statuses .entry)) (now (rows .entry)) (now (domains .entry)) (now (peers .entry)) (now (words .entry)) (now (ticket .entry)) (now (granted .entry)) (now (entries .entry)) (now (tenures .entry)) (now (longest .entry)) in
+        let after = lent-lock (now (tails .exit)) (now (nexts .exit)) (now (statuses .exit)) (now (rows .exit)) (now (domains .exit)) (now (peers .exit)) (now (words .exit)) (now (ticket .exit)) (now (granted .exit)) (now (entries .exit)) (now (tenures .exit)) (now (longest .exit)) in
+        after ≡ run-answer tree before (now (schedule .entry)) (now (trace .entry)) .state) ⌝ }
+    ensures { λ r. ⌜ (let before = lent-lock (now (tails .entry)) (now (nexts .entry)) (now (statuses .entry)) (now (rows .entry)) (now (domains .entry)) (now (peers .entry)) (now (words .entry)) (now (ticket .entry)) (now (granted .entry)) (now (entries .entry)) (now (tenures .entry)) (now (longest .entry)) in
+        now (trace .exit) ≡ trace-answer tree before (now (schedule .entry)) (now (trace .entry))) ⌝ }
 {
     let mut kinds = [0u32; 6];
     let r = limits::refusal_of(
@@ -120,7 +125,7 @@ pub(crate) fn run_tested(
         longest,
     );
     let counts = run::counts_of(&kinds);
-    let told = first_told(&tree.homes, schedule, codes[0]);
+    let told = first_reported(&tree.homes, schedule, codes[0]);
     Ran {
         number: 0,
         place: 0,
@@ -145,7 +150,8 @@ pub(crate) fn lock_of<'s>(
     tenures: &'s [u64; 64],
     longest: &'s [u64; 64],
 ) -> LockState
-    ensures { λ r. ⌜ r ≡ lent-lock (now (tails .entry)) (now (nexts .entry)) (now (statuses .entry)) (now (rows .entry)) (now (domains .entry)) (now (peers .entry)) (now (words .entry)) ticket grant (now (entries .entry)) (now (tenures .entry)) (now (longest .entry)) ⌝ }
+    ensures { λ r. ⌜ (let before = lent-lock (now (tails .entry)) (now (nexts .entry)) (now (statuses .entry)) (now (rows .entry)) (now (domains .entry)) (now (peers .entry)) (now (words .entry)) ticket grant (now (entries .entry)) (now (tenures .entry)) (now (longest .entry)) in
+        r ≡ before) ⌝ }
 {
     let places = PlaceArrays {
         rows: *rows,

@@ -12,7 +12,7 @@ use Rattle.model.specs.declared.TreeWords.{TreeWords}
 use Rattle.lock_file.specs.declared.Reached.{Reached}
 use Rattle.lock_file.specs.declared.Reached.the-variants.{At, Ended, BadMap}
 use Rattle.lock_file.specs.declared.ThreadsRead.{ThreadsRead}
-use Rattle.lock_file.specs.Reading.{domain-count, two-bytes, field-end, domains-at, domains-from, domains-read, threads-from, threads-behind, threads-read, schedule-start, entries-at, described, reading-of}
+use Rattle.lock_file.specs.Reading.{domain-count, two-bytes, field-end, domains-at, domains-from, domains-read, threads-from, threads-after, threads-read, schedule-start, entries-at, described, reading-of}
 use Rattle.lock_file.proofs.Positions.{field-within}
 
 -- an accepted reading
@@ -49,9 +49,9 @@ pub record Threads-started (bs : List ℕ) (r : Reached) (t : ThreadsRead) : Typ
   pub read : t ≡ threads-from bs (two-bytes bs at) 0 0 (at + 2) (replicate 256 0)
 
 threads-counted :
-    (bs : List ℕ) (q : ℕ) (f : Reached) (next : ℕ) → field-end bs q 2 ≡ f → threads-behind bs q f .reached ≡ At next →
-    (q + 2 ≤ length bs) × (threads-behind bs q f ≡ threads-from bs (two-bytes bs q) 0 0 (q + 2) (replicate 256 0))
-unfolding threads-behind
+    (bs : List ℕ) (q : ℕ) (f : Reached) (next : ℕ) → field-end bs q 2 ≡ f → threads-after bs q f .reached ≡ At next →
+    (q + 2 ≤ length bs) × (threads-after bs q f ≡ threads-from bs (two-bytes bs q) 0 0 (q + 2) (replicate 256 0))
+unfolding threads-after
 threads-counted bs q (At n) next f e =
     let w = field-within bs q 2 n (omega arith) f in
     (omega arith, rw (w .0))

@@ -12,7 +12,7 @@ use Rattle.model.proofs.Laws.Counters.{zeros}
 use Rattle.lock_file.specs.declared.Reached.the-variants.{At}
 use Rattle.lock_file.specs.declared.DomainsRead.{DomainsRead}
 use Rattle.lock_file.specs.declared.ThreadsRead.{ThreadsRead}
-use Rattle.lock_file.specs.Reading.{domain-count, root-number, byte, two-bytes, field-end, domains-from, domains-read, threads-from, threads-behind, threads-read, thread-count, schedule-start, tree-read, entries-at, described, reading-of, file-read}
+use Rattle.lock_file.specs.Reading.{domain-count, root-number, byte, two-bytes, field-end, domains-from, domains-read, threads-from, threads-after, threads-read, thread-count, schedule-start, tree-read, entries-at, described, reading-of, file-read}
 use Rattle.lock_file.specs.Format.{Full-room, Describes}
 use Rattle.lock_file.specs.ReadingLaws.{Format-law}
 use Rattle.lock_file.proofs.Bytes.{next-byte, starts, field-reached}
@@ -210,7 +210,7 @@ read-through bs w is x =
     }
 
 describes-accepted : (bs : List ℕ) (w : TreeWords) (is : List ℕ) → Describes bs w is → file-read bs ≡ described w is
-unfolding file-read domains-read threads-read threads-behind schedule-start reading-of
+unfolding file-read domains-read threads-read threads-after schedule-start reading-of
 describes-accepted bs w is x =
     let r = read-through bs w is x in
     let domains : domains-read bs ≡ domains-of bs = rw (ne-eqb (length bs) 0 (r .some)) in

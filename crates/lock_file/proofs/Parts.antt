@@ -86,9 +86,9 @@ module _
         second (value bs at) cs next ≡ r → both cs at ≡ r
     second-in bs cs at next r e v f = both-at cs at next e ∙ rw v at f
 
-    reached-behind :
+    reached-after :
         (bs : List ℕ) (at middle next : ℕ) → first bs at ≡ At middle → second (value bs at) bs middle ≡ At next → Part-reached both bs at next
-    reached-behind bs at middle next e f =
+    reached-after bs at middle next e f =
         let a = first-part .reached bs at middle e in
         let b = second-part (value bs at) .reached bs middle next f in
         let a-ahead = a .ahead in
@@ -100,10 +100,10 @@ module _
               second-in bs cs at middle (At next) (a .alike cs before (omega arith)) (given bs cs at middle e before) (b .alike cs same long);
         }
 
-    bad-behind :
+    bad-after :
         (bs : List ℕ) (at middle place : ℕ) → first bs at ≡ At middle → second (value bs at) bs middle ≡ BadMap place →
         Part-bad both bs at place
-    bad-behind bs at middle place e f =
+    bad-after bs at middle place e f =
         let a = first-part .reached bs at middle e in
         let b = second-part (value bs at) .bad bs middle place f in
         let a-ahead = a .ahead in
@@ -116,9 +116,9 @@ module _
               second-in bs cs at middle (BadMap place) (a .alike cs before (omega arith)) (given bs cs at middle e before) (b .alike cs same long);
         }
 
-    ended-behind :
+    ended-after :
         (bs : List ℕ) (at middle : ℕ) → first bs at ≡ At middle → second (value bs at) bs middle ≡ Ended → Part-ended both bs at
-    ended-behind bs at middle e f =
+    ended-after bs at middle e f =
         let a = first-part .reached bs at middle e in
         let b = second-part (value bs at) .ended bs middle f in
         let a-ahead = a .ahead in
@@ -138,7 +138,7 @@ module _
         let a = first-part .ended bs at e in
         let v = value bs at in
         let a-ahead = a .ahead in
-        let a-behind = a .behind in
+        let a-after = a .behind in
         let value-in : (cs : List ℕ) → ((j : ℕ) → byte bs j ≡ byte cs j) → a .end ≤ length cs → value bs at ≡ value cs at =
         λ cs same long. sym (given cs bs at (a .end) (a .filled cs same long) (λ j h. sym (same j)))
         in
@@ -181,12 +181,12 @@ module _
         record {
           reached = λ bs at next e.
               reached-cases (first bs at)
-              (λ middle f. reached-behind bs at middle next f (sym (both-at bs at middle f) ∙ e))
+              (λ middle f. reached-after bs at middle next f (sym (both-at bs at middle f) ∙ e))
               (λ f. absurd (not-ended next (sym (both-ended bs at f) ∙ e)))
               (λ place f. absurd (not-bad place next (sym (both-bad bs at place f) ∙ e)));
           bad = λ bs at place e.
               reached-cases (first bs at)
-              (λ middle f. bad-behind bs at middle place f (sym (both-at bs at middle f) ∙ e))
+              (λ middle f. bad-after bs at middle place f (sym (both-at bs at middle f) ∙ e))
               (λ f. absurd (bad-not-ended place (sym e ∙ both-ended bs at f)))
               (λ here f.
               let both-here : BadMap here ≡ BadMap place = sym (both-bad bs at here f) ∙ e in
@@ -194,7 +194,7 @@ module _
               bad-first bs at place (rw z at f));
           ended = λ bs at e.
               reached-cases (first bs at)
-              (λ middle f. ended-behind bs at middle f (sym (both-at bs at middle f) ∙ e))
+              (λ middle f. ended-after bs at middle f (sym (both-at bs at middle f) ∙ e))
               (λ f. ended-first bs at f)
               (λ place f. absurd (bad-not-ended place (sym (both-bad bs at place f) ∙ e)));
         }

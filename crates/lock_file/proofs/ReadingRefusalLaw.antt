@@ -109,10 +109,10 @@ bad-no-beginning bs p e b =
     (b .lock-file)
 
 -- A FILE THAT ENDS TOO EARLY is the beginning of one with bytes 0 after it
-zeros-behind : (bs : List ℕ) (n j : ℕ) → byte bs j ≡ byte (bs ++ replicate n 0) j
-zeros-behind [] n j = sym (zeros n j)
-zeros-behind (x ∷ xs) n zero = refl
-zeros-behind (x ∷ xs) n (suc j) = zeros-behind xs n j
+zeros-after : (bs : List ℕ) (n j : ℕ) → byte bs j ≡ byte (bs ++ replicate n 0) j
+zeros-after [] n j = sym (zeros n j)
+zeros-after (x ∷ xs) n zero = refl
+zeros-after (x ∷ xs) n (suc j) = zeros-after xs n j
 
 length-filled : (bs : List ℕ) (n : ℕ) → length (bs ++ replicate n 0) ≡ length bs + n
 length-filled bs n = length-append bs (replicate n 0) ∙ rw (length-replicate {A = ℕ} n 0)
@@ -134,7 +134,7 @@ odd-beginning bs at e odd =
     let cs = bs ++ replicate 1 0 in
     let long = length-filled bs 1 in
     let inside : at < length bs = omega arith in
-    let same : Same-before at bs cs = λ j h. zeros-behind bs 1 j in
+    let same : Same-before at bs cs = λ j h. zeros-after bs 1 j in
     let here = tree-part .reached bs 0 at e .alike cs same (omega arith) in
     filled-beginning bs 1 at (reached-even cs at here (omega arith))
 
@@ -146,7 +146,7 @@ short-beginning bs e =
     let n = a .end - length bs in
     let cs = bs ++ replicate n 0 in
     let long : length cs ≡ a .end = omega (arith, length-filled bs n) in
-    let here = a .filled cs (λ j. zeros-behind bs n j) (omega arith) in
+    let here = a .filled cs (λ j. zeros-after bs n j) (omega arith) in
     filled-beginning bs n (a .end) (reached-even cs (a .end) here (omega arith))
 
 ended-beginning : (bs : List ℕ) → reached-in bs ≡ Ended → Beginning bs

@@ -8,7 +8,7 @@ use lib.ListN.{length, replicate}
 use borrow.Author.Tests.{lt-ltb, le-ltb, eq-eqb, ne-eqb}
 use Rattle.lock_file.specs.declared.Reached.{Reached}
 use Rattle.lock_file.specs.declared.Reached.the-variants.{At, Ended, BadMap}
-use Rattle.lock_file.specs.Reading.{domain-count, byte, two-bytes, bit-0, field-end, domain-size, domain-end, parent-at, threshold-at, stored, domains-from, domains-read, thread-end, home-at, threads-from, threads-behind, threads-read, schedule-start, tree-read}
+use Rattle.lock_file.specs.Reading.{domain-count, byte, two-bytes, bit-0, field-end, domain-size, domain-end, parent-at, threshold-at, stored, domains-from, domains-read, thread-end, home-at, threads-from, threads-after, threads-read, schedule-start, tree-read}
 use Rattle.lock_file.proofs.Positions.{reached-cases, domain-then, domain-ended, domain-bad, thread-then, thread-ended, thread-bad}
 use Rattle.lock_file.proofs.Parts.{Part, Part-reader, Same-before, onward, entries-reader, counted-reader, counted-part, both-part}
 
@@ -93,7 +93,7 @@ domains-read-reach bs =
     ]
 
 threads-read-reach : (bs : List ℕ) (r : Reached) → threads-read bs r .reached ≡ onward r (threads-reader bs)
-unfolding threads-read threads-behind onward
+unfolding threads-read threads-after onward
 threads-read-reach bs (At q) =
     reached-cases (field-end bs q 2)
     (λ next e. rw e (threads-reach bs (two-bytes bs q) 0 0 next (replicate 256 0)))

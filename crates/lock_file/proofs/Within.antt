@@ -10,7 +10,7 @@ use borrow.Author.Tests.{ltb-false, leb-false, eqb-false}
 use Rattle.model.proofs.Tests.{by-test}
 use Rattle.lock_file.specs.declared.Reached.{Reached}
 use Rattle.lock_file.specs.declared.Reached.the-variants.{At, Ended, BadMap}
-use Rattle.lock_file.specs.Reading.{domain-count, byte, two-bytes, field-end, entry-end, domain-size, domain-end, parent-at, threshold-at, stored, domains-at, domains-from, domains-read, thread-end, home-at, threads-from, threads-behind, threads-read, schedule-start, tree-read}
+use Rattle.lock_file.specs.Reading.{domain-count, byte, two-bytes, field-end, entry-end, domain-size, domain-end, parent-at, threshold-at, stored, domains-at, domains-from, domains-read, thread-end, home-at, threads-from, threads-after, threads-read, schedule-start, tree-read}
 use Rattle.lock_file.proofs.Positions.{reached-cases, domain-then, domain-ended, domain-bad, thread-then, thread-ended, thread-bad}
 
 -- the position that reading came to, or the place of a bit map
@@ -80,16 +80,16 @@ domains-read-position bs =
     positive zero h = absurd (h refl)
     positive (suc n) h = omega arith
 
-threads-behind-position :
-    (bs : List ℕ) (at : ℕ) (r : Reached) → position r ≤ length bs → position (threads-behind bs at r .reached) ≤ length bs
-unfolding threads-behind position
-threads-behind-position bs at (At next) h = threads-position bs (two-bytes bs at) 0 0 next (replicate 256 0) h
-threads-behind-position bs at Ended h = omega arith
-threads-behind-position bs at (BadMap p) h = h
+threads-after-position :
+    (bs : List ℕ) (at : ℕ) (r : Reached) → position r ≤ length bs → position (threads-after bs at r .reached) ≤ length bs
+unfolding threads-after position
+threads-after-position bs at (At next) h = threads-position bs (two-bytes bs at) 0 0 next (replicate 256 0) h
+threads-after-position bs at Ended h = omega arith
+threads-after-position bs at (BadMap p) h = h
 
 threads-read-position : (bs : List ℕ) (r : Reached) → position r ≤ length bs → position (threads-read bs r .reached) ≤ length bs
 unfolding threads-read position
-threads-read-position bs (At at) h = threads-behind-position bs at (field-end bs at 2) (field-position bs at 2 (omega arith))
+threads-read-position bs (At at) h = threads-after-position bs at (field-end bs at 2) (field-position bs at 2 (omega arith))
 threads-read-position bs Ended h = omega arith
 threads-read-position bs (BadMap p) h = h
 

@@ -112,13 +112,13 @@ threads-from bs (suc k) i before at hs =
     ]
 
 -- T in two bytes at a position, then the threads 0 to T − 1; the home before the first is 0
-unfoldable pub threads-behind : (bytes : List ℕ) → (at : ℕ) → Reached → ThreadsRead
-threads-behind bs at (At next) = threads-from bs (two-bytes bs at) 0 0 next (replicate 256 0)
-threads-behind bs at Ended = threads-at Ended (replicate 256 0)
-threads-behind bs at (BadMap p) = threads-at (BadMap p) (replicate 256 0)
+unfoldable pub threads-after : (bytes : List ℕ) → (at : ℕ) → Reached → ThreadsRead
+threads-after bs at (At next) = threads-from bs (two-bytes bs at) 0 0 next (replicate 256 0)
+threads-after bs at Ended = threads-at Ended (replicate 256 0)
+threads-after bs at (BadMap p) = threads-at (BadMap p) (replicate 256 0)
 
 unfoldable pub threads-read : (bytes : List ℕ) → Reached → ThreadsRead
-threads-read bs (At at) = threads-behind bs at (field-end bs at 2)
+threads-read bs (At at) = threads-after bs at (field-end bs at 2)
 threads-read bs Ended = threads-at Ended (replicate 256 0)
 threads-read bs (BadMap p) = threads-at (BadMap p) (replicate 256 0)
 

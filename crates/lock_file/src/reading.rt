@@ -3,7 +3,7 @@ ghost use mathlib.Core.Path.{_≡_};
 ghost use Prim.Native.Nat.{_+_, _*_, _-_, _/_, _%_, _<_, _≤_};
 ghost use lib.Seq.{sets};
 ghost use lib.ListN.{length, replicate};
-ghost use Rattle.lock_file.specs.Reading.{byte, two-bytes, field-end, entry-end, domain-size, domain-end, parent-at, threshold-at, stored, domains-from, domains-read, thread-end, home-at, threads-from, threads-behind, threads-read, thread-count, schedule-start, tree-read, entries-from};
+ghost use Rattle.lock_file.specs.Reading.{byte, two-bytes, field-end, entry-end, domain-size, domain-end, parent-at, threshold-at, stored, domains-from, domains-read, thread-end, home-at, threads-from, threads-after, threads-read, thread-count, schedule-start, tree-read, entries-from};
 use crate::DomainsRead;
 use crate::Reached;
 use crate::ThreadsRead;
@@ -225,8 +225,8 @@ fn read_threads_from(file: &[u8], threads: usize, start: usize) -> ThreadsRead
 }
 
 // T at a position, then the threads.
-fn read_threads_behind(file: &[u8], at: usize) -> ThreadsRead
-    ensures { λ r. ⌜ r ≡ threads-behind (now (file .entry)) at (field-end (now (file .entry)) at 2) ⌝ }
+fn read_threads_after(file: &[u8], at: usize) -> ThreadsRead
+    ensures { λ r. ⌜ r ≡ threads-after (now (file .entry)) at (field-end (now (file .entry)) at 2) ⌝ }
 {
     match field_end_at(file, at, 2) {
         Reached::At(next) => read_threads_from(
@@ -249,7 +249,7 @@ fn read_threads(file: &[u8], reached: Reached) -> ThreadsRead
     ensures { λ r. ⌜ r ≡ threads-read (now (file .entry)) reached ⌝ }
 {
     match reached {
-        Reached::At(at) => read_threads_behind(file, at),
+        Reached::At(at) => read_threads_after(file, at),
         Reached::Ended => ThreadsRead {
             reached: Reached::Ended,
             homes: [0u8; 256],
@@ -313,17 +313,17 @@ pub(crate) fn tree_of(file: &[u8]) -> TreeRead
     ensures { λ r. ⌜ r ≡ tree-read (now (file .entry)) ⌝ }
 {
     let ds = read_domains(file);
-    let behind_domains = ds.reached;
+    let after_domains = ds.reached;
     let parents = ds.parents;
     let thresholds = ds.thresholds;
-    let ts = read_threads(file, behind_domains);
-    let behind_threads = ts.reached;
+    let ts = read_threads(file, after_domains);
+    let after_threads = ts.reached;
     let homes = ts.homes;
     let first = byte_at(file, 0);
     let domains = domain_count_of(first);
     let ticket_root = root_number_of(first);
-    let threads = thread_count_of(file, behind_domains);
-    let reached = schedule_start_of(file, behind_threads);
+    let threads = thread_count_of(file, after_domains);
+    let reached = schedule_start_of(file, after_threads);
     let tree = TreeWords {
         domains,
         threads,

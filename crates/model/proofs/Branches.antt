@@ -20,8 +20,8 @@ module _ (t : Tree) (i : ℕ) (s : State) where
   swapped l = with-tail l (own-record t i l + 1) s
 
   -- Link after the old tail
-  abbrev pub stood-behind : (domain : ℕ) → Row-result
-  stood-behind l = record { kind = other; standing = begins (own-record t i l); state = with-place i (Link l (tail s l - 1)) (swapped l) }
+  abbrev pub stood-after : (domain : ℕ) → Row-result
+  stood-after l = record { kind = other; standing = begins (own-record t i l); state = with-place i (Link l (tail s l - 1)) (swapped l) }
 
   -- the place is Grant to the successor, with a word
   abbrev pub about-to-grant : (domain word : ℕ) → Row-result
@@ -51,7 +51,7 @@ pub data Branch (t : Tree) (i : ℕ) (s : State) : Place → Row-result → Type
   -- Swap: alone at the root, alone below it, after another
   swap-root : (l : ℕ) → l ≡ 0 → tail s l ≡ none → Branch t i s (Swap l) (swap-at-root t i l (swapped t i s l))
   swap-inner : (l : ℕ) → l ≢ 0 → tail s l ≡ none → Branch t i s (Swap l) (acquires-parent t i l (swapped t i s l))
-  swap-behind : (l : ℕ) → tail s l ≢ none → Branch t i s (Swap l) (stood-behind t i s l)
+  swap-joins : (l : ℕ) → tail s l ≢ none → Branch t i s (Swap l) (stood-after t i s l)
   link-writes : (l p : ℕ) → Branch t i s (Link l p) (moves (with-place i (Wait l) (with-next p (own-record t i l + 1) s)))
   -- Wait at the root: locked, or granted
   wait-root-locked : (l : ℕ) → l ≡ 0 → status s (own-record t i l) ≡ locked → Branch t i s (Wait l) (stays s)
@@ -106,7 +106,7 @@ module _ (t : Tree) (i : ℕ) (s : State) where
       by-test (Of (Swap l)) (eqb (tail s l) none) _ _
       (λ e. let y = eqb-true (tail s l) none e in
       by-test (Of (Swap l)) (eqb l 0) _ _ (λ z. swap-root l (eqb-true l 0 z) y) (λ z. swap-inner l (eqb-false l 0 z) y))
-      (λ e. swap-behind l (eqb-false (tail s l) none e))
+      (λ e. swap-joins l (eqb-false (tail s l) none e))
 
   pub link-branch : (l p : ℕ) → Of (Link l p) (link-row t i l p s)
   unfolding link-row

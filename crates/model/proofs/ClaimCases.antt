@@ -19,7 +19,7 @@ use Rattle.model.specs.WellFormed.{good-tail, queue-on-path, good-place,
 use Rattle.model.specs.Tenures.{finds-none, taken-from, given, starts, checks-at, word-to-grant, tenure-length, domain-entries, domain-tenures, longest-tenure}
 use Rattle.model.specs.Counters.{fresh-counters, fresh-lock, each-with-index, counters-after, good-count, count-above, any-above}
 use Rattle.model.specs.Refusals.{Refusal, refusal, accepted, lowest-bad, first-refusal, bad-domains, bad-threads, bad-parent, too-deep, no-threshold, bad-home, empty-domain, tree-tests, bad-length, bad-entry, bad-room, bad-counter, entry-tests, schedule-tests, room-tests, tree-refusal, step-refusal, run-refusal}
-use Rattle.model.specs.Answers.{fresh-answer, counters-behind, step-reply, step-answer, run-reply, run-buffer, run-answer, trace-answer}
+use Rattle.model.specs.Answers.{fresh-answer, counters-after-run, step-reply, step-answer, run-reply, run-buffer, run-answer, trace-answer}
 use Rattle.model.specs.Laws.{Unread-law}
 use Rattle.model.specs.Calls.{Ask, one-step, a-run, Call, Answer, stepped, ran, state-in, answer-to, answer, ask-refusal, call-refusal, asked-entries, added, answers, joined, Names}
 use Rattle.model.specs.Cases.Marked.{padded, tree, count-up, same-numbers, two-homes}
@@ -63,8 +63,8 @@ unfolding refusal refusal-in answer answer-to call-refusal ask-refusal step-answ
 call-refused c s = by (c .ask)
   where
     by : (a : Ask) → refusal-in (answer-to (c .tree) a s) .number ≡ ask-refusal (tree-of (c .tree)) a s .number
-    by (one-step i) = step-reply-number (step-refusal (tree-of (c .tree)) s i) s (steps (tree-of (c .tree)) (i ∷ []) (s .words)) (counters-behind (tree-of (c .tree)) (i ∷ []) s)
-    by (a-run is b) = run-reply-number (run-refusal (tree-of (c .tree)) s is (length b)) s (run (tree-of (c .tree)) is (s .words)) (counters-behind (tree-of (c .tree)) is s)
+    by (one-step i) = step-reply-number (step-refusal (tree-of (c .tree)) s i) s (steps (tree-of (c .tree)) (i ∷ []) (s .words)) (counters-after-run (tree-of (c .tree)) (i ∷ []) s)
+    by (a-run is b) = run-reply-number (run-refusal (tree-of (c .tree)) s is (length b)) s (run (tree-of (c .tree)) is (s .words)) (counters-after-run (tree-of (c .tree)) is s)
 
 -- each call that is answered with number 0 names the tree
 Names-by : Tree → List Call → List Refusal → Type 0
@@ -89,10 +89,10 @@ joined-same (c ∷ cs) s = rw (call-refused c s, joined-same cs (state-in (answe
 
 -- THE REFUSALS BY WALKS: the answer to a call by its refusal, which is walked
 unfoldable answer-by : TreeWords → Ask → Refusal → LockState → Answer
-answer-by w (one-step i) r s = stepped (step-reply r s (steps (tree-of w) (i ∷ []) (s .words)) (counters-behind (tree-of w) (i ∷ []) s))
+answer-by w (one-step i) r s = stepped (step-reply r s (steps (tree-of w) (i ∷ []) (s .words)) (counters-after-run (tree-of w) (i ∷ []) s))
 answer-by w (a-run is b) r s =
     let x = run (tree-of w) is (s .words) in
-    ran (run-reply r s x (counters-behind (tree-of w) is s)) (run-buffer r b x)
+    ran (run-reply r s x (counters-after-run (tree-of w) is s)) (run-buffer r b x)
 
 unfoldable walked-refusal : Tree → Ask → LockState → Refusal
 walked-refusal t (one-step i) s = counted-refusal t (formed-by-walks t (s .words)) s (entry-tests t (i ∷ [])) (i ∷ [])
@@ -144,7 +144,7 @@ mixed-refusals = accepted ∷ refusal 4 0 ∷ accepted ∷ refusal 12 1 ∷ acce
 
 mixed-walked : walked-refusals mixed-calls fresh-lock ≡ mixed-refusals
 unfolding occurrences ended-in entries-under finds-none taken-from given starts checks-at word-to-grant tenure-length domain-entries domain-tenures
-    longest-tenure fresh-counters each-with-index counters-after count-above any-above bad-counter counters-behind any-below filter-below all-below read-word
+    longest-tenure fresh-counters each-with-index counters-after count-above any-above bad-counter counters-after-run any-below filter-below all-below read-word
     tree-of is-ticket is-child is-leaf depth-from depth level meets on-path child-from child own-record is-record is-member owner-domain under place-of
     is-watch is-idle numbers-at store-numbers fresh-words fresh-state is-kind is-entry prep-row swap-row link-row wait-row leave-row check-row help-row cas-row linger-row grant-row
     draw-row watch-row is-watched shown-members raise-row row step steps state-after how-many entering counts-of run-of run good-tail queue-on-path good-place

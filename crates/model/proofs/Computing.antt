@@ -19,7 +19,7 @@ use Rattle.model.specs.WellFormed.{well-formed}
 use Rattle.model.specs.Counters.{fresh-counters, counters-after, good-counts}
 use Rattle.model.specs.CounterLaws.{Room-left, Room-law}
 use Rattle.model.specs.Refusals.{Refusal, Test, test, lowest-bad, first-refusal, tree-tests, bad-state, bad-counter, entry-tests, schedule-tests, room-tests, counter-tests, step-tests-before-19, step-tests, run-tests-before-19, run-tests, step-refusal, run-refusal}
-use Rattle.model.specs.Answers.{counters-behind, step-reply, step-answer, run-reply, run-buffer, run-answer, trace-answer}
+use Rattle.model.specs.Answers.{counters-after-run, step-reply, step-answer, run-reply, run-buffer, run-answer, trace-answer}
 use Rattle.model.specs.Cases.Marked.{Case, fresh-call, fresh-starts, step-call, step-gives, run-call, trace-room, uncounted, step-holds, step-gave, run-holds, holds, all-hold}
 use Rattle.model.specs.States.{Places-room}
 use Rattle.model.proofs.Tests.{and-both, and-true}
@@ -75,7 +75,7 @@ counted-refusal t b s xs is = first-refusal (tests-by t (b && counts-by-walks t 
 unfoldable pub walked-step : TreeWords → State → (thread : ℕ) → StepReply
 walked-step w s i =
     let t = tree-of w in
-    step-reply (refusal-by t (formed-by-walks t s) (entry-tests t (i ∷ []))) (uncounted s) (steps t (i ∷ []) s) (counters-behind t (i ∷ []) (uncounted s))
+    step-reply (refusal-by t (formed-by-walks t s) (entry-tests t (i ∷ []))) (uncounted s) (steps t (i ∷ []) s) (counters-after-run t (i ∷ []) (uncounted s))
 
 unfoldable pub walked-refusal : TreeWords → State → (schedule : List ℕ) → (room : ℕ) → Refusal
 walked-refusal w s is room = let t = tree-of w in refusal-by t (formed-by-walks t s) (schedule-tests t is ++ room-tests is room)
@@ -141,7 +141,7 @@ unfolding step-answer walked-step step-refusal step-tests bad-state
 same-step w s i h =
     let t = tree-of w in
     rw (last-passes (step-tests-before-19 t (uncounted s) i) (test 19 1 (bad-counter t (uncounted s) (i ∷ []))) (fresh-pass w s (i ∷ []) (omega arith)))
-    (ap (λ b. step-reply (refusal-by t b (entry-tests t (i ∷ []))) (uncounted s) (steps t (i ∷ []) s) (counters-behind t (i ∷ []) (uncounted s))) (fresh-counts w s ∙ same-formed t s h))
+    (ap (λ b. step-reply (refusal-by t b (entry-tests t (i ∷ []))) (uncounted s) (steps t (i ∷ []) s) (counters-after-run t (i ∷ []) (uncounted s))) (fresh-counts w s ∙ same-formed t s h))
 
 pub same-refusal : (w : TreeWords) (s : State) (is : List ℕ) (room : ℕ) → length is ≤ 65536 → Sized s → run-refusal (tree-of w) (uncounted s) is room ≡ walked-refusal w s is room
 unfolding walked-refusal run-refusal run-tests bad-state
@@ -160,7 +160,7 @@ holds-by-walks (run-call w s is x) =
     let b = trace-room is in
     let r = walked-refusal w s is (length b) in
     let y = run (tree-of w) is s in
-    run-holds (run-reply r (uncounted s) y (counters-behind (tree-of w) is (uncounted s))) (run-buffer r b y) (uncounted s) b x
+    run-holds (run-reply r (uncounted s) y (counters-after-run (tree-of w) is (uncounted s))) (run-buffer r b y) (uncounted s) b x
 
 unfoldable pub all-hold-by-walks : List Case → Bool
 all-hold-by-walks [] = true

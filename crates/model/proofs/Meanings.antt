@@ -14,7 +14,7 @@ use Rattle.model.specs.declared.LockState.{LockState}
 use Rattle.model.specs.Trees.{Tree, is-child, is-leaf, on-path, under, allowance}
 use Rattle.model.specs.Answers.{run-reply}
 use Rattle.model.specs.Calls.{Call, added, lock-at, Stretches}
-use Rattle.model.specs.Meanings.{Within, itself, below, Tells-under, Under-law, Largest-child, Allowance-law, Prefix-law, own-entries, Stretches-law, Refused-run-law, Place-law}
+use Rattle.model.specs.Meanings.{Within, itself, below, Reports-under, Under-law, Largest-child, Allowance-law, Prefix-law, own-entries, Stretches-law, Refused-run-law, Place-law}
 use Rattle.model.proofs.Tests.{or-neither, largest-ge}
 use Rattle.model.proofs.Places.{words-fit, place-of-words, words-of-place}
 use Rattle.model.proofs.Trees.Index.{ancestor, height, member-allowance}
@@ -53,8 +53,8 @@ module _ (t : Tree) (valid : Accepted t) (i : ℕ) (h : i < t .threads) where
   unfolding under
   thread-under j s = rw (lt-ltb j 256 s)
 
-  tells-under : Tells-under t i
-  tells-under =
+  reports-under : Reports-under t i
+  reports-under =
       record {
         path = λ d. (path-within d, within-path d);
         under-thread = λ j s. (λ e. eqb-true j i (sym (thread-under j s) ∙ e), λ e. thread-under j s ∙ eq-eqb j i e);
@@ -63,7 +63,7 @@ module _ (t : Tree) (valid : Accepted t) (i : ℕ) (h : i < t .threads) where
 
 pub under-law : Under-law
 unfolding Under-law
-under-law t ok i h = tells-under t (accepted t ok) i h
+under-law t ok i h = reports-under t (accepted t ok) i h
 
 -- ALLOWANCES
 -- among numbers that pass, of which there is one, one has the largest value

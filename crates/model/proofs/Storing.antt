@@ -9,11 +9,11 @@ use lib.ListN.{length, set, drop}
 use lib.Seq.{sets, set-comm, sets-eq}
 
 -- a store after the places that others fill may come first
-pub sets-behind : (l : List ℕ) (i : ℕ) (vs : List ℕ) (j a : ℕ) → i + length vs ≤ j → sets (set l j a) i vs ≡ set (sets l i vs) j a
-sets-behind l i [] j a h = refl
-sets-behind l i (v ∷ vs) j a h =
+pub sets-after : (l : List ℕ) (i : ℕ) (vs : List ℕ) (j a : ℕ) → i + length vs ≤ j → sets (set l j a) i vs ≡ set (sets l i vs) j a
+sets-after l i [] j a h = refl
+sets-after l i (v ∷ vs) j a h =
     let apart : j ≢ i = λ e. omega arith in
-    rw (set-comm l j i a v apart) (sets-behind (set l i v) (suc i) vs j a (omega arith))
+    rw (set-comm l j i a v apart) (sets-after (set l i v) (suc i) vs j a (omega arith))
 
 pub sets-append : (l : List ℕ) (i : ℕ) (xs ys : List ℕ) → sets l i (xs ++ ys) ≡ sets (sets l i xs) (i + length xs) ys
 sets-append l i [] ys = rw add-zero
@@ -23,7 +23,7 @@ sets-append l i (x ∷ xs) ys =
 
 -- the last of several stores may come first
 pub sets-last : (l : List ℕ) (i : ℕ) (xs : List ℕ) (a : ℕ) → sets l i (xs ++ (a ∷ [])) ≡ sets (set l (i + length xs) a) i xs
-sets-last l i xs a = sets-append l i xs (a ∷ []) ∙ sym (sets-behind l i xs (i + length xs) a (omega arith))
+sets-last l i xs a = sets-append l i xs (a ∷ []) ∙ sym (sets-after l i xs (i + length xs) a (omega arith))
 
 -- stores at the front of a buffer
 pub sets-front : (l ws : List ℕ) → length ws ≤ length l → sets l 0 ws ≡ ws ++ drop (length ws) l

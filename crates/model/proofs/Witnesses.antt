@@ -17,7 +17,7 @@ use Rattle.model.specs.Tenures.{finds-none, taken-from, given, starts, c
 use Rattle.model.specs.Counters.{fresh-counters, each-with-index, counters-after, good-count, good-counts, count-above, any-above}
 use Rattle.model.specs.WellFormed.{good-tail, good-next, good-status, queue-on-path, good-place, good-watch, good-thread, good-counters, well-formed}
 use Rattle.model.specs.Refusals.{refusal, accepted, lowest-bad, first-refusal, bad-domains, bad-threads, bad-parent, too-deep, no-threshold, bad-home, empty-domain, tree-tests, bad-state, bad-length, bad-entry, bad-room, bad-counter, step-tests, run-tests, tree-refusal, step-refusal, run-refusal}
-use Rattle.model.specs.Answers.{counters-behind}
+use Rattle.model.specs.Answers.{counters-after-run}
 use Rattle.model.specs.Laws.{All-threads, Form-law}
 use Rattle.model.specs.CounterLaws.{Room-law}
 use Rattle.model.specs.Search.{with-parent, six-levels}
@@ -70,7 +70,7 @@ states-met =
 
 counters-met : Counters-met
 unfolding occurrences ended-in entries-under finds-none taken-from given starts checks-at word-to-grant tenure-length domain-entries domain-tenures
-    longest-tenure fresh-counters each-with-index counters-after good-count good-counts count-above any-above bad-counter counters-behind is-entry any-below
+    longest-tenure fresh-counters each-with-index counters-after good-count good-counts count-above any-above bad-counter counters-after-run is-entry any-below
     all-below filter-below read-word tree-of is-ticket is-child is-leaf depth-from depth level meets on-path child-from child own-record is-record is-member
     owner-domain under place-of is-watch is-idle numbers-at store-numbers fresh-words is-kind prep-row swap-row link-row wait-row leave-row check-row help-row cas-row linger-row grant-row draw-row watch-row is-watched shown-members raise-row row step steps state-after run-of run good-tail good-next good-status
     queue-on-path good-place good-watch good-thread good-counters well-formed refusal accepted lowest-bad first-refusal bad-domains bad-threads bad-parent

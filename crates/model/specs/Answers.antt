@@ -35,8 +35,8 @@ first-domain [] = 0
 first-domain (x ∷ xs) = x .domain
 
 -- the counters after a schedule's steps
-unfoldable pub counters-behind : Tree → (schedule : List ℕ) → LockState → Counters
-counters-behind t is s = counters-after t (s .counters) (steps t is (s .words))
+unfoldable pub counters-after-run : Tree → (schedule : List ℕ) → LockState → Counters
+counters-after-run t is s = counters-after t (s .counters) (steps t is (s .words))
 
 -- an accepted step: its kind, the domain it was at, and the words and counters after it
 abbrev pub step-accepted : LockState → (taken : List Step) → Counters → StepReply
@@ -52,7 +52,7 @@ step-reply r s xs c = cond (eqb (r .number) 0) (step-accepted s xs c) (step-refu
 
 unfoldable pub step-answer : TreeWords → LockState → (thread : ℕ) → StepReply
 step-answer w s i =
-    step-reply (step-refusal (tree-of w) s i) s (steps (tree-of w) (i ∷ []) (s .words)) (counters-behind (tree-of w) (i ∷ []) s)
+    step-reply (step-refusal (tree-of w) s i) s (steps (tree-of w) (i ∷ []) (s .words)) (counters-after-run (tree-of w) (i ∷ []) s)
 
 abbrev pub no-counts : Counts
 no-counts = record { steps = 0; entries = 0; stays = 0; root = 0; passed = 0; crossed = 0 }
@@ -73,7 +73,7 @@ unfoldable pub run-buffer : Refusal → (buffer : List ℕ) → Run → List ℕ
 run-buffer r b x = cond (eqb (r .number) 0) (x .trace ++ drop (length (x .trace)) b) b
 
 unfoldable pub run-answer : TreeWords → LockState → (schedule buffer : List ℕ) → RunReply
-run-answer w s is b = run-reply (run-refusal (tree-of w) s is (length b)) s (run (tree-of w) is (s .words)) (counters-behind (tree-of w) is s)
+run-answer w s is b = run-reply (run-refusal (tree-of w) s is (length b)) s (run (tree-of w) is (s .words)) (counters-after-run (tree-of w) is s)
 
 unfoldable pub trace-answer : TreeWords → LockState → (schedule buffer : List ℕ) → List ℕ
 trace-answer w s is b = run-buffer (run-refusal (tree-of w) s is (length b)) b (run (tree-of w) is (s .words))

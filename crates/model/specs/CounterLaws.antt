@@ -15,7 +15,7 @@ use Rattle.model.specs.Runs.{run}
 use Rattle.model.specs.Tenures.{domain-entries, domain-tenures, longest-tenure}
 use Rattle.model.specs.Counters.{lock-state, fresh-counters, counters-after, most-counted, good-counts}
 use Rattle.model.specs.Refusals.{tree-refusal, bad-counter, step-refusal, run-refusal}
-use Rattle.model.specs.Answers.{counters-behind, step-answer, run-answer, trace-answer}
+use Rattle.model.specs.Answers.{counters-after-run, step-answer, run-answer, trace-answer}
 use Rattle.model.specs.Laws.{All-threads, Sixteen-bit, Formed}
 
 -- 1. COUNTERS ADD UP. Behind some steps the entries and tenures of a domain are those before and what the steps count, the longest is the largest of the one before and the lengths told; no other index moves, and steps after steps add up
@@ -57,7 +57,7 @@ pub record Keeps-counts (t : Tree) : Type 0 where
   pub of-fresh : good-counts t fresh-counters ≡ true
   pub of-run :
       (is : List ℕ) (s : LockState) → All-threads t is → Formed t (s .words) → good-counts t (s .counters) ≡ true →
-      ((p : ℕ) → p < length is → bad-counter t s is p ≡ false) → good-counts t (counters-behind t is s) ≡ true
+      ((p : ℕ) → p < length is → bad-counter t s is p ≡ false) → good-counts t (counters-after-run t is s) ≡ true
 
 unfoldable pub Counter-form-law : Type 0
 Counter-form-law = (t : Tree) → tree-refusal t .number ≡ 0 → Sixteen-bit t → Keeps-counts t
@@ -76,4 +76,4 @@ unfoldable pub Fresh-room-law : Type 0
 Fresh-room-law =
     (t : Tree) → Sixteen-bit t → (start : ℕ) (is js : List ℕ) → length is + length js ≤ most-counted →
     let s = fresh-state t start in
-    (p : ℕ) → p < length js → bad-counter t (lock-state (run t is s .state) (counters-behind t is (lock-state s fresh-counters))) js p ≡ false
+    (p : ℕ) → p < length js → bad-counter t (lock-state (run t is s .state) (counters-after-run t is (lock-state s fresh-counters))) js p ≡ false

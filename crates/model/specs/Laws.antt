@@ -101,7 +101,7 @@ pub data Enters-root (t : Tree) (i : ℕ) (p : Place) : Type 0 where
   by-own-draw : p ≡ Idle → is-ticket t (t .home i) ≡ true → Enters-root t i p
 
 -- a stay changes nothing, and only a stay; an entry arrives Inside; a root entry came from the root, a passed entry from Wait at the home, other than the root, a crossed entry from Wait between home and root; leaving are exactly the steps from Inside
-pub record Tells-kind (t : Tree) (i : ℕ) (s : State) : Type 0 where
+pub record Reports-kind (t : Tree) (i : ℕ) (s : State) : Type 0 where
   pub stays-exactly : (step t i s .kind ≡ stay) ⟺ (step t i s .state ≡ s)
   pub enters-exactly : (is-entry (step t i s .kind) ≡ true) ⟺ ((place (step t i s .state) i ≡ Inside) × (place s i ≢ Inside))
   pub root-exactly :
@@ -116,16 +116,16 @@ pub record Tells-kind (t : Tree) (i : ℕ) (s : State) : Type 0 where
   pub leaving-exactly : (step t i s .kind ≡ leaving) ⟺ (place s i ≡ Inside)
 
 unfoldable pub Kind-law : Type 0
-Kind-law = (t : Tree) (i : ℕ) (s : State) → tree-refusal t .number ≡ 0 → i < t .threads → Formed t s → Tells-kind t i s
+Kind-law = (t : Tree) (i : ℕ) (s : State) → tree-refusal t .number ≡ 0 → i < t .threads → Formed t s → Reports-kind t i s
 
 -- the domain that a step was at: home for Idle and leaving, else the domain that its place names; in every well-formed state one of its path
-pub record Tells-domain (t : Tree) (i : ℕ) (s : State) : Type 0 where
+pub record Reports-domain (t : Tree) (i : ℕ) (s : State) : Type 0 where
   pub at-home : (place s i ≡ Idle) ⊎ (place s i ≡ Inside) → step t i s .domain ≡ t .home i
   pub at-place : place s i ≢ Idle → place s i ≢ Inside → step t i s .domain ≡ numbers-at (s .places) i .domain
   pub path : on-path t i (step t i s .domain) ≡ true
 
 unfoldable pub Domain-law : Type 0
-Domain-law = (t : Tree) (i : ℕ) (s : State) → tree-refusal t .number ≡ 0 → i < t .threads → Formed t s → Tells-domain t i s
+Domain-law = (t : Tree) (i : ℕ) (s : State) → tree-refusal t .number ≡ 0 → i < t .threads → Formed t s → Reports-domain t i s
 
 -- an accepted step says the kind and the domain of the step table's step; a run's counts are those of the kinds that single calls say, each on the state that the one before returned
 unfoldable pub answered-kinds : TreeWords → (schedule : List ℕ) → LockState → List ℕ

@@ -26,13 +26,13 @@ pub data Within (t : Tree) (other : ℕ) : (domain : ℕ) → Type 0 where
   below : (d : ℕ) → d ≢ 0 → Within t other (t .parent d) → Within t other d
 
 -- a domain is on a thread's path if the thread's home is it or lies below it; under a thread is that thread, under a domain each thread whose home is it or lies below it
-pub record Tells-under (t : Tree) (i : ℕ) : Type 0 where
+pub record Reports-under (t : Tree) (i : ℕ) : Type 0 where
   pub path : (d : ℕ) → (on-path t i d ≡ true) ⟺ Within t d (t .home i)
   pub under-thread : (j : ℕ) → j < 256 → (under t j i ≡ true) ⟺ (j ≡ i)
   pub under-domain : (d : ℕ) → (under t (256 + d) i ≡ true) ⟺ Within t d (t .home i)
 
 unfoldable pub Under-law : Type 0
-Under-law = (t : Tree) → tree-refusal t .number ≡ 0 → (i : ℕ) → i < t .threads → Tells-under t i
+Under-law = (t : Tree) → tree-refusal t .number ≡ 0 → (i : ℕ) → i < t .threads → Reports-under t i
 
 -- ALLOWANCES. A child domain whose allowance is the largest
 pub record Largest-child (t : Tree) (d : ℕ) : Type 0 where

@@ -15,14 +15,14 @@ use Rattle.model.specs.Places.{words-of, place-of}
 use Rattle.model.specs.States.{acquire-parent, wait-word, locked, tail, status, place, store-numbers, Has-room}
 use Rattle.model.specs.Steps.{Kind, passed-entry, crossed-entry, Row-result, enters, acquire-place}
 use Rattle.model.proofs.Branches as branches
-use Rattle.model.proofs.Branches.{stood-behind, Branch, prepares, swap-root, swap-inner, swap-behind, link-writes, wait-root-locked, wait-root-granted, wait-ungranted, wait-acquires, wait-passed, wait-crossed, below-root}
+use Rattle.model.proofs.Branches.{stood-after, Branch, prepares, swap-root, swap-inner, swap-joins, link-writes, wait-root-locked, wait-root-granted, wait-ungranted, wait-acquires, wait-passed, wait-crossed, below-root}
 use Rattle.model.proofs.Trees.Index.{ancestor, height, record-at}
 use Rattle.model.proofs.Trees.Accepted.{Accepted}
 use Rattle.model.proofs.Trees.Tickets.{ticket-facts}
 use Rattle.model.proofs.Trees.Paths.{ancestor-not-root, ancestor-parent-of}
 use Rattle.model.proofs.Trees.Records.{own-record-at}
 use Rattle.model.proofs.Places.{place-stored, numbers-other}
-use Rattle.paper_listing.specs.Calls.{After, goes, Control, control, behind-17, acquire-real, outside, critical, line-7, line-9, line-11, line-13, line-66, line-67, line-71, line-72, ticket-lock, line-90}
+use Rattle.paper_listing.specs.Calls.{After, goes, Control, control, after-17, acquire-real, outside, critical, line-7, line-9, line-11, line-13, line-66, line-67, line-71, line-72, ticket-lock, line-90}
 use Rattle.paper_listing.specs.Agreement.{entry, memory-of}
 use Rattle.paper_listing.proofs.Entries.{idle-elsewhere, idle-root, prep-elsewhere, prep-root, swap-none, swap-some, swap-root-none, swap-root-some, link-elsewhere, link-root, wait-stays, wait-enters, wait-climbs, wait-root-stays, wait-root-enters}
 use Rattle.paper_listing.proofs.Stacks.{acquire-back, acquire-callers, acquire-stack, acquired, at-root, Corresponds, c-prep, c-swap, c-link, c-wait, c-inside, c-draw}
@@ -68,7 +68,7 @@ module _ (t : Tree) (valid : Accepted t) (i : ℕ) (h : i < t .threads) (s : Sta
 
   -- the call of AcquireReal at the parent
   climb-control : (k : ℕ) → k < height t i →
-      Corresponds t i (acquire-real t (ancestor t i (suc k)) (256 + ancestor t i k) behind-17 (acquire-stack t i k)) (acquire-place t (ancestor t i (suc k)))
+      Corresponds t i (acquire-real t (ancestor t i (suc k)) (256 + ancestor t i k) after-17 (acquire-stack t i k)) (acquire-place t (ancestor t i (suc k)))
   unfolding acquire-real acquire-back acquire-callers record-at
   climb-control k b = either _ refl
     where
@@ -111,17 +111,17 @@ module _ (t : Tree) (valid : Accepted t) (i : ℕ) (h : i < t .threads) (s : Sta
       (together (goes line-9 (acquire-stack t i 0) _) (Swap (t .home i)) (idle-elsewhere t i (memory-of s) n e) refl (moved refl) (rw e at c))
 
   -- SWAP, after another: at the root and elsewhere
-  behind-together :
+  after-together :
       (k : ℕ) → k ≤ height t i → eqb (tail s (ancestor t i k)) 0 ≡ false → (b : Bool) → eqb (ancestor t i k) 0 ≡ b →
-      Together t i s (stood-behind t i s (ancestor t i k)) (entry t i (standing (control (cond b line-67 line-9) (acquire-stack t i k)) s))
+      Together t i s (stood-after t i s (ancestor t i k)) (entry t i (standing (control (cond b line-67 line-9) (acquire-stack t i k)) s))
   unfolding memory-of
-  behind-together k l e true z =
+  after-together k l e true z =
       let p = tail s (ancestor t i k) - 1 in
       rw (own-record-at t valid i h k l)
       (together (goes (line-71 p) (acquire-stack t i k) _) (Link (ancestor t i k) p)
       (swap-root-some t i (ancestor t i k) (record-at t i k) (acquire-back k) (acquire-callers t i k) (memory-of s) e) refl
       (moved refl) (rw z at (link-control k p l)))
-  behind-together k l e false z =
+  after-together k l e false z =
       let p = tail s (ancestor t i k) - 1 in
       rw (own-record-at t valid i h k l)
       (together (goes (line-11 p) (acquire-stack t i k) _) (Link (ancestor t i k) p)
@@ -140,10 +140,10 @@ module _ (t : Tree) (valid : Accepted t) (i : ℕ) (h : i < t .threads) (s : Sta
   swap-together k l (swap-inner _ z y) =
       let b = ancestor-not-root t valid i h k l (omega (arith, z)) in
       rw (own-record-at t valid i h k l, ne-eqb (ancestor t i k) 0 z, ancestor-parent-of t valid i h k b)
-      (together (record { thread = acquire-real t (ancestor t i (suc k)) (256 + ancestor t i k) behind-17 (acquire-stack t i k); memory = _ }) (acquire-place t (ancestor t i (suc k)))
+      (together (record { thread = acquire-real t (ancestor t i (suc k)) (256 + ancestor t i k) after-17 (acquire-stack t i k); memory = _ }) (acquire-place t (ancestor t i (suc k)))
       (rw (ancestor-parent-of t valid i h k b) at (swap-none t i (ancestor t i k) (record-at t i k) (acquire-back k) (acquire-callers t i k) (memory-of s) (eq-eqb (tail s (ancestor t i k)) 0 y))) refl
       (moved refl) (climb-control k b))
-  swap-together k l (swap-behind _ y) = behind-together k l (ne-eqb (tail s (ancestor t i k)) 0 y) _ refl
+  swap-together k l (swap-joins _ y) = after-together k l (ne-eqb (tail s (ancestor t i k)) 0 y) _ refl
 
   -- LINK
   link-by :
@@ -204,7 +204,7 @@ module _ (t : Tree) (valid : Accepted t) (i : ℕ) (h : i < t .threads) (s : Sta
       let v = status s (record-at t i k) in
       let y′ : v ≡ acquire-parent = rw (own-record-at t valid i h k l) at y in
       rw (own-record-at t valid i h k l, ne-eqb (ancestor t i k) 0 z, ancestor-parent-of t valid i h k b)
-      (together (record { thread = acquire-real t (ancestor t i (suc k)) (256 + ancestor t i k) behind-17 (acquire-stack t i k); memory = _ }) (acquire-place t (ancestor t i (suc k)))
+      (together (record { thread = acquire-real t (ancestor t i (suc k)) (256 + ancestor t i k) after-17 (acquire-stack t i k); memory = _ }) (acquire-place t (ancestor t i (suc k)))
       (rw (ancestor-parent-of t valid i h k b) at (wait-climbs t i (ancestor t i k) (record-at t i k) (acquire-back k) (acquire-callers t i k) (memory-of s) (ne-eqb v wait-word (λ f. omega arith)) (le-ltb v acquire-parent (omega arith)))) refl
       (moved refl) (climb-control k b))
   wait-together k l q w (wait-passed _ z n o _) =

@@ -27,10 +27,10 @@ use Rattle.model.proofs.Trees.Paths.{ancestor-not-root}
 use Rattle.model.proofs.Laws.Facts.{well-formed-facts}
 use Rattle.model.proofs.Laws.Form.{form-law}
 use Rattle.model.proofs.Places.{fresh-idle}
-use Rattle.claims.proofs.Claims.Calls.{run-behind, run-one}
+use Rattle.claims.proofs.Claims.Calls.{run-after, run-one}
 use Rattle.claims.proofs.Claims.Equality.{same-by-equality, equality-law}
 use Rattle.claims.proofs.Claims.Reached.{threads-join}
-use Rattle.paper_listing.specs.Calls.{behind-17, Frame, Control, control, outside, line-7, line-9, line-11, line-13, line-25, line-37, line-53, line-55, line-57, line-58, line-59, line-66, line-67, line-71, line-72, ticket-lock, line-90, line-91-again}
+use Rattle.paper_listing.specs.Calls.{after-17, Frame, Control, control, outside, line-7, line-9, line-11, line-13, line-25, line-37, line-53, line-55, line-57, line-58, line-59, line-66, line-67, line-71, line-72, ticket-lock, line-90, line-91-again}
 use Rattle.paper_listing.specs.Listing.{top-domain, top-back}
 use Rattle.paper_listing.specs.Agreement.{called-place, ticket-place, place-at, place-of-control, entry, Threads, at-first, turn, turns, memory-of, Stands-at, at-idle, at-prep, at-swap, at-link, at-wait, at-inside, at-check, at-37, at-help, at-cas, at-linger, at-55, at-59, at-draw, at-watch, at-raise, Same-test, Entry-law, Listing-agrees}
 use Rattle.paper_listing.proofs.Stacks.{Release-stack, acquire-back, acquire-stack, top-domain-at, helper-stack, Corresponds, c-idle, c-prep, c-swap, c-link, c-wait, c-inside, c-check, c-pass, c-help, c-cas, c-linger, c-55, c-59, c-draw, c-watch, c-raise}
@@ -142,7 +142,7 @@ unfolding place-of-control place-at called-place ticket-place top-domain top-bac
 corresponding c-idle = refl
 corresponding {t} {i} (c-prep k l) = either (eqb (ancestor t i (suc k)) 0)
   where
-    either : (b : Bool) → place-at (cond b line-66 line-7) (ancestor t i (suc k)) behind-17 ≡ Prep (ancestor t i (suc k))
+    either : (b : Bool) → place-at (cond b line-66 line-7) (ancestor t i (suc k)) after-17 ≡ Prep (ancestor t i (suc k))
     either true = refl
     either false = refl
 corresponding {t} {i} (c-swap k l) = either (eqb (ancestor t i k) 0)
@@ -266,7 +266,7 @@ module _ (t : Tree) (bits : Sixteen-bit t) (ok : tree-refusal t .number ≡ 0) (
   along [] pre all l x y = rw (append-nil pre) y
   along (i ∷ is) pre all l x y =
       let one = one-turn pre all i (l .0) x y in
-      let next : Together-all t (turn t i x) (run t (pre ++ (i ∷ [])) (fresh-state t start) .state) = rw (run-behind t (fresh-state t start) pre (i ∷ []) [], run-one t i (run t pre (fresh-state t start) .state)) one in
+      let next : Together-all t (turn t i x) (run t (pre ++ (i ∷ [])) (fresh-state t start) .state) = rw (run-after t (fresh-state t start) pre (i ∷ []) [], run-one t i (run t pre (fresh-state t start) .state)) one in
       rw (append-assoc pre (i ∷ []) is) at (along is (pre ++ (i ∷ [])) (threads-join t pre (i ∷ []) all (l .0, tt)) (l .1) (turn t i x) next)
 
 pub listing-agrees : Listing-agrees

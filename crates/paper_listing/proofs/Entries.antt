@@ -6,7 +6,7 @@ use Prim.Native.Nat.{ℕ, suc, _+_, _-_}
 use lib.Dec.{eqb, ltb}
 use Rattle.model.specs.Trees.{Tree, is-ticket}
 use Rattle.model.specs.States.{cohort-start, acquire-parent, wait-word, unlocked, locked, none}
-use Rattle.paper_listing.specs.Calls.{Memory, lock-at, status-at, store-lock, store-next, store-status, Return, from-acquire, behind-17, Frame, frame, outside, critical, line-7, line-9, line-10, line-11, line-13, line-14, line-16, line-17, line-66, line-67, line-68, line-69, line-71, line-72, ticket-lock, line-90, Control, control, After, goes, acquire-real, returns}
+use Rattle.paper_listing.specs.Calls.{Memory, lock-at, status-at, store-lock, store-next, store-status, Return, from-acquire, after-17, Frame, frame, outside, critical, line-7, line-9, line-10, line-11, line-13, line-14, line-16, line-17, line-66, line-67, line-68, line-69, line-71, line-72, ticket-lock, line-90, Control, control, After, goes, acquire-real, returns}
 use Rattle.paper_listing.specs.Listing.{line, top-domain, top-node, top-back, next-line}
 use Rattle.paper_listing.specs.Agreement.{called-place, ticket-place, place-at, place-of-control, is-place, settle, entry}
 
@@ -51,11 +51,11 @@ module _ (t : Tree) (i : ℕ) where
     all = frame l r b ∷ fs
 
     -- the end of a call: it stands, or goes on at line 31 or 43
-    call-stands : (d n : ℕ) (callers : List Frame) → Stands (acquire-real t d n behind-17 callers)
+    call-stands : (d n : ℕ) (callers : List Frame) → Stands (acquire-real t d n after-17 callers)
     unfolding acquire-real place-of-control place-at called-place ticket-place is-place top-domain top-back
     call-stands d n callers = by (is-ticket t d) (eqb d 0)
       where
-        by : (c e : Bool) → is-place (place-at (cond c (ticket-lock line-90) (cond e line-66 line-7)) d behind-17) ≡ true
+        by : (c e : Bool) → is-place (place-at (cond c (ticket-lock line-90) (cond e line-66 line-7)) d after-17) ≡ true
         by true e = refl
         by false true = refl
         by false false = refl
@@ -72,14 +72,14 @@ module _ (t : Tree) (i : ℕ) where
     -- SWAP
     pub swap-none :
         eqb (lock-at m l) 0 ≡ true →
-        entry t i (goes line-9 all m) ≡ record { thread = acquire-real t (t .parent l) (256 + l) behind-17 all; memory = store-status r cohort-start (store-lock l (r + 1) m) }
+        entry t i (goes line-9 all m) ≡ record { thread = acquire-real t (t .parent l) (256 + l) after-17 all; memory = store-status r cohort-start (store-lock l (r + 1) m) }
     unfolding next-line line top-domain top-node place-of-control place-at is-place
     swap-none e =
         let m₁ = store-lock l (r + 1) m in
         begins (goes line-9 all m) (goes (line-10 (lock-at m l)) all m₁) refl
         ∙ through 7 (goes (line-10 (lock-at m l)) all m₁) (goes line-16 all m₁) refl (rw e)
         ∙ through 6 (goes line-16 all m₁) (goes line-17 all (store-status r cohort-start m₁)) refl refl
-        ∙ through 5 (goes line-17 all (store-status r cohort-start m₁)) (record { thread = acquire-real t (t .parent l) (256 + l) behind-17 all; memory = store-status r cohort-start m₁ }) refl refl
+        ∙ through 5 (goes line-17 all (store-status r cohort-start m₁)) (record { thread = acquire-real t (t .parent l) (256 + l) after-17 all; memory = store-status r cohort-start m₁ }) refl refl
         ∙ there 4 _ (call-stands (t .parent l) (256 + l) all)
 
     pub swap-some : eqb (lock-at m l) 0 ≡ false → entry t i (goes line-9 all m) ≡ goes (line-11 (lock-at m l - 1)) all (store-lock l (r + 1) m)
@@ -134,13 +134,13 @@ module _ (t : Tree) (i : ℕ) where
 
     pub wait-climbs :
         eqb (status-at m r) wait-word ≡ false → ltb (status-at m r) acquire-parent ≡ false →
-        entry t i (goes line-13 all m) ≡ record { thread = acquire-real t (t .parent l) (256 + l) behind-17 all; memory = store-status r cohort-start m }
+        entry t i (goes line-13 all m) ≡ record { thread = acquire-real t (t .parent l) (256 + l) after-17 all; memory = store-status r cohort-start m }
     unfolding next-line line top-domain top-node place-of-control place-at is-place
     wait-climbs e f =
         begins (goes line-13 all m) (goes (line-14 (status-at m r)) all m) (rw e)
         ∙ through 7 (goes (line-14 (status-at m r)) all m) (goes line-16 all m) refl (rw f)
         ∙ through 6 (goes line-16 all m) (goes line-17 all (store-status r cohort-start m)) refl refl
-        ∙ through 5 (goes line-17 all (store-status r cohort-start m)) (record { thread = acquire-real t (t .parent l) (256 + l) behind-17 all; memory = store-status r cohort-start m }) refl refl
+        ∙ through 5 (goes line-17 all (store-status r cohort-start m)) (record { thread = acquire-real t (t .parent l) (256 + l) after-17 all; memory = store-status r cohort-start m }) refl refl
         ∙ there 4 _ (call-stands (t .parent l) (256 + l) all)
 
     pub wait-root-stays : eqb (status-at m r) locked ≡ true → entry t i (goes line-72 all m) ≡ goes line-72 all m

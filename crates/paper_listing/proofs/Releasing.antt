@@ -19,7 +19,7 @@ use Rattle.model.proofs.Trees.Tickets.{ticket-facts}
 use Rattle.model.proofs.Trees.Paths.{ancestor-parent-of, ancestor-not-root}
 use Rattle.model.proofs.Trees.Records.{own-record-at}
 use Rattle.claims.proofs.Words.Releasing.{done-at, done-place-at}
-use Rattle.paper_listing.specs.Calls.{store-lock, store-status, Return, from-release, behind-29, behind-41, behind-82, Frame, frame, critical, line-25, line-37, line-53, line-55, line-57, line-58, line-59, ticket-lock, line-92, control, goes, returns}
+use Rattle.paper_listing.specs.Calls.{store-lock, store-status, Return, from-release, after-29, after-41, after-82, Frame, frame, critical, line-25, line-37, line-53, line-55, line-57, line-58, line-59, ticket-lock, line-92, control, goes, returns}
 use Rattle.paper_listing.specs.Listing.{line, next-line, top-domain, top-node}
 use Rattle.paper_listing.specs.Agreement.{entry, memory-of}
 use Rattle.paper_listing.proofs.Stacks.{Release-stack, at-home, by-29, by-41, shaped, Helper-back, of-82, helper-stack, helper-returns, Corresponds, c-check, c-pass, c-help, c-cas, c-linger, c-55, c-59, c-raise}
@@ -33,12 +33,12 @@ module _ (t : Tree) (valid : Accepted t) (i : ℕ) (h : i < t .threads) (s : Sta
       (k : ℕ) (b : Return) (fs : List Frame) → k ≤ height t i → Release-stack t i k (frame (ancestor t i k) (record-at t i k) b ∷ fs) → (a c : Bool) → is-ticket t (ancestor t i k) ≡ a → eqb (ancestor t i k) 0 ≡ c →
       Corresponds t i
       (cond a (control (ticket-lock line-92) (frame (ancestor t i k) (record-at t i k) b ∷ fs))
-      (cond c (control (line-53 unlocked) (frame (ancestor t i k) (record-at t i k) behind-82 ∷ frame (ancestor t i k) (record-at t i k) b ∷ fs))
+      (cond c (control (line-53 unlocked) (frame (ancestor t i k) (record-at t i k) after-82 ∷ frame (ancestor t i k) (record-at t i k) b ∷ fs))
       (control line-25 (frame (ancestor t i k) (record-at t i k) b ∷ fs))))
       (cond a Raise (cond c (Help (ancestor t i k)) (Check (ancestor t i k))))
   released k b fs l x true c n e = c-raise k (frame (ancestor t i k) (record-at t i k) b ∷ fs) l (ticket-facts t (ancestor t i k) n .1) x
   released k b fs l x false true n e =
-      let c : Corresponds t i (control (line-53 (cond (eqb (ancestor t i k) 0) 0 _)) _) (Help (ancestor t i k)) = c-help k behind-82 (frame (ancestor t i k) (record-at t i k) b ∷ fs) l x of-82 in
+      let c : Corresponds t i (control (line-53 (cond (eqb (ancestor t i k) 0) 0 _)) _) (Help (ancestor t i k)) = c-help k after-82 (frame (ancestor t i k) (record-at t i k) b ∷ fs) l x of-82 in
       rw e at c
   released k b fs l x false false n e = c-check k (frame (ancestor t i k) (record-at t i k) b ∷ fs) (ancestor-not-root t valid i h k l (omega (arith, eqb-false (ancestor t i k) 0 e))) x
 
@@ -66,8 +66,8 @@ module _ (t : Tree) (valid : Accepted t) (i : ℕ) (h : i < t .threads) (s : Sta
         let p = release-place t (ancestor t i (suc k)) in
         let same = check-reached t i L R back fs (memory-of s) e in
         rw (own-record-at t valid i h k (omega arith), e, ancestor-parent-of t valid i h k b)
-        (together t valid i h s room (record { thread = released-at t (ancestor t i (suc k)) (256 + L) behind-29 (frame L R back ∷ fs); memory = memory-of s }) p
-        (rw (ancestor-parent-of t valid i h k b) at same) refl (moved refl) (next-call behind-29 (by-29 k (frame L R back ∷ fs) x)))
+        (together t valid i h s room (record { thread = released-at t (ancestor t i (suc k)) (256 + L) after-29 (frame L R back ∷ fs); memory = memory-of s }) p
+        (rw (ancestor-parent-of t valid i h k b) at same) refl (moved refl) (next-call after-29 (by-29 k (frame L R back ∷ fs) x)))
       where
         next-call : (a : Return) → Release-stack t i (suc k) (frame (ancestor t i (suc k)) (record-at t i (suc k)) a ∷ frame L R back ∷ fs) →
             Corresponds t i (released-at t (ancestor t i (suc k)) (256 + L) a (frame L R back ∷ fs)) (release-place t (ancestor t i (suc k)))
@@ -76,8 +76,8 @@ module _ (t : Tree) (valid : Accepted t) (i : ℕ) (h : i < t .threads) (s : Sta
         let p = release-place t (ancestor t i (suc k)) in
         let same = check-alone t i L R back fs (memory-of s) e f in
         rw (own-record-at t valid i h k (omega arith), e, f, ancestor-parent-of t valid i h k b)
-        (together t valid i h s room (record { thread = released-at t (ancestor t i (suc k)) (256 + L) behind-41 (frame L R back ∷ fs); memory = memory-of s }) p
-        (rw (ancestor-parent-of t valid i h k b) at same) refl (moved refl) (next-call behind-41 (by-41 k (frame L R back ∷ fs) x)))
+        (together t valid i h s room (record { thread = released-at t (ancestor t i (suc k)) (256 + L) after-41 (frame L R back ∷ fs); memory = memory-of s }) p
+        (rw (ancestor-parent-of t valid i h k b) at same) refl (moved refl) (next-call after-41 (by-41 k (frame L R back ∷ fs) x)))
       where
         next-call : (a : Return) → Release-stack t i (suc k) (frame (ancestor t i (suc k)) (record-at t i (suc k)) a ∷ frame L R back ∷ fs) →
             Corresponds t i (released-at t (ancestor t i (suc k)) (256 + L) a (frame L R back ∷ fs)) (release-place t (ancestor t i (suc k)))

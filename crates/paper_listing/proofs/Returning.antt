@@ -13,7 +13,7 @@ use Rattle.model.proofs.Trees.Index.{ancestor, height, record-at}
 use Rattle.model.proofs.Trees.Accepted.{Accepted}
 use Rattle.model.proofs.Trees.Paths.{ancestor-inner}
 use Rattle.claims.proofs.Words.Releasing.{done-at}
-use Rattle.paper_listing.specs.Calls.{Memory, lock-at, next-at, status-at, Return, from-release, behind-29, behind-31, behind-41, behind-43, behind-82, Frame, frame, critical, line-25, line-27, line-29, line-31, line-35, line-36, line-37, line-41, line-43, line-53, line-54, line-55, line-57, line-58, line-59, line-82, ticket-lock, line-92, Control, control, After, goes, release-real, release-helper, goes-back, returns}
+use Rattle.paper_listing.specs.Calls.{Memory, lock-at, next-at, status-at, Return, from-release, after-29, after-31, after-41, after-43, after-82, Frame, frame, critical, line-25, line-27, line-29, line-31, line-35, line-36, line-37, line-41, line-43, line-53, line-54, line-55, line-57, line-58, line-59, line-82, ticket-lock, line-92, Control, control, After, goes, release-real, release-helper, goes-back, returns}
 use Rattle.paper_listing.specs.Listing.{line, top-domain, top-node, next-line}
 use Rattle.paper_listing.specs.Agreement.{ticket-place, place-at, place-of-control, is-place, settle, entry}
 use Rattle.paper_listing.proofs.Stacks.{Release-stack, at-home, by-29, by-41, top-domain-at, top-node-at, of-31, of-43, Corresponds, c-idle, c-help}
@@ -23,7 +23,7 @@ use Rattle.paper_listing.proofs.Entries.{through, there, begins}
 abbrev pub released-at : Tree → (domain node : ℕ) → Return → List Frame → Control
 released-at t d n b fs =
     cond (is-ticket t d) (control (ticket-lock line-92) (frame d n b ∷ fs))
-    (cond (eqb d 0) (control (line-53 unlocked) (frame d n behind-82 ∷ frame d n b ∷ fs)) (control line-25 (frame d n b ∷ fs)))
+    (cond (eqb d 0) (control (line-53 unlocked) (frame d n after-82 ∷ frame d n b ∷ fs)) (control line-25 (frame d n b ∷ fs)))
 
 module _ (t : Tree) (i : ℕ) where
   call-by :
@@ -32,13 +32,13 @@ module _ (t : Tree) (i : ℕ) where
       ≡ record {
         thread =
             cond a (control (ticket-lock line-92) (frame d r b ∷ fs))
-            (cond c (control (line-53 unlocked) (frame d r behind-82 ∷ frame d r b ∷ fs)) (control line-25 (frame d r b ∷ fs)));
+            (cond c (control (line-53 unlocked) (frame d r after-82 ∷ frame d r b ∷ fs)) (control line-25 (frame d r b ∷ fs)));
         memory = m;
       }
   unfolding next-line line release-helper top-domain top-node place-of-control place-at ticket-place is-place
   call-by n d r b fs m true c = there t i (suc n) (goes (ticket-lock line-92) (frame d r b ∷ fs) m) refl
   call-by n d r b fs m false true =
-      through t i (suc n) (goes line-82 (frame d r b ∷ fs) m) (goes (line-53 unlocked) (frame d r behind-82 ∷ frame d r b ∷ fs) m) refl refl ∙ there t i n _ refl
+      through t i (suc n) (goes line-82 (frame d r b ∷ fs) m) (goes (line-53 unlocked) (frame d r after-82 ∷ frame d r b ∷ fs) m) refl refl ∙ there t i n _ refl
   call-by n d r b fs m false false = there t i (suc n) (goes line-25 (frame d r b ∷ fs) m) refl
 
   release-called :
@@ -61,18 +61,18 @@ module _ (t : Tree) (i : ℕ) where
     -- CHECK
     pub check-reached :
         eqb (status-at m r) (t .threshold l) ≡ true →
-        entry t i (goes line-25 all m) ≡ record { thread = released-at t (t .parent l) (256 + l) behind-29 all; memory = m }
+        entry t i (goes line-25 all m) ≡ record { thread = released-at t (t .parent l) (256 + l) after-29 all; memory = m }
     unfolding next-line line top-domain top-node place-of-control place-at is-place
     check-reached e =
         let v = status-at m r in
         begins t i (goes line-25 all m) (goes (line-27 v) all m) refl
         ∙ through t i 7 (goes (line-27 v) all m) (goes line-29 all m) refl (rw e)
-        ∙ through t i 6 (goes line-29 all m) (record { thread = release-real t (t .parent l) (256 + l) behind-29 all; memory = m }) refl refl
-        ∙ release-called 4 (t .parent l) (256 + l) behind-29 all m
+        ∙ through t i 6 (goes line-29 all m) (record { thread = release-real t (t .parent l) (256 + l) after-29 all; memory = m }) refl refl
+        ∙ release-called 4 (t .parent l) (256 + l) after-29 all m
 
     pub check-alone :
         eqb (status-at m r) (t .threshold l) ≡ false → eqb (next-at m r) 0 ≡ true →
-        entry t i (goes line-25 all m) ≡ record { thread = released-at t (t .parent l) (256 + l) behind-41 all; memory = m }
+        entry t i (goes line-25 all m) ≡ record { thread = released-at t (t .parent l) (256 + l) after-41 all; memory = m }
     unfolding next-line line top-domain top-node place-of-control place-at is-place
     check-alone e f =
         let v = status-at m r in
@@ -81,8 +81,8 @@ module _ (t : Tree) (i : ℕ) where
         ∙ through t i 7 (goes (line-27 v) all m) (goes (line-35 v) all m) refl (rw e)
         ∙ through t i 6 (goes (line-35 v) all m) (goes (line-36 v n) all m) refl refl
         ∙ through t i 5 (goes (line-36 v n) all m) (goes line-41 all m) refl (rw f)
-        ∙ through t i 4 (goes line-41 all m) (record { thread = release-real t (t .parent l) (256 + l) behind-41 all; memory = m }) refl refl
-        ∙ release-called 2 (t .parent l) (256 + l) behind-41 all m
+        ∙ through t i 4 (goes line-41 all m) (record { thread = release-real t (t .parent l) (256 + l) after-41 all; memory = m }) refl refl
+        ∙ release-called 2 (t .parent l) (256 + l) after-41 all m
 
     pub check-passes :
         eqb (status-at m r) (t .threshold l) ≡ false → eqb (next-at m r) 0 ≡ false →
@@ -138,16 +138,16 @@ module _ (t : Tree) (i : ℕ) where
     ended k fs m l (by-29 k′ fs′ x) =
         let w = lower-word k′ l in
         record {
-          thread = control (line-53 (release-word (ancestor t i k′))) (frame (ancestor t i k′) (record-at t i k′) behind-31 ∷ fs′);
-          same = through t i 7 (goes line-31 fs′ m) (goes (line-53 acquire-parent) (frame (ancestor t i k′) (record-at t i k′) behind-31 ∷ fs′) m) refl
+          thread = control (line-53 (release-word (ancestor t i k′))) (frame (ancestor t i k′) (record-at t i k′) after-31 ∷ fs′);
+          same = through t i 7 (goes line-31 fs′ m) (goes (line-53 acquire-parent) (frame (ancestor t i k′) (record-at t i k′) after-31 ∷ fs′) m) refl
               (rw (top-domain-at x, top-node-at x)) ∙ there t i 6 _ refl ∙ rw w;
-          corresponds = c-help k′ behind-31 fs′ (omega arith) x of-31;
+          corresponds = c-help k′ after-31 fs′ (omega arith) x of-31;
         }
     ended k fs m l (by-41 k′ fs′ x) =
         let w = lower-word k′ l in
         record {
-          thread = control (line-53 (release-word (ancestor t i k′))) (frame (ancestor t i k′) (record-at t i k′) behind-43 ∷ fs′);
-          same = through t i 7 (goes line-43 fs′ m) (goes (line-53 acquire-parent) (frame (ancestor t i k′) (record-at t i k′) behind-43 ∷ fs′) m) refl
+          thread = control (line-53 (release-word (ancestor t i k′))) (frame (ancestor t i k′) (record-at t i k′) after-43 ∷ fs′);
+          same = through t i 7 (goes line-43 fs′ m) (goes (line-53 acquire-parent) (frame (ancestor t i k′) (record-at t i k′) after-43 ∷ fs′) m) refl
               (rw (top-domain-at x, top-node-at x)) ∙ there t i 6 _ refl ∙ rw w;
-          corresponds = c-help k′ behind-43 fs′ (omega arith) x of-43;
+          corresponds = c-help k′ after-43 fs′ (omega arith) x of-43;
         }

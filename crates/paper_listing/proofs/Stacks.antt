@@ -9,13 +9,13 @@ use Rattle.model.specs.declared.Place.the-variants.{Idle, Prep, Swap, Link, Wai
 use Rattle.model.specs.Trees.{Tree}
 use Rattle.model.specs.Steps.{release-word}
 use Rattle.model.proofs.Trees.Index.{ancestor, height, record-at}
-use Rattle.paper_listing.specs.Calls.{Return, from-acquire, from-release, behind-17, behind-29, behind-31, behind-41, behind-43, behind-82, Frame, frame, Point, outside, critical, line-7, line-9, line-11, line-13, line-25, line-37, line-53, line-55, line-57, line-58, line-59, line-66, line-67, line-71, line-72, ticket-lock, line-90, line-91-again, line-92, Control, control, goes-back, returns}
+use Rattle.paper_listing.specs.Calls.{Return, from-acquire, from-release, after-17, after-29, after-31, after-41, after-43, after-82, Frame, frame, Point, outside, critical, line-7, line-9, line-11, line-13, line-25, line-37, line-53, line-55, line-57, line-58, line-59, line-66, line-67, line-71, line-72, ticket-lock, line-90, line-91-again, line-92, Control, control, goes-back, returns}
 use Rattle.paper_listing.specs.Listing.{top-domain, top-node}
 
 -- CALLS OF AcquireReal, from an index down to the home
 unfoldable pub acquire-back : (index : ℕ) → Return
 acquire-back zero = from-acquire
-acquire-back (suc k) = behind-17
+acquire-back (suc k) = after-17
 
 unfoldable pub acquire-callers : Tree → (thread index : ℕ) → List Frame
 acquire-callers t i zero = []
@@ -33,8 +33,8 @@ acquired t i (suc k) = acquired t i k
 -- CALLS OF ReleaseReal: each higher one made by line 29 or 41
 pub data Release-stack (t : Tree) (i : ℕ) : ℕ → List Frame → Type 0 where
   at-home : Release-stack t i 0 (frame (ancestor t i 0) (record-at t i 0) from-release ∷ [])
-  by-29 : (k : ℕ) (fs : List Frame) → Release-stack t i k fs → Release-stack t i (suc k) (frame (ancestor t i (suc k)) (record-at t i (suc k)) behind-29 ∷ fs)
-  by-41 : (k : ℕ) (fs : List Frame) → Release-stack t i k fs → Release-stack t i (suc k) (frame (ancestor t i (suc k)) (record-at t i (suc k)) behind-41 ∷ fs)
+  by-29 : (k : ℕ) (fs : List Frame) → Release-stack t i k fs → Release-stack t i (suc k) (frame (ancestor t i (suc k)) (record-at t i (suc k)) after-29 ∷ fs)
+  by-41 : (k : ℕ) (fs : List Frame) → Release-stack t i k fs → Release-stack t i (suc k) (frame (ancestor t i (suc k)) (record-at t i (suc k)) after-41 ∷ fs)
 
 pub top-domain-at : {t : Tree} {i k : ℕ} {fs : List Frame} → Release-stack t i k fs → top-domain fs ≡ ancestor t i k
 unfolding top-domain
@@ -50,9 +50,9 @@ top-node-at (by-41 k fs x) = refl
 
 -- a call of ReleaseHelper, after which its caller ends
 pub data Helper-back : Return → Type 0 where
-  of-31 : Helper-back behind-31
-  of-43 : Helper-back behind-43
-  of-82 : Helper-back behind-82
+  of-31 : Helper-back after-31
+  of-43 : Helper-back after-43
+  of-82 : Helper-back after-82
 
 abbrev pub helper-stack : Tree → (thread index : ℕ) → Return → List Frame → List Frame
 helper-stack t i k b fs = frame (ancestor t i k) (record-at t i k) b ∷ fs
@@ -104,5 +104,5 @@ pub record Shape (t : Tree) (i k : ℕ) (fs : List Frame) : Type 0 where
 
 pub shaped : {t : Tree} {i k : ℕ} {fs : List Frame} → Release-stack t i k fs → Shape t i k fs
 shaped at-home = record { back = from-release; callers = []; shape = refl }
-shaped (by-29 k fs x) = record { back = behind-29; callers = fs; shape = refl }
-shaped (by-41 k fs x) = record { back = behind-41; callers = fs; shape = refl }
+shaped (by-29 k fs x) = record { back = after-29; callers = fs; shape = refl }
+shaped (by-41 k fs x) = record { back = after-41; callers = fs; shape = refl }

@@ -16,7 +16,7 @@ use Rattle.model.proofs.Trees.Index.{ancestor, height, record-at}
 use Rattle.model.proofs.Trees.Accepted.{Accepted}
 use Rattle.model.proofs.Trees.Tickets.{queue-facts}
 use Rattle.model.proofs.Trees.Paths.{ancestor-home, ancestor-inner, ancestor-root, ancestor-not-root, ancestor-parent-of, path-index}
-use Rattle.paper_listing.specs.Calls.{Return, from-acquire, from-release, behind-17, behind-29, behind-41, Frame, frame, Control, control}
+use Rattle.paper_listing.specs.Calls.{Return, from-acquire, from-release, after-17, after-29, after-41, Frame, frame, Control, control}
 use Rattle.paper_listing.specs.Listing.{top-node}
 use Rattle.paper_listing.specs.Agreement.{Acquiring, acquire-home, by-17, Releasing, release-home, by-29, by-41, Helping, by-31, by-43, by-82, Stands-at, at-idle, at-prep, at-swap, at-link, at-wait, at-inside, at-check, at-37, at-help, at-cas, at-linger, at-55, at-59, at-draw, at-watch, at-raise}
 use Rattle.paper_listing.proofs.Stacks.{acquire-back, acquire-callers, acquire-stack, Release-stack, at-home, top-node-at, Helper-back, of-31, of-43, of-82, helper-stack, Corresponds, c-idle, c-prep, c-swap, c-link, c-wait, c-inside, c-check, c-pass, c-help, c-cas, c-linger, c-55, c-59, c-draw, c-watch, c-raise}
@@ -46,7 +46,7 @@ pub record Helps (t : Tree) (i L : ℕ) (fs : List Frame) : Type 0 where
   pub calls : helper-stack t i index back callers ≡ fs
 
 module _ (t : Tree) (valid : Accepted t) (i : ℕ) (h : i < t .threads) where
-  higher-calls : (k : ℕ) → k < height t i → acquire-stack t i (suc k) ≡ frame (t .parent (ancestor t i k)) (256 + ancestor t i k) behind-17 ∷ acquire-stack t i k
+  higher-calls : (k : ℕ) → k < height t i → acquire-stack t i (suc k) ≡ frame (t .parent (ancestor t i k)) (256 + ancestor t i k) after-17 ∷ acquire-stack t i k
   unfolding record-at acquire-back acquire-callers
   higher-calls k b = rw (ancestor-parent-of t valid i h k b)
 
@@ -77,11 +77,11 @@ module _ (t : Tree) (valid : Accepted t) (i : ℕ) (h : i < t .threads) where
   releases (by-29 L fs n a) =
       let x = releases a in
       let b = ancestor-not-root t valid i h (x .index) (x .within) (omega (arith, n, x .there)) in
-      higher behind-29 (x .index) L fs b (x .there) (stacks.by-29 (x .index) fs (x .stack))
+      higher after-29 (x .index) L fs b (x .there) (stacks.by-29 (x .index) fs (x .stack))
   releases (by-41 L fs n a) =
       let x = releases a in
       let b = ancestor-not-root t valid i h (x .index) (x .within) (omega (arith, n, x .there)) in
-      higher behind-41 (x .index) L fs b (x .there) (stacks.by-41 (x .index) fs (x .stack))
+      higher after-41 (x .index) L fs b (x .there) (stacks.by-41 (x .index) fs (x .stack))
 
   helper : (b : Return) (L : ℕ) (fs : List Frame) → Helper-back b → Releases t i L fs → Helps t i L (frame L (top-node fs) b ∷ fs)
   helper b L fs y x =

@@ -15,7 +15,7 @@ use Rattle.model.specs.Steps.{release-word, step}
 use Rattle.model.specs.Runs.{run}
 use Rattle.model.specs.Refusals.{tree-refusal}
 use Rattle.model.specs.Laws.{All-threads, Sixteen-bit, Formed}
-use Rattle.paper_listing.specs.Calls.{Memory, Return, from-acquire, from-release, behind-17, behind-29, behind-31, behind-41, behind-43, behind-82, Frame, frame, Ticket-point, line-90, line-91, line-91-again, line-92, Point, outside, critical, line-7, line-9, line-10, line-11, line-13, line-14, line-16, line-17, line-25, line-27, line-29, line-31, line-35, line-36, line-37, line-41, line-43, line-53, line-54, line-55, line-57, line-58, line-59, line-66, line-67, line-68, line-69, line-71, line-72, line-82, ticket-lock, Control, control, After}
+use Rattle.paper_listing.specs.Calls.{Memory, Return, from-acquire, from-release, after-17, after-29, after-31, after-41, after-43, after-82, Frame, frame, Ticket-point, line-90, line-91, line-91-again, line-92, Point, outside, critical, line-7, line-9, line-10, line-11, line-13, line-14, line-16, line-17, line-25, line-27, line-29, line-31, line-35, line-36, line-37, line-41, line-43, line-53, line-54, line-55, line-57, line-58, line-59, line-66, line-67, line-68, line-69, line-71, line-72, line-82, ticket-lock, Control, control, After}
 use Rattle.paper_listing.specs.Listing.{top-domain, top-node, top-back, next-line}
 
 -- THE TABLE: the place of a thread that stands at a point, in a call with L that returns where it says. At a point where no thread stands between entries, Invalid
@@ -23,12 +23,12 @@ use Rattle.paper_listing.specs.Listing.{top-domain, top-node, top-back, 
 unfoldable pub called-place : Return → Place → Place
 called-place from-acquire p = Invalid
 called-place from-release p = Invalid
-called-place behind-17 p = p
-called-place behind-29 p = Invalid
-called-place behind-31 p = Invalid
-called-place behind-41 p = Invalid
-called-place behind-43 p = Invalid
-called-place behind-82 p = Invalid
+called-place after-17 p = p
+called-place after-29 p = Invalid
+called-place after-31 p = Invalid
+called-place after-41 p = Invalid
+called-place after-43 p = Invalid
+called-place after-82 p = Invalid
 
 -- in the ticket lock: the first test of line 91 belongs to the entry that takes the ticket
 unfoldable pub ticket-place : Ticket-point → Return → Place
@@ -130,19 +130,19 @@ memory-of s = record { locks = s .tails; nexts = s .nexts; statuses = s .statuse
 -- WHERE A THREAD STANDS, by the calls that it has made. AcquireReal of its home, and by line 17 of one parent after another up to L
 pub data Acquiring (t : Tree) (i : ℕ) : (L : ℕ) → (calls : List Frame) → Type 0 where
   acquire-home : Acquiring t i (t .home i) (frame (t .home i) i from-acquire ∷ [])
-  by-17 : (L : ℕ) (fs : List Frame) → L ≢ 0 → Acquiring t i L fs → Acquiring t i (t .parent L) (frame (t .parent L) (256 + L) behind-17 ∷ fs)
+  by-17 : (L : ℕ) (fs : List Frame) → L ≢ 0 → Acquiring t i L fs → Acquiring t i (t .parent L) (frame (t .parent L) (256 + L) after-17 ∷ fs)
 
 -- ReleaseReal of its home, and by line 29 or 41 of one parent after another up to L
 pub data Releasing (t : Tree) (i : ℕ) : (L : ℕ) → (calls : List Frame) → Type 0 where
   release-home : Releasing t i (t .home i) (frame (t .home i) i from-release ∷ [])
-  by-29 : (L : ℕ) (fs : List Frame) → L ≢ 0 → Releasing t i L fs → Releasing t i (t .parent L) (frame (t .parent L) (256 + L) behind-29 ∷ fs)
-  by-41 : (L : ℕ) (fs : List Frame) → L ≢ 0 → Releasing t i L fs → Releasing t i (t .parent L) (frame (t .parent L) (256 + L) behind-41 ∷ fs)
+  by-29 : (L : ℕ) (fs : List Frame) → L ≢ 0 → Releasing t i L fs → Releasing t i (t .parent L) (frame (t .parent L) (256 + L) after-29 ∷ fs)
+  by-41 : (L : ℕ) (fs : List Frame) → L ≢ 0 → Releasing t i L fs → Releasing t i (t .parent L) (frame (t .parent L) (256 + L) after-41 ∷ fs)
 
 -- in the last of these, ReleaseHelper by line 31, 43 or 82
 pub data Helping (t : Tree) (i : ℕ) : (L : ℕ) → (calls : List Frame) → Type 0 where
-  by-31 : (L : ℕ) (fs : List Frame) → Releasing t i L fs → Helping t i L (frame L (top-node fs) behind-31 ∷ fs)
-  by-43 : (L : ℕ) (fs : List Frame) → Releasing t i L fs → Helping t i L (frame L (top-node fs) behind-43 ∷ fs)
-  by-82 : (L : ℕ) (fs : List Frame) → Releasing t i L fs → Helping t i L (frame L (top-node fs) behind-82 ∷ fs)
+  by-31 : (L : ℕ) (fs : List Frame) → Releasing t i L fs → Helping t i L (frame L (top-node fs) after-31 ∷ fs)
+  by-43 : (L : ℕ) (fs : List Frame) → Releasing t i L fs → Helping t i L (frame L (top-node fs) after-43 ∷ fs)
+  by-82 : (L : ℕ) (fs : List Frame) → Releasing t i L fs → Helping t i L (frame L (top-node fs) after-82 ∷ fs)
 
 -- a control that stands at a place. Prep(home), and Draw at home, is none of those that a schedule reaches; Grant's word is free
 pub data Stands-at (t : Tree) (i : ℕ) : Control → Place → Type 0 where

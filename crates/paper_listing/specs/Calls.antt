@@ -41,7 +41,7 @@ store-grant v m = record { locks = m .locks; nexts = m .nexts; statuses = m .sta
 -- WHERE A CALL RETURNS: to the program that called Acquire or Release, or after the call in a line
 pub data Return : Type 0 where
   from-acquire from-release : Return
-  behind-17 behind-29 behind-31 behind-41 behind-43 behind-82 : Return
+  after-17 after-29 after-31 after-41 after-43 after-82 : Return
 
 -- A CALL of AcquireReal, ReleaseReal or ReleaseHelper: its L and I, and where it returns
 pub record Frame : Type 0 where
@@ -102,12 +102,12 @@ release-helper l r v b fs = control (line-53 v) (frame l r b ∷ fs)
 unfoldable pub goes-back : Return → (caller-ends : Control) → (callers : List Frame) → Control
 goes-back from-acquire c fs = control critical []
 goes-back from-release c fs = control outside []
-goes-back behind-17 c fs = c
-goes-back behind-29 c fs = control line-31 fs
-goes-back behind-31 c fs = c
-goes-back behind-41 c fs = control line-43 fs
-goes-back behind-43 c fs = c
-goes-back behind-82 c fs = c
+goes-back after-17 c fs = c
+goes-back after-29 c fs = control line-31 fs
+goes-back after-31 c fs = c
+goes-back after-41 c fs = control line-43 fs
+goes-back after-43 c fs = c
+goes-back after-82 c fs = c
 
 unfoldable pub returns : (calls : List Frame) → Control
 -- no call ends where there is none

@@ -5,7 +5,7 @@ use Prim.Native.Nat.{ℕ, _+_, _-_}
 use lib.Dec.{eqb, ltb}
 use Rattle.model.specs.Trees.{Tree}
 use Rattle.model.specs.States.{cohort-start, acquire-parent, wait-word, unlocked, locked, none}
-use Rattle.paper_listing.specs.Calls.{Memory, lock-at, next-at, status-at, store-lock, store-next, store-status, Return, from-acquire, from-release, behind-17, behind-29, behind-31, behind-41, behind-43, behind-82, Frame, Point, outside, critical, line-7, line-9, line-10, line-11, line-13, line-14, line-16, line-17, line-25, line-27, line-29, line-31, line-35, line-36, line-37, line-41, line-43, line-53, line-54, line-55, line-57, line-58, line-59, line-66, line-67, line-68, line-69, line-71, line-72, line-82, ticket-lock, control, After, goes, acquire-real, release-real, release-helper, returns}
+use Rattle.paper_listing.specs.Calls.{Memory, lock-at, next-at, status-at, store-lock, store-next, store-status, Return, from-acquire, from-release, after-17, after-29, after-31, after-41, after-43, after-82, Frame, Point, outside, critical, line-7, line-9, line-10, line-11, line-13, line-14, line-16, line-17, line-25, line-27, line-29, line-31, line-35, line-36, line-37, line-41, line-43, line-53, line-54, line-55, line-57, line-58, line-59, line-66, line-67, line-68, line-69, line-71, line-72, line-82, ticket-lock, control, After, goes, acquire-real, release-real, release-helper, returns}
 use Rattle.paper_listing.specs.TicketLock.{ticket-line}
 
 -- ONE LINE of thread i, in a call with L and I, all calls fs, memory m
@@ -27,7 +27,7 @@ line t i (line-14 s) L I fs m = record { thread = cond (ltb s acquire-parent) (r
 -- 16: I->status = COHORT_START;
 line t i line-16 L I fs m = goes line-17 fs (store-status I cohort-start m)
 -- 17: HMCS<depth-1>::AcquireReal(L->parent, &(L->node));
-line t i line-17 L I fs m = record { thread = acquire-real t (t .parent L) (256 + L) behind-17 fs; memory = m }
+line t i line-17 L I fs m = record { thread = acquire-real t (t .parent L) (256 + L) after-17 fs; memory = m }
 -- 48 or 87: ReleaseReal(L, I) of the thread's home and record
 line t i critical L I fs m = record { thread = release-real t (t .home i) i from-release []; memory = m }
 -- 25: uint64_t curCount = I->status;
@@ -35,9 +35,9 @@ line t i line-25 L I fs m = goes (line-27 (status-at m I)) fs m
 -- 27: if (curCount == L->GetThreshold()) {
 line t i (line-27 c) L I fs m = goes (cond (eqb c (t .threshold L)) line-29 (line-35 c)) fs m
 -- 29: HMCS<depth-1>::ReleaseReal(L->parent, &(L->node));
-line t i line-29 L I fs m = record { thread = release-real t (t .parent L) (256 + L) behind-29 fs; memory = m }
+line t i line-29 L I fs m = record { thread = release-real t (t .parent L) (256 + L) after-29 fs; memory = m }
 -- 31: ReleaseHelper(L, I, ACQUIRE_PARENT);
-line t i line-31 L I fs m = record { thread = release-helper L I acquire-parent behind-31 fs; memory = m }
+line t i line-31 L I fs m = record { thread = release-helper L I acquire-parent after-31 fs; memory = m }
 -- 35: QNode * succ = I->next;
 line t i (line-35 c) L I fs m = goes (line-36 c (next-at m I)) fs m
 -- 36: if (succ) { // Pass within cohorts
@@ -45,9 +45,9 @@ line t i (line-36 c n) L I fs m = goes (cond (eqb n none) line-41 (line-37 c (n 
 -- 37: succ->status = curCount + 1; and 38: return;
 line t i (line-37 c succ) L I fs m = record { thread = returns fs; memory = store-status succ (c + 1) m }
 -- 41: HMCS<depth-1>::ReleaseReal(L->parent, &(L->node));
-line t i line-41 L I fs m = record { thread = release-real t (t .parent L) (256 + L) behind-41 fs; memory = m }
+line t i line-41 L I fs m = record { thread = release-real t (t .parent L) (256 + L) after-41 fs; memory = m }
 -- 43: ReleaseHelper(L,I, ACQUIRE_PARENT);
-line t i line-43 L I fs m = record { thread = release-helper L I acquire-parent behind-43 fs; memory = m }
+line t i line-43 L I fs m = record { thread = release-helper L I acquire-parent after-43 fs; memory = m }
 -- 53: QNode * succ = I->next;
 line t i (line-53 v) L I fs m = goes (line-54 (next-at m I) v) fs m
 -- 54: if (succ) {
@@ -74,7 +74,7 @@ line t i (line-71 pred) L I fs m = goes line-72 fs (store-next pred (I + 1) m)
 -- 72: while(I->status == LOCKED); // spin
 line t i line-72 L I fs m = record { thread = cond (eqb (status-at m I) locked) (control line-72 fs) (returns fs); memory = m }
 -- 82: ReleaseHelper(L, I, UNLOCKED);
-line t i line-82 L I fs m = record { thread = release-helper L I unlocked behind-82 fs; memory = m }
+line t i line-82 L I fs m = record { thread = release-helper L I unlocked after-82 fs; memory = m }
 -- 90 to 92: the ticket lock, in place of lines 63 to 89
 line t i (ticket-lock p) L I fs m = ticket-line p I fs m
 

@@ -31,7 +31,8 @@ fn is_well_formed<'s>(
     grant: u16,
 ) -> bool
     requires { ⌜ tree-refusal (tree-of tree) .number ≡ 0 ⌝ }
-    ensures { λ r. ⌜ r ≡ well-formed (tree-of tree) (lent-state (now (tails .entry)) (now (nexts .entry)) (now (statuses .entry)) (now (rows .entry)) (now (domains .entry)) (now (peers .entry)) (now (words .entry)) ticket grant) ⌝ }
+    ensures { λ r. ⌜ (let before = lent-state (now (tails .entry)) (now (nexts .entry)) (now (statuses .entry)) (now (rows .entry)) (now (domains .entry)) (now (peers .entry)) (now (words .entry)) ticket grant in
+        r ≡ well-formed (tree-of tree) before) ⌝ }
 {
     let count = tree.domains;
     let threads = tree.threads;
@@ -90,7 +91,8 @@ pub fn lent_refusal_of<'s, 'c>(
     schedule: &[u16],
     room: usize,
 ) -> Refusal
-    ensures { λ r. ⌜ r ≡ refusal-words (first-refusal (run-tests-before-19 (tree-of tree) (lock-state (lent-state (now (tails .entry)) (now (nexts .entry)) (now (statuses .entry)) (now (rows .entry)) (now (domains .entry)) (now (peers .entry)) (now (words .entry)) ticket grant) (counters-in (now (entries .entry)) (now (tenures .entry)) (now (longest .entry)))) (now (schedule .entry)) room)) ⌝ }
+    ensures { λ r. ⌜ (let before = lent-state (now (tails .entry)) (now (nexts .entry)) (now (statuses .entry)) (now (rows .entry)) (now (domains .entry)) (now (peers .entry)) (now (words .entry)) ticket grant in
+        r ≡ refusal-words (first-refusal (run-tests-before-19 (tree-of tree) (lock-state before (counters-in (now (entries .entry)) (now (tenures .entry)) (now (longest .entry)))) (now (schedule .entry)) room))) ⌝ }
 {
     let r = crate::tree_refusal_of(
         &tree.parents,

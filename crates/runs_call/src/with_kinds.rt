@@ -35,7 +35,7 @@ pub fn run_kinds(
     let mut entries = state.counters.entries;
     let mut tenures = state.counters.tenures;
     let mut longest = state.counters.longest;
-    let r = telling::run_told(
+    let r = telling::run_reported(
         tree,
         &mut tails,
         &mut nexts,

@@ -77,7 +77,8 @@ pub fn waits_refusal_of<'s, 'c>(
     room: usize,
     row_room: usize,
 ) -> Refusal
-    ensures { λ r. ⌜ r ≡ refusal-words (first-refusal (waits-tests-before-19 (tree-of tree) (lock-state (lent-state (now (tails .entry)) (now (nexts .entry)) (now (statuses .entry)) (now (places .entry)) (now (domains .entry)) (now (peers .entry)) (now (words .entry)) ticket granted) (counters-in (now (entries .entry)) (now (tenures .entry)) (now (longest .entry)))) (now (schedule .entry)) room «row_room»)) ⌝ }
+    ensures { λ r. ⌜ (let before = lent-state (now (tails .entry)) (now (nexts .entry)) (now (statuses .entry)) (now (places .entry)) (now (domains .entry)) (now (peers .entry)) (now (words .entry)) ticket granted in
+        r ≡ refusal-words (first-refusal (waits-tests-before-19 (tree-of tree) (lock-state before (counters-in (now (entries .entry)) (now (tenures .entry)) (now (longest .entry)))) (now (schedule .entry)) room «row_room»))) ⌝ }
 {
     let r = refusals::of_runs::lent_refusal_of(
         tree,
@@ -157,7 +158,8 @@ pub(crate) fn refusal_of<'s, 'c>(
     under_way: &[u64; 256],
 ) -> Refusal
     requires { ⌜ Typed (lent-state (now tails) (now nexts) (now statuses) (now places) (now domains) (now peers) (now words) ticket granted) ⌝ }
-    ensures { λ r. ⌜ r ≡ refusal-words (waits-on-refusal (tree-of tree) (lock-state (lent-state (now (tails .entry)) (now (nexts .entry)) (now (statuses .entry)) (now (places .entry)) (now (domains .entry)) (now (peers .entry)) (now (words .entry)) ticket granted) (counters-in (now (entries .entry)) (now (tenures .entry)) (now (longest .entry)))) (now (schedule .entry)) room «row_room» (now («under_way» .entry))) ⌝ }
+    ensures { λ r. ⌜ (let before = lent-state (now (tails .entry)) (now (nexts .entry)) (now (statuses .entry)) (now (places .entry)) (now (domains .entry)) (now (peers .entry)) (now (words .entry)) ticket granted in
+        r ≡ refusal-words (waits-on-refusal (tree-of tree) (lock-state before (counters-in (now (entries .entry)) (now (tenures .entry)) (now (longest .entry)))) (now (schedule .entry)) room «row_room» (now («under_way» .entry)))) ⌝ }
 {
     let r = waits_refusal_of(
         tree,

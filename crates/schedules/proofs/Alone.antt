@@ -19,7 +19,7 @@ use Rattle.model.specs.Runs.{Run, run}
 use Rattle.model.specs.Counters.{fresh-lock}
 use Rattle.model.specs.CounterLaws.{Room-law}
 use Rattle.model.specs.Refusals.{Refusal, refusal, accepted, Test, test, first-refusal, lowest-bad, bad-state, bad-length, bad-entry, bad-room, bad-counter, counter-tests, run-tests-before-19, entry-tests, state-tests, schedule-tests, room-tests, tree-tests, run-tests, has-number, tree-refusal, run-refusal}
-use Rattle.model.specs.Answers.{fresh-answer, counters-behind, run-reply, run-answer}
+use Rattle.model.specs.Answers.{fresh-answer, counters-after-run, run-reply, run-answer}
 use Rattle.model.specs.Laws.{Numbered, Refusal-law}
 use Rattle.claims.specs.Reached.{Lone-run-law}
 use Rattle.model.proofs.Refusing.{test-skipped, numbered}
@@ -36,9 +36,9 @@ use Rattle.schedules.specs.Rows.{alone, row-of}
 use Rattle.schedules.specs.Laws.{Says}
 
 -- tests behind others that refuse nothing change no answer
-passing-behind : (xs ys : List Test) → Numbered xs → first-refusal ys ≡ accepted → first-refusal (xs ++ ys) ≡ first-refusal xs
+passing-after : (xs ys : List Test) → Numbered xs → first-refusal ys ≡ accepted → first-refusal (xs ++ ys) ≡ first-refusal xs
 unfolding Refusal-law
-passing-behind xs ys n e =
+passing-after xs ys n e =
     elim (ℕ-discrete (first-refusal xs .number) 0) [
       | yes z ↦ other-decides xs ys n z ∙ e ∙ sym (refusal-law xs n .zero-accepted z)
       | no z ↦ first-decides xs ys z
@@ -63,7 +63,7 @@ module _ (w : TreeWords) (ok : tree-refusal (tree-of w) .number ≡ 0) where
       elim (ℕ-discrete (first-refusal xs .number) 0) [
         | yes z ↦
             let short = early-facts t fresh-lock is room z .short in
-            passing-behind xs (counter-tests t fresh-lock is) (run-numbered-before-19 t fresh-lock is room)
+            passing-after xs (counter-tests t fresh-lock is) (run-numbered-before-19 t fresh-lock is room)
             (test-skipped (test 19 (length is) (bad-counter t fresh-lock is)) [] (room-law t (sixteen-bit w) fresh-lock is (fresh-room (length is) (omega arith))))
         | no z ↦ first-decides xs (counter-tests t fresh-lock is) z
       ]
@@ -82,16 +82,16 @@ module _ (w : TreeWords) (ok : tree-refusal (tree-of w) .number ≡ 0) where
   unfolding bad-room first-refusal
   alone-decides is room h =
       schedule-decides is room
-      ∙ passing-behind (schedule-tests (tree-of w) is) (room-tests is room) (schedule-numbered (tree-of w) is) (single-missed _ [] refl (le-ltb room (length is) h))
+      ∙ passing-after (schedule-tests (tree-of w) is) (room-tests is room) (schedule-numbered (tree-of w) is) (single-missed _ [] refl (le-ltb room (length is) h))
 
   -- what a run with a trace buffer of the schedule's length answers
   pub answer-by-schedule :
       (is b : List ℕ) → length b ≡ length is →
-      run-answer w fresh-lock is b ≡ run-reply (first-refusal (schedule-tests (tree-of w) is)) fresh-lock (run (tree-of w) is fresh-words) (counters-behind (tree-of w) is fresh-lock)
+      run-answer w fresh-lock is b ≡ run-reply (first-refusal (schedule-tests (tree-of w) is)) fresh-lock (run (tree-of w) is fresh-words) (counters-after-run (tree-of w) is fresh-lock)
   unfolding run-answer
   answer-by-schedule is b long = rw (alone-decides is (length b) (omega arith))
 
-  pub alone-by-schedule : (is : List ℕ) → alone w is ≡ run-reply (first-refusal (schedule-tests (tree-of w) is)) fresh-lock (run (tree-of w) is fresh-words) (counters-behind (tree-of w) is fresh-lock)
+  pub alone-by-schedule : (is : List ℕ) → alone w is ≡ run-reply (first-refusal (schedule-tests (tree-of w) is)) fresh-lock (run (tree-of w) is fresh-words) (counters-after-run (tree-of w) is fresh-lock)
   unfolding alone
   alone-by-schedule is = answer-by-schedule is (replicate (length is) 0) (length-replicate {A = ℕ} (length is) 0)
 
@@ -136,7 +136,7 @@ module _ (w : TreeWords) (ok : tree-refusal (tree-of w) .number ≡ 0) (is : Lis
   ran = run (tree-of w) is fresh-words
 
   abbrev left : Counters
-  left = counters-behind (tree-of w) is fresh-lock
+  left = counters-after-run (tree-of w) is fresh-lock
 
   -- what a row says, of the row that its schedule gives alone
   pub row-says : Says w is (row-of (alone w is))

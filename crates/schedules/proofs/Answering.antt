@@ -12,7 +12,7 @@ use Rattle.model.specs.declared.TreeWords.{TreeWords}
 use Rattle.model.specs.declared.RunReply.{RunReply}
 use Rattle.model.specs.Trees.{Tree, tree-of}
 use Rattle.model.specs.Refusals.{refusal, accepted, tree-refusal}
-use Rattle.schedules.specs.Rows.{total, cut, alone, row-of, rows-of, behind-one-another, all-rows}
+use Rattle.schedules.specs.Rows.{total, cut, alone, row-of, rows-of, after-one-another, all-rows}
 use Rattle.schedules.specs.Refusals.{many-refusal}
 use Rattle.schedules.specs.Answers.{many-answer, many-reply, row-buffer, rows-answer}
 use Rattle.schedules.specs.Laws.{Many-refusal-law, None-law, schedule-at, row-at, Row-law, Keeps-rest, Buffer-law}
@@ -53,12 +53,12 @@ unfolding row-of
 drop-row r n l = drop-append-add (row-of r) l n
 
 pub rows-length : (w : TreeWords) (iss : List (List ℕ)) → length (all-rows w iss) ≡ 8 * length iss
-unfolding rows-of behind-one-another row-of
+unfolding rows-of after-one-another row-of
 rows-length w [] = refl
 rows-length w (is ∷ iss) = let e = rows-length w iss in omega arith
 
 row-in : (w : TreeWords) (iss : List (List ℕ)) (rest : List ℕ) (k : ℕ) → k < length iss → row-at k (all-rows w iss ++ rest) ≡ row-of (alone w (getD iss k []))
-unfolding rows-of behind-one-another
+unfolding rows-of after-one-another
 row-in w [] rest k h = absurd (omega arith)
 row-in w (is ∷ iss) rest zero h = rw append-assoc (take-row (alone w is) (all-rows w iss ++ rest))
 row-in w (is ∷ iss) rest (suc k) h =
@@ -103,7 +103,7 @@ module _ (w : TreeWords) (ns es b : List ℕ) where
         behind = ap (drop (8 * length ns)) a ∙ drop-at xs (drop (length xs) b) (8 * length ns) length-rows ∙ rw length-rows;
         refused = λ n. absurd (n e);
         told = λ _. rw (eq-eqb (many-refusal (tree-of w) ns (length es) (length b) .number) 0 e);
-        none-told = λ n. absurd (n e);
+        none-reported = λ n. absurd (n e);
       }
 
   rest-refused : many-answer w ns es b .number ≢ 0 → Keeps-rest w ns es b
@@ -115,7 +115,7 @@ module _ (w : TreeWords) (ns es b : List ℕ) where
         behind = ap (drop (8 * length ns)) a;
         refused = λ _. a;
         told = λ e. absurd (n e);
-        none-told = λ _. rw (ne-eqb (many-answer w ns es b .number) 0 n);
+        none-reported = λ _. rw (ne-eqb (many-answer w ns es b .number) 0 n);
       }
 
 pub buffer-law : Buffer-law
@@ -123,7 +123,7 @@ unfolding Buffer-law
 buffer-law w ns es b = elim (ℕ-discrete (many-answer w ns es b .number) 0) [ yes z ↦ rest-accepted w ns es b z | no z ↦ rest-refused w ns es b z ]
 
 pub none-law : None-law
-unfolding None-law many-answer Many-refusal-law total rows-of behind-one-another cut accepted refusal
+unfolding None-law many-answer Many-refusal-law total rows-of after-one-another cut accepted refusal
 none-law w b ok =
     let e = many-refusal-law (tree-of w) [] 0 (length b) .accepts ok refl (omega arith) in
     (e, rows-accepted w [] [] b (ap (λ r. r .number) e))

@@ -17,9 +17,9 @@ use Rattle.model.specs.Steps.{is-kind, is-entry, prep-row, swap-row, link-row, 
 use Rattle.model.specs.Runs.{steps, state-after, how-many, entering, counts-of, run-of, run, occurrences}
 use Rattle.model.specs.Counters.{fresh-lock}
 use Rattle.model.specs.Refusals.{refusal, accepted, lowest-bad, first-refusal, bad-domains, bad-threads, bad-parent, too-deep, no-threshold, bad-home, empty-domain, tree-tests, bad-length, bad-entry, schedule-tests, tree-refusal}
-use Rattle.model.specs.Answers.{counters-behind, run-reply}
+use Rattle.model.specs.Answers.{counters-after-run, run-reply}
 use Rattle.model.specs.Cases.Marked.{padded, tree, at-ticket-root, two-homes, first-entries, two-in-root, three-levels, same-numbers}
-use Rattle.schedules.specs.Rows.{total, cut, row-of, rows-of, behind-one-another}
+use Rattle.schedules.specs.Rows.{total, cut, row-of, rows-of, after-one-another}
 use Rattle.schedules.specs.Refusals.{bad-total, bad-row-room, many-tests, many-refusal}
 use Rattle.schedules.specs.Answers.{many-answer, row-buffer, rows-answer}
 use Rattle.schedules.specs.Cases.Schedules.{Case, rows-given, refused-by, no-steps, one-move, one-entry, example-row, no-thread-at, empty-leaf, cases, holds, all-hold}
@@ -28,7 +28,7 @@ use Rattle.schedules.proofs.Answering.{call-facts}
 
 -- THE ROWS, QUICKLY: on an accepted tree a schedule's own tests decide, so that neither the fresh words nor the counters are tested
 abbrev quick-alone : TreeWords → (schedule : List ℕ) → RunReply
-quick-alone w is = let t = tree-of w in run-reply (first-refusal (schedule-tests t is)) fresh-lock (run t is fresh-words) (counters-behind t is fresh-lock)
+quick-alone w is = let t = tree-of w in run-reply (first-refusal (schedule-tests t is)) fresh-lock (run t is fresh-words) (counters-after-run t is fresh-lock)
 
 unfoldable quick-rows : TreeWords → (schedules : List (List ℕ)) → List (List ℕ)
 quick-rows w [] = []
@@ -40,7 +40,7 @@ same-rows w ok [] = refl
 same-rows w ok (is ∷ iss) = rw (alone-by-schedule w ok is, same-rows w ok iss)
 
 unfoldable quick-answer : TreeWords → (lengths entries buffer : List ℕ) → List ℕ
-quick-answer w ns es b = row-buffer (many-answer w ns es b) b (behind-one-another (quick-rows w (cut ns es)))
+quick-answer w ns es b = row-buffer (many-answer w ns es b) b (after-one-another (quick-rows w (cut ns es)))
 
 same-answer : (w : TreeWords) (ns es b : List ℕ) → rows-answer w ns es b ≡ quick-answer w ns es b
 unfolding rows-answer quick-answer row-buffer many-answer
@@ -70,6 +70,6 @@ unfolding occurrences any-below filter-below all-below read-word tree-of is-tick
     help-row cas-row linger-row grant-row draw-row watch-row is-watched shown-members raise-row row step steps state-after how-many entering counts-of
     run-of run refusal accepted lowest-bad first-refusal bad-domains bad-threads bad-parent too-deep no-threshold bad-home empty-domain tree-tests
     bad-length bad-entry run-reply padded tree at-ticket-root two-homes first-entries two-in-root three-levels same-numbers total cut row-of
-    behind-one-another bad-total bad-row-room many-tests many-refusal many-answer row-buffer quick-rows quick-answer rows-given refused-by no-steps
+    after-one-another bad-total bad-row-room many-tests many-refusal many-answer row-buffer quick-rows quick-answer rows-given refused-by no-steps
     one-move one-entry example-row no-thread-at empty-leaf cases holds-quickly all-hold-quickly
 cases-hold = same-cases cases ∙ refl

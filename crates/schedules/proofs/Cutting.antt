@@ -5,7 +5,7 @@ use Prim.Native.Nat.{ℕ, zero, suc, _+_, _≤_, _<_}
 use native.Mathlib.Omega.{arith}
 use lib.ListN.{length, take, drop, getD, length-drop, take-append-drop}
 use lib.Seq.{drop-drop, length-take-le}
-use Rattle.schedules.specs.Rows.{total, cut, behind-one-another}
+use Rattle.schedules.specs.Rows.{total, cut, after-one-another}
 use Rattle.schedules.specs.Laws.{schedule-at, Cut-law}
 
 pub as-many : (ns es : List ℕ) → length (cut ns es) ≡ length ns
@@ -32,8 +32,8 @@ long ns es e k h =
     let fits = within ns k h in
     length-take-le (getD ns k 0) (drop (total (take k ns)) es) (omega (arith, length-drop (total (take k ns)) es))
 
-all-entries : (ns es : List ℕ) → total ns ≡ length es → behind-one-another (cut ns es) ≡ es
-unfolding cut total behind-one-another
+all-entries : (ns es : List ℕ) → total ns ≡ length es → after-one-another (cut ns es) ≡ es
+unfolding cut total after-one-another
 all-entries [] [] e = refl
 all-entries [] (x ∷ es) e = absurd (omega arith)
 all-entries (n ∷ ns) es e =

@@ -27,26 +27,26 @@ module _ (t : Tree) (ns : List ℕ) (n room : ℕ) where
   tree-refused h = first-decides (tree-tests t) (total-tests ns n ++ row-room-tests ns room) h
 
   module _ (tree-passes : tree-refusal t .number ≡ 0) where
-    behind-tree : many-refusal t ns n room ≡ first-refusal (total-tests ns n ++ row-room-tests ns room)
+    after-tree : many-refusal t ns n room ≡ first-refusal (total-tests ns n ++ row-room-tests ns room)
     unfolding many-refusal many-tests tree-refusal
-    behind-tree = other-decides (tree-tests t) (total-tests ns n ++ row-room-tests ns room) (tree-numbered t) tree-passes
+    after-tree = other-decides (tree-tests t) (total-tests ns n ++ row-room-tests ns room) (tree-numbered t) tree-passes
 
     pub total-refused : total ns ≢ n → many-refusal t ns n room ≡ refusal 22 0
     unfolding bad-total
-    total-refused h = behind-tree ∙ single-hit _ (row-room-tests ns room) refl (rw (ne-eqb (total ns) n h))
+    total-refused h = after-tree ∙ single-hit _ (row-room-tests ns room) refl (rw (ne-eqb (total ns) n h))
 
     module _ (adds-up : total ns ≡ n) where
-      behind-total : many-refusal t ns n room ≡ first-refusal (row-room-tests ns room)
+      after-total : many-refusal t ns n room ≡ first-refusal (row-room-tests ns room)
       unfolding bad-total
-      behind-total = behind-tree ∙ single-missed _ (row-room-tests ns room) refl (rw (eq-eqb (total ns) n adds-up))
+      after-total = after-tree ∙ single-missed _ (row-room-tests ns room) refl (rw (eq-eqb (total ns) n adds-up))
 
       pub room-refused : room < 8 * length ns → many-refusal t ns n room ≡ refusal 23 0
       unfolding bad-row-room
-      room-refused h = behind-total ∙ single-hit _ [] refl (lt-ltb (room / 8) (length ns) (omega arith))
+      room-refused h = after-total ∙ single-hit _ [] refl (lt-ltb (room / 8) (length ns) (omega arith))
 
       pub accepts : 8 * length ns ≤ room → many-refusal t ns n room ≡ accepted
       unfolding bad-row-room first-refusal
-      accepts h = behind-total ∙ single-missed _ [] refl (le-ltb (room / 8) (length ns) (omega arith))
+      accepts h = after-total ∙ single-missed _ [] refl (le-ltb (room / 8) (length ns) (omega arith))
 
 pub many-refusal-law : Many-refusal-law
 unfolding Many-refusal-law

@@ -12,7 +12,7 @@ use Rattle.model.specs.Calls.{joined}
 use Rattle.claims.specs.Claim.{Claim}
 use Rattle.model.specs.Laws.{Refuses-exactly}
 use Rattle.claims.specs.Reached.{lone-run}
-use Rattle.schedules.specs.Rows.{total, cut, row-of, behind-one-another}
+use Rattle.schedules.specs.Rows.{total, cut, row-of, after-one-another}
 use Rattle.schedules.specs.Refusals.{many-tests, many-refusal}
 use Rattle.schedules.specs.Answers.{many-answer, many-reply, rows-answer}
 
@@ -44,7 +44,7 @@ pub record Cuts (lengths entries : List ℕ) : Type 0 where
   pub as-many : length (cut lengths entries) ≡ length lengths
   pub in-order : (k : ℕ) → k < length lengths → getD (cut lengths entries) k [] ≡ schedule-at lengths entries k
   pub long : (k : ℕ) → k < length lengths → length (schedule-at lengths entries k) ≡ getD lengths k 0
-  pub all-entries : behind-one-another (cut lengths entries) ≡ entries
+  pub all-entries : after-one-another (cut lengths entries) ≡ entries
 
 unfoldable pub Cut-law : Type 0
 Cut-law = (lengths entries : List ℕ) → total lengths ≡ length entries → Cuts lengths entries
@@ -75,7 +75,7 @@ pub record Keeps-rest (w : TreeWords) (lengths entries buffer : List ℕ) : Type
   pub behind : drop (8 * length lengths) (rows-answer w lengths entries buffer) ≡ drop (8 * length lengths) buffer
   pub refused : many-answer w lengths entries buffer .number ≢ 0 → rows-answer w lengths entries buffer ≡ buffer
   pub told : many-answer w lengths entries buffer .number ≡ 0 → many-reply w lengths entries buffer .rows ≡ length lengths
-  pub none-told : many-answer w lengths entries buffer .number ≢ 0 → many-reply w lengths entries buffer .rows ≡ 0
+  pub none-reported : many-answer w lengths entries buffer .number ≢ 0 → many-reply w lengths entries buffer .rows ≡ 0
 
 unfoldable pub Buffer-law : Type 0
 Buffer-law = (w : TreeWords) (lengths entries buffer : List ℕ) → Keeps-rest w lengths entries buffer

@@ -32,10 +32,10 @@ rows-of w [] = []
 rows-of w (is ∷ iss) = row-of (alone w is) ∷ rows-of w iss
 
 -- some lists one after another
-unfoldable pub behind-one-another : List (List ℕ) → List ℕ
-behind-one-another [] = []
-behind-one-another (xs ∷ xss) = xs ++ behind-one-another xss
+unfoldable pub after-one-another : List (List ℕ) → List ℕ
+after-one-another [] = []
+after-one-another (xs ∷ xss) = xs ++ after-one-another xss
 
 -- the numbers of all rows
 abbrev pub all-rows : TreeWords → (schedules : List (List ℕ)) → List ℕ
-all-rows w iss = behind-one-another (rows-of w iss)
+all-rows w iss = after-one-another (rows-of w iss)

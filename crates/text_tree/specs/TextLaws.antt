@@ -57,7 +57,7 @@ pub record Refuses-exactly (bytes : List ℕ) : Type 0 where
       (text-answer bytes ≡ refused-by 15 p) ⟺ (Beginning (take p bytes) × (¬ Beginning (take (p + 1) bytes)))
   -- or the length where the text ends too soon
   pub ends : (text-answer bytes ≡ refused-by 15 (length bytes)) ⟺ (Beginning bytes × (¬ Some-text bytes))
-  pub no-place-behind : text-answer bytes .number ≡ 15 → text-answer bytes .place ≤ length bytes
+  pub no-place-after : text-answer bytes .number ≡ 15 → text-answer bytes .place ≤ length bytes
   -- 4, then 5
   pub many-domains : (text-answer bytes ≡ refused-by 4 0) ⟺ Many-domains bytes
   pub many-threads : (text-answer bytes ≡ refused-by 5 0) ⟺ Many-threads bytes

@@ -14,7 +14,7 @@ use Rattle.model.specs.Trees.{Tree, tree-of}
 use Rattle.model.specs.Steps.{Step}
 use Rattle.model.specs.Runs.{steps, run}
 use Rattle.model.specs.Refusals.{refusal, first-refusal, run-tests-before-19, run-refusal}
-use Rattle.model.specs.Answers.{counters-behind, run-reply, run-buffer, run-answer, trace-answer}
+use Rattle.model.specs.Answers.{counters-after-run, run-reply, run-buffer, run-answer, trace-answer}
 use Rattle.schedules.specs.Rows.{total}
 use Rattle.schedules.specs.Answers.{row-buffer}
 use Rattle.waits.specs.Attempts.{waits-from, under-way-from, waits-below-from, under-way-below, waits-below}
@@ -135,7 +135,7 @@ module _ (w : TreeWords) (s : LockState) (is b rs : List ℕ) where
         behind = ap (drop (5 * (t .threads + 1))) a ∙ front-rest (5 * (t .threads + 1)) (all-rows t xs) rs l;
         refused = λ n. absurd (n e);
         told = λ _. rw (eq-eqb (refused-by w s is b rs .number) 0 e);
-        none-told = λ n. absurd (n e);
+        none-reported = λ n. absurd (n e);
       }
 
   rest-kept : Keeps-rest w s is b rs
@@ -149,7 +149,7 @@ module _ (w : TreeWords) (s : LockState) (is b rs : List ℕ) where
               behind = ap (drop (5 * (t .threads + 1))) (rows-refused n);
               refused = λ _. rows-refused n;
               told = λ e. absurd (n e);
-              none-told = λ _. rw (ne-eqb (refused-by w s is b rs .number) 0 n);
+              none-reported = λ _. rw (ne-eqb (refused-by w s is b rs .number) 0 n);
             }
       ]
 
@@ -167,7 +167,7 @@ module _ (w : TreeWords) (s : LockState) (is b rs : List ℕ) where
 
     runs-as : Runs-as w s is b rs
     unfolding waits-answer waits-reply waits-trace run-answer trace-answer
-    runs-as = record { reply = ap (λ r. run-reply r s (run t is (s .words)) (counters-behind t is s)) same-refusal; traced = ap (λ r. run-buffer r b (run t is (s .words))) same-refusal }
+    runs-as = record { reply = ap (λ r. run-reply r s (run t is (s .words)) (counters-after-run t is s)) same-refusal; traced = ap (λ r. run-buffer r b (run t is (s .words))) same-refusal }
 
   -- what the rows say
   module _ (e : refused-by w s is b rs .number ≡ 0) where

@@ -14,7 +14,7 @@ use Rattle.model.specs.Trees.{Tree, tree-of}
 use Rattle.model.specs.Steps.{Step}
 use Rattle.model.specs.Runs.{steps, counts-of, run-of, run}
 use Rattle.model.specs.Refusals.{Refusal, refusal, accepted, lowest-bad, first-refusal, run-refusal}
-use Rattle.model.specs.Answers.{counters-behind, run-reply, run-buffer, run-answer, trace-answer}
+use Rattle.model.specs.Answers.{counters-after-run, run-reply, run-buffer, run-answer, trace-answer}
 use Rattle.model.proofs.Trees.Accepted as trees
 use Rattle.model.proofs.Laws.Calls.{run-facts}
 use Rattle.model.proofs.Places.{zero-everywhere}
@@ -148,7 +148,7 @@ module _ (w : TreeWords) (s : LockState) (is b rs us : List ℕ) where
 
     runs-as : Runs-on-as w s is b rs us
     unfolding waits-on-answer waits-reply waits-on-trace run-answer trace-answer
-    runs-as = record { reply = ap (λ r. run-reply r s (run t is (s .words)) (counters-behind t is s)) as-run; traced = ap (λ r. run-buffer r b (run t is (s .words))) as-run }
+    runs-as = record { reply = ap (λ r. run-reply r s (run t is (s .words)) (counters-after-run t is s)) as-run; traced = ap (λ r. run-buffer r b (run t is (s .words))) as-run }
 
   -- what the buffers say
   module _ (e : met .number ≡ 0) where

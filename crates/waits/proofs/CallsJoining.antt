@@ -11,7 +11,7 @@ use Rattle.model.specs.Trees.{Tree, tree-of}
 use Rattle.model.specs.Steps.{Step}
 use Rattle.model.specs.Runs.{steps, state-after, run-of, run}
 use Rattle.model.specs.Counters.{lock-state, counters-after}
-use Rattle.model.specs.Answers.{counters-behind, run-reply}
+use Rattle.model.specs.Answers.{counters-after-run, run-reply}
 use Rattle.model.proofs.Counted.{counters-join}
 use Rattle.model.proofs.Laws.Runs.{steps-join, state-after-join}
 use Rattle.schedules.specs.Rows.{total}
@@ -104,7 +104,7 @@ module _ (t : Tree) (us us′ : List ℕ) (xs ys : List Step) (n : ℕ) (handed-
 
 -- AN ACCEPTED CALL leaves the state after its steps
 left-state : (w : TreeWords) (s : LockState) (is b rs us : List ℕ) → refused-on w s is b rs us .number ≡ 0 → left-by w s is b rs us .state ≡ lock-state (state-after (s .words) (steps (tree-of w) is (s .words))) (counters-after (tree-of w) (s .counters) (steps (tree-of w) is (s .words)))
-unfolding waits-on-answer waits-reply run-reply run run-of counters-behind
+unfolding waits-on-answer waits-reply run-reply run run-of counters-after-run
 left-state w s is b rs us e = rw (eq-eqb (refused-on w s is b rs us .number) 0 e)
 
 module _ (w : TreeWords) (s : LockState) (is js b rs b′ rs′ b″ rs″ us : List ℕ) (e : refused-on w s is b rs us .number ≡ 0) where

@@ -15,7 +15,7 @@ use Rattle.model.specs.States.{tail, next, status, store-numbers}
 use Rattle.model.specs.Steps.{is-entry, Row-result, acquired-place, release-place, done-place, row}
 use Rattle.model.specs.WellFormed.{good-place}
 use Rattle.model.proofs.Tests.{by-test, any-none}
-use Rattle.model.proofs.Branches.{Branch, idle-draws, idle-prepares, prepares, swap-root, swap-inner, swap-behind, link-writes, wait-root-locked, wait-root-granted, wait-ungranted, wait-acquires, wait-passed, wait-crossed, inside-leaves, check-passes, check-releases, help-alone, help-linked, cas-last, cas-not-last, linger-alone, linger-linked, grant-writes, draw-shown, draw-unshown, watch-shown, watch-unshown, raise-counts, invalid-stays, branch}
+use Rattle.model.proofs.Branches.{Branch, idle-draws, idle-prepares, prepares, swap-root, swap-inner, swap-joins, link-writes, wait-root-locked, wait-root-granted, wait-ungranted, wait-acquires, wait-passed, wait-crossed, inside-leaves, check-passes, check-releases, help-alone, help-linked, cas-last, cas-not-last, linger-alone, linger-linked, grant-writes, draw-shown, draw-unshown, watch-shown, watch-unshown, raise-counts, invalid-stays, branch}
 use Rattle.model.proofs.Trees.Accepted.{Accepted}
 use Rattle.model.proofs.Trees.Paths.{path-real}
 use Rattle.model.proofs.Trees.Tickets.{queue-facts}
@@ -123,7 +123,7 @@ module _ (t : Tree) (valid : Accepted t) (i : ℕ) (h : i < t .threads) where
         by : {x : Row-result} → Branch t i s (Swap l) x → Of (Swap l) x
         by (swap-root _ z n) = at-once refl refl starts before
         by (swap-inner _ z n) = sets-out (acquired-place t l) refl refl starts before (acquired-on l (omega arith) (facts .1))
-        by (swap-behind _ n) = sets-out (Link l (tail s l - 1)) refl refl starts before refl
+        by (swap-joins _ n) = sets-out (Link l (tail s l - 1)) refl refl starts before refl
     swap-phase l good false e = by
       where
         starts : begins-from t i (Swap l) ≡ false
@@ -136,7 +136,7 @@ module _ (t : Tree) (valid : Accepted t) (i : ℕ) (h : i < t .threads) where
         by (swap-root _ z n) = arrives refl refl starts before
         by (swap-inner _ z n) =
             goes (acquired-place t l) refl refl starts (acquired-on l (omega arith) (path-real t valid i h l (queue-facts t i l good .0)) ∙ sym before)
-        by (swap-behind _ n) = goes (Link l (tail s l - 1)) refl refl starts (sym before)
+        by (swap-joins _ n) = goes (Link l (tail s l - 1)) refl refl starts (sym before)
 
     -- the row of a good place
     branch-phase : {p : Place} {x : Row-result} → good-place t i p ≡ true → Branch t i s p x → Of p x
@@ -146,7 +146,7 @@ module _ (t : Tree) (valid : Accepted t) (i : ℕ) (h : i < t .threads) where
     branch-phase g (prepares l v c) = goes (Swap l) refl refl (begins-none (Prep l) refl refl) refl
     branch-phase g (swap-root l z n) = swap-phase l g _ refl (swap-root l z n)
     branch-phase g (swap-inner l z n) = swap-phase l g _ refl (swap-inner l z n)
-    branch-phase g (swap-behind l n) = swap-phase l g _ refl (swap-behind l n)
+    branch-phase g (swap-joins l n) = swap-phase l g _ refl (swap-joins l n)
     branch-phase g (link-writes l p) = goes (Wait l) refl refl (begins-none (Link l p) refl refl) refl
     branch-phase g (wait-root-locked l z v) = rests refl refl (begins-none (Wait l) refl refl)
     branch-phase g (wait-root-granted l z v) = arrives refl refl (begins-none (Wait l) refl refl) refl

@@ -12,7 +12,7 @@ use Rattle.model.specs.declared.LockState.{LockState}
 use Rattle.model.specs.Trees.{Tree, tree-of}
 use Rattle.model.specs.Steps.{is-entry, Step}
 use Rattle.model.specs.Runs.{steps, run}
-use Rattle.model.specs.Answers.{counters-behind, run-buffer}
+use Rattle.model.specs.Answers.{counters-after-run, run-buffer}
 use Rattle.model.proofs.Counted.{how-many-most}
 use Rattle.model.proofs.Trees.Accepted.{accepted}
 use Rattle.model.proofs.Laws.Runs.{steps-length}
@@ -92,7 +92,7 @@ unfolding Zeros-law waits-on-answer waits-answer waits-on-trace waits-trace
 zeros-law w s is b rs =
     let t = tree-of w in
     record {
-      reply = ap (λ r. waits-reply r s (run t is (s .words)) (counters-behind t is s) (t .threads)) (same-refusal w s is b rs);
+      reply = ap (λ r. waits-reply r s (run t is (s .words)) (counters-after-run t is s) (t .threads)) (same-refusal w s is b rs);
       traced = ap (λ r. run-buffer r b (run t is (s .words))) (same-refusal w s is b rs);
       written = same-rows w s is b rs;
     }

@@ -11,7 +11,7 @@ use Rattle.model.specs.declared.RunReply.{RunReply}
 use Rattle.model.specs.Trees.{tree-of}
 use Rattle.model.specs.Runs.{steps, Run, run}
 use Rattle.model.specs.Refusals.{Refusal}
-use Rattle.model.specs.Answers.{counters-behind, run-reply, run-buffer}
+use Rattle.model.specs.Answers.{counters-after-run, run-reply, run-buffer}
 use Rattle.schedules.specs.Answers.{row-buffer}
 use Rattle.waits.specs.declared.WaitsReply.{WaitsReply}
 use Rattle.waits.specs.Attempts.{under-way-below}
@@ -37,7 +37,7 @@ refused-by w s is b rs = waits-refusal (tree-of w) s is (length b) (length rs)
 -- its reply
 unfoldable pub waits-answer : TreeWords → LockState → (schedule trace rows : List ℕ) → WaitsReply
 waits-answer w s is b rs =
-    waits-reply (refused-by w s is b rs) s (run (tree-of w) is (s .words)) (counters-behind (tree-of w) is s) (tree-of w .threads)
+    waits-reply (refused-by w s is b rs) s (run (tree-of w) is (s .words)) (counters-after-run (tree-of w) is s) (tree-of w .threads)
 
 -- the trace buffer: the entering threads at its front; refused, as it came
 unfoldable pub waits-trace : TreeWords → LockState → (schedule trace rows : List ℕ) → List ℕ
@@ -54,7 +54,7 @@ refused-on w s is b rs us = waits-on-refusal (tree-of w) s is (length b) (length
 -- its reply
 unfoldable pub waits-on-answer : TreeWords → LockState → (schedule trace rows under-way : List ℕ) → WaitsReply
 waits-on-answer w s is b rs us =
-    waits-reply (refused-on w s is b rs us) s (run (tree-of w) is (s .words)) (counters-behind (tree-of w) is s) (tree-of w .threads)
+    waits-reply (refused-on w s is b rs us) s (run (tree-of w) is (s .words)) (counters-after-run (tree-of w) is s) (tree-of w .threads)
 
 -- the trace buffer
 unfoldable pub waits-on-trace : TreeWords → LockState → (schedule trace rows under-way : List ℕ) → List ℕ

@@ -90,7 +90,7 @@ pub record Keeps-rest (w : TreeWords) (s : LockState) (schedule trace rows : Lis
   pub behind : drop (5 * (tree-of w .threads + 1)) (waits-rows w s schedule trace rows) ≡ drop (5 * (tree-of w .threads + 1)) rows
   pub refused : refused-by w s schedule trace rows .number ≢ 0 → waits-rows w s schedule trace rows ≡ rows
   pub told : refused-by w s schedule trace rows .number ≡ 0 → waits-answer w s schedule trace rows .rows ≡ tree-of w .threads + 1
-  pub none-told : refused-by w s schedule trace rows .number ≢ 0 → waits-answer w s schedule trace rows .rows ≡ 0
+  pub none-reported : refused-by w s schedule trace rows .number ≢ 0 → waits-answer w s schedule trace rows .rows ≡ 0
 
 unfoldable pub Row-buffer-law : Type 0
 Row-buffer-law = (w : TreeWords) (s : LockState) (schedule trace rows : List ℕ) → Keeps-rest w s schedule trace rows

@@ -30,7 +30,7 @@ use Rattle.bounds.proofs.starvation_freedom.Says.{Says, says}
 use Rattle.bounds.proofs.starvation_freedom.Releasing.{place-round}
 use Rattle.bounds.proofs.starvation_freedom.Queues.{tag, queue-change}
 use Rattle.bounds.proofs.starvation_freedom.Tenures.{Actor, until-ended}
-use Rattle.bounds.proofs.starvation_freedom.Positions.{queue-short, some-member, position-within, behind-first}
+use Rattle.bounds.proofs.starvation_freedom.Positions.{queue-short, some-member, position-within, after-first}
 use Rattle.bounds.proofs.starvation_freedom.Quotients as quotients
 use Rattle.bounds.proofs.starvation_freedom.Quotients.{length-of, tenures-singly, a-link, tenures-enough, tenures-over, standing-enough, standing-above}
 use Rattle.bounds.proofs.starvation_freedom.Line.{Line, Lined}
@@ -77,12 +77,12 @@ module _ (t : Tree) (valid : Accepted t) (bits : Sixteen-bit t) where
           (queues c .stage a ≡ queued m)
           × (((first (queues c .queue d) ≡ suc r) × (place-of c ≤ suc n) × (passes-of c ≤ passes t r + w)) ⊎ ((place-of c ≤ n) × (passes-of c ≤ w)))
 
-      behind-lasts : (r n w : ℕ) (c : Situation t) (x : ℕ) (h : x < t .threads) → Behind r n w c → Behind r n w (next t valid bits c x h) ⊎ Freed (next t valid bits c x h)
-      behind-lasts r n w c x h (e, q) =
+      after-lasts : (r n w : ℕ) (c : Situation t) (x : ℕ) (h : x < t .threads) → Behind r n w c → Behind r n w (next t valid bits c x h) ⊎ Freed (next t valid bits c x h)
+      after-lasts r n w c x h (e, q) =
           let c′ = next t valid bits c x h in
           let once = c .queued .represents .invariant .once d mine in
           let ch = queue-change t d (next-change t valid bits c x h) in
-          let b = behind-first mine (queues c .queue d) (standing t valid bits a m ha (omega arith) c e) once in
+          let b = after-first mine (queues c .queue d) (standing t valid bits a m ha (omega arith) c e) once in
           let near = nearer (passes t) d mine (b .0) (ch .0) (queues c .queue d) (queues c′ .queue d) (ch .1) (standing t valid bits a m ha (omega arith) c e) once (b .1) in
           elim (stands-step t valid bits a ha m (omega arith) c e x h) [
             | stands-on e′ ↦ inl (
@@ -111,10 +111,10 @@ module _ (t : Tree) (valid : Accepted t) (bits : Sixteen-bit t) where
       -- each member before it is first for the rounds of its tenure
       stands-rounds : (n w : ℕ) (c : Situation t) → queues c .stage a ≡ queued m → place-of c ≤ n → passes-of c ≤ w → Within t valid bits (before-rounds n w) Freed c
       stands-rounds zero w c e p y =
-          absurd (let b = behind-first mine (queues c .queue d) (standing t valid bits a m ha (omega arith) c e) (c .queued .represents .invariant .once d mine) in let o = b .2 in omega arith)
+          absurd (let b = after-first mine (queues c .queue d) (standing t valid bits a m ha (omega arith) c e) (c .queued .represents .invariant .once d mine) in let o = b .2 in omega arith)
       stands-rounds (suc n) w c e p y =
           let inv = c .queued .represents .invariant in
-          let b = behind-first mine (queues c .queue d) (standing t valid bits a m ha (omega arith) c e) (inv .once d mine) in
+          let b = after-first mine (queues c .queue d) (standing t valid bits a m ha (omega arith) c e) (inv .once d mine) in
           let r = b .0 in
           let enough = ahead-first (passes t) mine r (queues c .queue d) (standing t valid bits a m ha (omega arith) c e) (inv .once d mine) (b .1) in
           let w′ = w - passes t r in
@@ -125,7 +125,7 @@ module _ (t : Tree) (valid : Accepted t) (bits : Sixteen-bit t) where
           let whole : passes t r + w′ ≡ w = omega arith in
           let z : first-rounds t d r + before-rounds n w′ ≡ before-rounds (suc n) w = tenure-and-rest r n w′ ∙ ap (before-rounds (suc n)) whole in
           rw (← z) (then t valid bits (first-rounds t d r) (before-rounds n w′)
-          (meanwhile t valid bits (Behind r n w′) Freed (behind-lasts r n w′) (first-rounds t d r) leaves (e, inl (b .1, p, omega arith)))
+          (meanwhile t valid bits (Behind r n w′) Freed (after-lasts r n w′) (first-rounds t d r) leaves (e, inl (b .1, p, omega arith)))
           (λ c′ q. elim q [
             | inl (gone, (e′, near)) ↦ elim near [ inl (u, v, y′) ↦ absurd (gone u) | inr (v, y′) ↦ stands-rounds n w′ c′ e′ v y′ ]
             | inr v ↦ at-once t valid bits (before-rounds n w′) v

@@ -11,7 +11,7 @@ use Rattle.model.specs.Trees.{Tree, is-child, is-leaf, depth-from, depth, level
 use Rattle.model.proofs.Trees.Index.{above, ancestor, height, record-at}
 use Rattle.model.proofs.Trees.Accepted.{Accepted}
 use Rattle.claims.proofs.Queues.Paths.{Laws, laws}
-use Rattle.claims.proofs.Queues.Moves.{inside, holding, pending, acts, State, Event, root, lower, Last, Move, start, join-empty, join-root, join-behind, enter, leave, hand-on, release, let-go}
+use Rattle.claims.proofs.Queues.Moves.{inside, holding, pending, acts, State, Event, root, lower, Last, Move, start, join-empty, join-root, join-after, enter, leave, hand-on, release, let-go}
 use Rattle.claims.proofs.Queues.Invariant.{Inv}
 use Rattle.claims.proofs.Queues.Keeps.{keeps}
 use Rattle.claims.proofs.Queues.Remaining.{left, left-bound}
@@ -94,8 +94,8 @@ module _ (t : Tree) where
           rw (← effective-ancestor i j, ← effective-record i j) (join-empty i j e (rw (effective-ancestor i j) n) (rw (effective-ancestor i j) z))
       same-move (join-root i j e r z) =
           rw (← effective-ancestor i j, ← effective-record i j) (join-root i j e (rw (effective-ancestor i j) r) (rw (effective-ancestor i j) z))
-      same-move (join-behind i j a e f) =
-          rw (← effective-ancestor i j, ← effective-record i j) (join-behind i j a e (rw (effective-ancestor i j) f))
+      same-move (join-after i j a e f) =
+          rw (← effective-ancestor i j, ← effective-record i j) (join-after i j a e (rw (effective-ancestor i j) f))
       same-move (enter i e) = enter i e
       same-move (leave i e) = leave i e
       same-move (hand-on i j s l xs e h w m ok shape) =

@@ -9,7 +9,7 @@ use Rattle.model.proofs.Trees.Index.{ancestor, height, record-at}
 use Rattle.model.proofs.Lists.{same-or, less-or, put, put-same, put-other}
 use Rattle.claims.proofs.Queues.Paths.{Laws}
 use Rattle.claims.proofs.Queues.Meeting.{follow, follow-record-at, same-height}
-use Rattle.claims.proofs.Queues.Moves.{Stage, out, climb, queued, ready, inside, holding, releasing, down, low, acts, reach, State, Event, Move, start, join-empty, join-root, join-behind, enter, leave, hand-on, release, let-go}
+use Rattle.claims.proofs.Queues.Moves.{Stage, out, climb, queued, ready, inside, holding, releasing, down, low, acts, reach, State, Event, Move, start, join-empty, join-root, join-after, enter, leave, hand-on, release, let-go}
 use Rattle.claims.proofs.Queues.Invariant.{low-down, Thread, Inv}
 use Rattle.claims.proofs.Queues.Keeps.{last-low, standing-not, keeps}
 use Rattle.claims.proofs.Queues.Remaining.{acts-real, joining-far, standing-far}
@@ -109,7 +109,7 @@ module _ (T : Tree) (tree-laws : Laws T) where
       after-move (join-root i j e r q) =
           let th : Thread T (st .queue) i (climb j) = rw e at (inv .threads i) in
           itself _ (one-stage i inside (λ z. let x = low-is i (climb j) z e in omega (arith, th .range, ap (height T) z))) refl
-      after-move (join-behind i j a e f) = itself _ (one-stage i (queued j) (λ z. let x = low-is i (climb j) z e in omega arith)) refl
+      after-move (join-after i j a e f) = itself _ (one-stage i (queued j) (λ z. let x = low-is i (climb j) z e in omega arith)) refl
       after-move (enter i e) = itself _ (one-stage i inside (λ z. let x = low-is i ready z e in omega (arith, ap (height T) z))) refl
       after-move (leave i e) = itself _ (one-stage i holding (λ z. let x = low-is i inside z e in omega (arith, ap (height T) z))) refl
       after-move (hand-on i j s l xs e h w m ok shape) =

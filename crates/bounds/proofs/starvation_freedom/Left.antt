@@ -6,7 +6,7 @@ use Rattle.model.specs.Trees.{Tree, allowance}
 use Rattle.model.proofs.Trees.Index.{ancestor, height, record-at}
 use Rattle.model.proofs.Lists.{same-or, put, put-same, put-other, first, is-same, is-cases}
 use Rattle.claims.proofs.Queues.Paths.{Laws}
-use Rattle.claims.proofs.Queues.Moves.{Stage, climb, queued, ready, inside, holding, down, low, acts, reach, pending, State, Event, root, lower, Move, start, join-empty, join-root, join-behind, enter, leave, hand-on, release, let-go, entered, nothing, begins, ends}
+use Rattle.claims.proofs.Queues.Moves.{Stage, climb, queued, ready, inside, holding, down, low, acts, reach, pending, State, Event, root, lower, Move, start, join-empty, join-root, join-after, enter, leave, hand-on, release, let-go, entered, nothing, begins, ends}
 use Rattle.claims.proofs.Queues.Invariant.{low-acts, Thread, Inv, unique}
 use Rattle.claims.proofs.Queues.Joined.{restaged}
 use Rattle.claims.proofs.Queues.Keeps.{keeps}
@@ -86,7 +86,7 @@ module _ (T : Tree) (tree-laws : Laws T) where
     one-entry {st} (start i h e) p q = kept-pending (st .stage) i (climb 0) p q (λ z u v. absurd (omega arith))
     one-entry {st} (join-empty i j e n o) p q = kept-pending (st .stage) i (climb (suc j)) p q (λ z u v. absurd (omega arith))
     one-entry {st} (join-root i j e r o) p q = kept-pending (st .stage) i inside p q (λ z u v. is-same i a (sym z))
-    one-entry {st} (join-behind i j b e f) p q = kept-pending (st .stage) i (queued j) p q (λ z u v. absurd (omega arith))
+    one-entry {st} (join-after i j b e f) p q = kept-pending (st .stage) i (queued j) p q (λ z u v. absurd (omega arith))
     one-entry {st} (enter i e) p q = kept-pending (st .stage) i inside p q (λ z u v. is-same i a (sym z))
     one-entry {st} (leave i e) p q = kept-pending (st .stage) i holding p q (λ z u v. absurd (omega (arith, ap pending e)))
     one-entry {st} (hand-on i j s l xs e h w m ok shape) p q =

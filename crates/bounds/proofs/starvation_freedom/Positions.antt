@@ -66,9 +66,9 @@ position-snoc m y (x ∷ xs) h =
     (λ n. position-past m x (xs ++ (y ∷ [])) n ∙ ap suc (position-snoc m y xs (omega (arith, count-cons m x xs, is-other m x n))) ∙ sym (position-past m x xs n))
 
 -- whoever stands after the first has someone before it
-pub behind-first : (m : ℕ) (q : List ℕ) → 1 ≤ count m (rest q) → count m q ≤ 1 → (a : ℕ) × (first q ≡ suc a) × (1 ≤ position m q)
-behind-first m [] h o = absurd (omega (arith, ap (count m) rest-nil, count-nil m))
-behind-first m (x ∷ xs) h o =
+pub after-first : (m : ℕ) (q : List ℕ) → 1 ≤ count m (rest q) → count m q ≤ 1 → (a : ℕ) × (first q ≡ suc a) × (1 ≤ position m q)
+after-first m [] h o = absurd (omega (arith, ap (count m) rest-nil, count-nil m))
+after-first m (x ∷ xs) h o =
     let h′ : 1 ≤ count m xs = rw (rest-cons x xs) at h in
     let n : m ≢ x = λ e. omega (arith, count-cons m x xs, is-same m x e) in
     (x, first-cons x xs, omega (arith, position-past m x xs n))

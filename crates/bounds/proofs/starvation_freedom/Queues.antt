@@ -8,7 +8,7 @@ use Rattle.model.specs.Trees.{Tree}
 use Rattle.model.proofs.Trees.Index.{ancestor, height, record-at}
 use Rattle.model.proofs.Lists.{same-or, put, put-same, put-other, first, rest, first-count, first-cons, first-nil, first-snoc, rest-nil, is, is-same, count, count-nil, count-cons, count-rest}
 use Rattle.claims.proofs.Queues.Paths.{Laws}
-use Rattle.claims.proofs.Queues.Moves.{Stage, out, climb, queued, ready, inside, holding, releasing, down, low, acts, State, Event, nothing, root, lower, Move, start, join-empty, join-root, join-behind, enter, leave, hand-on, release, let-go}
+use Rattle.claims.proofs.Queues.Moves.{Stage, out, climb, queued, ready, inside, holding, releasing, down, low, acts, State, Event, nothing, root, lower, Move, start, join-empty, join-root, join-after, enter, leave, hand-on, release, let-go}
 use Rattle.claims.proofs.Queues.Invariant.{low-down, acts-down, Inv, absent}
 use Rattle.claims.proofs.Queues.Keeps.{keeps}
 use Rattle.claims.proofs.Queues.Order.{Change, stays, opens, grows, moves, closes, change}
@@ -74,7 +74,7 @@ module _ (T : Tree) (tree-laws : Laws T) (a k : ℕ) (low-there : k < height T a
   handed-move {st} inv (start i h e) x z = unmoved-there (st .stage) i (climb 0) x z (λ y. apart out (λ o. omega arith) (sym e ∙ y))
   handed-move {st} inv (join-empty i j e n q) x z = unmoved-there (st .stage) i (climb (suc j)) x z (λ y. apart (climb j) (λ o. omega arith) (sym e ∙ y))
   handed-move {st} inv (join-root i j e r q) x z = unmoved-there (st .stage) i inside x z (λ y. apart (climb j) (λ o. omega arith) (sym e ∙ y))
-  handed-move {st} inv (join-behind i j b e f) x z = unmoved-there (st .stage) i (queued j) x z (λ y. apart (climb j) (λ o. omega arith) (sym e ∙ y))
+  handed-move {st} inv (join-after i j b e f) x z = unmoved-there (st .stage) i (queued j) x z (λ y. apart (climb j) (λ o. omega arith) (sym e ∙ y))
   handed-move {st} inv (enter i e) x z = unmoved-there (st .stage) i inside x z (λ y. apart ready (λ o. omega arith) (sym e ∙ y))
   handed-move {st} inv (leave i e) x z = unmoved-there (st .stage) i holding x z (λ y. apart inside (λ o. omega arith) (sym e ∙ y))
   handed-move {st} inv (hand-on i j s l xs e h w m ok shape) x z =
@@ -108,13 +108,13 @@ module _ (T : Tree) (tree-laws : Laws T) (a k : ℕ) (low-there : k < height T a
       handed (keeps T tree-laws st inv (start i h e)) c (put-other (st .stage) i (climb 0) a (λ y. apart out (λ o. omega arith) (sym e ∙ ap (st .stage) (sym y) ∙ x)) ∙ x) z
 
 -- WHO IS FIRST does not stand after the first after one step
-pub first-not-behind : (d m : ℕ) (e : Event) (q q′ : List ℕ) → Change d e q q′ → first q ≡ suc m → count m q ≤ 1 → count m q′ ≤ 1 → count m (rest q′) ≡ 0
-first-not-behind d m e q q′ (stays z b g) f o o′ = let f′ : first q′ ≡ suc m = rw z f in omega (arith, first-count m q′ f′)
-first-not-behind d m e q q′ (opens r y z b g) f o o′ = absurd (omega (arith, ap first y, first-nil))
-first-not-behind d m e q q′ (grows r a x z b g) f o o′ = let f′ : first q′ ≡ suc m = rw z (first-snoc q r m f) in omega (arith, first-count m q′ f′)
-first-not-behind d m e q q′ (moves a r xs y z b g n) f o o′ =
+pub first-not-after : (d m : ℕ) (e : Event) (q q′ : List ℕ) → Change d e q q′ → first q ≡ suc m → count m q ≤ 1 → count m q′ ≤ 1 → count m (rest q′) ≡ 0
+first-not-after d m e q q′ (stays z b g) f o o′ = let f′ : first q′ ≡ suc m = rw z f in omega (arith, first-count m q′ f′)
+first-not-after d m e q q′ (opens r y z b g) f o o′ = absurd (omega (arith, ap first y, first-nil))
+first-not-after d m e q q′ (grows r a x z b g) f o o′ = let f′ : first q′ ≡ suc m = rw z (first-snoc q r m f) in omega (arith, first-count m q′ f′)
+first-not-after d m e q q′ (moves a r xs y z b g n) f o o′ =
     let w : m ≡ a = omega (arith, ap first y, first-cons a (r ∷ xs)) in
     let c : count m q ≡ is m a + count m (r ∷ xs) = ap (count m) y ∙ count-cons m a (r ∷ xs) in
     let u : count m q′ ≡ count m (r ∷ xs) = ap (count m) z in
     omega (arith, is-same m a w, count-rest m q′)
-first-not-behind d m e q q′ (closes a y z b g) f o o′ = rw (z, rest-nil) (count-nil m)
+first-not-after d m e q q′ (closes a y z b g) f o o′ = rw (z, rest-nil) (count-nil m)

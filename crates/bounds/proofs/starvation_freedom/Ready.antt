@@ -22,7 +22,7 @@ use Rattle.chain.proofs.Reached.Holding.{status-same, not-first}
 use Rattle.bounds.proofs.starvation_freedom.Situations.{Situation, queues, next, next-words, next-change, place-other}
 use Rattle.bounds.proofs.starvation_freedom.Turns.{ready-turn, shown-turn}
 use Rattle.bounds.proofs.starvation_freedom.Says.{Says, says, Waiting, stands, woken, granted, wait-stage}
-use Rattle.bounds.proofs.starvation_freedom.Queues.{queue-change, first-not-behind}
+use Rattle.bounds.proofs.starvation_freedom.Queues.{queue-change, first-not-after}
 
 module _ (t : Tree) (valid : Accepted t) (bits : Sixteen-bit t) (a : ℕ) (ha : a < t .threads) where
   module _ (c : Situation t) (e : queues c .stage a ≡ ready) where
@@ -94,7 +94,7 @@ module _ (t : Tree) (valid : Accepted t) (bits : Sixteen-bit t) (a : ℕ) (ha : 
           let D = ancestor t a k in
           let inv′ = d .queued .represents .invariant in
           let ch = queue-change t D (next-change t valid bits c x hx) in
-          let o = first-not-behind D m (ch .0) (queues c .queue D) (queues d .queue D) (ch .1) (heads k (omega arith)) (inv .once D m) (inv′ .once D m) in
+          let o = first-not-after D m (ch .0) (queues c .queue D) (queues d .queue D) (ch .1) (heads k (omega arith)) (inv .once D m) (inv′ .once D m) in
           let s = inv′ .threads a .stands (rw y (omega arith)) in
           let s′ : _ = rw y at s in
           absurd (omega arith)

@@ -10,7 +10,7 @@ use Rattle.model.proofs.Trees.Accepted.{Accepted}
 use Rattle.model.proofs.Trees.Records.{record-injective}
 use Rattle.model.proofs.Lists.{same-or, put, put-same, put-other}
 use Rattle.claims.proofs.Queues.Paths.{Laws, laws}
-use Rattle.claims.proofs.Queues.Moves.{Stage, out, climb, queued, ready, inside, holding, releasing, down, low, acts, reach, pending, State, empty, Event, root, lower, Move, start, join-empty, join-root, join-behind, enter, leave, hand-on, release, let-go}
+use Rattle.claims.proofs.Queues.Moves.{Stage, out, climb, queued, ready, inside, holding, releasing, down, low, acts, reach, pending, State, empty, Event, root, lower, Move, start, join-empty, join-root, join-after, enter, leave, hand-on, release, let-go}
 use Rattle.claims.proofs.Queues.Invariant.{Thread, Inv}
 use Rattle.claims.proofs.Queues.Keeps.{keeps}
 use Rattle.claims.proofs.Queues.Remaining.{acts-real, joining-far, standing-far}
@@ -47,7 +47,7 @@ pub leads : (T : Tree) {st st′ : State} {e : Event} → Move T st e st′ → 
 leads T {st} (start i h e) b = leads-one (st .stage) i out (climb 0) e starts b
 leads T {st} (join-empty i j e n z) b = leads-one (st .stage) i (climb j) (climb (suc j)) e (climbs j) b
 leads T {st} (join-root i j e r z) b = leads-one (st .stage) i (climb j) inside e (climbs-in j) b
-leads T {st} (join-behind i j a e f) b = leads-one (st .stage) i (climb j) (queued j) e (joins j) b
+leads T {st} (join-after i j a e f) b = leads-one (st .stage) i (climb j) (queued j) e (joins j) b
 leads T {st} (enter i e) b = leads-one (st .stage) i ready inside e enters b
 leads T {st} (leave i e) b = leads-one (st .stage) i inside holding e leaves b
 leads T {st} (hand-on i j s l xs e h w m ok shape) b = leads-two (st .stage) i s holding (down j) (queued l) ready e (lets-go j) w (is-handed l) b
@@ -134,7 +134,7 @@ module _ (T : Tree) (valid : Accepted T) where
         (λ y. put-same (st .tally) (record-at T i j) 1 (record-at T i k) (ap (record-at T i) y))
         (λ y. put-other (st .tally) (record-at T i j) 1 (record-at T i k) (own-apart i j k (th .real (omega arith)) (omega (arith, th .range)) (omega arith)) ∙ before-there i j (climb j) e (omega arith) refl k (omega arith)))
     ones-move (join-root i j e r z) = one-changes i inside (st .tally) (λ n l b. refl) (λ k h l. absurd (omega arith))
-    ones-move (join-behind i j a e f) = one-changes i (queued j) (st .tally) (λ n l b. refl) (λ k h l. before-there i j (climb j) e (omega arith) refl k l)
+    ones-move (join-after i j a e f) = one-changes i (queued j) (st .tally) (λ n l b. refl) (λ k h l. before-there i j (climb j) e (omega arith) refl k l)
     ones-move (enter i e) = one-changes i inside (st .tally) (λ n l b. refl) (λ k h l. absurd (omega arith))
     ones-move (leave i e) = one-changes i holding (st .tally) (λ n l b. refl) (λ k h l. absurd (omega arith))
     ones-move (hand-on i j s l xs e h w m ok shape) =

@@ -15,7 +15,7 @@ use Rattle.model.specs.States.{acquire-parent, tail, next, status, place, numbe
 use Rattle.model.specs.Steps.{Row-result, acquire-place, acquired-place, release-place, release-word, done-place, row}
 use Rattle.model.specs.Laws.{Sixteen-bit}
 use Rattle.model.proofs.Tests.{by-test}
-use Rattle.model.proofs.Branches.{word-is, Branch, idle-draws, idle-prepares, prepares, swap-root, swap-inner, swap-behind, link-writes, wait-root-locked, wait-root-granted, wait-ungranted, wait-acquires, wait-passed, wait-crossed, inside-leaves, check-passes, check-releases, help-alone, help-linked, cas-last, cas-not-last, linger-alone, linger-linked, grant-writes, draw-shown, draw-unshown, watch-shown, watch-unshown, raise-counts, branch}
+use Rattle.model.proofs.Branches.{word-is, Branch, idle-draws, idle-prepares, prepares, swap-root, swap-inner, swap-joins, link-writes, wait-root-locked, wait-root-granted, wait-ungranted, wait-acquires, wait-passed, wait-crossed, inside-leaves, check-passes, check-releases, help-alone, help-linked, cas-last, cas-not-last, linger-alone, linger-linked, grant-writes, draw-shown, draw-unshown, watch-shown, watch-unshown, raise-counts, branch}
 use Rattle.model.proofs.Waiting.{ungranted-row}
 use Rattle.model.proofs.Trees.Index.{ancestor, height, record-at}
 use Rattle.model.proofs.Trees.Accepted.{Accepted}
@@ -130,7 +130,7 @@ module _ (t : Tree) (valid : Accepted t) (bits : Sixteen-bit t) (c : Situation t
       by : {x : Row-result} → Branch t i s (Swap (ancestor t i k)) x → From-swap t i k (place (x .state) i)
       by (swap-root _ _ _) = entered (here Inside)
       by (swap-inner _ n _) = let b = ancestor-not-root t valid i h k l (omega (arith, n)) in alone b (climbs k b)
-      by (swap-behind _ _) = let q = tail s (ancestor t i k) - 1 in behind q (here (Link (ancestor t i k) q))
+      by (swap-joins _ _) = let q = tail s (ancestor t i k) - 1 in behind q (here (Link (ancestor t i k) q))
 
   pub link-turn : (l q : ℕ) → place s i ≡ Link l q → after ≡ Wait l
   link-turn l q e = turn (λ p. p ≡ Wait l) (Link l q) e (λ _. by)

@@ -30,15 +30,15 @@ element-copy-out-acquire-of-2 c =
 acquire-of-requires : tie.Need-acquire-of-requires
 acquire-of-requires c κs =
     let else1 : tie.Else1 = search c in
-    let s : tie.Start = search c in
+    let s : tie.Start = search else1 in
     let low = parent-below _ (s .pre .0) _ _ (omega (arith, else1 .if1 .left)) (s .pre .1 .0) (c .before .before .byte-number .ensures) in
     (s .pre .0, (omega (arith, s .pre .1 .0), (s .pre .1 .1 .0, s .pre .1 .1 .1 .0)))
 
 returns-2 : tie.Need-returns-2
 returns-2 c =
     let after-byte-number : tie.After-byte-number = search c in
-    let else1 : tie.Else1 = search c in
-    let s : tie.Start = search c in
+    let else1 : tie.Else1 = search after-byte-number in
+    let s : tie.Start = search else1 in
     above-inner _ (s .pre .0) _ _ _ _ _ (else1 .if1 .left) (s .pre .1 .0) (after-byte-number .byte-number .ensures)
     (s .pre .1 .1 .1 .1 .0)
     (s .pre .1 .1 .1 .1 .1)

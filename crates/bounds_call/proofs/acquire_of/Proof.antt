@@ -42,7 +42,7 @@ tenures-of-requires-2 c κs =
 returns : tie.Need-returns
 returns c =
     let after-capped-sum2 : tie.After-capped-sum2 = search c in
-    let after-capped-product2 : tie.After-capped-product2 = search c in
+    let after-capped-product2 : tie.After-capped-product2 = search after-capped-sum2 in
     let a = acquired c in
     let n = all-counted a in
     let m = counted n in

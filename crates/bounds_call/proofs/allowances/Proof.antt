@@ -53,7 +53,7 @@ returns-2 : tie.Need-returns-2 Inv-loop μ-loop
 unfolding allowances-answer
 returns-2 c =
     let after-tree-refusal-of : tie.After-tree-refusal-of Inv-loop μ-loop = search c in
-    let s : tie.Start Inv-loop μ-loop = search c in
+    let s : tie.Start Inv-loop μ-loop = search after-tree-refusal-of in
     let v = c .before .loop .inv in
     (after-tree-refusal-of .tree-refusal-of .ensures ∙ refusal-words-same (s .args .t1), accepted-left _ _ _ _ (v .0) (omega arith) (v .5) (v .4))
 

@@ -47,4 +47,4 @@ returns c =
 
 pub everyone-spec : {M : Type 1} → statement M
 everyone-spec =
-    tie.close (tie.spec Inv-loop μ-loop loop-holds thread-rounds-requires (λ c κs. search needs) (λ c. search needs) (λ c. omega arith) loop-again returns)
+    tie.close (tie.spec Inv-loop μ-loop loop-holds thread-rounds-requires (λ c κs. search needs) (λ c. search needs) (λ c. search needs) loop-again returns)

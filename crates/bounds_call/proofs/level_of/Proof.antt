@@ -42,4 +42,4 @@ returns c =
 
 pub level-of-spec : {M : Type 1} → statement M
 level-of-spec =
-    tie.close (tie.spec Inv-loop μ-loop loop-holds (λ c. search needs) (λ c. omega arith) (λ c κs. search needs) (λ c. omega arith) loop-less loop-again returns)
+    tie.close (tie.spec Inv-loop μ-loop loop-holds (λ c. search needs) (λ c. search needs) (λ c κs. search needs) (λ c. omega arith) loop-less loop-again returns)

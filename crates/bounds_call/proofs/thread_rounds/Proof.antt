@@ -33,14 +33,14 @@ element-copy-out-acquire-of-2 c =
 acquire-of-requires : tie.Need-acquire-of-requires
 acquire-of-requires c κs =
     let after-byte-number : tie.After-byte-number = search c in
-    let s : tie.Start = search c in
+    let s : tie.Start = search after-byte-number in
     let low = home-below _ (s .pre .0) _ _ (s .pre .1 .0) (after-byte-number .byte-number .ensures) in
     (s .pre .0, (low, (s .pre .1 .1 .0, s .pre .1 .1 .1 .0)))
 
 returns : tie.Need-returns
 returns c =
     let after-level-of : tie.After-level-of = search c in
-    let read : tie.After-byte-number = search c in
+    let read : tie.After-byte-number = search after-level-of in
     let s = read .before .before in
     thread-word _ (s .pre .0) _ _ _ _ _ _ _ (s .pre .1 .0) (read .byte-number .ensures) (after-level-of .level-of .ensures .0) (s .pre .1 .1 .1 .1 .0)
     (s .pre .1 .1 .1 .1 .1)

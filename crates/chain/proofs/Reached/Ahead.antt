@@ -130,9 +130,9 @@ module _ (t : Tree) (valid : Accepted t) (bits : Sixteen-bit t) (s : WordState) 
       two =
           two-there R (g .queue d) (rest (g .queue d)) (first-rest R (g .queue d) (inv .threads i .heads k first-there)) (λ f. n (q .represents .linked d nt .last ∙ f))
 
-      behind-one : (m : ℕ) (ys : List ℕ) → g .queue d ≡ R ∷ m ∷ ys → (b : Second t g d m) → b .thread < t .threads → Ungranted t w g (b .thread) (b .index) (place s (b .thread)) → One i (Linger d)
+      after-one : (m : ℕ) (ys : List ℕ) → g .queue d ≡ R ∷ m ∷ ys → (b : Second t g d m) → b .thread < t .threads → Ungranted t w g (b .thread) (b .index) (place s (b .thread)) → One i (Linger d)
       unfolding looked-to words-in moves.acts
-      behind-one m ys shape b real (linking p e nd a z) =
+      after-one m ys shape b real (linking p e nd a z) =
           let a′ : after (R ∷ m ∷ ys) p ≡ suc m = rw (b .place, b .mine, shape) at a in
           let same : p ≡ R = before-second p R m ys a′ (rw shape at (inv .once d m)) in
           let own = own-record-at t valid i h k l in (
@@ -151,11 +151,11 @@ module _ (t : Tree) (valid : Accepted t) (bits : Sixteen-bit t) (s : WordState) 
                 let b-acts : b .index < moves.acts (height t (b .thread)) (g .stage (b .thread)) = rw (b .waits) (omega arith) in
                 same-thread t valid bits s q j (b .thread) (y .index) (b .index) (y .acting) b-acts record-same,
           )
-      behind-one m ys shape b real (waiting p e c a z) =
+      after-one m ys shape b real (waiting p e c a z) =
           let a′ : after (R ∷ m ∷ ys) p ≡ suc m = rw (b .place, b .mine, shape) at a in
           let same : p ≡ R = before-second p R m ys a′ (rw shape at (inv .once d m)) in
           absurd (let z′ : next s R ≡ suc (record-at t (b .thread) (b .index)) = rw same at z in omega arith)
-      behind-one m ys shape b real (watching e z y c) =
+      after-one m ys shape b real (watching e z y c) =
           absurd (false≢true (sym nt ∙ ticket-yes t d y (sym (b .place) ∙ ap (ancestor t (b .thread)) z ∙ ancestor-root t valid (b .thread) real)))
 
       linger-one : One i (Linger d)
@@ -163,16 +163,16 @@ module _ (t : Tree) (valid : Accepted t) (bits : Sixteen-bit t) (s : WordState) 
       linger-one =
           let b = second t g inv d R (two .0) (two .1) (two .2) in
           let real : b .thread < t .threads = inv .threads (b .thread) .real (rw (b .waits) (omega arith)) in
-          behind-one (two .0) (two .1) (two .2) b real (ungranted (b .index) (b .waits) (q .represents .fits (b .thread) real))
+          after-one (two .0) (two .1) (two .2) b real (ungranted (b .index) (b .waits) (q .represents .fits (b .thread) real))
 
     -- in Watch: whoever acts for the member with the ticket just before
     module _ (stands : g .stage i ≡ queued (height t i)) (root : t .ticket-root ≡ true) where
       abbrev pub mine : ℕ
       mine = record-at t i (height t i)
 
-      pub behind-first : 1 ≤ count mine (rest (g .queue 0))
+      pub after-first : 1 ≤ count mine (rest (g .queue 0))
       unfolding low moves.acts
-      behind-first =
+      after-first =
           let st = inv .threads i .stands (rw stands (omega arith)) in
           rw (stands, ancestor-root t valid i h) at st
 
@@ -189,7 +189,7 @@ module _ (t : Tree) (valid : Accepted t) (bits : Sixteen-bit t) (s : WordState) 
 
       -- the member just before, and its ticket
       predecessor : (p : ℕ) × (after (g .queue 0) p ≡ suc mine)
-      predecessor = just-before (g .queue 0) mine behind-first (once 0)
+      predecessor = just-before (g .queue 0) mine after-first (once 0)
 
       predecessor-there : 1 ≤ count (predecessor .0) (g .queue 0)
       predecessor-there = after-in (g .queue 0) (predecessor .0) mine (predecessor .1)

@@ -41,7 +41,7 @@ use Rattle.chain.proofs.Stays.{waits-in, stays-at, wait-stays, linger-s
 use Rattle.chain.proofs.Reached.Orders.{after-same}
 use Rattle.chain.proofs.Reached.Rows.{raise-grant, place-kept, status-kept, next-kept, grant-kept}
 use Rattle.chain.proofs.Reached.Actors.{Placed, placed, Waits, waits, lingers, watches, stay-waits, same-thread, acting-there, queued-there, stands-before}
-use Rattle.chain.proofs.Reached.Ahead.{link-place, Linking, linking-there, behind-first, held, grant-small, short}
+use Rattle.chain.proofs.Reached.Ahead.{link-place, Linking, linking-there, after-first, held, grant-small, short}
 
 -- a place is Raise, or not
 raise-or : (p : Place) (C : Type 0) → (p ≡ Raise → C) → (p ≢ Raise → C) → C
@@ -198,8 +198,8 @@ module _ (t : Tree) (valid : Accepted t) (bits : Sixteen-bit t) (s : WordState) 
           let rest-count = after-behind (g .queue e₁) (record-at t c (gr .index)) I (gr .behind) in
           let own-count = after-behind (g .queue d) p I behind in
           let same = one-queue t (laws t valid) g inv e₁ d I (omega (arith, count-rest I (g .queue e₁))) (omega (arith, count-rest I (g .queue d))) in
-          let behind-c : after (g .queue d) (record-at t c (gr .index)) ≡ suc I = rw same at (gr .behind) in
-          let record-same = after-same (g .queue d) (record-at t c (gr .index)) (own-record t b d) I behind-c before (λ u. inv .once d u) in
+          let after-c : after (g .queue d) (record-at t c (gr .index)) ≡ suc I = rw same at (gr .behind) in
+          let record-same = after-same (g .queue d) (record-at t c (gr .index)) (own-record t b d) I after-c before (λ u. inv .once d u) in
           cb (sym (same-thread t valid bits s q c b (gr .index) (x .index) (gr .acting) (x .within) (record-same ∙ sym (x .mine)))) in
           let status-is : status after-step (own-record t a d) ≡ status s (own-record t a d) = rw own (status-same a k ha ca (rw e (omega arith)) not-granted) in
           let next-is : next after-step (own-record t b d) ≡ next s (own-record t b d) = rw (← x .mine) (next-same b (x .index) hb cb (acting-low d x) (λ li. let z = li .quiet in let v : next s (record-at t b (x .index)) ≡ own-record t a d + 1 = rw (x .mine) named in omega arith)) in (
@@ -249,7 +249,7 @@ module _ (t : Tree) (valid : Accepted t) (bits : Sixteen-bit t) (s : WordState) 
         unfolding low
         own-status =
             let m = record-at t a (height t a) in
-            let in-rest = behind-first t valid bits s q a ha stands root in
+            let in-rest = after-first t valid bits s q a ha stands root in
             rw (root-record t valid a ha) (status-same a (height t a) ha ca (rw stands (omega arith)) (not-granted-root m (omega (arith, count-rest m (g .queue 0)))))
 
         ahead-status : status after-step (own-record t b 0) ≡ status s (own-record t b 0)

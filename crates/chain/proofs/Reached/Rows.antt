@@ -14,7 +14,7 @@ use Rattle.model.specs.Trees.{Tree, is-ticket, own-record}
 use Rattle.model.specs.Places.{words-of, place-of, place-domain}
 use Rattle.model.specs.States.{cohort-start, unlocked, none, tail, next, status, place, wrap, numbers-at, store-numbers}
 use Rattle.model.specs.Steps.{Row-result, acquired-place, release-place, done-place, row}
-use Rattle.model.proofs.Branches.{Branch, idle-draws, idle-prepares, prepares, swap-root, swap-inner, swap-behind, link-writes, wait-root-locked, wait-root-granted, wait-ungranted, wait-acquires, wait-passed, wait-crossed, inside-leaves, check-passes, check-releases, help-alone, help-linked, cas-last, cas-not-last, linger-alone, linger-linked, grant-writes, draw-shown, draw-unshown, watch-shown, watch-unshown, raise-counts, invalid-stays, branch}
+use Rattle.model.proofs.Branches.{Branch, idle-draws, idle-prepares, prepares, swap-root, swap-inner, swap-joins, link-writes, wait-root-locked, wait-root-granted, wait-ungranted, wait-acquires, wait-passed, wait-crossed, inside-leaves, check-passes, check-releases, help-alone, help-linked, cas-last, cas-not-last, linger-alone, linger-linked, grant-writes, draw-shown, draw-unshown, watch-shown, watch-unshown, raise-counts, invalid-stays, branch}
 use Rattle.model.proofs.Lists.{same-or}
 use Rattle.model.proofs.Trees.Tickets.{ticket-facts}
 use Rattle.model.proofs.Places.{numbers-other}
@@ -87,7 +87,7 @@ module _ (t : Tree) (s : State) (c : ℕ) where
   branch-leaves (prepares l v at) = readied (Prep l) (Swap l) v (λ r u. u .0 l refl) refl refl refl refl
   branch-leaves (swap-root l z e) = marked (Swap l) Inside unlocked refl refl refl refl
   branch-leaves (swap-inner l z e) = marked (Swap l) (acquired-place t l) cohort-start refl refl refl refl
-  branch-leaves (swap-behind l e) = placed (Swap l) (Link l (tail s l - 1)) refl refl refl refl
+  branch-leaves (swap-joins l e) = placed (Swap l) (Link l (tail s l - 1)) refl refl refl refl
   branch-leaves (link-writes l p) =
       record {
         places = elsewhere (words-of (Wait l));

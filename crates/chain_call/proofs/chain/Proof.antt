@@ -17,13 +17,13 @@ returns c =
 returns-2 : tie.Need-returns-2
 returns-2 c =
     let else1 : tie.Else1 = search c in
-    let after-lent-refusal-of : tie.After-lent-refusal-of = search c in
+    let after-lent-refusal-of : tie.After-lent-refusal-of = search else1 in
     answered-20 _ _ _ _ _ (after-lent-refusal-of .lent-refusal-of .ensures) (else1 .if1 .left) (c .before .if2 .taken) _ (c .refused2 .ensures)
 
 follow-requires : tie.Need-follow-requires
 follow-requires c κs =
     let else1 : tie.Else1 = search c in
-    let after-lent-refusal-of : tie.After-lent-refusal-of = search c in
+    let after-lent-refusal-of : tie.After-lent-refusal-of = search else1 in
     let s = start (after-lent-refusal-of) in
     let e = after-lent-refusal-of .lent-refusal-of .ensures in
     let z = else1 .if1 .left in
@@ -32,16 +32,16 @@ follow-requires c κs =
 returns-3 : tie.Need-returns-3
 returns-3 c =
     let else2 : tie.Else2 = search c in
-    let else1 : tie.Else1 = search c in
-    let after-lent-refusal-of : tie.After-lent-refusal-of = search c in
+    let else1 : tie.Else1 = search else2 in
+    let after-lent-refusal-of : tie.After-lent-refusal-of = search else1 in
     answered-21 _ _ _ _ _ (after-lent-refusal-of .lent-refusal-of .ensures) (else1 .if1 .left) (else2 .if2 .left) _ _ (c .before .before .follow .ensures) (c .before .if3 .taken) _ (c .refused3 .ensures)
 
 copy-front-requires : tie.Need-copy-front-requires
 copy-front-requires c κs =
     let after-follow : tie.After-follow = search c in
-    let else2 : tie.Else2 = search c in
-    let else1 : tie.Else1 = search c in
-    let after-lent-refusal-of : tie.After-lent-refusal-of = search c in
+    let else2 : tie.Else2 = search after-follow in
+    let else1 : tie.Else1 = search else2 in
+    let after-lent-refusal-of : tie.After-lent-refusal-of = search else1 in
     let s = start (after-lent-refusal-of) in
     let f = after-follow .follow .ensures in
     let b = else2 .if2 .left in
@@ -51,10 +51,10 @@ copy-front-requires c κs =
 returns-4 : tie.Need-returns-4
 returns-4 c =
     let else3 : tie.Else3 = search c in
-    let after-follow : tie.After-follow = search c in
-    let else2 : tie.Else2 = search c in
-    let else1 : tie.Else1 = search c in
-    let after-lent-refusal-of : tie.After-lent-refusal-of = search c in
+    let after-follow : tie.After-follow = search else3 in
+    let else2 : tie.Else2 = search after-follow in
+    let else1 : tie.Else1 = search else2 in
+    let after-lent-refusal-of : tie.After-lent-refusal-of = search else1 in
     answered _ _ _ _ _ (after-lent-refusal-of .lent-refusal-of .ensures) (else1 .if1 .left) (else2 .if2 .left) _ _ (after-follow .follow .ensures) (else3 .if3 .left) _ (c .before .before .copy-front .ensures)
 
 pub chain-spec : {M : Type 1} → statement M

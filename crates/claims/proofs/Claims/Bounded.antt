@@ -76,10 +76,10 @@ unfolding all-shown
 shown-append [] ys = refl
 shown-append (x ∷ xs) ys = rw (shown-append xs ys) (simp append-assoc)
 
-real-behind : (t : Tree) (xs ys : List Step) → All-real t (xs ++ ys) → All-real t ys
+real-after : (t : Tree) (xs ys : List Step) → All-real t (xs ++ ys) → All-real t ys
 unfolding All-real
-real-behind t [] ys l = l
-real-behind t (x ∷ xs) ys l = real-behind t xs ys (l .1)
+real-after t [] ys l = l
+real-after t (x ∷ xs) ys l = real-after t xs ys (l .1)
 
 real-before : (t : Tree) (xs ys : List Step) → All-real t (xs ++ ys) → All-real t xs
 unfolding All-real
@@ -100,7 +100,7 @@ bounded t valid all g real r before meanwhile later x m q e st none mem n =
     ap (count m) (given-append d entry (all-shown meanwhile) ∙ rw (entry-given d (is-entry (x .kind)) (x .thread)) (ended-shown d meanwhile))
     ∙ same-count m (ended d meanwhile) ∙ none in
     let bound = between t (laws t valid) r (all-shown before) (entry ++ all-shown meanwhile) (all-shown later) d m q split quiet (member-owner t valid d q mem) n in
-    let rest : All-real t (meanwhile ++ later) = real-behind t before (x ∷ (meanwhile ++ later)) (rw e at real) .1 in
+    let rest : All-real t (meanwhile ++ later) = real-after t before (x ∷ (meanwhile ++ later)) (rw e at real) .1 in
     omega (
       arith,
       bound,

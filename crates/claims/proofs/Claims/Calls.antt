@@ -15,7 +15,7 @@ use Rattle.model.specs.Steps.{step}
 use Rattle.model.specs.Runs.{steps, state-after, run-of, run}
 use Rattle.model.specs.Counters.{lock-state, counters-after}
 use Rattle.model.specs.Refusals.{step-refusal, run-refusal}
-use Rattle.model.specs.Answers.{counters-behind, step-reply, step-answer, run-reply, run-buffer, run-answer, trace-answer}
+use Rattle.model.specs.Answers.{counters-after-run, step-reply, step-answer, run-reply, run-buffer, run-answer, trace-answer}
 use Rattle.model.specs.Laws.{All-threads, then-run}
 use Rattle.model.specs.Calls.{Ask, one-step, a-run, Call, stepped, ran, state-in, answer-to, answer, ask-refusal, call-refusal, asked-entries, added, answers, joined, Names, state-at, stretch, counters-at, lock-at, expected-ask, expected, expected-answers, Stretches}
 use Rattle.model.proofs.Laws.Runs.{steps-join, steps-take, steps-drop, state-after-join, run-join}
@@ -25,11 +25,11 @@ use Rattle.claims.proofs.Claims.Reached.{threads-join}
 
 -- the lock state after a schedule
 abbrev pub reached : Tree → (fresh : LockState) → (schedule : List ℕ) → LockState
-reached t f pre = lock-state (run t pre (f .words) .state) (counters-behind t pre f)
+reached t f pre = lock-state (run t pre (f .words) .state) (counters-after-run t pre f)
 
 -- after no entries it is the fresh one
 pub starts-here : (t : Tree) (f : LockState) → f ≡ reached t f []
-unfolding run run-of steps state-after counters-behind
+unfolding run run-of steps state-after counters-after-run
 starts-here t f = rw (counters-none t (f .counters))
 
 -- THE STEP TABLE AT A SEAM of the schedule
@@ -38,15 +38,15 @@ module _ (t : Tree) (f : LockState) (pre own rest : List ℕ) where
   unfolding state-at
   words-at-seam = ap (λ is. run t is (f .words) .state) (take-append-seam pre rest)
 
-  counters-at-seam : counters-at t f (pre ++ rest) (length pre) ≡ counters-behind t pre f
-  unfolding counters-at stretch counters-behind
+  counters-at-seam : counters-at t f (pre ++ rest) (length pre) ≡ counters-after-run t pre f
+  unfolding counters-at stretch counters-after-run
   counters-at-seam = ap (counters-after t (f .counters)) (sym (steps-take t (length pre) (pre ++ rest) (f .words)) ∙ ap (λ is. steps t is (f .words)) (take-append-seam pre rest))
 
   pub at-seam : lock-at t f (pre ++ rest) (length pre) ≡ reached t f pre
   at-seam = rw (words-at-seam, counters-at-seam)
 
-  pub counters-between : counters-at t f (pre ++ (own ++ rest)) (length pre + length own) ≡ counters-behind t own (reached t f pre)
-  unfolding counters-at stretch counters-behind run run-of
+  pub counters-between : counters-at t f (pre ++ (own ++ rest)) (length pre + length own) ≡ counters-after-run t own (reached t f pre)
+  unfolding counters-at stretch counters-after-run run run-of
   counters-between =
       ap (counters-after t (f .counters))
       (sym (steps-take t (length pre + length own) (pre ++ (own ++ rest)) (f .words))
@@ -61,17 +61,17 @@ module _ (t : Tree) (f : LockState) (pre own rest : List ℕ) where
       ∙ rw (take-append-seam pre (own ++ rest), drop-append-seam pre (own ++ rest)) (sym (steps-take t (length own) (own ++ rest) (state-after (f .words) (steps t pre (f .words)))))
       ∙ ap (λ is. steps t is (state-after (f .words) (steps t pre (f .words)))) (take-append-seam own rest)
 
-  pub reached-behind : reached t f (pre ++ own) ≡ reached t (reached t f pre) own
-  unfolding counters-behind run run-of
-  reached-behind =
+  pub reached-after : reached t f (pre ++ own) ≡ reached t (reached t f pre) own
+  unfolding counters-after-run run run-of
+  reached-after =
       let s = f .words in
       rw (steps-join t pre own s, state-after-join s (steps t pre s) (steps t own (state-after s (steps t pre s))), counters-join t (f .counters) (steps t pre s) (steps t own (state-after s (steps t pre s))))
 
 -- the words behind one schedule and another
 module _ (t : Tree) (f : State) (pre own rest : List ℕ) where
-  pub run-behind : run t (pre ++ own) f .state ≡ run t own (run t pre f .state) .state
+  pub run-after : run t (pre ++ own) f .state ≡ run t own (run t pre f .state) .state
   unfolding then-run
-  run-behind = ap (λ x. x .state) (run-join t pre own f)
+  run-after = ap (λ x. x .state) (run-join t pre own f)
 
 pub run-one : (t : Tree) (i : ℕ) (s : State) → run t (i ∷ []) s .state ≡ step t i s .state
 unfolding run run-of steps state-after
@@ -93,11 +93,11 @@ module _ (t : Tree) (f : LockState) (w : TreeWords) (pre rest : List ℕ) (s : L
   accepted-expected (one-step i) e z =
       let r = reached t f pre in
       rw (here, at-seam t f pre [] ((i ∷ []) ++ rest), stretch-between t f pre (i ∷ []) rest, counters-between t f pre (i ∷ []) rest)
-      (ap (λ (v : Tree). stepped (step-reply (step-refusal u r i) r (steps v (i ∷ []) (r .words)) (counters-behind v (i ∷ []) r))) e)
+      (ap (λ (v : Tree). stepped (step-reply (step-refusal u r i) r (steps v (i ∷ []) (r .words)) (counters-after-run v (i ∷ []) r))) e)
   accepted-expected (a-run is b) e z =
       let r = reached t f pre in
       rw (here, at-seam t f pre [] (is ++ rest), words-at-seam t f pre [] (is ++ rest), stretch-between t f pre is rest, counters-between t f pre is rest)
-      (ap (λ (v : Tree). ran (run-reply (run-refusal u r is (length b)) r (run-of (r .words) (steps v is (r .words))) (counters-behind v is r)) (run-buffer (run-refusal u r is (length b)) b (run-of (r .words) (steps v is (r .words))))) e)
+      (ap (λ (v : Tree). ran (run-reply (run-refusal u r is (length b)) r (run-of (r .words) (steps v is (r .words))) (counters-after-run v is r)) (run-buffer (run-refusal u r is (length b)) b (run-of (r .words) (steps v is (r .words))))) e)
 
   -- refused: nothing of the table's steps is looked at
   refused-expected :
@@ -118,9 +118,9 @@ module _ (t : Tree) (f : LockState) (w : TreeWords) (pre rest : List ℕ) (s : L
       state-in (answer-to w a s) ≡ reached t f (pre ++ cond b (asked-entries a) [])
   unfolding state-in answer-to asked-entries ask-refusal step-answer run-answer step-reply run-reply run run-of
   returned-by (one-step i) n true z =
-      rw (z, reached-behind t f pre (i ∷ []) []) (ap (λ (v : Tree). reached v s (i ∷ [])) (n (eqb-true _ _ z)) ∙ ap (λ (v : LockState). reached t v (i ∷ [])) here)
+      rw (z, reached-after t f pre (i ∷ []) []) (ap (λ (v : Tree). reached v s (i ∷ [])) (n (eqb-true _ _ z)) ∙ ap (λ (v : LockState). reached t v (i ∷ [])) here)
   returned-by (one-step i) n false z = rw (z, append-nil pre) here
-  returned-by (a-run is b) n true z = rw (z, reached-behind t f pre is []) (ap (λ (v : Tree). reached v s is) (n (eqb-true _ _ z)) ∙ ap (λ (v : LockState). reached t v is) here)
+  returned-by (a-run is b) n true z = rw (z, reached-after t f pre is []) (ap (λ (v : Tree). reached v s is) (n (eqb-true _ _ z)) ∙ ap (λ (v : LockState). reached t v is) here)
   returned-by (a-run is b) n false z = rw (z, append-nil pre) here
 
   own-threads-by : (a : Ask) → (ask-refusal u a s .number ≡ 0 → u ≡ t) → (b : Bool) → eqb (ask-refusal u a s .number) 0 ≡ b → All-threads t (cond b (asked-entries a) [])

@@ -126,10 +126,10 @@ module _ (t : Tree) (valid : Accepted t) (bits : Sixteen-bit t) (s : WordState) 
         by (watch-unshown n) = absurd ((rw (root-record t valid i h) at n) shown)
 
   -- whoever stands after a record without next is in Link, and moves
-  link-behind :
+  link-after :
       (d r m : ℕ) (ys : List ℕ) → is-ticket t d ≡ false → g .queue d ≡ r ∷ m ∷ ys → next s r ≡ 0 → Mover t s
   unfolding words-in may-stay
-  link-behind d r m ys nt shape quiet = by (ungranted N (b .waits) (rep .fits S (b .real)))
+  link-after d r m ys nt shape quiet = by (ungranted N (b .waits) (rep .fits S (b .real)))
     where
       b : Second t g d m
       b = second t g inv d r m ys shape
@@ -163,7 +163,7 @@ module _ (t : Tree) (valid : Accepted t) (bits : Sixteen-bit t) (s : WordState) 
         let first-there : k < low (height t i) (g .stage i) = rw e (omega (arith, letting-go-low (height t i) k)) in
         let shape = first-rest (record-at t i k) (g .queue (ancestor t i k)) (inv .threads i .heads k first-there) in
         let two = two-there (record-at t i k) (g .queue (ancestor t i k)) _ shape (λ f. n (rep .linked (ancestor t i k) nt .last ∙ f)) in
-        link-behind (ancestor t i k) (record-at t i k) (two .0) (two .1) nt (two .2) quiet
+        link-after (ancestor t i k) (record-at t i k) (two .0) (two .1) nt (two .2) quiet
     linger-someone k l y e n same (linger-linked _ v _ _) = someone i h (Linger (ancestor t i k)) y (not-idle _ refl) (rw same (no-stay other refl))
 
     moves-from : {p : Place} → place s i ≡ p → eqb (words-of p .row) 0 ≡ false → may-stay p ≡ false → Found i

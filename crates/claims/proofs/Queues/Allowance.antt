@@ -11,7 +11,7 @@ use Rattle.model.proofs.Lists.{same-or, less-or, put-same, first, rest, first-c
 use Rattle.model.specs.Trees.{Tree, allowance, owner-domain}
 use Rattle.model.proofs.Trees.Index.{ancestor, record-at, height}
 use Rattle.claims.proofs.Queues.Paths.{Laws}
-use Rattle.claims.proofs.Queues.Moves.{under, under-from, inside, low, State, empty, Event, nothing, begins, ends, entered, Move, start, join-empty, join-root, join-behind, enter, leave, hand-on, release, let-go, Run, done, silent, more, given-by, given, entry-by, entries}
+use Rattle.claims.proofs.Queues.Moves.{under, under-from, inside, low, State, empty, Event, nothing, begins, ends, entered, Move, start, join-empty, join-root, join-after, enter, leave, hand-on, release, let-go, Run, done, silent, more, given-by, given, entry-by, entries}
 use Rattle.claims.proofs.Queues.Invariant.{low-acts, acts-reach, Inv, unique}
 use Rattle.claims.proofs.Queues.Keeps.{keeps}
 use Rattle.claims.proofs.Queues.Order.{hit, Change, stays, opens, grows, moves, closes, change, reached, cut, next-shown, join-runs, begins-stands}
@@ -62,7 +62,7 @@ unfolding hit low
 entered-low T (start i h e) n z = absurd (omega arith)
 entered-low T (join-empty i j e o w) n z = absurd (omega arith)
 entered-low T {st = st} (join-root i j e r w) n z = rw (put-same (st .stage) i inside n (sym (is-cases i n (omega arith))))
-entered-low T (join-behind i j a e f) n z = absurd (omega arith)
+entered-low T (join-after i j a e f) n z = absurd (omega arith)
 entered-low T {st = st} (enter i e) n z = rw (put-same (st .stage) i inside n (sym (is-cases i n (omega arith))))
 entered-low T (leave i e) n z = absurd (omega arith)
 entered-low T (hand-on i j s l xs e h w m ok shape) n z = absurd (omega arith)

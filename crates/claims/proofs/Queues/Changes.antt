@@ -5,7 +5,7 @@ use Prim.Native.Nat.{ℕ, _<_}
 use Rattle.model.specs.Trees.{Tree}
 use Rattle.model.proofs.Trees.Index.{record-at}
 use Rattle.model.proofs.Lists.{put}
-use Rattle.claims.proofs.Queues.Moves.{State, Event, out, climb, nothing, begins, ends, entered, Move, start, join-empty, join-root, join-behind, enter, leave, hand-on, release, let-go, Run, done, silent, more}
+use Rattle.claims.proofs.Queues.Moves.{State, Event, out, climb, nothing, begins, ends, entered, Move, start, join-empty, join-root, join-after, enter, leave, hand-on, release, let-go, Run, done, silent, more}
 
 -- a thread that starts
 abbrev pub started-by : State → (thread : ℕ) → State
@@ -43,7 +43,7 @@ unfoldable pub made-first : (T : Tree) {st st′ : State} {e : Event} → Move T
 made-first T (start i h e) = []
 made-first T (join-empty i j e n z) = record-at T i j ∷ []
 made-first T (join-root i j e r z) = record-at T i j ∷ []
-made-first T (join-behind i j a e f) = []
+made-first T (join-after i j a e f) = []
 made-first T (enter i e) = []
 made-first T (leave i e) = []
 made-first T (hand-on i j s l xs e h w m ok shape) = record-at T s l ∷ []
@@ -64,4 +64,4 @@ made-ends T (release i j s l xs e w m shape) = refl
 -- a member that begins to stand is not first
 pub made-begins : (T : Tree) {st st′ : State} {d m : ℕ} (mv : Move T st (begins d m) st′) → made-first T mv ≡ []
 unfolding made-first
-made-begins T (join-behind i j a e f) = refl
+made-begins T (join-after i j a e f) = refl

@@ -8,7 +8,7 @@ use Rattle.model.proofs.Lists.{same-or, less-or, put, put-same, put-other, firs
 use Rattle.model.specs.Trees.{Tree}
 use Rattle.model.proofs.Trees.Index.{ancestor, record-at, height, above}
 use Rattle.claims.proofs.Queues.Paths.{Laws}
-use Rattle.claims.proofs.Queues.Moves.{Stage, out, climb, queued, ready, inside, holding, releasing, down, low, acts, reach, State, Event, Last, root, lower, Move, start, join-empty, join-root, join-behind, enter, leave, hand-on, release, let-go}
+use Rattle.claims.proofs.Queues.Moves.{Stage, out, climb, queued, ready, inside, holding, releasing, down, low, acts, reach, State, Event, Last, root, lower, Move, start, join-empty, join-root, join-after, enter, leave, hand-on, release, let-go}
 use Rattle.claims.proofs.Queues.Meeting.{follow, follow-record-at, same-height}
 use Rattle.claims.proofs.Queues.Joined.{restaged, joined}
 use Rattle.claims.proofs.Queues.Invariant.{low-acts, acts-reach, low-down, acts-down, reach-down, Below, Thread, Acted, Counts, Inv, unique, one-head, one-queue, fresh}
@@ -176,11 +176,11 @@ module _ (T : Tree) (tree-laws : Laws T) (st : State) (inv : Inv T st) where
       (omega arith)
       (λ d q nd h. inv .counts d q nd (rw (put-other (st .queue) L (st .queue L ++ (m ∷ [])) d (λ w. nd (w ∙ r))) at h))
 
-  keeps-join-behind :
+  keeps-join-after :
       (i j a : ℕ) → st .stage i ≡ climb j → first (st .queue (ancestor T i j)) ≡ suc a →
       Inv T (record { queue = grown (st .queue) (ancestor T i j) (record-at T i j); stage = put (st .stage) i (queued j); tally = st .tally })
   unfolding low acts reach
-  keeps-join-behind i j a e f =
+  keeps-join-after i j a e f =
       let c = climber i j e in
       let L = ancestor T i j in
       let m = record-at T i j in
@@ -364,7 +364,7 @@ module _ (T : Tree) (tree-laws : Laws T) (st : State) (inv : Inv T st) where
   keeps (start i h e) = keeps-start i h e
   keeps (join-empty i j e n z) = keeps-join-empty i j e n z
   keeps (join-root i j e r z) = keeps-join-root i j e r z
-  keeps (join-behind i j a e f) = keeps-join-behind i j a e f
+  keeps (join-after i j a e f) = keeps-join-after i j a e f
   keeps (enter i e) = keeps-enter i e
   keeps (leave i e) = keeps-leave i e
   keeps (hand-on i j s l xs e h w m ok shape) =

@@ -102,7 +102,7 @@ pub data Move (T : Tree) (st : State) : Event → State → Type 0 where
         stage = put (st .stage) i inside;
         tally = st .tally;
       })
-  join-behind : (i j a : ℕ) → st .stage i ≡ climb j → first (st .queue (ancestor T i j)) ≡ suc a →
+  join-after : (i j a : ℕ) → st .stage i ≡ climb j → first (st .queue (ancestor T i j)) ≡ suc a →
       Move T st (begins (ancestor T i j) (record-at T i j)) (record {
         queue = put (st .queue) (ancestor T i j) (st .queue (ancestor T i j) ++ (record-at T i j ∷ []));
         stage = put (st .stage) i (queued j);

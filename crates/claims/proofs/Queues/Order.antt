@@ -9,7 +9,7 @@ use Rattle.model.proofs.Lists.{same-or, less-or, put, put-same, put-other, firs
 use Rattle.model.specs.Trees.{Tree}
 use Rattle.model.proofs.Trees.Index.{ancestor, record-at, height}
 use Rattle.claims.proofs.Queues.Paths.{Laws}
-use Rattle.claims.proofs.Queues.Moves.{Stage, out, climb, queued, ready, inside, holding, releasing, low, acts, reach, State, empty, Event, nothing, begins, ends, entered, Move, start, join-empty, join-root, join-behind, enter, leave, hand-on, release, let-go, Run, done, silent, more, here, begun-by, given-by, begun, given}
+use Rattle.claims.proofs.Queues.Moves.{Stage, out, climb, queued, ready, inside, holding, releasing, low, acts, reach, State, empty, Event, nothing, begins, ends, entered, Move, start, join-empty, join-root, join-after, enter, leave, hand-on, release, let-go, Run, done, silent, more, here, begun-by, given-by, begun, given}
 use Rattle.claims.proofs.Queues.Invariant.{Inv, inv-empty, one-head}
 use Rattle.claims.proofs.Queues.Keeps.{keeps}
 
@@ -121,7 +121,7 @@ module _ (T : Tree) (st : State) (d : ℕ) where
       same-or d L _
       (λ w. opens (record-at T i j) (ap (st .queue) w ∙ z) (put-same (st .queue) L ys d w ∙ ap (λ q. q ++ (record-at T i j ∷ [])) z) refl refl)
       (λ w. stays (put-other (st .queue) L ys d w) refl refl)
-  change (join-behind i j a e f) =
+  change (join-after i j a e f) =
       let L = ancestor T i j in
       let ys = st .queue L ++ (record-at T i j ∷ []) in
       same-or d L _
@@ -205,7 +205,7 @@ next-shown T (more {st = st} {st₁ = st₁} m r) e es z =
 
 -- whose beginning is shown, stands
 pub begins-stands : (T : Tree) {st : State} (st′ : State) {d m : ℕ} → Move T st (begins d m) st′ → 1 ≤ count m (rest (st′ .queue d))
-begins-stands T {st = st} st′ (join-behind i j a e f) =
+begins-stands T {st = st} st′ (join-after i j a e f) =
     let L = ancestor T i j in
     let m = record-at T i j in
     rw (put-same (st .queue) L (st .queue L ++ (m ∷ [])) L refl, rest-snoc (st .queue L) m a f) (snoc-last m (rest (st .queue L)))

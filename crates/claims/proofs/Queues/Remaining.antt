@@ -9,7 +9,7 @@ use Rattle.model.proofs.Lists.{same-or, less-or, put, put-same, put-other, firs
 use Rattle.model.specs.Trees.{Tree, allowance}
 use Rattle.model.proofs.Trees.Index.{ancestor, record-at, height, member-allowance}
 use Rattle.claims.proofs.Queues.Paths.{Laws}
-use Rattle.claims.proofs.Queues.Moves.{Stage, out, climb, queued, ready, inside, holding, releasing, down, low, acts, reach, pending, State, Event, nothing, begins, ends, entered, Move, start, join-empty, join-root, join-behind, enter, leave, hand-on, release, let-go}
+use Rattle.claims.proofs.Queues.Moves.{Stage, out, climb, queued, ready, inside, holding, releasing, down, low, acts, reach, pending, State, Event, nothing, begins, ends, entered, Move, start, join-empty, join-root, join-after, enter, leave, hand-on, release, let-go}
 use Rattle.claims.proofs.Queues.Invariant.{low-acts, acts-low, acts-reach, low-down, Thread, Inv, unique, fresh}
 use Rattle.claims.proofs.Queues.Meeting.{follow, follow-record-at, same-height}
 use Rattle.claims.proofs.Queues.Keeps.{last-low, standing-not}
@@ -179,10 +179,10 @@ module _ (T : Tree) (tree-laws : Laws T) (st : State) (inv : Inv T st) where
       falls-one (entered i) i inside (st .tally) (λ n l b. refl) (λ n y. is-other i n (λ q. y (sym q)))
       (λ k h f. let w = not-empty i j k z f in rw e (omega (arith, t .range), omega (arith, is-same i i refl)))
 
-  falls-join-behind :
+  falls-join-after :
       (i j : ℕ) → st .stage i ≡ climb j → Falls (begins (ancestor T i j) (record-at T i j)) (put (st .stage) i (queued j)) (st .tally)
   unfolding hit low pending
-  falls-join-behind i j e =
+  falls-join-after i j e =
       falls-one (begins (ancestor T i j) (record-at T i j)) i (queued j) (st .tally) (λ n l b. refl) (λ n y. refl) (λ k h f. rw e (h, omega arith))
 
   falls-let-go :
@@ -315,7 +315,7 @@ module _ (T : Tree) (tree-laws : Laws T) (st : State) (inv : Inv T st) where
   falls (start i h e) = falls-start i e
   falls (join-empty i j e n z) = falls-join-empty i j e z
   falls (join-root i j e r z) = falls-join-root i j e r z
-  falls (join-behind i j a e f) = falls-join-behind i j e
+  falls (join-after i j a e f) = falls-join-after i j e
   falls (enter i e) = falls-enter i e
   falls (leave i e) = falls-leave i e
   falls (hand-on i j s l xs e h w m ok shape) =

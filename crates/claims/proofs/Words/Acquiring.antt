@@ -11,7 +11,7 @@ use Rattle.model.specs.Steps.{Row-result, is-entry, acquire-place, prep-row, sw
 use Rattle.model.specs.Runs.{ended-in}
 use Rattle.model.specs.Laws.{Sixteen-bit}
 use Rattle.model.specs.Tenures.{finds-none, taken-from, given}
-use Rattle.model.proofs.Branches.{word-is, Branch, prepares, swap-root, swap-inner, swap-behind, link-writes, prep-branch, swap-branch, link-branch}
+use Rattle.model.proofs.Branches.{word-is, Branch, prepares, swap-root, swap-inner, swap-joins, link-writes, prep-branch, swap-branch, link-branch}
 use Rattle.model.proofs.Waiting.{ungranted-row, acquiring-row, Granted, granted-root, granted-inner, granted-row}
 use Rattle.model.proofs.Trees.Index.{ancestor, height, record-at}
 use Rattle.model.proofs.Trees.Accepted.{Accepted}
@@ -19,7 +19,7 @@ use Rattle.model.proofs.Trees.Paths.{ancestor-real, ancestor-inner, ancestor-ze
 use Rattle.model.proofs.Trees.Records.{own-record-at, record-small}
 use Rattle.model.proofs.Lists.{put, put-same, put-other}
 use Rattle.claims.proofs.Queues.Paths.{laws}
-use Rattle.claims.proofs.Queues.Moves.{out, climb, queued, ready, inside, low, State, start, join-empty, join-root, join-behind, enter}
+use Rattle.claims.proofs.Queues.Moves.{out, climb, queued, ready, inside, low, State, start, join-empty, join-root, join-after, enter}
 use Rattle.claims.proofs.Queues.Changes.{started-by, unmoved, moved, event-shown, change-shown, made-first, change-firsts}
 use Rattle.claims.proofs.Queues.Keeps.{keeps}
 use Rattle.claims.proofs.Words.Links.{after, after-in}
@@ -74,12 +74,12 @@ module _ (t : Tree) (valid : Accepted t) (s : WordState) (room : Room s) (g : St
           (outcome _ _ (swap-placed s room i few (acquire-place t (ancestor t i (suc k))) (ancestor t i k) (record-at t i k + 1) (record-at t i k) 1 d b)
           (take t valid w g i h o k l nt e n lower tl nx c) (moved (join-empty i k e n (empty-there t valid w g i h o k l nt tl)))
           refl (rw (own-record-at t valid i h k l) refl))
-      by (swap-behind _ tl) =
+      by (swap-joins _ tl) =
           let d = domain-small k in
           let f = stand-first t valid w g i h o k l nt tl in
           rw (own-record-at t valid i h k l)
           (outcome _ _ (tail-placed s room i few (Link (ancestor t i k) (tail s (ancestor t i k) - 1)) (ancestor t i k) (record-at t i k + 1) d)
-          (stand t valid w g i h o k l nt e tl nx sw c) (moved (join-behind i k (f .0) e (f .1))) refl refl)
+          (stand t valid w g i h o k l nt e tl nx sw c) (moved (join-after i k (f .0) e (f .1))) refl refl)
 
   -- LINK
   pub link-outcome :

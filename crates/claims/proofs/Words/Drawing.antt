@@ -22,13 +22,13 @@ use Rattle.model.proofs.Trees.Paths.{ancestor-root}
 use Rattle.model.proofs.Trees.Records.{root-record, record-small}
 use Rattle.model.proofs.Lists.{put, put-same, put-other, first, first-cons, rest, count}
 use Rattle.claims.proofs.Queues.Paths.{laws}
-use Rattle.claims.proofs.Queues.Moves.{climb, queued, ready, inside, low, acts, State, Move, begins, join-root, join-behind, enter}
+use Rattle.claims.proofs.Queues.Moves.{climb, queued, ready, inside, low, acts, State, Move, begins, join-root, join-after, enter}
 use Rattle.claims.proofs.Queues.Changes.{unmoved, moved, event-shown, change-shown, made-first, change-firsts, made-begins}
 use Rattle.claims.proofs.Queues.Invariant.{Inv}
 use Rattle.claims.proofs.Queues.Keeps.{keeps}
 use Rattle.claims.proofs.Words.View.{Words, words-in, Room, status-to, place-to, ticket-to}
 use Rattle.claims.proofs.Words.Represents.{Linked, Tickets, Numbered, Counted, at-inside, at-watch, Represents}
-use Rattle.claims.proofs.Words.Tickets.{list-short, length-none, tickets-snoc, tickets-behind, tickets-first, tickets-rest}
+use Rattle.claims.proofs.Words.Tickets.{list-short, length-none, tickets-snoc, tickets-after, tickets-first, tickets-rest}
 use Rattle.claims.proofs.Words.Frame.{Others, tickets-kept, counted-below, assembled}
 use Rattle.claims.proofs.Words.Joining.{away, grown, took-root-state, stood-state, join-apart}
 use Rattle.claims.proofs.Words.Acquiring.{entered-state, entered}
@@ -101,7 +101,7 @@ module _ (t : Tree) (valid : Accepted t) (s : WordState) (room : Room s) (g : St
     pub nobody-there : w .ticket ≡ w .grant → g .queue L ≡ []
     nobody-there z =
         let old = o .numbered root in
-        let b = tickets-behind (w .statuses) (w .grant) (w .ticket) (g .queue 0) (old .small) (old .held) in
+        let b = tickets-after (w .statuses) (w .grant) (w .ticket) (g .queue 0) (old .small) (old .held) in
         let few-there = root-short t valid g inv in
         let small = old .small in
         queue-there ∙ length-none (g .queue 0) (omega arith)
@@ -128,7 +128,7 @@ module _ (t : Tree) (valid : Accepted t) (s : WordState) (room : Room s) (g : St
     draw-watches e c z =
         let g′ = stood-state t valid w g i h o k within in
         let f = somebody-there z in
-        assembled t valid w g i h o (drawn Watch) g′ Watch (queued k) (keeps t (laws t valid) g inv (join-behind i k (f .0) e (f .1)))
+        assembled t valid w g i h o (drawn Watch) g′ Watch (queued k) (keeps t (laws t valid) g inv (join-after i k (f .0) e (f .1)))
         (drawn-linked e Watch g′ refl) (drawn-numbered e Watch g′ refl)
         (put-same (w .places) i Watch i refl) (put-same (g .stage) i (queued k) i refl)
         (at-watch k top root (counted-below t valid w g i h o (drawn Watch) g′ k within others-kept (λ r n. refl) c))
@@ -146,7 +146,7 @@ module _ (t : Tree) (valid : Accepted t) (s : WordState) (room : Room s) (g : St
             (moved (join-root i k e there (nobody-there same))) refl (rw (root-record t valid i h, ← top) refl))
         by (draw-unshown other) =
             let f = somebody-there other in
-            let mv = begins-at t g _ L d R z (join-behind i k (f .0) e (f .1)) in
+            let mv = begins-at t g _ L d R z (join-after i k (f .0) e (f .1)) in
             rw (root-record t valid i h, ← top)
             (outcome _ _ (draw-placed s room i few Watch R (s .ticket) (wrap (s .ticket + 1)) (record-small t valid i h k within)) (draw-watches e c other)
             (moved mv) refl (made-begins t mv))

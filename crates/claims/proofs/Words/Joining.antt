@@ -17,7 +17,7 @@ use Rattle.model.proofs.Trees.Tickets.{ticket-facts, queue-lower}
 use Rattle.model.proofs.Trees.Paths.{ancestor-inner, ancestor-zero}
 use Rattle.model.proofs.Lists.{same-or, put, put-same, put-other, first, first-in, is-other, count, count-snoc}
 use Rattle.claims.proofs.Queues.Paths.{laws}
-use Rattle.claims.proofs.Queues.Moves.{climb, queued, inside, low, acts, State, join-empty, join-root, join-behind}
+use Rattle.claims.proofs.Queues.Moves.{climb, queued, inside, low, acts, State, join-empty, join-root, join-after}
 use Rattle.claims.proofs.Queues.Invariant.{Inv, unique, one-queue, fresh}
 use Rattle.claims.proofs.Queues.Keeps.{keeps}
 use Rattle.claims.proofs.Words.Links.{final, after, final-append, final-none, final-in, first-some, after-in, after-last, after-snoc, after-snoc-last}
@@ -207,7 +207,7 @@ module _ (t : Tree) (valid : Accepted t) (w : Words) (g : State) (i : ℕ) (h : 
         let quiet : w .nexts p ≡ 0 =
         same-or (w .nexts p) 0 _ (λ z. z)
         (λ z. absurd (z (o .linked L nt .chain p (final-in p (g .queue L) last) z ∙ after-last p (g .queue L) last (inv .once L p)))) in
-        assembled t valid w g i h o stood stood-state (Link L p) (queued k) (keeps t (laws t valid) g inv (join-behind i k (f .0) e (f .1)))
+        assembled t valid w g i h o stood stood-state (Link L p) (queued k) (keeps t (laws t valid) g inv (join-after i k (f .0) e (f .1)))
         (join-linked stood stood-state refl refl nt refl nx) (join-numbered stood stood-state refl refl nt e refl refl (λ r n. refl))
         (put-same (w .places) i (Link L p) i refl) (put-same (g .stage) i (queued k) i refl)
         (at-link k p l (counted-below t valid w g i h o stood stood-state k l (λ r n. refl) (λ r n. refl) c) nt

@@ -96,9 +96,9 @@ module _ (t : Tree) (valid : Accepted t) (s : WordState) (room : Room s) (g : St
       rw (queues, put-other (g .queue) L q d other) (record { last = o .linked d nd .last; chain = o .linked d nd .chain })
 
   -- WHO IS SHOWN: somebody after the first
-  behind-first : (x : ℕ) → is-watched t s x ≡ true → 1 ≤ count x (rest (g .queue 0))
+  after-first : (x : ℕ) → is-watched t s x ≡ true → 1 ≤ count x (rest (g .queue 0))
   unfolding is-watched low acts words-in Says
-  behind-first x y =
+  after-first x y =
       let found = any-one (t .threads) _ y in
       let j = found .index in
       let hj = found .below in
@@ -130,7 +130,7 @@ module _ (t : Tree) (valid : Accepted t) (s : WordState) (room : Room s) (g : St
       where
         by : (x : ℕ) (y : Bool) → is-shown x ≡ y → is-shown x ≡ false
         by x true y =
-            let in-rest = behind-first x (and-both (eqb (status s x) raised) (is-watched t s x) y .1) in
+            let in-rest = after-first x (and-both (eqb (status s x) raised) (is-watched t s x) y .1) in
             let none : rest (g .queue 0) ≡ [] = ap (λ d. rest (g .queue d)) (sym there) ∙ ap rest shape ∙ rest-cons R [] in
             absurd (omega (arith, ap (count x) none, count-nil x))
         by x false y = y
@@ -219,7 +219,7 @@ module _ (t : Tree) (valid : Accepted t) (s : WordState) (room : Room s) (g : St
     only-r x n y =
         let both = and-both (eqb (status s x) raised) (is-watched t s x) y in
         let same = eqb-true (status s x) raised (both .0) in
-        let in-rest = behind-first x (both .1) in
+        let in-rest = after-first x (both .1) in
         let shape-rest : rest (g .queue 0) ≡ r ∷ ys = ap (λ d. rest (g .queue d)) (sym there) ∙ ap rest shape ∙ rest-cons R (r ∷ ys) in
         let in-ys : 1 ≤ count x ys = omega (arith, ap (count x) shape-rest, count-cons x r ys, is-other x r n) in
         let long : length (R ∷ r ∷ ys) ≤ 320 = rw (ap (g .queue) (sym there) ∙ shape) at (root-short t valid g inv) in

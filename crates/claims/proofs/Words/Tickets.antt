@@ -66,10 +66,10 @@ unfolding Tickets
 tickets-snoc f v b m [] e h = (e ∙ h, ap (λ n. wrap (n + 1)) h)
 tickets-snoc f v b m (x ∷ xs) e h = (h .0, tickets-snoc f _ b m xs e (h .1))
 
-pub tickets-behind : (f : ℕ → ℕ) (v b : ℕ) (q : List ℕ) → v < 65536 → Tickets f v b q → b ≡ wrap (v + length q)
+pub tickets-after : (f : ℕ → ℕ) (v b : ℕ) (q : List ℕ) → v < 65536 → Tickets f v b q → b ≡ wrap (v + length q)
 unfolding Tickets
-tickets-behind f v b [] s h = omega (arith, h)
-tickets-behind f v b (x ∷ xs) s h = tickets-behind f _ b xs (wrap-fits (v + 1)) (h .1) ∙ next-wrap v (length xs)
+tickets-after f v b [] s h = omega (arith, h)
+tickets-after f v b (x ∷ xs) s h = tickets-after f _ b xs (wrap-fits (v + 1)) (h .1) ∙ next-wrap v (length xs)
 
 -- a member holds a ticket as many after the first as it stands after it
 pub record Held (f : ℕ → ℕ) (v a : ℕ) (q : List ℕ) : Type 0 where

@@ -13,7 +13,7 @@ use Rattle.model.specs.Runs.{steps}
 use Rattle.model.specs.Tenures.{domain-entries, domain-tenures, longest-tenure}
 use Rattle.model.specs.Counters.{fresh-counters, counters-after}
 use Rattle.model.specs.CounterLaws.{Counter-law}
-use Rattle.model.specs.Answers.{fresh-answer, counters-behind}
+use Rattle.model.specs.Answers.{fresh-answer, counters-after-run}
 use Rattle.model.specs.Calls.{joined}
 use Rattle.claims.specs.Reached.{last-state}
 use Rattle.model.proofs.Trees.Accepted.{accepted, sixteen-bit}
@@ -44,7 +44,7 @@ unfolding children-sum
 children-same t d f g h = sum-same (t .domains) _ _ (λ k l. ap (λ v. cond (is-child t d k) v 0) (h k l))
 
 pub counted-law : Counted-law
-unfolding Counted-law Children-law Tenure-law fresh-answer counters-behind
+unfolding Counted-law Children-law Tenure-law fresh-answer counters-after-run
 counted-law w start cs ok n =
     let t = tree-of w in
     let f = fresh-answer w start .state in

@@ -11,7 +11,7 @@ use Rattle.model.proofs.Trees.Accepted.{Accepted}
 use Rattle.model.proofs.Trees.Records.{owner-at}
 use Rattle.model.proofs.Lists.{same-or, put, put-same, put-other, first, first-nil, first-cons, first-snoc, is, is-same, is-other, count, count-nil, count-cons}
 use Rattle.claims.proofs.Queues.Paths.{laws}
-use Rattle.claims.proofs.Queues.Moves.{climb, queued, reach, acts, State, Event, Move, start, join-empty, join-root, join-behind, enter, leave, hand-on, release, let-go}
+use Rattle.claims.proofs.Queues.Moves.{climb, queued, reach, acts, State, Event, Move, start, join-empty, join-root, join-after, enter, leave, hand-on, release, let-go}
 use Rattle.claims.proofs.Queues.Changes.{made-first}
 use Rattle.claims.proofs.Queues.Invariant.{Thread, Inv}
 use Rattle.claims.proofs.Queues.Remaining.{acts-real}
@@ -87,7 +87,7 @@ module _ (T : Tree) (valid : Accepted T) (d : ℕ) where
     effect (start i h e) = starts-none (count-nil R) (λ f. f)
     effect (join-empty i j e n z) = joins i j e z
     effect (join-root i j e r z) = joins i j e z
-    effect (join-behind i j a e q) =
+    effect (join-after i j a e q) =
         starts-none (count-nil R) (λ f. put-first (st .queue) (ancestor T i j) (st .queue (ancestor T i j) ++ (record-at T i j ∷ [])) P _
         (λ y g. ap (λ x. first (st .queue x)) y ∙ q ∙ sym (first-snoc (st .queue (ancestor T i j)) (record-at T i j) a q) ∙ sym g ∙ f)
         (λ y g. sym g ∙ f))

@@ -12,7 +12,7 @@ use Rattle.model.proofs.Trees.Paths.{ancestor-home}
 use Rattle.model.proofs.Trees.Records.{record-own}
 use Rattle.model.proofs.Lists.{same-or, less-or, put, put-same, put-other, first, grown-first, is-same, count, count-nil, count-cons}
 use Rattle.claims.proofs.Queues.Paths.{laws}
-use Rattle.claims.proofs.Queues.Moves.{Stage, out, climb, queued, ready, inside, holding, releasing, down, low, acts, pending, State, Event, ends, entered, Last, root, lower, Move, start, join-empty, join-root, join-behind, enter, leave, hand-on, release, let-go}
+use Rattle.claims.proofs.Queues.Moves.{Stage, out, climb, queued, ready, inside, holding, releasing, down, low, acts, pending, State, Event, ends, entered, Last, root, lower, Move, start, join-empty, join-root, join-after, enter, leave, hand-on, release, let-go}
 use Rattle.claims.proofs.Queues.Changes.{made-first}
 use Rattle.claims.proofs.Queues.Invariant.{Inv, low-down, low-acts}
 use Rattle.claims.proofs.Queues.Keeps.{keeps, last-low}
@@ -157,10 +157,10 @@ module _ (T : Tree) (valid : Accepted T) (d : ℕ) (pos : 0 < d) (leaf : is-leaf
       (λ b. (same-tenures T valid d pos leaf st inv n e l old mv k hk zk b, entry-alone i k h zk z (omega arith) (λ zi. rw x (joins-above i j zi r))))))
       (idle-after T valid d pos leaf st inv n e l old mv (grows-over (ancestor T i j) (record-at T i j)) (entry-quiet mv i h (put-same (st .stage) i inside i refl)))
 
-  leaf-join-behind : (i j a : ℕ) (x : st .stage i ≡ climb j) (f : first (st .queue (ancestor T i j)) ≡ suc a) → After (join-behind i j a x f)
+  leaf-join-after : (i j a : ℕ) (x : st .stage i ≡ climb j) (f : first (st .queue (ancestor T i j)) ≡ suc a) → After (join-after i j a x f)
   unfolding low pending entered-by
-  leaf-join-behind i j a x f =
-      let mv = join-behind i j a x f in
+  leaf-join-after i j a x f =
+      let mv = join-after i j a x f in
       build T valid d pos leaf st inv n e l old _ _ _
       (λ k hk zk. same-or k i (Of mv k)
       (λ z.
@@ -314,7 +314,7 @@ module _ (T : Tree) (valid : Accepted T) (d : ℕ) (pos : 0 < d) (leaf : is-leaf
   leaf-move (start i h x) lengths p = leaf-start i h x
   leaf-move (join-empty i j x nz y) lengths p = leaf-join-empty i j x nz y lengths
   leaf-move (join-root i j x r y) lengths p = leaf-join-root i j x r y lengths
-  leaf-move (join-behind i j a x f) lengths p = leaf-join-behind i j a x f
+  leaf-move (join-after i j a x f) lengths p = leaf-join-after i j a x f
   leaf-move (enter i x) lengths p = leaf-enter i x
   leaf-move (leave i x) lengths p = leaf-leave i x
   leaf-move (hand-on i j s m xs x h w meet ok shape) lengths p = leaf-hand-on i j s m xs x h w meet ok shape lengths p

@@ -18,7 +18,7 @@ use Rattle.model.specs.Steps.{is-entry, begins, ends, Row-result, acquired-plac
 use Rattle.model.specs.Tenures.{checks-at, word-to-grant}
 use Rattle.model.proofs.Places.{numbers-other, place-stored}
 use Rattle.model.proofs.Lists.{same-or}
-use Rattle.model.proofs.Branches.{Word-at, Branch, idle-draws, idle-prepares, prepares, swap-root, swap-inner, swap-behind, link-writes, wait-root-locked, wait-root-granted, wait-ungranted, wait-acquires, wait-passed, wait-crossed, inside-leaves, check-passes, check-releases, help-alone, help-linked, cas-last, cas-not-last, linger-alone, linger-linked, grant-writes, draw-shown, draw-unshown, watch-shown, watch-unshown, raise-counts, invalid-stays, branch, at-root, below-root}
+use Rattle.model.proofs.Branches.{Word-at, Branch, idle-draws, idle-prepares, prepares, swap-root, swap-inner, swap-joins, link-writes, wait-root-locked, wait-root-granted, wait-ungranted, wait-acquires, wait-passed, wait-crossed, inside-leaves, check-passes, check-releases, help-alone, help-linked, cas-last, cas-not-last, linger-alone, linger-linked, grant-writes, draw-shown, draw-unshown, watch-shown, watch-unshown, raise-counts, invalid-stays, branch, at-root, below-root}
 use Rattle.claims.proofs.Queues.Moves as moves
 use Rattle.claims.proofs.Queues.Moves.{Event}
 use Rattle.claims.proofs.Words.Outcome.{ends-shown, standing-shown, entry-shown, row-shown}
@@ -103,24 +103,24 @@ module _ (t : Tree) (s : State) (i d : ℕ) (pos : 0 < d) (room : Has-room (s .p
   abbrev pub Tells : Place → Row-result → Type 0
   Tells p x = Lands (tenure-word p x) x × Ends p (place-domain (t .home i) p) x
 
-  branch-tells : {p : Place} {x : Row-result} → Branch t i s p x → Tells p x
+  branch-reports : {p : Place} {x : Row-result} → Branch t i s p x → Tells p x
   unfolding checks-at word-to-grant row-shown standing-shown ends-shown entry-shown is-entry ending
-  branch-tells (idle-draws z (draw-shown e)) = (elsewhere Inside refl, other-shown Idle _ refl)
-  branch-tells (idle-draws z (draw-unshown e)) = (elsewhere Watch refl, other-shown Idle _ refl)
-  branch-tells (idle-prepares z (prepares l v c)) = (elsewhere (Swap l) refl, none-shown Idle)
-  branch-tells (prepares l v c) = (elsewhere (Swap l) refl, none-shown (Prep l))
-  branch-tells (swap-root l z e) = (elsewhere Inside refl, other-shown (Swap l) _ refl)
-  branch-tells (swap-inner l z e) = (elsewhere (acquired-place t l) (no-acquire (is-ticket t (t .parent l)) (t .parent l)), none-shown (Swap l))
-  branch-tells (swap-behind l e) = (elsewhere (Link l (tail s l - 1)) refl, other-shown (Swap l) _ refl)
-  branch-tells (link-writes l p) = (elsewhere (Wait l) refl, none-shown (Link l p))
-  branch-tells (wait-root-locked l z e) = (λ j r w y. inl y, none-shown (Wait l))
-  branch-tells (wait-root-granted l z e) = (elsewhere Inside refl, other-shown (Wait l) _ refl)
-  branch-tells (wait-ungranted l z e) = (λ j r w y. inl y, none-shown (Wait l))
-  branch-tells (wait-acquires l z e) = (elsewhere (acquired-place t l) (no-acquire (is-ticket t (t .parent l)) (t .parent l)), none-shown (Wait l))
-  branch-tells (wait-passed l z e f a) = (elsewhere Inside refl, other-shown (Wait l) _ refl)
-  branch-tells (wait-crossed l z e f a) = (elsewhere Inside refl, other-shown (Wait l) _ refl)
-  branch-tells inside-leaves = (elsewhere (release-place t (t .home i)) (no-release (is-ticket t (t .home i)) (eqb (t .home i) 0) (t .home i)), none-shown Inside)
-  branch-tells (check-passes l less some) =
+  branch-reports (idle-draws z (draw-shown e)) = (elsewhere Inside refl, other-shown Idle _ refl)
+  branch-reports (idle-draws z (draw-unshown e)) = (elsewhere Watch refl, other-shown Idle _ refl)
+  branch-reports (idle-prepares z (prepares l v c)) = (elsewhere (Swap l) refl, none-shown Idle)
+  branch-reports (prepares l v c) = (elsewhere (Swap l) refl, none-shown (Prep l))
+  branch-reports (swap-root l z e) = (elsewhere Inside refl, other-shown (Swap l) _ refl)
+  branch-reports (swap-inner l z e) = (elsewhere (acquired-place t l) (no-acquire (is-ticket t (t .parent l)) (t .parent l)), none-shown (Swap l))
+  branch-reports (swap-joins l e) = (elsewhere (Link l (tail s l - 1)) refl, other-shown (Swap l) _ refl)
+  branch-reports (link-writes l p) = (elsewhere (Wait l) refl, none-shown (Link l p))
+  branch-reports (wait-root-locked l z e) = (λ j r w y. inl y, none-shown (Wait l))
+  branch-reports (wait-root-granted l z e) = (elsewhere Inside refl, other-shown (Wait l) _ refl)
+  branch-reports (wait-ungranted l z e) = (λ j r w y. inl y, none-shown (Wait l))
+  branch-reports (wait-acquires l z e) = (elsewhere (acquired-place t l) (no-acquire (is-ticket t (t .parent l)) (t .parent l)), none-shown (Wait l))
+  branch-reports (wait-passed l z e f a) = (elsewhere Inside refl, other-shown (Wait l) _ refl)
+  branch-reports (wait-crossed l z e f a) = (elsewhere Inside refl, other-shown (Wait l) _ refl)
+  branch-reports inside-leaves = (elsewhere (release-place t (t .home i)) (no-release (is-ticket t (t .home i)) (eqb (t .home i) 0) (t .home i)), none-shown Inside)
+  branch-reports (check-passes l less some) =
       let r = own-record t i l in
       let p = Grant l (next s r - 1) (status s r + 1) in (
         lands (cond (eqb l d) (word-to-grant (place-of (numbers-at (store-numbers (s .places) i (words-of p)) i))) 0) p
@@ -130,26 +130,26 @@ module _ (t : Tree) (s : State) (i d : ℕ) (pos : 0 < d) (room : Has-room (s .p
             inr (rw (eq-eqb l d zl, stored p) (omega arith))),
         none-shown (Check l),
       )
-  branch-tells (check-releases l e) = (
+  branch-reports (check-releases l e) = (
     λ j q w y. elim (elsewhere (release-place t (t .parent l)) (no-release (is-ticket t (t .parent l)) (eqb (t .parent l) 0) (t .parent l)) j q w y) [
       | inl z ↦ inl z
       | inr z ↦ inr (elim z [ inl y ↦ inl y | inr y ↦ inr (omega arith) ])
     ],
     none-shown (Check l),
   )
-  branch-tells (help-alone l n) = (elsewhere (Cas l) refl, none-shown (Help l))
-  branch-tells (help-linked l v n c) = (helping l (next s (own-record t i l) - 1) v c, none-shown (Help l))
-  branch-tells (cas-last l e) = (elsewhere (done-place t i l) (no-done (eqb l (t .home i)) (child t i l)), none-shown (Cas l))
-  branch-tells (cas-not-last l e) = (elsewhere (Linger l) refl, none-shown (Cas l))
-  branch-tells (linger-alone l n) = (λ j r w y. inl y, none-shown (Linger l))
-  branch-tells (linger-linked l v n c) = (helping l (next s (own-record t i l) - 1) v c, none-shown (Linger l))
-  branch-tells (grant-writes l r w) = (elsewhere (done-place t i l) (no-done (eqb l (t .home i)) (child t i l)), λ m e. let z : l ≡ d = ap ending (head-eq-of-cons-eq e) in (r, w, ap (λ x. Grant x r w) z))
-  branch-tells (draw-shown e) = (elsewhere Inside refl, other-shown Draw _ refl)
-  branch-tells (draw-unshown e) = (elsewhere Watch refl, other-shown Draw _ refl)
-  branch-tells (watch-shown e) = (elsewhere Inside refl, other-shown Watch _ refl)
-  branch-tells (watch-unshown e) = (λ j r w y. inl y, none-shown Watch)
-  branch-tells raise-counts = (elsewhere (done-place t i 0) (no-done (eqb 0 (t .home i)) (child t i 0)), raise-ends Raise (shown-members t s (wrap (s .grant + 1))))
-  branch-tells invalid-stays = (λ j r w y. inl y, none-shown Invalid)
+  branch-reports (help-alone l n) = (elsewhere (Cas l) refl, none-shown (Help l))
+  branch-reports (help-linked l v n c) = (helping l (next s (own-record t i l) - 1) v c, none-shown (Help l))
+  branch-reports (cas-last l e) = (elsewhere (done-place t i l) (no-done (eqb l (t .home i)) (child t i l)), none-shown (Cas l))
+  branch-reports (cas-not-last l e) = (elsewhere (Linger l) refl, none-shown (Cas l))
+  branch-reports (linger-alone l n) = (λ j r w y. inl y, none-shown (Linger l))
+  branch-reports (linger-linked l v n c) = (helping l (next s (own-record t i l) - 1) v c, none-shown (Linger l))
+  branch-reports (grant-writes l r w) = (elsewhere (done-place t i l) (no-done (eqb l (t .home i)) (child t i l)), λ m e. let z : l ≡ d = ap ending (head-eq-of-cons-eq e) in (r, w, ap (λ x. Grant x r w) z))
+  branch-reports (draw-shown e) = (elsewhere Inside refl, other-shown Draw _ refl)
+  branch-reports (draw-unshown e) = (elsewhere Watch refl, other-shown Draw _ refl)
+  branch-reports (watch-shown e) = (elsewhere Inside refl, other-shown Watch _ refl)
+  branch-reports (watch-unshown e) = (λ j r w y. inl y, none-shown Watch)
+  branch-reports raise-counts = (elsewhere (done-place t i 0) (no-done (eqb 0 (t .home i)) (child t i 0)), raise-ends Raise (shown-members t s (wrap (s .grant + 1))))
+  branch-reports invalid-stays = (λ j r w y. inl y, none-shown Invalid)
 
-  pub row-tells : (p : Place) → Tells p (row t i p s)
-  row-tells p = branch-tells (branch t i s p)
+  pub row-reports : (p : Place) → Tells p (row t i p s)
+  row-reports p = branch-reports (branch t i s p)

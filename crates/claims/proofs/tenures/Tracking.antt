@@ -36,7 +36,7 @@ use Rattle.claims.proofs.Claims.Reached.{Queued, outcome-at, queued-aft
 use Rattle.claims.proofs.tenures.Firsts.{P, R}
 use Rattle.claims.proofs.tenures.LeafTenures.{leaf-index, home-height, Leaf}
 use Rattle.claims.proofs.tenures.Along.{started-along, Passes, leaf-along, leaf-wider, entered-shown}
-use Rattle.claims.proofs.tenures.Telling.{tenure-word, row-tells}
+use Rattle.claims.proofs.tenures.Telling.{tenure-word, row-reports}
 
 module _ (t : Tree) (valid : Accepted t) (bits : Sixteen-bit t) (d : ℕ) (pos : 0 < d) (real : d < t .domains) where
   -- what holds of n tenures, e entries and the longest l after some steps
@@ -144,7 +144,7 @@ module _ (t : Tree) (valid : Accepted t) (bits : Sixteen-bit t) (d : ℕ) (pos :
     passes : (q : is-leaf t d ≡ true) → Passes t valid d pos q g (row-shown i (place-domain (t .home i) p) x) l′
     unfolding words-in low Says
     passes q m e′ k hold zk =
-        let f = row-tells t s i d pos room p .1 m e′ in
+        let f = row-reports t s i d pos room p .1 m e′ in
         let r = f .0 in
         let v = f .1 in
         let a : Says t (words-in s) g i (Grant d r v) (g .stage i) = says-at (f .2) (rep .fits i h) in
@@ -192,7 +192,7 @@ module _ (t : Tree) (valid : Accepted t) (bits : Sixteen-bit t) (d : ℕ) (pos :
               (λ a. omega (arith, start-length (omega (arith, starts-counted)), length-longer));
           none = λ b. less-or 0 (n + c) _ (λ a. omega (arith, starts-counted)) (λ a. absurd (omega (arith, none-yet (omega arith))));
           within = omega (arith, old .within, tenure-length-within t valid i h s (old .queued .facts .places i .used h) d);
-          words = λ j r v z. elim (row-tells t s i d pos room p .0 j r v z) [
+          words = λ j r v z. elim (row-reports t s i d pos room p .0 j r v z) [
             | inl a ↦ elim (old .words j r v a) [ inl b ↦ inl b | inr b ↦ inr (omega (arith, no-longer)) ]
             | inr a ↦ elim a [ inl b ↦ inl b | inr b ↦ inr (omega (arith, check-length, length-longer)) ]
           ];

@@ -51,20 +51,20 @@ unfoldable pub two-leaves : TreeWords
 two-leaves = tree 3 2 (0 ∷ 0 ∷ 0 ∷ []) (0 ∷ 2 ∷ 2 ∷ []) (1 ∷ 2 ∷ [])
 
 -- thread 0 is Inside and thread 1 waits in its leaf
-unfoldable pub one-behind : List ℕ
-one-behind = replicate 4 0 ++ replicate 3 1
+unfoldable pub one-after : List ℕ
+one-after = replicate 4 0 ++ replicate 3 1
 
 unfoldable pub cases : List Case
 cases =
     -- no tenure before the leaf's record is first above it; and where it finds none there, one of length 1
     case two-threads 0 (replicate 3 0) 1 0 0 0
-    ∷ case two-threads 0 one-behind 1 1 1 1
+    ∷ case two-threads 0 one-after 1 1 1 1
     -- a Check that finds a successor tells at once the length that its Grant will give; the successor's entry belongs to the same tenure
-    ∷ case two-threads 0 (one-behind ++ replicate 2 0) 1 1 1 2
-    ∷ case two-threads 0 (one-behind ++ replicate 3 0 ++ (1 ∷ [])) 1 2 1 2
+    ∷ case two-threads 0 (one-after ++ replicate 2 0) 1 1 1 2
+    ∷ case two-threads 0 (one-after ++ replicate 3 0 ++ (1 ∷ [])) 1 2 1 2
     -- a Check that finds none tells nothing, and one at the threshold tells nothing
     ∷ case two-threads 0 (replicate 6 0) 1 1 1 1
-    ∷ case three-threads 0 (one-behind ++ replicate 3 2 ++ replicate 3 0 ++ replicate 3 1) 1 2 1 2
+    ∷ case three-threads 0 (one-after ++ replicate 3 2 ++ replicate 3 0 ++ replicate 3 1) 1 2 1 2
     -- a leaf's tenure starts before its thread enters, the inner domain's with the entry
     ∷ case three-levels 0 (replicate 5 0) 2 0 1 1
     ∷ case three-levels 0 (replicate 5 0) 1 0 0 0
@@ -77,7 +77,7 @@ cases =
     ∷ case (at-ticket-root two-leaves) 65535 (replicate 3 0 ++ replicate 3 1 ++ replicate 2 0) 2 0 0 0
     ∷ case (at-ticket-root two-leaves) 65535 (replicate 3 0 ++ replicate 3 1 ++ replicate 3 0) 2 0 1 1
     -- of the root nothing is counted
-    ∷ case two-threads 0 one-behind 0 0 0 0
+    ∷ case two-threads 0 one-after 0 0 0 0
     ∷ []
 
 unfoldable pub Cases-hold : Type 0

@@ -20,7 +20,7 @@ use Rattle.model.specs.States.{fresh-words}
 use Rattle.model.specs.Steps.{is-entry}
 use Rattle.model.specs.Runs.{Run, steps, counts-of, run-of, run}
 use Rattle.model.specs.Refusals.{Refusal, lowest-bad, first-refusal, bad-room, tree-tests, run-tests, run-refusal}
-use Rattle.model.specs.Answers.{counters-behind, fresh-answer, run-accepted, run-refused, run-reply, run-buffer, run-answer, trace-answer}
+use Rattle.model.specs.Answers.{counters-after-run, fresh-answer, run-accepted, run-refused, run-reply, run-buffer, run-answer, trace-answer}
 use Rattle.model.specs.Laws.{Count-law}
 use Rattle.model.proofs.Tests.{by-test}
 use Rattle.model.proofs.Laws.Runs.{steps-length, count-law}
@@ -78,7 +78,7 @@ pub run-listed :
     ≡ tree-outcome w is room
 unfolding run-answer trace-answer file-trace Count-law
 run-listed w is buffer room h =
-    front-listed (run-refusal (tree-of w) fresh-lock is (length buffer)) fresh-lock (run (tree-of w) is fresh-words) (counters-behind (tree-of w) is fresh-lock) buffer room
+    front-listed (run-refusal (tree-of w) fresh-lock is (length buffer)) fresh-lock (run (tree-of w) is fresh-words) (counters-after-run (tree-of w) is fresh-lock) buffer room
     (count-law (tree-of w) is fresh-words .traced)
     ∙ ap (λ r. run-outcome r (run (tree-of w) is fresh-words .trace) room) (run-same w is buffer h)
 
@@ -87,7 +87,7 @@ pub replied-within : (w : TreeWords) (is buffer : List ℕ) → run-answer w fre
 unfolding run-answer run-reply
 replied-within w is buffer =
     by-test (λ r. r .counts .entries ≤ length is) (eqb (run-refusal (tree-of w) fresh-lock is (length buffer) .number) 0)
-    (run-accepted (run (tree-of w) is fresh-words) (counters-behind (tree-of w) is fresh-lock)) (run-refused (run-refusal (tree-of w) fresh-lock is (length buffer)) fresh-lock)
+    (run-accepted (run (tree-of w) is fresh-words) (counters-after-run (tree-of w) is fresh-lock)) (run-refused (run-refusal (tree-of w) fresh-lock is (length buffer)) fresh-lock)
     (λ e. entries-within (tree-of w) is fresh-words) (λ e. omega arith)
 
 -- the state that the code has of its fresh call

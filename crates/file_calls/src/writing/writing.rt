@@ -56,9 +56,12 @@ fn put_domains<'a>(
     domains: usize,
 ) -> usize
     requires { ⌜ (0 < domains) × (domains ≤ 64) ⌝ }
-    requires { ⌜ start + length (written-domains (tree-in domains 0 (now parents) (now thresholds) [] .parent) (tree-in domains 0 (now parents) (now thresholds) [] .threshold) (domains - 1) 1) ≤ length (now buffer) ⌝ }
-    ensures { λ r. ⌜ r ≡ start + length (written-domains (tree-in domains 0 (now (parents .entry)) (now (thresholds .entry)) [] .parent) (tree-in domains 0 (now (parents .entry)) (now (thresholds .entry)) [] .threshold) (domains - 1) 1) ⌝ }
-    ensures { λ r. ⌜ now (buffer .exit) ≡ sets (now (buffer .entry)) start (written-domains (tree-in domains 0 (now (parents .entry)) (now (thresholds .entry)) [] .parent) (tree-in domains 0 (now (parents .entry)) (now (thresholds .entry)) [] .threshold) (domains - 1) 1) ⌝ }
+    requires { ⌜ (let t = tree-in domains 0 (now parents) (now thresholds) [] in
+        start + length (written-domains (t .parent) (t .threshold) (domains - 1) 1) ≤ length (now buffer)) ⌝ }
+    ensures { λ r. ⌜ (let t = tree-in domains 0 (now (parents .entry)) (now (thresholds .entry)) [] in
+        r ≡ start + length (written-domains (t .parent) (t .threshold) (domains - 1) 1)) ⌝ }
+    ensures { λ r. ⌜ (let t = tree-in domains 0 (now (parents .entry)) (now (thresholds .entry)) [] in
+        now (buffer .exit) ≡ sets (now (buffer .entry)) start (written-domains (t .parent) (t .threshold) (domains - 1) 1)) ⌝ }
 {
     let mut at = start;
     let mut d = 1;
@@ -124,17 +127,17 @@ pub(crate) fn put_tree(buffer: &mut [u8], tree: TreeWords) -> usize
     ensures { λ r. ⌜ now (buffer .exit) ≡ sets (now (buffer .entry)) 0 (written-tree (tree-of tree)) ⌝ }
 {
     buffer[0] = first_byte_of(tree);
-    let behind_domains = put_domains(
+    let after_domains = put_domains(
         buffer,
         1,
         &tree.parents,
         &tree.thresholds,
         casts::number_index(tree.domains),
     );
-    let behind_count = put_two_bytes(buffer, behind_domains, tree.threads as u16);
+    let after_count = put_two_bytes(buffer, after_domains, tree.threads as u16);
     put_threads(
         buffer,
-        behind_count,
+        after_count,
         &tree.homes,
         casts::number_index(tree.threads),
     )

@@ -29,19 +29,19 @@ use Rattle.journal.proofs.Writing.{one-reading-law}
 use Rattle.refusals.specs.StateCheck.Laws.{Accepted-law}
 use Rattle.refusals.proofs.state_check.Checking.{accepted-law}
 use Rattle.journal.specs.StepCheck.Answers.{early-refusal}
-use Rattle.journal.specs.StepCheck.Laws.{kinds-told, domains-told, Of-the-table, Exactly-law, Journal-law}
+use Rattle.journal.specs.StepCheck.Laws.{kinds-reported, domains-reported, Of-the-table, Exactly-law, Journal-law}
 use Rattle.journal.proofs.step_check.Early.{lengths-pass}
 use Rattle.journal.proofs.step_check.Laws.{exactly-law}
 
-same-kinds : (xs : List Step) → kinds-told xs ≡ kind-numbers xs
-unfolding kinds-told kind-numbers
+same-kinds : (xs : List Step) → kinds-reported xs ≡ kind-numbers xs
+unfolding kinds-reported kind-numbers
 same-kinds [] = refl
 same-kinds (x ∷ xs) = ap (λ (l : List ℕ). kind-number (x .kind) ∷ l) (same-kinds xs)
 
-told-long : (xs : List Step) → length (domains-told xs) ≡ length xs
-unfolding domains-told
-told-long [] = refl
-told-long (x ∷ xs) = ap suc (told-long xs)
+reported-long : (xs : List Step) → length (domains-reported xs) ≡ length xs
+unfolding domains-reported
+reported-long [] = refl
+reported-long (x ∷ xs) = ap suc (reported-long xs)
 
 named-long : (xs : List Named-step) → (length (threads-of xs) ≡ length xs) × (length (kinds-of xs) ≡ length xs)
 unfolding threads-of kinds-of
@@ -56,7 +56,7 @@ module _ (w : TreeWords) (ok : tree-refusal (tree-of w) .number ≡ 0) (xs : Lis
   is = threads-of xs
 
   abbrev ds : List ℕ
-  ds = domains-told (steps t is (fresh-lock .words))
+  ds = domains-reported (steps t is (fresh-lock .words))
 
   fresh-is : journal.fresh-lock w ≡ fresh-words
   unfolding fresh-answer
@@ -69,7 +69,7 @@ module _ (w : TreeWords) (ok : tree-refusal (tree-of w) .number ≡ 0) (xs : Lis
       let e = accepted-law t fresh-lock .1 (ok, formed .form, fresh-good t) in
       let l = named-long xs in
       ap (λ v. v .number)
-      (lengths-pass t fresh-lock is (kinds-of xs) ds (ap (λ v. v .number) e ∙ accepted-number) (l .1 ∙ sym (l .0)) (told-long (steps t is (fresh-lock .words)) ∙ steps-length t is (fresh-lock .words)))
+      (lengths-pass t fresh-lock is (kinds-of xs) ds (ap (λ v. v .number) e ∙ accepted-number) (l .1 ∙ sym (l .0)) (reported-long (steps t is (fresh-lock .words)) ∙ steps-length t is (fresh-lock .words)))
       ∙ accepted-number
 
   -- both say that the steps are of the table

@@ -15,7 +15,7 @@ use Rattle.model.specs.Runs.{steps, run-of, run}
 use Rattle.model.specs.WellFormed.{well-formed}
 use Rattle.model.specs.Counters.{lock-after, good-counts}
 use Rattle.model.specs.Refusals.{tree-refusal, run-refusal}
-use Rattle.model.specs.Answers.{counters-behind, run-reply, run-answer}
+use Rattle.model.specs.Answers.{counters-after-run, run-reply, run-answer}
 use Rattle.model.specs.Laws.{Formed}
 use Rattle.model.proofs.Laws.Calls.{run-reply-number}
 use Rattle.model.proofs.Laws.Refusals.{accepted-number}
@@ -142,10 +142,10 @@ module _ (w : TreeWords) (s : LockState) (is ks ds : List ℕ) where
       ]
 
   ran : (is′ b : List ℕ) → run-answer w s is′ b .number ≡ 0 → run-answer w s is′ b .state ≡ lock-after (tree-of w) s (steps (tree-of w) is′ (s .words))
-  unfolding run-answer run-reply lock-after run run-of counters-behind
+  unfolding run-answer run-reply lock-after run run-of counters-after-run
   ran is′ b e =
       let q = run-refusal (tree-of w) s is′ (length b) in
-      let z : q .number ≡ 0 = sym (run-reply-number q s (run (tree-of w) is′ (s .words)) (counters-behind (tree-of w) is′ s)) ∙ e in
+      let z : q .number ≡ 0 = sym (run-reply-number q s (run (tree-of w) is′ (s .words)) (counters-after-run (tree-of w) is′ s)) ∙ e in
       rw (eq-eqb (q .number) 0 z)
 
 pub state-law : State-law

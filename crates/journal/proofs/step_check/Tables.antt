@@ -19,13 +19,13 @@ use Rattle.model.specs.Laws.{All-threads}
 use Rattle.model.proofs.Laws.Counters.{count-first, count-later}
 use Rattle.model.proofs.Laws.Refusals.{lowest}
 use Rattle.journal.specs.StepCheck.Answers.{step-number, next, checked}
-use Rattle.journal.specs.StepCheck.Laws.{kinds-told, domains-told, Of-the-table, after-first, Refused-step, no-thread, counter-full, other-kind, other-domain}
+use Rattle.journal.specs.StepCheck.Laws.{kinds-reported, domains-reported, Of-the-table, after-first, Refused-step, no-thread, counter-full, other-kind, other-domain}
 use Rattle.journal.proofs.step_check.Checking.{number-12, number-19, number-26, number-29, number-0, number-at, Right, first-number, later-number, all-right, stops-at}
 use Rattle.journal.proofs.step_check.Keeping.{named-right}
 
 -- RIGHT STEPS are of the table
 pub table-of : (t : Tree) (s : LockState) (is ks ds : List ℕ) → length ks ≡ length is → length ds ≡ length is → Right t s is ks ds (length is) → Of-the-table t s is ks ds
-unfolding All-threads kinds-told domains-told steps lock-after state-after
+unfolding All-threads kinds-reported domains-reported steps lock-after state-after
 table-of t s [] [] [] a b r = record { threads-known = tt; counters-fit = λ p h. absurd (omega arith); kinds-given = refl; domains-given = refl }
 table-of t s [] [] (d ∷ ds) a b r = absurd (omega arith)
 table-of t s [] (k ∷ ks) ds a b r = absurd (omega arith)
@@ -49,7 +49,7 @@ table-of t s (i ∷ is) (k ∷ ks) (d ∷ ds) a b r =
 
 -- and steps of the table are right
 pub right-of : (t : Tree) (s : LockState) (is ks ds : List ℕ) → Of-the-table t s is ks ds → Right t s is ks ds (length is)
-unfolding All-threads kinds-told domains-told steps lock-after state-after
+unfolding All-threads kinds-reported domains-reported steps lock-after state-after
 right-of t s [] ks ds g j h = absurd (omega arith)
 right-of t s (i ∷ is) [] ds g j h = absurd (let z = ap length (g .kinds-given) in omega arith)
 right-of t s (i ∷ is) (k ∷ ks) [] g j h = absurd (let z = ap length (g .domains-given) in omega arith)

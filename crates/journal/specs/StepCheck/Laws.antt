@@ -20,13 +20,13 @@ use Rattle.journal.specs.Answers.{journal-refusal}
 use Rattle.journal.specs.StepCheck.Answers.{early-tests, early-refusal, refused, steps-answer}
 
 -- the numbers of the kinds of some steps, and their domains
-unfoldable pub kinds-told : List Step → List ℕ
-kinds-told [] = []
-kinds-told (x ∷ xs) = kind-number (x .kind) ∷ kinds-told xs
+unfoldable pub kinds-reported : List Step → List ℕ
+kinds-reported [] = []
+kinds-reported (x ∷ xs) = kind-number (x .kind) ∷ kinds-reported xs
 
-unfoldable pub domains-told : List Step → List ℕ
-domains-told [] = []
-domains-told (x ∷ xs) = x .domain ∷ domains-told xs
+unfoldable pub domains-reported : List Step → List ℕ
+domains-reported [] = []
+domains-reported (x ∷ xs) = x .domain ∷ domains-reported xs
 
 -- 1. BEFORE THE STEPS. The tests are a list that the one law of refusals covers; where one refuses, nothing is checked and the state is as it came
 pub record Refuses-early (w : TreeWords) (s : LockState) (threads kinds domains : List ℕ) : Type 0 where
@@ -43,8 +43,8 @@ Early-law = (w : TreeWords) (s : LockState) (threads kinds domains : List ℕ) �
 pub record Of-the-table (t : Tree) (s : LockState) (threads kinds domains : List ℕ) : Type 0 where
   pub threads-known : All-threads t threads
   pub counters-fit : (p : ℕ) → p < length threads → bad-counter t s threads p ≡ false
-  pub kinds-given : kinds ≡ kinds-told (steps t threads (s .words))
-  pub domains-given : domains ≡ domains-told (steps t threads (s .words))
+  pub kinds-given : kinds ≡ kinds-reported (steps t threads (s .words))
+  pub domains-given : domains ≡ domains-reported (steps t threads (s .words))
 
 -- in which sense a named step is refused by a number, in a state
 pub data Refused-step (t : Tree) (s : LockState) (thread kind domain : ℕ) : (number : ℕ) → Type 0 where
@@ -140,4 +140,4 @@ unfoldable pub Journal-law : Type 0
 Journal-law =
     (w : TreeWords) (bytes : List ℕ) (xs : List Named-step) → tree-refusal (tree-of w) .number ≡ 0 → Journal bytes xs → length xs ≤ most-counted →
     (journal-refusal w bytes ≡ accepted)
-    ⟺ (steps-answer w fresh-lock (threads-of xs) (kinds-of xs) (domains-told (steps (tree-of w) (threads-of xs) (fresh-lock .words))) .number ≡ 0)
+    ⟺ (steps-answer w fresh-lock (threads-of xs) (kinds-of xs) (domains-reported (steps (tree-of w) (threads-of xs) (fresh-lock .words))) .number ≡ 0)

@@ -1,23 +1,16 @@
 -- Four entries with the same bit map one after another, and what they leave in the room.
 use mathlib.Core.Path.{_≡_, refl}
 use mathlib.Core.List.{List, [], _∷_}
-use Prim.Native.Nat.{ℕ, suc, _+_, _*_, _≤_, _<_}
+use Prim.Native.Nat.{ℕ, _+_, _*_, _≤_, _<_}
 use native.Mathlib.Omega.{arith}
 use lib.Dec.{lit≤}
-use lib.ListN.{length, getD, set}
+use lib.ListN.{length, getD}
 use lib.Seq.{sets}
 use Rattle.journal.specs.declared.Entry.the-variants.{Named}
 use Rattle.journal.specs.Reading.{entry-at}
 use Rattle.journal_call.specs.Reader.Stretches.{Stretch, none-read, one-read, Read-on}
 use Rattle.journal_call.specs.Pieces.Pieces.{All-are, All-below}
 use Rattle.journal.proofs.Facts.{whole-entry}
-
-pub four-stored : (l : List ℕ) (at a b c d : ℕ) → set (set (set (set l at a) (at + 1) b) (at + 2) c) (at + 3) d ≡ sets l at (a ∷ b ∷ c ∷ d ∷ [])
-four-stored l at a b c d =
-    let z1 : at + 1 ≡ suc at = omega arith in
-    let z2 : at + 2 ≡ suc (suc at) = omega arith in
-    let z3 : at + 3 ≡ suc (suc (suc at)) = omega arith in
-    rw (z1, z2, z3)
 
 pub four-read :
     (known : ℕ) (bs : List ℕ) (p b : ℕ) (is ks : List ℕ) (n : ℕ) {is′ ks′ : List ℕ} {i₀ i₁ i₂ i₃ k₀ k₁ k₂ k₃ e l : ℕ} → n + 4 ≤ length is → n + 4 ≤ length ks →

@@ -7,7 +7,7 @@ use lib.ListN.{length, set, length-append}
 use lib.Seq.{sets, length-sets}
 use Rattle.journal.specs.declared.Entry.the-variants.{Named, Broken, End}
 use Rattle.journal.specs.Reading.{entry-at}
-use Rattle.journal_call.specs.Reader.Stretches.{position-by, position-after, Stretch, none-read, one-read, Stops, for-room, for-broken, for-thread, piece-of, Read-on, Stopped-before}
+use Rattle.journal_call.specs.Reader.Stretches.{position-by, position-after, Stretch, none-read, one-read, for-room, for-broken, for-thread, piece-of, Read-on, Stopped-before}
 use Rattle.journal.proofs.Facts.{at-end}
 
 -- STRETCHES: one after another

@@ -1,5 +1,5 @@
 -- From what the tests and the pieces come to, to the answer.
-use mathlib.Core.Path.{_≡_, refl, sym, ap, _∙_}
+use mathlib.Core.Path.{_≡_, sym, ap, _∙_}
 use mathlib.Core.Bool.{cond}
 use mathlib.Core.List.{List}
 use Prim.Native.Nat.{ℕ}
@@ -8,8 +8,8 @@ use lib.ListN.{length}
 use borrow.Author.Tests.{eq-eqb, ne-eqb}
 use Rattle.model.specs.declared.TreeWords.{TreeWords}
 use Rattle.model.specs.declared.LockState.{LockState}
-use Rattle.model.specs.Trees.{Tree, tree-of}
-use Rattle.model.specs.Refusals.{refusal, accepted}
+use Rattle.model.specs.Trees.{tree-of}
+use Rattle.model.specs.Refusals.{refusal}
 use Rattle.model.specs.Laws.{Typed}
 use Rattle.refusals.specs.declared.Refusal.{Refusal}
 use Rattle.refusals.specs.Arrays.{refusal-words}
@@ -17,8 +17,7 @@ use Rattle.refusals.proofs.RunTests.{refusal-words-not, refusal-words-zero}
 use Rattle.refusals.specs.StateCheck.Answers.{check-refusal, check-answer}
 use Rattle.refusals.specs.StateCheck.Laws.{Check-refusal-law, Accepted-law}
 use Rattle.refusals.proofs.state_check.Checking.{check-refusal-law, accepted-law}
-use Rattle.journal.specs.declared.step_check.StepsReply.{StepsReply}
-use Rattle.journal.specs.StepCheck.Answers.{early-refusal, Checked, checked, steps-answer}
+use Rattle.journal.specs.StepCheck.Answers.{early-refusal, checked, steps-answer}
 use Rattle.journal.proofs.step_check.Early.{state-decides, kinds-refuse, domains-refuse, lengths-pass, early-passes}
 use Rattle.journal_call.specs.declared.step_check.pieces.Found.{Found}
 use Rattle.journal_call.specs.StepCheck.Stretches.{found-of, Ready}

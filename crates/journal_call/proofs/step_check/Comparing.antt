@@ -1,6 +1,6 @@
 -- A named step against what the run's loop told of it.
-use mathlib.Core.Path.{_≡_, refl, sym, ap, _∙_}
-use mathlib.Core.Bool.{Bool, true, false, _&&_, not}
+use mathlib.Core.Path.{_≡_, sym, ap, _∙_}
+use mathlib.Core.Bool.{true, false}
 use mathlib.Core.List.{List}
 use Prim.Native.Nat.{ℕ, _/_, _%_, _≤_, _<_}
 use native.Mathlib.Omega.{arith}
@@ -8,7 +8,7 @@ use lib.Dec.{leb}
 use lib.ListN.{getD}
 use borrow.Author.Tests.{eq-eqb, ne-eqb, le-leb, lt-leb}
 use Rattle.rows.specs.Common.Standing.{row-domain}
-use Rattle.journal_call.specs.StepCheck.Stretches.{same-kind, same-domain, differs}
+use Rattle.journal_call.specs.StepCheck.Stretches.{differs}
 
 module _ (hs is ks ds cs : List ℕ) (j : ℕ) where
   pub kind-differs : (getD ks j 0 ≡ getD cs j 0 % 8 → ⊥) → differs hs is ks ds cs j ≡ true

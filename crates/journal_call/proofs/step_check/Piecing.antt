@@ -3,13 +3,13 @@ use mathlib.Core.Path.{_≡_, refl, sym, ap, _∙_, subst}
 use mathlib.Core.Bool.{Bool, true, false, _&&_, not, cond}
 use mathlib.Core.List.{List, [], _∷_}
 use mathlib.Core.Logic.{_≢_}
-use Prim.Native.Nat.{ℕ, zero, suc, _+_, _/_, _%_, _≤_, _<_}
+use Prim.Native.Nat.{ℕ, zero, suc, _/_, _%_, _≤_, _<_}
 use native.Mathlib.Omega.{arith}
 use native.Mathlib.Decide.{ℕ-discrete}
 use lib.Dec.{eqb}
 use lib.ListN.{length, take, getD}
-use lib.Seq.{length-take-le, getD-take, take-take}
-use borrow.Author.Tests.{eq-eqb, ne-eqb, eqb-true, eqb-false, not-false, not-true}
+use lib.Seq.{length-take-le, getD-take}
+use borrow.Author.Tests.{eq-eqb, ne-eqb, eqb-true, eqb-false, not-false}
 use Rattle.model.specs.declared.TreeWords.{TreeWords}
 use Rattle.model.specs.declared.State.{State}
 use Rattle.model.specs.declared.LockState.{LockState}
@@ -23,19 +23,18 @@ use Rattle.model.proofs.Tests.{and-both}
 use Rattle.model.proofs.Laws.Calls.{early-accepted}
 use Rattle.model.proofs.Laws.Form.{form-law}
 use Rattle.model.proofs.Laws.Refusals.{accepted-number}
-use Rattle.model.proofs.Laws.Runs.{steps-length}
 use Rattle.model.proofs.Trees.Accepted.{sixteen-bit}
 use Rattle.model.proofs.Trees.Reading.{few-threads}
 use Rattle.rows.specs.Common.Standing.{row-domain}
 use Rattle.refusals.specs.Lowest.{Lowest}
 use Rattle.lock.specs.Steps.Running.{step-code, codes-front}
 use Rattle.lock.proofs.steps.StepCodes.{code-kind, domain-of-code}
-use Rattle.lock.proofs.steps.Telling.{told-front-length}
-use Rattle.journal.specs.StepCheck.Answers.{Checked, checked}
+use Rattle.lock.proofs.steps.Telling.{reported-front-length}
+use Rattle.journal.specs.StepCheck.Answers.{checked}
 use Rattle.journal.specs.StepCheck.Laws.{after-first}
 use Rattle.journal.proofs.step_check.Checking.{above-at, number-26, number-29, number-0, number-at, Right, all-right, stops-at}
 use Rattle.journal_call.specs.declared.step_check.pieces.Found.{Found}
-use Rattle.journal_call.specs.StepCheck.Stretches.{found-of, Ready, Stretch, same-kind, same-domain, differs, Comparable, Piece-fits}
+use Rattle.journal_call.specs.StepCheck.Stretches.{found-of, Ready, Stretch, same-kind, same-domain, differs, Comparable}
 use Rattle.journal_call.proofs.step_check.Stretching.{all-known}
 
 -- what the loop told of each step
@@ -78,7 +77,7 @@ module _ (w : TreeWords) (s : LockState) (is ks ds : List ℕ) (g : Ready (tree-
           threads-long = S .within;
           kinds-long = omega (arith, S .within, ks-long);
           domains-long = omega (arith, S .within, ds-long);
-          codes-long = omega (arith, S .within, few, room, ap length told, told-front-length codes₀ (steps t (take (st .steps) is) (s .words)));
+          codes-long = omega (arith, S .within, few, room, ap length told, reported-front-length codes₀ (steps t (take (st .steps) is) (s .words)));
           small = small;
         }
 

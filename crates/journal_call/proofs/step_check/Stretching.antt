@@ -3,7 +3,7 @@ use mathlib.Core.Path.{_≡_, refl, sym, ap, _∙_, subst}
 use mathlib.Core.Bool.{Bool, true, false}
 use mathlib.Core.List.{List, [], _∷_}
 use mathlib.Core.Logic.{_≢_, inl, inr}
-use Prim.Native.Nat.{ℕ, zero, suc, _+_, _-_, _≤_, _<_}
+use Prim.Native.Nat.{ℕ, suc, _+_, _-_, _≤_, _<_}
 use native.Mathlib.Omega.{arith}
 use lib.ListN.{length, take, getD}
 use lib.Seq.{length-take-le, getD-take, take-take}
@@ -26,7 +26,6 @@ use Rattle.refusals.proofs.Scanning.{test-hit}
 use Rattle.refusals.proofs.RunTests.{refusal-words-not, refusal-words-zero}
 use Rattle.journal.specs.StepCheck.Laws.{after-first}
 use Rattle.journal.proofs.step_check.Checking.{above-at, number-12, number-19}
-use Rattle.journal_call.specs.declared.step_check.pieces.Found.{Found}
 use Rattle.journal_call.specs.StepCheck.Stretches.{Ready, unknown, Stretch}
 
 -- threads that are all of the tree

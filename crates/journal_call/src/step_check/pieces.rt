@@ -57,7 +57,8 @@ fn stretch_of<'s, 'c>(
 ) -> Found
     requires { ⌜ Ready (tree-of tree) (lent-lock (now tails) (now nexts) (now statuses) (now rows) (now places) (now peers) (now words) ticket grant (now entries) (now tenures) (now longest)) ⌝ }
     requires { ⌜ length (now threads) ≤ 1024 ⌝ }
-    ensures { λ r. ⌜ Stretch (tree-of tree) (lent-lock (now (tails .entry)) (now (nexts .entry)) (now (statuses .entry)) (now (rows .entry)) (now (places .entry)) (now (peers .entry)) (now (words .entry)) ticket grant (now (entries .entry)) (now (tenures .entry)) (now (longest .entry))) (now (threads .entry)) r ⌝ }
+    ensures { λ r. ⌜ (let before = lent-lock (now (tails .entry)) (now (nexts .entry)) (now (statuses .entry)) (now (rows .entry)) (now (places .entry)) (now (peers .entry)) (now (words .entry)) ticket grant (now (entries .entry)) (now (tenures .entry)) (now (longest .entry)) in
+        Stretch (tree-of tree) before (now (threads .entry)) r) ⌝ }
 {
     let known = first_unknown(threads, tree.threads);
     let r = limits::lent_counter_refusal_of(
@@ -153,9 +154,13 @@ fn run_part(
 )
     requires { ⌜ count ≤ length (now threads) ⌝ }
     requires { ⌜ Typed (lent-state (now tails) (now nexts) (now statuses) (now rows) (now places) (now peers) (now words) (now ticket) (now granted)) ⌝ }
-    requires { ⌜ first-refusal (run-tests-before-19 (tree-of tree) (lent-lock (now tails) (now nexts) (now statuses) (now rows) (now places) (now peers) (now words) (now ticket) (now granted) (now entries) (now tenures) (now longest)) (take count (now threads)) (length (now trace))) .number ≡ 0 ⌝ }
-    ensures { λ r. ⌜ lent-lock (now (tails .exit)) (now (nexts .exit)) (now (statuses .exit)) (now (rows .exit)) (now (places .exit)) (now (peers .exit)) (now (words .exit)) (now (ticket .exit)) (now (granted .exit)) (now (entries .exit)) (now (tenures .exit)) (now (longest .exit)) ≡ after-first (tree-of tree) (lent-lock (now (tails .entry)) (now (nexts .entry)) (now (statuses .entry)) (now (rows .entry)) (now (places .entry)) (now (peers .entry)) (now (words .entry)) (now (ticket .entry)) (now (granted .entry)) (now (entries .entry)) (now (tenures .entry)) (now (longest .entry))) (now (threads .entry)) count ⌝ }
-    ensures { λ r. ⌜ now (codes .exit) ≡ codes-front (now (codes .entry)) (steps (tree-of tree) (take count (now (threads .entry))) (lent-lock (now (tails .entry)) (now (nexts .entry)) (now (statuses .entry)) (now (rows .entry)) (now (places .entry)) (now (peers .entry)) (now (words .entry)) (now (ticket .entry)) (now (granted .entry)) (now (entries .entry)) (now (tenures .entry)) (now (longest .entry)) .words)) ⌝ }
+    requires { ⌜ (let lent = lent-lock (now tails) (now nexts) (now statuses) (now rows) (now places) (now peers) (now words) (now ticket) (now granted) (now entries) (now tenures) (now longest) in
+        first-refusal (run-tests-before-19 (tree-of tree) lent (take count (now threads)) (length (now trace))) .number ≡ 0) ⌝ }
+    ensures { λ r. ⌜ (let before = lent-lock (now (tails .entry)) (now (nexts .entry)) (now (statuses .entry)) (now (rows .entry)) (now (places .entry)) (now (peers .entry)) (now (words .entry)) (now (ticket .entry)) (now (granted .entry)) (now (entries .entry)) (now (tenures .entry)) (now (longest .entry)) in
+        let after = lent-lock (now (tails .exit)) (now (nexts .exit)) (now (statuses .exit)) (now (rows .exit)) (now (places .exit)) (now (peers .exit)) (now (words .exit)) (now (ticket .exit)) (now (granted .exit)) (now (entries .exit)) (now (tenures .exit)) (now (longest .exit)) in
+        after ≡ after-first (tree-of tree) before (now (threads .entry)) count) ⌝ }
+    ensures { λ r. ⌜ (let before = lent-lock (now (tails .entry)) (now (nexts .entry)) (now (statuses .entry)) (now (rows .entry)) (now (places .entry)) (now (peers .entry)) (now (words .entry)) (now (ticket .entry)) (now (granted .entry)) (now (entries .entry)) (now (tenures .entry)) (now (longest .entry)) in
+        now (codes .exit) ≡ codes-front (now (codes .entry)) (steps (tree-of tree) (take count (now (threads .entry))) (before .words))) ⌝ }
     ensures { λ r. ⌜ length (now (trace .exit)) ≡ length (now (trace .entry)) ⌝ }
 {
     let mut kinds = [0u32; 6];
@@ -201,10 +206,14 @@ fn check_piece(
     trace: &mut [u16],
     codes: &mut [u16],
 ) -> Found
-    requires { ⌜ Ready (tree-of tree) (lent-lock (now tails) (now nexts) (now statuses) (now rows) (now places) (now peers) (now words) (now ticket) (now granted) (now entries) (now tenures) (now longest)) ⌝ }
+    requires { ⌜ (let lent = lent-lock (now tails) (now nexts) (now statuses) (now rows) (now places) (now peers) (now words) (now ticket) (now granted) (now entries) (now tenures) (now longest) in
+        Ready (tree-of tree) lent) ⌝ }
     requires { ⌜ Piece-fits (now threads) (now kinds) (now domains) (now trace) (now codes) ⌝ }
-    ensures { λ r. ⌜ r ≡ found-of (checked (tree-of tree) (lent-lock (now (tails .entry)) (now (nexts .entry)) (now (statuses .entry)) (now (rows .entry)) (now (places .entry)) (now (peers .entry)) (now (words .entry)) (now (ticket .entry)) (now (granted .entry)) (now (entries .entry)) (now (tenures .entry)) (now (longest .entry))) (now (threads .entry)) (now (kinds .entry)) (now (domains .entry))) ⌝ }
-    ensures { λ r. ⌜ lent-lock (now (tails .exit)) (now (nexts .exit)) (now (statuses .exit)) (now (rows .exit)) (now (places .exit)) (now (peers .exit)) (now (words .exit)) (now (ticket .exit)) (now (granted .exit)) (now (entries .exit)) (now (tenures .exit)) (now (longest .exit)) ≡ checked (tree-of tree) (lent-lock (now (tails .entry)) (now (nexts .entry)) (now (statuses .entry)) (now (rows .entry)) (now (places .entry)) (now (peers .entry)) (now (words .entry)) (now (ticket .entry)) (now (granted .entry)) (now (entries .entry)) (now (tenures .entry)) (now (longest .entry))) (now (threads .entry)) (now (kinds .entry)) (now (domains .entry)) .state ⌝ }
+    ensures { λ r. ⌜ (let before = lent-lock (now (tails .entry)) (now (nexts .entry)) (now (statuses .entry)) (now (rows .entry)) (now (places .entry)) (now (peers .entry)) (now (words .entry)) (now (ticket .entry)) (now (granted .entry)) (now (entries .entry)) (now (tenures .entry)) (now (longest .entry)) in
+        r ≡ found-of (checked (tree-of tree) before (now (threads .entry)) (now (kinds .entry)) (now (domains .entry)))) ⌝ }
+    ensures { λ r. ⌜ (let before = lent-lock (now (tails .entry)) (now (nexts .entry)) (now (statuses .entry)) (now (rows .entry)) (now (places .entry)) (now (peers .entry)) (now (words .entry)) (now (ticket .entry)) (now (granted .entry)) (now (entries .entry)) (now (tenures .entry)) (now (longest .entry)) in
+        let after = lent-lock (now (tails .exit)) (now (nexts .exit)) (now (statuses .exit)) (now (rows .exit)) (now (places .exit)) (now (peers .exit)) (now (words .exit)) (now (ticket .exit)) (now (granted .exit)) (now (entries .exit)) (now (tenures .exit)) (now (longest .exit)) in
+        after ≡ checked (tree-of tree) before (now (threads .entry)) (now (kinds .entry)) (now (domains .entry)) .state) ⌝ }
     ensures { λ r. ⌜ length (now (trace .exit)) ≡ length (now (trace .entry)) ⌝ }
     ensures { λ r. ⌜ length (now (codes .exit)) ≡ length (now (codes .entry)) ⌝ }
 {
@@ -322,13 +331,17 @@ pub(crate) fn check_all(
     trace: &mut [u16],
     codes: &mut [u16],
 ) -> Found
-    requires { ⌜ Ready (tree-of tree) (lent-lock (now tails) (now nexts) (now statuses) (now rows) (now places) (now peers) (now words) (now ticket) (now granted) (now entries) (now tenures) (now longest)) ⌝ }
+    requires { ⌜ (let lent = lent-lock (now tails) (now nexts) (now statuses) (now rows) (now places) (now peers) (now words) (now ticket) (now granted) (now entries) (now tenures) (now longest) in
+        Ready (tree-of tree) lent) ⌝ }
     requires { ⌜ length (now kinds) ≡ length (now threads) ⌝ }
     requires { ⌜ length (now domains) ≡ length (now threads) ⌝ }
     requires { ⌜ length (now trace) ≡ 1024 ⌝ }
     requires { ⌜ length (now codes) ≡ 1024 ⌝ }
-    ensures { λ r. ⌜ r ≡ found-of (checked (tree-of tree) (lent-lock (now (tails .entry)) (now (nexts .entry)) (now (statuses .entry)) (now (rows .entry)) (now (places .entry)) (now (peers .entry)) (now (words .entry)) (now (ticket .entry)) (now (granted .entry)) (now (entries .entry)) (now (tenures .entry)) (now (longest .entry))) (now (threads .entry)) (now (kinds .entry)) (now (domains .entry))) ⌝ }
-    ensures { λ r. ⌜ lent-lock (now (tails .exit)) (now (nexts .exit)) (now (statuses .exit)) (now (rows .exit)) (now (places .exit)) (now (peers .exit)) (now (words .exit)) (now (ticket .exit)) (now (granted .exit)) (now (entries .exit)) (now (tenures .exit)) (now (longest .exit)) ≡ checked (tree-of tree) (lent-lock (now (tails .entry)) (now (nexts .entry)) (now (statuses .entry)) (now (rows .entry)) (now (places .entry)) (now (peers .entry)) (now (words .entry)) (now (ticket .entry)) (now (granted .entry)) (now (entries .entry)) (now (tenures .entry)) (now (longest .entry))) (now (threads .entry)) (now (kinds .entry)) (now (domains .entry)) .state ⌝ }
+    ensures { λ r. ⌜ (let before = lent-lock (now (tails .entry)) (now (nexts .entry)) (now (statuses .entry)) (now (rows .entry)) (now (places .entry)) (now (peers .entry)) (now (words .entry)) (now (ticket .entry)) (now (granted .entry)) (now (entries .entry)) (now (tenures .entry)) (now (longest .entry)) in
+        r ≡ found-of (checked (tree-of tree) before (now (threads .entry)) (now (kinds .entry)) (now (domains .entry)))) ⌝ }
+    ensures { λ r. ⌜ (let before = lent-lock (now (tails .entry)) (now (nexts .entry)) (now (statuses .entry)) (now (rows .entry)) (now (places .entry)) (now (peers .entry)) (now (words .entry)) (now (ticket .entry)) (now (granted .entry)) (now (entries .entry)) (now (tenures .entry)) (now (longest .entry)) in
+        let after = lent-lock (now (tails .exit)) (now (nexts .exit)) (now (statuses .exit)) (now (rows .exit)) (now (places .exit)) (now (peers .exit)) (now (words .exit)) (now (ticket .exit)) (now (granted .exit)) (now (entries .exit)) (now (tenures .exit)) (now (longest .exit)) in
+        after ≡ checked (tree-of tree) before (now (threads .entry)) (now (kinds .entry)) (now (domains .entry)) .state) ⌝ }
 {
     let mut at: usize = 0;
     while 1024 < threads.len() - at {

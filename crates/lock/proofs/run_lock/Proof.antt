@@ -1,6 +1,6 @@
 -- `lock::run_lock` meets its contract: the run on the state's arrays, which fit what its type fixes.
 use Rattle.lock.proofs.steps.Typing.{typed}
-use Rattle.lock.specs.Lent.{run-told}
+use Rattle.lock.specs.Lent.{run-reported}
 use borrow.Author.Needs.{needs}
 use Rattle.lock.proofs.run_lock.Statement.{statement}
 use Rattle.lock.proofs.run_lock.Tie as tie
@@ -12,19 +12,13 @@ run-tested-requires c κs =
     let q = g .1 .1 .1 .0 .1 .1 in
     typed (start .args .state .words) _ _ _ _ _ _ _ _ _ (g .0) (g .1 .0) (g .1 .1 .0) (q .0) (q .1 .0) (q .1 .1 .0) (q .1 .1 .1 .0) (g .1 .1 .1 .1 .0) (g .1 .1 .1 .1 .1 .0)
 
-lock-of-requires : tie.Need-lock-of-requires
-lock-of-requires c κs = search needs
-
-same-length : tie.Need-same-length
-same-length c = search needs
-
 returns : tie.Need-returns
-unfolding run-told
+unfolding run-reported
 returns c =
     let after : tie.After-run-tested = search c in
-    let packed : tie.After-lock-of = search c in
+    let packed : tie.After-lock-of = search after in
     let ran = after .run-tested .ensures in
     (rw (packed .lock-of .ensures, ran .0, ran .1 .0), ran .1 .1)
 
 pub run-lock-spec : {M : Type 1} → statement M
-run-lock-spec = tie.close (tie.spec run-tested-requires lock-of-requires same-length returns)
+run-lock-spec = tie.close (tie.spec run-tested-requires (λ c κs. search needs) (λ c. search needs) returns)

@@ -1,17 +1,11 @@
 -- `lock::step_lock` meets its contract: the run of one entry on the state's arrays, which fit what its type fixes.
 use mathlib.Core.Path.{refl}
-use Rattle.lock.proofs.steps.Answering.{step-told}
+use Rattle.lock.proofs.steps.Answering.{step-reported}
 use Rattle.lock.proofs.steps.Typing.{typed}
-use Rattle.lock.specs.Lent.{run-told}
+use Rattle.lock.specs.Lent.{run-reported}
 use borrow.Author.Needs.{needs}
 use Rattle.lock.proofs.step_lock.Statement.{statement}
 use Rattle.lock.proofs.step_lock.Tie as tie
-
-slice-aggregate-run-tested : tie.Need-slice-aggregate-run-tested
-slice-aggregate-run-tested c = search needs
-
-slice-aggregate-run-tested-2 : tie.Need-slice-aggregate-run-tested-2
-slice-aggregate-run-tested-2 c = search needs
 
 run-tested-requires : tie.Need-run-tested-requires
 run-tested-requires c κs =
@@ -20,15 +14,12 @@ run-tested-requires c κs =
     let q = g .1 .1 .1 .0 .1 .1 in
     typed (start .args .state .words) _ _ _ _ _ _ _ _ _ (g .0) (g .1 .0) (g .1 .1 .0) (q .0) (q .1 .0) (q .1 .1 .0) (q .1 .1 .1 .0) (g .1 .1 .1 .1 .0) (g .1 .1 .1 .1 .1 .0)
 
-lock-of-requires : tie.Need-lock-of-requires
-lock-of-requires c κs = search needs
-
 returns : tie.Need-returns
-unfolding run-told
+unfolding run-reported
 returns c =
     let after : tie.After-run-tested = search c in
     let ran = after .run-tested .ensures in
-    rw (c .lock-of .ensures, ran .0, ran .1 .0) (step-told _ _ _ _ refl)
+    rw (c .lock-of .ensures, ran .0, ran .1 .0) (step-reported _ _ _ _ refl)
 
 pub step-lock-spec : {M : Type 1} → statement M
-step-lock-spec = tie.close (tie.spec slice-aggregate-run-tested slice-aggregate-run-tested-2 run-tested-requires lock-of-requires returns)
+step-lock-spec = tie.close (tie.spec (λ c. search needs) (λ c. search needs) run-tested-requires (λ c κs. search needs) returns)

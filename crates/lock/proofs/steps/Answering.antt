@@ -21,7 +21,7 @@ use Rattle.model.specs.Runs.{steps, state-after, counts-of, Run, run-of, run}
 use Rattle.model.specs.Counters.{lock-state, counters-after}
 use Rattle.model.specs.Refusals as model
 use Rattle.model.specs.Refusals.{refusal, Test, first-refusal, entry-tests, room-tests, tree-tests, counter-tests, has-number, bad-length, bad-entry, bad-room, step-tests-before-19, step-tests, run-tests-before-19, run-tests, step-refusal, run-refusal}
-use Rattle.model.specs.Answers.{counters-behind, first-kind, first-domain, step-reply, step-answer, run-refused, run-reply, run-buffer, run-answer, trace-answer}
+use Rattle.model.specs.Answers.{counters-after-run, first-kind, first-domain, step-reply, step-answer, run-refused, run-reply, run-buffer, run-answer, trace-answer}
 use Rattle.model.proofs.Laws.Runs.{steps-length}
 use Rattle.model.specs.Laws.{Numbered}
 use Rattle.model.proofs.Refusing.{numbered}
@@ -95,33 +95,33 @@ module _ (t : Tree) (i : ℕ) where
       ]
 
 -- all but the counts of a run's reply, with kind and domain of its first step
-reply-told :
+reply-reported :
     (r : model.Refusal) (s : LockState) (xs : List Step) (x : Run) (c : Counters) → x .state ≡ state-after (s .words) xs → (b : Bool) → eqb (r .number) 0 ≡ b →
     (let y = run-reply r s x c in
     record { number = y .number; place = y .place; kind = cond (eqb (y .number) 0) (first-kind xs) 0; domain = cond (eqb (y .number) 0) (first-domain xs) 0; state = y .state } ≡ step-reply r s xs c)
 unfolding step-reply run-reply
-reply-told r s xs x c f true e = rw (e, f)
-reply-told r s xs x c f false e = rw (e, e)
+reply-reported r s xs x c f true e = rw (e, f)
+reply-reported r s xs x c f false e = rw (e, e)
 
 -- is a step's reply: a step is a run of its one entry
-pub step-told :
+pub step-reported :
     (w : TreeWords) (s : LockState) (i : ℕ) (b : List ℕ) → length b ≡ 1 →
     (let y = run-answer w s (i ∷ []) b in let xs = steps (tree-of w) (i ∷ []) (s .words) in
     record { number = y .number; place = y .place; kind = cond (eqb (y .number) 0) (first-kind xs) 0; domain = cond (eqb (y .number) 0) (first-domain xs) 0; state = y .state } ≡ step-answer w s i)
 unfolding step-answer run-answer run run-of
-step-told w s i b e =
+step-reported w s i b e =
     rw (e, one-refusal (tree-of w) i s)
-    (reply-told (run-refusal (tree-of w) s (i ∷ []) 1) s (steps (tree-of w) (i ∷ []) (s .words)) (run-of (s .words) (steps (tree-of w) (i ∷ []) (s .words))) (counters-behind (tree-of w) (i ∷ []) s) refl _ refl)
+    (reply-reported (run-refusal (tree-of w) s (i ∷ []) 1) s (steps (tree-of w) (i ∷ []) (s .words)) (run-of (s .words) (steps (tree-of w) (i ∷ []) (s .words))) (counters-after-run (tree-of w) (i ∷ []) s) refl _ refl)
 
 -- what is told of a run's first step, by its one number
-pub told-first :
+pub reported-first :
     (w : TreeWords) (s : LockState) (is : List ℕ) (room : ℕ) → run-refusal (tree-of w) s is room .number ≡ 0 → (codes₀ codes : List ℕ) → length codes₀ ≡ 1 →
     codes ≡ codes-front codes₀ (steps (tree-of w) is (s .words)) →
     (cond (eqb (length is) 0) 0 (getD codes 0 0 % 8) ≡ first-kind (steps (tree-of w) is (s .words)))
     × (cond (eqb (length is) 0) 0 (row-domain (getD (w .homes) (getD is 0 0) 0) ((getD codes 0 0 / 8) % 16) (getD codes 0 0 / 128)) ≡ first-domain (steps (tree-of w) is (s .words)))
 unfolding steps first-kind first-domain
-told-first w s [] room z codes₀ codes l e = (refl, refl)
-told-first w s (i ∷ is) room z codes₀ codes l e =
+reported-first w s [] room z codes₀ codes l e = (refl, refl)
+reported-first w s (i ∷ is) room z codes₀ codes l e =
     let R = run-facts (tree-of w) s (i ∷ is) room z in
     let x = step (tree-of w) i (s .words) in
     let code : getD codes 0 0 ≡ step-code x = ap (λ v. getD v 0 0) e ∙ first-code codes₀ x _ (omega (arith, l)) in
@@ -161,7 +161,7 @@ module _ (w : TreeWords) (s : LockState) (is b : List ℕ) (r : Refusal) (e : r 
         kinds ≡ kinds-of (steps (tree-of w) is (s .words)) → counts ≡ counts-by kinds →
         c ≡ counters-after (tree-of w) (s .counters) (steps (tree-of w) is (s .words)) →
         (record { number = 0; place = 0; counts = counts; state = lock-state n c } ≡ run-answer w s is b) × (b′ ≡ trace-answer w s is b)
-    unfolding run-answer run-reply trace-answer run-buffer counters-behind run run-of
+    unfolding run-answer run-reply trace-answer run-buffer counters-after-run run run-of
     run-answered n b′ kinds counts c g h k f counted =
         let p = eq-eqb (run-refusal (tree-of w) s is (length b) .number) 0 run-passes in
         (rw (g, f, k, counted, counts-kinds (steps (tree-of w) is (s .words)), p), h ∙ rw p)

@@ -13,7 +13,6 @@ use lib.Seq.{getD-set-same, getD-set-other, length-take-le}
 use borrow.Author.Tests.{eqb-false, eq-eqb, ne-eqb}
 use Rattle.model.specs.declared.TreeWords.{TreeWords}
 use Rattle.model.specs.declared.PlaceWords.{PlaceWords}
-use Rattle.model.specs.declared.Place.{Place}
 use Rattle.model.specs.declared.Place.the-variants.{Raise, Invalid}
 use Rattle.model.specs.declared.State.{State}
 use Rattle.model.specs.declared.Counters.{Counters}
@@ -23,7 +22,6 @@ use Rattle.model.specs.Scans.{any-below}
 use Rattle.model.specs.Trees.{Tree, tree-of, child}
 use Rattle.model.specs.Places.{words-of, place-of}
 use Rattle.model.specs.States.{place, numbers-at}
-use Rattle.model.specs.Runs.{steps}
 use Rattle.model.specs.WellFormed.{good-place}
 use Rattle.model.specs.Refusals.{tree-refusal}
 use Rattle.model.specs.Laws.{Sixteen-bit, Formed}

@@ -27,7 +27,7 @@ use Rattle.model.specs.Counters.{each-with-index, counters-after}
 use Rattle.model.specs.Laws.{Formed}
 use Rattle.model.proofs.Tests.{and-both, by-test, any-same}
 use Rattle.model.proofs.Places.{words-of-place, watch-numbers, numbers-stored}
-use Rattle.model.proofs.Branches.{Branch, swap-root, swap-inner, swap-behind, draw-shown, draw-unshown, branch}
+use Rattle.model.proofs.Branches.{Branch, swap-root, swap-inner, swap-joins, draw-shown, draw-unshown, branch}
 use Rattle.model.proofs.Trees.Accepted.{Accepted, accepted}
 use Rattle.model.proofs.Trees.Paths.{on-path-root}
 use Rattle.model.proofs.Trees.Records.{member-record, child-inner}
@@ -62,7 +62,7 @@ swap-after t i l s h = by
     by : {x : Row-result} → Branch t i s (Swap l) x → eqb (numbers-at (x .state .places) i .row) 3 ≡ not (eqb (tail s l) none)
     by (swap-root _ z e) = at Inside ∙ sym (ap not (eq-eqb (tail s l) none e))
     by (swap-inner _ z e) = at (acquired-place t l) ∙ acquired-row ∙ sym (ap not (eq-eqb (tail s l) none e))
-    by (swap-behind _ e) = at (Link l (tail s l - 1)) ∙ sym (ap not (ne-eqb (tail s l) none e))
+    by (swap-joins _ e) = at (Link l (tail s l - 1)) ∙ sym (ap not (ne-eqb (tail s l) none e))
 
 draw-kind : (t : Tree) (i : ℕ) (s : State) {x : Row-result} → Branch t i s Draw x → eqb (kind-number (x .kind)) 1 ≡ not (eqb (s .ticket) (s .grant))
 draw-kind t i s (draw-shown e) = sym (ap not (eq-eqb (s .ticket) (s .grant) e))

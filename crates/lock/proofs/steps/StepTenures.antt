@@ -1,34 +1,30 @@
 -- The tenures that one step starts, and the lengths that it tells, are those that the model counts of it.
-use mathlib.Core.Path.{_≡_, refl, sym, ap, _∙_}
-use mathlib.Core.Bool.{Bool, true, false, _&&_, cond, false≢true}
+use mathlib.Core.Path.{_≡_, refl, sym, _∙_}
+use mathlib.Core.Bool.{Bool, true, false, _&&_, cond}
 use mathlib.Core.List.{List, [], _∷_}
 use mathlib.Core.Logic.{_≢_}
-use Prim.Native.Nat.{ℕ, zero, suc, _+_, _-_, _≤_, _<_, max}
+use Prim.Native.Nat.{ℕ, _+_, _-_, _<_, max}
 use native.Mathlib.Omega.{arith}
 use native.Mathlib.Decide.{ℕ-discrete, decLt}
-use lib.Dec.{eqb, ltb}
-use lib.ListN.{getD, length, set}
-use lib.Seq.{getD-set-same}
-use borrow.Author.Tests.{eqb-true, eqb-false, eq-eqb, ne-eqb, lt-ltb, le-ltb}
+use lib.Dec.{eqb}
+use lib.ListN.{getD}
+use borrow.Author.Tests.{eq-eqb, ne-eqb, lt-ltb, le-ltb}
 use Rattle.model.specs.declared.PlaceWords.{PlaceWords}
 use Rattle.model.specs.declared.Place.{Place}
 use Rattle.model.specs.declared.Place.the-variants.{Idle, Prep, Swap, Link, Wait, Inside, Check, Help, Cas, Linger, Draw, Watch, Raise, Invalid}
 use Rattle.model.specs.declared.State.{State}
-use Rattle.model.specs.Scans.{any-below}
-use Rattle.model.specs.Trees.{Tree, is-ticket, child, own-record, is-record, is-member}
-use Rattle.model.specs.Places.{place-words, words-of, place-of, is-watch}
-use Rattle.model.specs.States.{none, tail, status, place, wrap, with-place}
-use Rattle.model.specs.Steps.{kind-number, Row-result, is-watched, shown-members, swap-row, draw-row, row, Step, step}
+use Rattle.model.specs.Trees.{Tree}
+use Rattle.model.specs.Places.{place-words, place-of}
+use Rattle.model.specs.States.{none, status, place, wrap}
+use Rattle.model.specs.Steps.{is-watched, shown-members, step}
 use Rattle.model.specs.Runs.{occurrences}
-use Rattle.model.specs.WellFormed.{good-place}
 use Rattle.model.specs.Tenures.{given, starts, checks-at, word-to-grant, tenure-length, domain-tenures, longest-tenure}
 use Rattle.model.specs.Counters.{each-with-index}
-use Rattle.model.proofs.Tests.{and-both, by-test, any-same}
+use Rattle.model.proofs.Tests.{by-test}
 use Rattle.model.proofs.Places.{by-row, no-place}
-use Rattle.model.proofs.Trees.Accepted.{Accepted}
 use Rattle.model.proofs.Counted.{indexed-same, indexed-kept, filter-occurs}
-use Rattle.model.proofs.Laws.Given.{given-from, swap-given, draw-given, checked-length}
-use Rattle.rows.specs.Common.Counting.{added-at, raised-at, record-domain-in, is-watch-in, is-shown, Counted-shown}
+use Rattle.model.proofs.Laws.Given.{given-from}
+use Rattle.rows.specs.Common.Counting.{added-at, raised-at, is-shown, Counted-shown}
 use Rattle.rows.proofs.common.Counts.{is-at, added-indexed, raised-indexed}
 
 abbrev number : Bool → ℕ

@@ -31,25 +31,25 @@ codes-none [] = refl
 codes-none (c ∷ bs) = refl
 
 -- behind one number more, one index further
-code-behind : (c : ℕ) (b : List ℕ) (n v : ℕ) → c ∷ code-stored b n v ≡ code-stored (c ∷ b) (suc n) v
-code-behind c b n v = by (ltb n (length b)) refl
+code-after : (c : ℕ) (b : List ℕ) (n v : ℕ) → c ∷ code-stored b n v ≡ code-stored (c ∷ b) (suc n) v
+code-after c b n v = by (ltb n (length b)) refl
   where
     by : (t : Bool) → ltb n (length b) ≡ t → c ∷ cond t (set b n v) b ≡ code-stored (c ∷ b) (suc n) v
     by true e = let h = ltb-true n (length b) e in rw (lt-ltb (suc n) (suc (length b)) (omega arith))
     by false e = let h = ltb-false n (length b) e in rw (le-ltb (suc n) (suc (length b)) (omega arith))
 
 -- one step more is told at the index after those before it
-pub told-front-length : (b : List ℕ) (xs : List Step) → length (codes-front b xs) ≡ length b
+pub reported-front-length : (b : List ℕ) (xs : List Step) → length (codes-front b xs) ≡ length b
 unfolding codes-front
-told-front-length [] xs = refl
-told-front-length (c ∷ b) [] = refl
-told-front-length (c ∷ b) (x ∷ xs) = ap suc (told-front-length b xs)
+reported-front-length [] xs = refl
+reported-front-length (c ∷ b) [] = refl
+reported-front-length (c ∷ b) (x ∷ xs) = ap suc (reported-front-length b xs)
 
 codes-next : (b : List ℕ) (xs : List Step) (x : Step) → codes-front b (xs ++ (x ∷ [])) ≡ code-stored (codes-front b xs) (length xs) (step-code x)
 unfolding codes-front
 codes-next [] xs x = rw (le-ltb (length xs) 0 (omega arith))
 codes-next (c ∷ bs) [] x = rw (codes-none bs, lt-ltb 0 (suc (length bs)) (omega arith))
-codes-next (c ∷ bs) (y ∷ ys) x = ap (λ (r : List ℕ). step-code y ∷ r) (codes-next bs ys x) ∙ code-behind (step-code y) (codes-front bs ys) (length ys) (step-code x)
+codes-next (c ∷ bs) (y ∷ ys) x = ap (λ (r : List ℕ). step-code y ∷ r) (codes-next bs ys x) ∙ code-after (step-code y) (codes-front bs ys) (length ys) (step-code x)
 
 pub codes-long : (b : List ℕ) (n v : ℕ) → length (code-stored b n v) ≡ length b
 codes-long b n v = by (ltb n (length b))

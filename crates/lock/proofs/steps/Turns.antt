@@ -1,7 +1,6 @@
 -- What each turn of the run's loop needs.
 use mathlib.Core.List.{List}
 use Prim.Native.Nat.{ℕ, _<_}
-use native.Mathlib.Omega.{arith}
 use lib.ListN.{getD, length}
 use Rattle.model.specs.declared.State.{State}
 use Rattle.model.specs.declared.LockState.{LockState}

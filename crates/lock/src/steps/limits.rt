@@ -71,8 +71,10 @@ fn lowest_above<'s, 'c>(
     schedule: &[u16],
 ) -> u32
     requires { ⌜ Typed (lent-state (now tails) (now nexts) (now statuses) (now rows) (now domains) (now peers) (now words) ticket grant) ⌝ }
-    requires { ⌜ first-refusal (run-tests-before-19 (tree-of tree) (lock-state (lent-state (now tails) (now nexts) (now statuses) (now rows) (now domains) (now peers) (now words) ticket grant) (counters-in (now entries) (now tenures) (now longest))) (now schedule) (length (now schedule))) .number ≡ 0 ⌝ }
-    ensures { λ r. ⌜ Lowest (length (now (schedule .entry))) (bad-counter (tree-of tree) (lock-state (lent-state (now (tails .entry)) (now (nexts .entry)) (now (statuses .entry)) (now (rows .entry)) (now (domains .entry)) (now (peers .entry)) (now (words .entry)) ticket grant) (counters-in (now (entries .entry)) (now (tenures .entry)) (now (longest .entry)))) (now (schedule .entry))) r ⌝ }
+    requires { ⌜ (let lent = lent-state (now tails) (now nexts) (now statuses) (now rows) (now domains) (now peers) (now words) ticket grant in
+        first-refusal (run-tests-before-19 (tree-of tree) (lock-state lent (counters-in (now entries) (now tenures) (now longest))) (now schedule) (length (now schedule))) .number ≡ 0) ⌝ }
+    ensures { λ r. ⌜ (let before = lent-state (now (tails .entry)) (now (nexts .entry)) (now (statuses .entry)) (now (rows .entry)) (now (domains .entry)) (now (peers .entry)) (now (words .entry)) ticket grant in
+        Lowest (length (now (schedule .entry))) (bad-counter (tree-of tree) (lock-state before (counters-in (now (entries .entry)) (now (tenures .entry)) (now (longest .entry)))) (now (schedule .entry))) r) ⌝ }
 {
     let mut ts = *tails;
     let mut xs = *nexts;
@@ -138,8 +140,10 @@ pub fn lent_counter_refusal_of<'s, 'c>(
     schedule: &[u16],
 ) -> Refusal
     requires { ⌜ Typed (lent-state (now tails) (now nexts) (now statuses) (now rows) (now domains) (now peers) (now words) ticket grant) ⌝ }
-    requires { ⌜ first-refusal (run-tests-before-19 (tree-of tree) (lock-state (lent-state (now tails) (now nexts) (now statuses) (now rows) (now domains) (now peers) (now words) ticket grant) (counters-in (now entries) (now tenures) (now longest))) (now schedule) (length (now schedule))) .number ≡ 0 ⌝ }
-    ensures { λ r. ⌜ r ≡ refusal-words (first-refusal (counter-tests (tree-of tree) (lock-state (lent-state (now (tails .entry)) (now (nexts .entry)) (now (statuses .entry)) (now (rows .entry)) (now (domains .entry)) (now (peers .entry)) (now (words .entry)) ticket grant) (counters-in (now (entries .entry)) (now (tenures .entry)) (now (longest .entry)))) (now (schedule .entry)))) ⌝ }
+    requires { ⌜ (let lent = lent-state (now tails) (now nexts) (now statuses) (now rows) (now domains) (now peers) (now words) ticket grant in
+        first-refusal (run-tests-before-19 (tree-of tree) (lock-state lent (counters-in (now entries) (now tenures) (now longest))) (now schedule) (length (now schedule))) .number ≡ 0) ⌝ }
+    ensures { λ r. ⌜ (let before = lent-state (now (tails .entry)) (now (nexts .entry)) (now (statuses .entry)) (now (rows .entry)) (now (domains .entry)) (now (peers .entry)) (now (words .entry)) ticket grant in
+        r ≡ refusal-words (first-refusal (counter-tests (tree-of tree) (lock-state before (counters-in (now (entries .entry)) (now (tenures .entry)) (now (longest .entry)))) (now (schedule .entry))))) ⌝ }
 {
     if has_room(entries, tenures) {
         return Refusal {
@@ -194,7 +198,8 @@ pub fn refusal_of<'s, 'c>(
     room: usize,
 ) -> Refusal
     requires { ⌜ Typed (lent-state (now tails) (now nexts) (now statuses) (now rows) (now domains) (now peers) (now words) ticket grant) ⌝ }
-    ensures { λ r. ⌜ r ≡ refusal-words (run-refusal (tree-of tree) (lock-state (lent-state (now (tails .entry)) (now (nexts .entry)) (now (statuses .entry)) (now (rows .entry)) (now (domains .entry)) (now (peers .entry)) (now (words .entry)) ticket grant) (counters-in (now (entries .entry)) (now (tenures .entry)) (now (longest .entry)))) (now (schedule .entry)) room) ⌝ }
+    ensures { λ r. ⌜ (let before = lent-state (now (tails .entry)) (now (nexts .entry)) (now (statuses .entry)) (now (rows .entry)) (now (domains .entry)) (now (peers .entry)) (now (words .entry)) ticket grant in
+        r ≡ refusal-words (run-refusal (tree-of tree) (lock-state before (counters-in (now (entries .entry)) (now (tenures .entry)) (now (longest .entry)))) (now (schedule .entry)) room)) ⌝ }
 {
     let r = refusals::of_runs::lent_refusal_of(
         tree,

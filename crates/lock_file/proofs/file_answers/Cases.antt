@@ -10,7 +10,7 @@ use Rattle.model.specs.Runs.{steps, state-after, how-many, entering, counts-of,
 use Rattle.model.specs.Refusals.{refusal, accepted, lowest-bad, first-refusal, bad-domains, bad-threads, bad-parent, too-deep, no-threshold, bad-home, empty-domain, tree-tests, bad-length, bad-entry, bad-room}
 use Rattle.model.specs.Answers.{run-reply}
 use Rattle.model.specs.Cases.Marked.{same-numbers}
-use Rattle.lock_file.specs.Reading.{reached-refusal, field-end, entry-end, domain-size, domain-end, parent-at, threshold-at, stored, domains-from, domains-read, thread-end, home-at, threads-from, threads-behind, threads-read, thread-count, schedule-start, tree-read, entries-from, entries-at, reading-of, file-read}
+use Rattle.lock_file.specs.Reading.{reached-refusal, field-end, entry-end, domain-size, domain-end, parent-at, threshold-at, stored, domains-from, domains-read, thread-end, home-at, threads-from, threads-after, threads-read, thread-count, schedule-start, tree-read, entries-from, entries-at, reading-of, file-read}
 use Rattle.lock_file.specs.PrintedListing.Listing.{digits, numeral, number-then, trace-lines, spaced, first-line, listing}
 use Rattle.lock_file.specs.FileAnswers.FileAnswers.{listing-outcome, run-outcome, file-trace, file-outcome, outcome-reply, outcome-output, file-answer, output-answer}
 use Rattle.lock_file.specs.Cases.FileAnswers.{cases, parts, Every-part}
@@ -24,7 +24,7 @@ unfolding same-numbers any-below filter-below read-word tree-of is-ticket is-chi
     cas-row linger-row grant-row draw-row watch-row is-watched shown-members raise-row row step steps state-after how-many entering counts-of run-of run
     refusal accepted lowest-bad first-refusal bad-domains bad-threads bad-parent too-deep no-threshold bad-home empty-domain tree-tests bad-length
     bad-entry bad-room run-reply reached-refusal field-end entry-end domain-size domain-end parent-at threshold-at stored domains-from domains-read
-    thread-end home-at threads-from threads-behind threads-read thread-count schedule-start tree-read entries-from entries-at reading-of file-read digits
+    thread-end home-at threads-from threads-after threads-read thread-count schedule-start tree-read entries-from entries-at reading-of file-read digits
     numeral number-then trace-lines spaced first-line listing listing-outcome run-outcome file-trace quick-refusal quick-run quick-reading file-outcome
     outcome-reply outcome-output file-answer output-answer cases
 cases-hold = rw same-reading refl
@@ -36,7 +36,7 @@ unfolding same-numbers any-below filter-below read-word tree-of is-ticket is-chi
     cas-row linger-row grant-row draw-row watch-row is-watched shown-members raise-row row step steps state-after how-many entering counts-of run-of run
     refusal accepted lowest-bad first-refusal bad-domains bad-threads bad-parent too-deep no-threshold bad-home empty-domain tree-tests bad-length
     bad-entry bad-room run-reply reached-refusal field-end entry-end domain-size domain-end parent-at threshold-at stored domains-from domains-read
-    thread-end home-at threads-from threads-behind threads-read thread-count schedule-start tree-read entries-from entries-at reading-of file-read digits
+    thread-end home-at threads-from threads-after threads-read thread-count schedule-start tree-read entries-from entries-at reading-of file-read digits
     numeral number-then trace-lines spaced first-line listing listing-outcome run-outcome file-trace quick-refusal quick-run quick-reading file-outcome
     outcome-reply outcome-output file-answer output-answer Numbers-met met-files met-numbers
 numbers-met = rw same-reading refl

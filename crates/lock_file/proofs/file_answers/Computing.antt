@@ -15,7 +15,7 @@ use Rattle.model.specs.Counters.{fresh-lock}
 use Rattle.model.specs.CounterLaws.{Room-law}
 use Rattle.model.specs.Runs.{run}
 use Rattle.model.specs.Refusals.{Refusal, Test, test, lowest-bad, first-refusal, bad-state, bad-counter, tree-tests, schedule-tests, room-tests, run-tests-before-19, run-tests, run-refusal}
-use Rattle.model.specs.Answers.{counters-behind, run-reply, run-answer}
+use Rattle.model.specs.Answers.{counters-after-run, run-reply, run-answer}
 use Rattle.model.specs.Laws.{Sixteen-bit}
 use Rattle.model.proofs.Refusing.{test-skipped}
 use Rattle.model.proofs.Trees.Accepted.{sixteen-bit}
@@ -51,12 +51,12 @@ same-refusal t bits is short =
 -- the file call's run so; a longer schedule, which no file has, as it stands
 unfoldable pub quick-run : TreeWords → (schedule : List ℕ) → RunReply
 quick-run w is =
-    let short = run-reply (quick-refusal (tree-of w) is) fresh-lock (run (tree-of w) is fresh-words) (counters-behind (tree-of w) is fresh-lock) in
+    let short = run-reply (quick-refusal (tree-of w) is) fresh-lock (run (tree-of w) is fresh-words) (counters-after-run (tree-of w) is fresh-lock) in
     cond (ltb 65536 (length is)) (file-run w is) short
 
 short-run :
     (w : TreeWords) (is : List ℕ) → length is ≤ 65536 →
-    file-run w is ≡ run-reply (quick-refusal (tree-of w) is) fresh-lock (run (tree-of w) is fresh-words) (counters-behind (tree-of w) is fresh-lock)
+    file-run w is ≡ run-reply (quick-refusal (tree-of w) is) fresh-lock (run (tree-of w) is fresh-words) (counters-after-run (tree-of w) is fresh-lock)
 unfolding file-run run-answer
 short-run w is h = rw (same-refusal (tree-of w) (sixteen-bit w) is h)
 

@@ -16,7 +16,7 @@ use Rattle.model.specs.Counters.{fresh-lock}
 use Rattle.model.specs.CounterLaws.{Room-law}
 use Rattle.model.specs.Runs.{run}
 use Rattle.model.specs.Refusals.{Refusal, refusal, accepted, Test, lowest-bad, first-refusal, bad-state, bad-length, bad-room, state-tests, schedule-tests, room-tests, counter-tests, tree-tests, run-tests-before-19, run-tests, has-number, run-refusal}
-use Rattle.model.specs.Answers.{counters-behind, run-answer}
+use Rattle.model.specs.Answers.{counters-after-run, run-answer}
 use Rattle.model.specs.Laws.{Passes, Sixteen-bit}
 use Rattle.model.proofs.Tests.{or-neither, by-test}
 use Rattle.model.proofs.Refusing.{lowest-none}
@@ -101,7 +101,7 @@ run-met w is short =
     let buffer : List ℕ = replicate (length is) 0 in
     let enough : length is ≤ length buffer = omega (arith, length-replicate {A = ℕ} (length is) 0) in
     let r = run-refusal (tree-of w) fresh-lock is (length buffer) in
-    rw (run-reply-number r fresh-lock (run (tree-of w) is fresh-words) (counters-behind (tree-of w) is fresh-lock))
+    rw (run-reply-number r fresh-lock (run (tree-of w) is fresh-words) (counters-after-run (tree-of w) is fresh-lock))
     (by (r .number) (has-number (tree-tests (tree-of w)) (r .number)) refl (run-never (tree-of w) (sixteen-bit w) is (length buffer) short enough (r .number)))
   where
     by : (n : ℕ) (b : Bool) → has-number (tree-tests (tree-of w)) n ≡ b → (0 < n → b ≡ false → n ≢ 12 → n ≢ n) → Run-met n

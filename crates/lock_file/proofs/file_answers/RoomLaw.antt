@@ -16,7 +16,7 @@ use Rattle.model.specs.Counters.{fresh-lock}
 use Rattle.model.specs.Steps.{is-kind, is-entry, stay, root-entry, passed-entry, crossed-entry, step}
 use Rattle.model.specs.Runs.{steps, how-many, entering, counts-of, run-of, run}
 use Rattle.model.specs.Refusals.{Refusal, refusal, tree-tests, has-number, run-refusal}
-use Rattle.model.specs.Answers.{counters-behind, run-reply, run-answer}
+use Rattle.model.specs.Answers.{counters-after-run, run-reply, run-answer}
 use Rattle.model.specs.Laws.{All-threads}
 use Rattle.model.proofs.Tests.{by-test}
 use Rattle.model.proofs.Trees.Accepted.{accepted}
@@ -89,7 +89,7 @@ module _ (w : TreeWords) (is : List ℕ) (short : length is ≤ 32768) where
 
   met : Run-met (r .number)
   unfolding file-run run-answer
-  met = rw (run-reply-number r fresh-lock (run t is fresh-words) (counters-behind t is fresh-lock)) at (run-met w is (omega arith))
+  met = rw (run-reply-number r fresh-lock (run t is fresh-words) (counters-after-run t is fresh-lock)) at (run-met w is (omega arith))
 
   run-fits : (room : ℕ) → listing-room ≤ room → Not-14 (run-outcome (file-run w is) (file-trace w is) room)
   unfolding run-outcome file-run file-trace run-answer run-reply listing-outcome outcome-reply refusal

@@ -30,35 +30,35 @@ module _ (t : Tree) (is : List ℕ) (room : ℕ) where
   tree-refused h = first-decides (tree-tests t) (schedule-tests t is ++ (file-tests t is room)) h
 
   module _ (tree-passes : tree-refusal t .number ≡ 0) where
-    behind-tree : write-refusal t is room ≡ first-refusal (schedule-tests t is ++ (file-tests t is room))
+    after-tree : write-refusal t is room ≡ first-refusal (schedule-tests t is ++ (file-tests t is room))
     unfolding write-refusal write-tests tree-refusal
-    behind-tree =
+    after-tree =
         other-decides (tree-tests t) (schedule-tests t is ++ (file-tests t is room)) (tree-numbered t) tree-passes
 
     pub schedule-refused : first-refusal (schedule-tests t is) .number ≢ 0 → write-refusal t is room ≡ first-refusal (schedule-tests t is)
-    schedule-refused h = behind-tree ∙ first-decides (schedule-tests t is) (file-tests t is room) h
+    schedule-refused h = after-tree ∙ first-decides (schedule-tests t is) (file-tests t is room) h
 
     module _ (schedule-passes : first-refusal (schedule-tests t is) .number ≡ 0) where
-      behind-schedule : write-refusal t is room ≡ first-refusal (file-tests t is room)
-      behind-schedule =
-          behind-tree ∙ other-decides (schedule-tests t is) (file-tests t is room) schedule-numbered schedule-passes
+      after-schedule : write-refusal t is room ≡ first-refusal (file-tests t is room)
+      after-schedule =
+          after-tree ∙ other-decides (schedule-tests t is) (file-tests t is room) schedule-numbered schedule-passes
 
       pub length-refused : 65536 < length (written-file t is) → write-refusal t is room ≡ refusal 1 0
       unfolding bad-file-length
-      length-refused h = behind-schedule ∙ single-hit _ (file-room-tests t is room) refl (lt-ltb 65536 (length (written-file t is)) h)
+      length-refused h = after-schedule ∙ single-hit _ (file-room-tests t is room) refl (lt-ltb 65536 (length (written-file t is)) h)
 
       module _ (short : length (written-file t is) ≤ 65536) where
-        behind-length : write-refusal t is room ≡ first-refusal (file-room-tests t is room)
+        after-length : write-refusal t is room ≡ first-refusal (file-room-tests t is room)
         unfolding bad-file-length
-        behind-length = behind-schedule ∙ single-missed _ (file-room-tests t is room) refl (le-ltb 65536 (length (written-file t is)) short)
+        after-length = after-schedule ∙ single-missed _ (file-room-tests t is room) refl (le-ltb 65536 (length (written-file t is)) short)
 
         pub room-refused : room < length (written-file t is) → write-refusal t is room ≡ refusal 17 0
         unfolding bad-file-room
-        room-refused h = behind-length ∙ single-hit _ [] refl (lt-ltb room (length (written-file t is)) h)
+        room-refused h = after-length ∙ single-hit _ [] refl (lt-ltb room (length (written-file t is)) h)
 
         pub accepts : length (written-file t is) ≤ room → write-refusal t is room ≡ accepted
         unfolding bad-file-room first-refusal
-        accepts h = behind-length ∙ single-missed _ [] refl (le-ltb room (length (written-file t is)) h)
+        accepts h = after-length ∙ single-missed _ [] refl (le-ltb room (length (written-file t is)) h)
 
 pub write-refusal-law : Write-refusal-law
 unfolding Write-refusal-law

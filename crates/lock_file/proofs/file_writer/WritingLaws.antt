@@ -16,7 +16,7 @@ use Rattle.model.specs.States.{fresh-words}
 use Rattle.model.specs.Counters.{fresh-lock}
 use Rattle.model.specs.Runs.{run}
 use Rattle.model.specs.Refusals.{refusal, accepted, first-refusal, schedule-tests, tree-refusal, run-refusal}
-use Rattle.model.specs.Answers.{counters-behind, run-reply, run-answer}
+use Rattle.model.specs.Answers.{counters-after-run, run-reply, run-answer}
 use Rattle.model.proofs.Laws.Calls.{run-reply-number}
 use Rattle.model.proofs.Trees.Reading.{few-domains, few-threads}
 use Rattle.lock_file.specs.ReadingLaws.{Format-law}
@@ -172,7 +172,7 @@ module _ (w : TreeWords) (is : List ℕ) (tree : tree-refusal (tree-of w) .numbe
   run-accepted : (trace : List ℕ) → length trace ≡ length is → run-answer w fresh-lock is trace .number ≡ 0
   run-accepted trace long =
       ap (λ r. r .number) (answer-by-schedule w tree is trace long)
-      ∙ run-reply-number (first-refusal (schedule-tests (tree-of w) is)) fresh-lock (run (tree-of w) is fresh-words) (counters-behind (tree-of w) is fresh-lock) ∙ schedule
+      ∙ run-reply-number (first-refusal (schedule-tests (tree-of w) is)) fresh-lock (run (tree-of w) is fresh-words) (counters-after-run (tree-of w) is fresh-lock) ∙ schedule
 
   -- an accepted run's outcome is its listing
   outcome-listed :
@@ -190,7 +190,7 @@ unfolding file-run file-trace run-answer
 outcome-same v w is room e =
     ap
     (λ t.
-    run-outcome (run-reply (run-refusal t fresh-lock is (length (replicate {A = ℕ} (length is) 0))) fresh-lock (run t is fresh-words) (counters-behind t is fresh-lock))
+    run-outcome (run-reply (run-refusal t fresh-lock is (length (replicate {A = ℕ} (length is) 0))) fresh-lock (run t is fresh-words) (counters-after-run t is fresh-lock))
     (run t is fresh-words .trace) room)
     e
 

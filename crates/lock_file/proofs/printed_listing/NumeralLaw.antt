@@ -32,8 +32,8 @@ one-digit v h =
     only zero l = (omega arith, omega arith)
     only (suc k) l = absurd (omega arith)
 
-last-behind : (v : ℕ) (xs : List ℕ) → 10 ≤ v → Decimal (v / 10) xs → Decimal v (xs ++ (digit (v % 10) ∷ []))
-last-behind v xs h d =
+last-after : (v : ℕ) (xs : List ℕ) → 10 ≤ v → Decimal (v / 10) xs → Decimal v (xs ++ (digit (v % 10) ∷ []))
+last-after v xs h d =
     let long = length-append xs (digit (v % 10) ∷ []) in
     record {
       not-empty = omega arith;
@@ -56,7 +56,7 @@ decimal (suc k) v h = by (ltb v 10) refl (λ l. decimal k (v / 10) (omega arith)
     by true e f = rw (numeral-small v (ltb-true v 10 e)) (one-digit v (ltb-true v 10 e))
     by false e f =
         let l = ltb-false v 10 e in
-        rw (numeral-large v l) (last-behind v (numeral (v / 10)) l (f l))
+        rw (numeral-large v l) (last-after v (numeral (v / 10)) l (f l))
 
 pub numeral-law : Numeral-law
 unfolding Numeral-law

@@ -20,7 +20,7 @@ use Rattle.model.specs.WellFormed.{good-place}
 use Rattle.model.specs.Tenures.{domain-entries, domain-tenures, longest-tenure, starts, tenure-length}
 use Rattle.model.specs.Counters.{lock-state, fresh-counters, counters-after, most-counted, is-counted, count-fits, good-count, good-counts, count-above, any-above}
 use Rattle.model.specs.Refusals.{bad-counter, tree-refusal, step-refusal, run-refusal}
-use Rattle.model.specs.Answers.{counters-behind, step-reply, step-answer, run-reply, run-buffer, run-answer, trace-answer}
+use Rattle.model.specs.Answers.{counters-after-run, step-reply, step-answer, run-reply, run-buffer, run-answer, trace-answer}
 use Rattle.model.specs.Laws.{All-threads, Sixteen-bit, Formed, Form-law}
 use Rattle.model.specs.CounterLaws.{Counter-law, Words-alone-law, Counter-form-law, Room-left, Room-law, Fresh-room-law}
 use Rattle.model.proofs.Tests.{and-both, or-neither, any-none, any-one, all-each, all-true, by-test}
@@ -232,12 +232,12 @@ pub count-first : (t : Tree) (s : LockState) (i : ℕ) (is : List ℕ) → bad-c
 unfolding bad-counter steps
 count-first t s i is = refl
 
-pub counters-behind-cons :
+pub counters-after-cons :
     (t : Tree) (s : LockState) (i : ℕ) (is : List ℕ) →
     let x = step t i (s .words) in
-    counters-behind t (i ∷ is) s ≡ counters-behind t is (lock-state (x .state) (counters-after t (s .counters) (x ∷ [])))
-unfolding counters-behind steps
-counters-behind-cons t s i is = counters-join t (s .counters) (step t i (s .words) ∷ []) (steps t is (step t i (s .words) .state))
+    counters-after-run t (i ∷ is) s ≡ counters-after-run t is (lock-state (x .state) (counters-after t (s .counters) (x ∷ [])))
+unfolding counters-after-run steps
+counters-after-cons t s i is = counters-join t (s .counters) (step t i (s .words) ∷ []) (steps t is (step t i (s .words) .state))
 
 module _ (t : Tree) (ok : tree-refusal t .number ≡ 0) (bits : Sixteen-bit t) where
   -- one step
@@ -246,14 +246,14 @@ module _ (t : Tree) (ok : tree-refusal t .number ≡ 0) (bits : Sixteen-bit t) w
       let place-good = well-formed-facts t (s .words) f .places i .used b in
       good-test t _ (step-keeps-counts t (accepted t ok) i b (s .words) place-good (s .counters) (good-facts t (s .counters) g) low)
 
-  run-kept : (is : List ℕ) (s : LockState) → All-threads t is → Formed t (s .words) → good-counts t (s .counters) ≡ true → ((p : ℕ) → p < length is → bad-counter t s is p ≡ false) → good-counts t (counters-behind t is s) ≡ true
-  unfolding All-threads counters-behind steps Form-law
+  run-kept : (is : List ℕ) (s : LockState) → All-threads t is → Formed t (s .words) → good-counts t (s .counters) ≡ true → ((p : ℕ) → p < length is → bad-counter t s is p ≡ false) → good-counts t (counters-after-run t is s) ≡ true
+  unfolding All-threads counters-after-run steps Form-law
   run-kept [] s all f g low = rw (counters-none t (s .counters)) g
   run-kept (i ∷ is) s all f g low =
       let x = step t i (s .words) in
       let first : any-above (counters-after t (s .counters) (x ∷ [])) ≡ false = rw (count-first t s i is) at (low 0 (omega arith)) in
       let next : LockState = lock-state (x .state) (counters-after t (s .counters) (x ∷ [])) in
-      rw (counters-behind-cons t s i is)
+      rw (counters-after-cons t s i is)
       (run-kept is next (all .1) (form-law t bits ok .of-step i (s .words) (all .0) f) (one-kept i s (all .0) f g first)
       (λ p h. rw (count-later t s i is p) at (low (suc p) (omega arith))))
 
@@ -325,6 +325,6 @@ fresh-room n h =
     }
 
 pub fresh-room-law : Fresh-room-law
-unfolding Fresh-room-law counters-behind Room-law
+unfolding Fresh-room-law counters-after-run Room-law
 fresh-room-law t bits v is js h p b =
     room-law t bits _ js (room-stays t bits fresh-counters is (fresh-state t v) (length js) (fresh-room (length is + length js) h)) p b

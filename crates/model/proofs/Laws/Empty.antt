@@ -45,10 +45,10 @@ has-none : (t : Tree) (d : ℕ) → empty-domain t d ≡ true → Has-thread t d
 has-none t d e h = true≢false (sym e ∙ one-there t d h)
 
 -- TESTS BEHIND OTHERS
-refuses-behind : (xs ys : List Test) (n p : ℕ) → All-pass xs → Refuses ys n p → Refuses (xs ++ ys) n p
+refuses-after : (xs ys : List Test) (n p : ℕ) → All-pass xs → Refuses ys n p → Refuses (xs ++ ys) n p
 unfolding All-pass
-refuses-behind [] ys n p g r = r
-refuses-behind (x ∷ xs) ys n p g r = later x (xs ++ ys) n p (g .0) (refuses-behind xs ys n p (g .1) r)
+refuses-after [] ys n p g r = r
+refuses-after (x ∷ xs) ys n p g r = later x (xs ++ ys) n p (g .0) (refuses-after xs ys n p (g .1) r)
 
 refuses-before : (xs ys : List Test) (n p : ℕ) → Refuses xs n p → Refuses (xs ++ ys) n p
 refuses-before xs ys n p (here x zs k h b l) = here x (zs ++ ys) k h b l
@@ -92,7 +92,7 @@ module _ (t : Tree) where
   refused-there : All-pass before → (p : ℕ) → p < t .domains → empty-domain t p ≡ true → ((q : ℕ) → q < p → empty-domain t q ≡ false) → tree-refusal t ≡ refusal 16 p
   unfolding tree-refusal tree-tests
   refused-there g p l b none =
-      tree-refuses-exactly t .refused 16 p (omega arith) .1 (refuses-behind before (empty-tests t) 16 p g (here _ _ p l b none))
+      tree-refuses-exactly t .refused 16 p (omega arith) .1 (refuses-after before (empty-tests t) 16 p g (here _ _ p l b none))
 
   -- refused by 16, the tests before it pass
   passed-before : (p : ℕ) → tree-refusal t ≡ refusal 16 p → All-pass before

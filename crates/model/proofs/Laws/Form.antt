@@ -19,7 +19,7 @@ use Rattle.model.specs.WellFormed.{queue-on-path, good-place, well-forme
 use Rattle.model.specs.Laws.{Sixteen-bit, Formed, Form-law}
 use Rattle.model.proofs.Tests.{by-test, and-both}
 use Rattle.model.proofs.Places.{words-of-place, fresh-room, fresh-numbers}
-use Rattle.model.proofs.Branches.{about-to-grant, Branch, idle-draws, idle-prepares, prepares, swap-root, swap-inner, swap-behind, link-writes, wait-root-locked, wait-root-granted, wait-ungranted, wait-acquires, wait-passed, wait-crossed, inside-leaves, check-passes, check-releases, help-alone, help-linked, cas-last, cas-not-last, linger-alone, linger-linked, grant-writes, draw-shown, draw-unshown, watch-shown, watch-unshown, raise-counts, invalid-stays, branch, at-root, below-root}
+use Rattle.model.proofs.Branches.{about-to-grant, Branch, idle-draws, idle-prepares, prepares, swap-root, swap-inner, swap-joins, link-writes, wait-root-locked, wait-root-granted, wait-ungranted, wait-acquires, wait-passed, wait-crossed, inside-leaves, check-passes, check-releases, help-alone, help-linked, cas-last, cas-not-last, linger-alone, linger-linked, grant-writes, draw-shown, draw-unshown, watch-shown, watch-unshown, raise-counts, invalid-stays, branch, at-root, below-root}
 use Rattle.model.proofs.Trees.Accepted.{Accepted, accepted}
 use Rattle.model.proofs.Trees.Tickets.{ticket-facts, ticket-lower, queue-lower, queue-facts, queue-yes}
 use Rattle.model.proofs.Trees.Paths.{on-path-home, on-path-root, on-path-parent}
@@ -210,7 +210,7 @@ module _ (t : Tree) (b : Sixteen-bit t) (valid : Accepted t) (i : ℕ) (h : i < 
     row-keeps g f (swap-inner l z e) =
         let q = queue-facts t i l g in
         placed (swapped-in l cohort-start (q .0) (q .1) (omega arith)) (acquired-place t l) (climb-fits l z (q .0))
-    row-keeps g f (swap-behind l e) =
+    row-keeps g f (swap-joins l e) =
         let q = queue-facts t i l g in
         let I = own-record t i l in
         placed (tail-keeps t s k l (I + 1) (inr (q .1, rw (one-more I) (own-record-member t valid i h l (q .0))))) (Link l (tail s l - 1))

@@ -21,7 +21,7 @@ use Rattle.model.specs.WellFormed.{queue-on-path, good-place}
 use Rattle.model.specs.Tenures.{finds-none, taken-from, given, starts, checks-at, word-to-grant, tenure-length}
 use Rattle.model.proofs.Tests.{and-both, by-test, any-one}
 use Rattle.model.proofs.Places.{by-row, beyond}
-use Rattle.model.proofs.Branches.{Branch, idle-draws, idle-prepares, prepares, swap-root, swap-inner, swap-behind, link-writes, wait-root-locked, wait-root-granted, wait-ungranted, wait-acquires, wait-passed, wait-crossed, inside-leaves, check-passes, check-releases, help-alone, help-linked, cas-last, cas-not-last, linger-alone, linger-linked, grant-writes, draw-shown, draw-unshown, watch-shown, watch-unshown, raise-counts, invalid-stays, branch}
+use Rattle.model.proofs.Branches.{Branch, idle-draws, idle-prepares, prepares, swap-root, swap-inner, swap-joins, link-writes, wait-root-locked, wait-root-granted, wait-ungranted, wait-acquires, wait-passed, wait-crossed, inside-leaves, check-passes, check-releases, help-alone, help-linked, cas-last, cas-not-last, linger-alone, linger-linked, grant-writes, draw-shown, draw-unshown, watch-shown, watch-unshown, raise-counts, invalid-stays, branch}
 use Rattle.model.proofs.Trees.Accepted.{Accepted}
 use Rattle.model.proofs.Trees.Paths.{on-path-root, path-real}
 use Rattle.model.proofs.Trees.Records.{own-record-member, member-record}
@@ -68,7 +68,7 @@ branch-gives (idle-prepares z (prepares l v c)) = refl
 branch-gives (prepares l v c) = refl
 branch-gives {s = s} (swap-root l z e) = rw (eq-eqb (tail s l) none e)
 branch-gives {s = s} (swap-inner l z e) = rw (eq-eqb (tail s l) none e)
-branch-gives {s = s} (swap-behind l e) = rw (ne-eqb (tail s l) none e)
+branch-gives {s = s} (swap-joins l e) = rw (ne-eqb (tail s l) none e)
 branch-gives (link-writes l p) = refl
 branch-gives (wait-root-locked l z e) = refl
 branch-gives (wait-root-granted l z e) = refl

@@ -14,10 +14,10 @@ use Rattle.model.specs.Places.{words-of}
 use Rattle.model.specs.States.{tail, next, status, place, with-place}
 use Rattle.model.specs.Steps.{Kind, stay, other, root-entry, passed-entry, crossed-entry, leaving, kind-number, is-kind, is-entry, Row-result, acquire-place, acquired-place, release-place, done-place, row, step}
 use Rattle.model.specs.WellFormed.{good-place}
-use Rattle.model.specs.Laws.{Enters-root, by-swap, by-wait, by-draw, by-watch, by-own-draw, Tells-kind, Kind-law}
+use Rattle.model.specs.Laws.{Enters-root, by-swap, by-wait, by-draw, by-watch, by-own-draw, Reports-kind, Kind-law}
 use Rattle.model.proofs.Tests.{by-test, and-both, or-neither}
 use Rattle.model.proofs.Places.{place-stored}
-use Rattle.model.proofs.Branches.{Branch, idle-draws, idle-prepares, prepares, swap-root, swap-inner, swap-behind, link-writes, wait-root-locked, wait-root-granted, wait-ungranted, wait-acquires, wait-passed, wait-crossed, inside-leaves, check-passes, check-releases, help-alone, help-linked, cas-last, cas-not-last, linger-alone, linger-linked, grant-writes, draw-shown, draw-unshown, watch-shown, watch-unshown, raise-counts, invalid-stays, branch}
+use Rattle.model.proofs.Branches.{Branch, idle-draws, idle-prepares, prepares, swap-root, swap-inner, swap-joins, link-writes, wait-root-locked, wait-root-granted, wait-ungranted, wait-acquires, wait-passed, wait-crossed, inside-leaves, check-passes, check-releases, help-alone, help-linked, cas-last, cas-not-last, linger-alone, linger-linked, grant-writes, draw-shown, draw-unshown, watch-shown, watch-unshown, raise-counts, invalid-stays, branch}
 use Rattle.model.proofs.Trees.Accepted.{Accepted, accepted}
 use Rattle.model.proofs.Trees.Paths.{path-real}
 use Rattle.model.proofs.Laws.Facts.{Facts, well-formed-facts}
@@ -91,7 +91,7 @@ module _ (t : Tree) (valid : Accepted t) (i : ℕ) (h : i < t .threads) (s : Sta
   row-outcome g (prepares l v c) = goes (Prep l) (Swap l) refl refl refl (moves-to (Prep l) (Swap l) refl)
   row-outcome g (swap-root l z e) = entered-root refl (stored Inside) (by-swap (ap Swap z))
   row-outcome g (swap-inner l z e) = climbs (Swap l) l refl refl refl (moves-to (Swap l) Draw refl) (moves-to (Swap l) (Prep (t .parent l)) refl)
-  row-outcome g (swap-behind l e) = let q = Link l (tail s l - 1) in goes (Swap l) q refl refl refl (moves-to (Swap l) q refl)
+  row-outcome g (swap-joins l e) = let q = Link l (tail s l - 1) in goes (Swap l) q refl refl refl (moves-to (Swap l) q refl)
   row-outcome g (link-writes l p) = goes (Link l p) (Wait l) refl refl refl (moves-to (Link l p) (Wait l) refl)
   row-outcome g (wait-root-locked l z e) = stayed refl refl (not-inside (Wait l) refl)
   row-outcome g (wait-root-granted l z e) = entered-root refl (stored Inside) (by-wait (ap Wait z))
@@ -150,7 +150,7 @@ goes-on f (idle-prepares z (prepares l v c)) = refl
 goes-on f (prepares l v c) = refl
 goes-on f (swap-root l z e) = refl
 goes-on f (swap-inner l z e) = refl
-goes-on f (swap-behind l e) = refl
+goes-on f (swap-joins l e) = refl
 goes-on f (link-writes l p) = refl
 goes-on f (wait-root-locked l z e) = absurd (true≢false f)
 goes-on f (wait-root-granted l z e) = refl
@@ -249,7 +249,7 @@ module _ (t : Tree) (i : ℕ) (s : State) where
   not-entry : (k : Kind) → kind ≡ k → is-entry k ≡ false → is-entry kind ≢ true
   not-entry k e f g = false≢true (sym f ∙ ap is-entry (sym e) ∙ g)
 
-  tells : Outcome t s i before (row t i (place s i) s) → Tells-kind t i s
+  tells : Outcome t s i before (row t i (place s i) s) → Reports-kind t i s
   unfolding step is-entry
   tells (stayed e f n) =
       let same : after ≡ before = ap (λ x. place x i) f in

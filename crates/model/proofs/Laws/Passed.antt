@@ -12,7 +12,7 @@ use Rattle.model.specs.States.{place}
 use Rattle.model.specs.Steps.{passed-entry, crossed-entry, is-kind, is-entry, Row-result, row, step}
 use Rattle.model.specs.Runs.{steps, how-many, counts-of, run-of, run}
 use Rattle.model.specs.Laws.{waits-below, entries-from-below, Passed-law}
-use Rattle.model.proofs.Branches.{Branch, idle-draws, idle-prepares, prepares, swap-root, swap-inner, swap-behind, link-writes, wait-root-locked, wait-root-granted, wait-ungranted, wait-acquires, wait-passed, wait-crossed, inside-leaves, check-passes, check-releases, help-alone, help-linked, cas-last, cas-not-last, linger-alone, linger-linked, grant-writes, draw-shown, draw-unshown, watch-shown, watch-unshown, raise-counts, invalid-stays, branch}
+use Rattle.model.proofs.Branches.{Branch, idle-draws, idle-prepares, prepares, swap-root, swap-inner, swap-joins, link-writes, wait-root-locked, wait-root-granted, wait-ungranted, wait-acquires, wait-passed, wait-crossed, inside-leaves, check-passes, check-releases, help-alone, help-linked, cas-last, cas-not-last, linger-alone, linger-linked, grant-writes, draw-shown, draw-unshown, watch-shown, watch-unshown, raise-counts, invalid-stays, branch}
 
 -- one of the two is counted exactly for an entry from Wait below the root
 abbrev Kinds-apart : Place → Row-result → Type 0
@@ -26,7 +26,7 @@ row-apart (idle-prepares z (prepares l v c)) = refl
 row-apart (prepares l v c) = refl
 row-apart (swap-root l z e) = refl
 row-apart (swap-inner l z e) = refl
-row-apart (swap-behind l e) = refl
+row-apart (swap-joins l e) = refl
 row-apart (link-writes l p) = refl
 row-apart (wait-root-locked l z e) = refl
 row-apart (wait-root-granted l z e) = rw (eq-eqb l 0 z)

@@ -20,7 +20,7 @@ use Rattle.model.specs.Runs.{steps, state-after, how-many, counts-of, ru
 use Rattle.model.specs.WellFormed.{queue-on-path, good-place}
 use Rattle.model.specs.Counters.{lock-state, counters-after, good-counts, any-above}
 use Rattle.model.specs.Refusals.{tree-refusal, run-refusal, accepted, refusal}
-use Rattle.model.specs.Answers.{counters-behind, first-kind, step-reply, step-answer, run-reply, run-answer}
+use Rattle.model.specs.Answers.{counters-after-run, first-kind, step-reply, step-answer, run-reply, run-answer}
 use Rattle.model.specs.Laws.{All-threads, Formed, Form-law, Domain-law, answered-kinds, counts-of-kinds, Answered-kinds-law}
 use Rattle.model.proofs.Tests.{and-both}
 use Rattle.model.proofs.Places.{words-of-place}
@@ -101,7 +101,7 @@ numbers-count k (x ∷ xs) = ap (λ v. cond (eqb (kind-number k) (kind-number (x
 answered-all :
     (w : TreeWords) → tree-refusal (tree-of w) .number ≡ 0 → (is : List ℕ) → All-threads (tree-of w) is → (s : LockState) → Formed (tree-of w) (s .words) →
     good-counts (tree-of w) (s .counters) ≡ true → Counts-pass (tree-of w) s is → answered-kinds w is s ≡ numbers (steps (tree-of w) is (s .words))
-unfolding numbers answered-kinds steps state-after All-threads step-answer step-reply first-kind counters-behind accepted refusal Form-law
+unfolding numbers answered-kinds steps state-after All-threads step-answer step-reply first-kind counters-after-run accepted refusal Form-law
 answered-all w ok [] all s f g low = refl
 answered-all w ok (i ∷ is) all s f g low =
     let t = tree-of w in
@@ -124,7 +124,7 @@ unfolding Answered-kinds-law run-answer run-reply run run-of
 answered-kinds-law w s is b f e =
     let t = tree-of w in
     let r = run-refusal t s is (length b) in
-    let zero : r .number ≡ 0 = sym (run-reply-number r s (run t is (s .words)) (counters-behind t is s)) ∙ e in
+    let zero : r .number ≡ 0 = sym (run-reply-number r s (run t is (s .words)) (counters-after-run t is s)) ∙ e in
     let facts = run-facts t s is (length b) zero in
     rw (eq-eqb (r .number) 0 zero)
     (counted (steps t is (s .words)) ∙ ap counts-of-kinds (sym (answered-all w (facts .tree) is (facts .threads) s f (facts .counts) (run-counted t s is (length b) zero))))

@@ -18,7 +18,7 @@ use Rattle.model.specs.WellFormed.{queue-on-path, good-place}
 use Rattle.model.specs.Laws.{Sixteen-bit, All-threads, Word-law}
 use Rattle.model.proofs.Tests.{by-test, and-both}
 use Rattle.model.proofs.Places.{place-of-words, numbers-all, room-kept, fresh-room, fresh-numbers}
-use Rattle.model.proofs.Branches.{about-to-grant, drawn, Branch, idle-draws, idle-prepares, prepares, swap-root, swap-inner, swap-behind, link-writes, wait-root-locked, wait-root-granted, wait-ungranted, wait-acquires, wait-passed, wait-crossed, inside-leaves, check-passes, check-releases, help-alone, help-linked, cas-last, cas-not-last, linger-alone, linger-linked, grant-writes, draw-shown, draw-unshown, watch-shown, watch-unshown, raise-counts, invalid-stays, branch, at-root, below-root}
+use Rattle.model.proofs.Branches.{about-to-grant, drawn, Branch, idle-draws, idle-prepares, prepares, swap-root, swap-inner, swap-joins, link-writes, wait-root-locked, wait-root-granted, wait-ungranted, wait-acquires, wait-passed, wait-crossed, inside-leaves, check-passes, check-releases, help-alone, help-linked, cas-last, cas-not-last, linger-alone, linger-linked, grant-writes, draw-shown, draw-unshown, watch-shown, watch-unshown, raise-counts, invalid-stays, branch, at-root, below-root}
 use Rattle.model.proofs.Trees.Accepted.{Accepted, accepted}
 use Rattle.model.proofs.Trees.Tickets.{ticket-facts, queue-facts, queue-yes}
 use Rattle.model.proofs.Trees.Paths.{on-path-home, on-path-root, path-real}
@@ -160,7 +160,7 @@ module _ (t : Tree) (valid : Accepted t) (i : ℕ) (h : i < t .threads) where
         placed (status-store t _ (tail-store t s k l (I + 1)) I unlocked (own-word l unlocked (queue-facts t i l g .0) (λ n. absurd (n z)))) Inside tt
     row-keeps g f (swap-inner l z e) =
         placed (started (tail-store t s k l (own-record t i l + 1)) l (queue-facts t i l g .0)) (acquired-place t l) (acquire-good (t .parent l))
-    row-keeps g f (swap-behind l e) = placed (tail-store t s k l (own-record t i l + 1)) (Link l (tail s l - 1)) tt
+    row-keeps g f (swap-joins l e) = placed (tail-store t s k l (own-record t i l + 1)) (Link l (tail s l - 1)) tt
     row-keeps g f (link-writes l p) = placed (next-store t s k p (own-record t i l + 1)) (Wait l) tt
     row-keeps g f (wait-root-locked l z e) = k
     row-keeps g f (wait-root-granted l z e) = placed k Inside tt

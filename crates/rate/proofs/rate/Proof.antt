@@ -34,8 +34,8 @@ returns-3 c =
 returns-4 : tie.Need-returns-4
 returns-4 c =
     let after-in-range : tie.After-in-range = search c in
-    let else2 : tie.Else2 = search c in
-    let else1 : tie.Else1 = search c in
+    let else2 : tie.Else2 = search after-in-range in
+    let else1 : tie.Else1 = search else2 in
     rw (answer-tested, ne-eqb _ _ (else1 .if1 .left), ne-eqb _ _ (else2 .if2 .left), ← after-in-range .in-range .ensures, was-true (after-in-range .in-range .result) (c .before .before .if3 .left), ← c .before .in-range2 .ensures, was-false (c .before .in-range2 .result) (c .if4 .taken))
 
 returns-5 : tie.Need-returns-5

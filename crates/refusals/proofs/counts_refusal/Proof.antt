@@ -22,22 +22,22 @@ returns-2 c =
 returns-3 : tie.Need-returns-3
 returns-3 c =
     let else1 : tie.Else1 = search c in
-    let start : tie.Start = search c in
+    let start : tie.Start = search else1 in
     rw (c .refusal-at3 .ensures, tests.no-threads (words (start .args .domains) (start .args .threads)) (else1 .if1 .left) (c .before .before .if2 .left) (c .before .if3 .taken))
 
 returns-4 : tie.Need-returns-4
 returns-4 c =
     let else2 : tie.Else2 = search c in
-    let else1 : tie.Else1 = search c in
-    let start : tie.Start = search c in
+    let else1 : tie.Else1 = search else2 in
+    let start : tie.Start = search else1 in
     rw (c .refusal-at4 .ensures, tests.many-threads (words (start .args .domains) (start .args .threads)) (else1 .if1 .left) (else2 .if2 .left) (c .before .before .if3 .left) (c .before .if4 .taken))
 
 returns-5 : tie.Need-returns-5
 unfolding accepted
 returns-5 c =
     let else2 : tie.Else2 = search c in
-    let else1 : tie.Else1 = search c in
-    let start : tie.Start = search c in
+    let else1 : tie.Else1 = search else2 in
+    let start : tie.Start = search else1 in
     rw (c .refusal-at5 .ensures, tests.counts-pass (words (start .args .domains) (start .args .threads)) (else1 .if1 .left) (else2 .if2 .left) (c .before .before .if3 .left) (c .before .if4 .left))
 
 pub counts-refusal-spec : {M : Type 1} → statement M

@@ -23,7 +23,7 @@ domains-refusal-requires c κs =
 returns-2 : tie.Need-returns-2
 returns-2 c =
     let after-counts-refusal : tie.After-counts-refusal = search c in
-    let start : tie.Start = search c in
+    let start : tie.Start = search after-counts-refusal in
     domains-decide (words (start .args .domains) (start .args .threads) (start .args .parents .now) (start .args .thresholds .now)) _ (after-counts-refusal .counts-refusal .ensures) (c .before .if1 .left) _ (c .domains-refusal .ensures)
 
 pub shape-refusal-spec : {M : Type 1} → statement M

@@ -17,7 +17,7 @@ use Rattle.model.specs.WellFormed.{well-formed}
 use Rattle.model.specs.Counters.{good-counts, lock-state}
 use Rattle.model.specs.Runs.{steps, Run, run-of, run}
 use Rattle.model.specs.Refusals.{Refusal, refusal, accepted, Test, first-refusal, lowest-bad, has-number, state-tests, tree-tests, tree-refusal, bad-state, bad-length, bad-room, counter-tests, run-tests-before-19, run-tests, step-refusal, run-refusal}
-use Rattle.model.specs.Answers.{counters-behind, fresh-answer, step-reply, step-answer, run-reply, run-answer}
+use Rattle.model.specs.Answers.{counters-after-run, fresh-answer, step-reply, step-answer, run-reply, run-answer}
 use Rattle.model.specs.CounterLaws.{Counter-form-law}
 use Rattle.model.specs.Laws.{All-threads, Formed, Form-law, All-pass, Numbered, Refusal-law}
 use Rattle.model.proofs.Tests.{and-both, by-test}
@@ -106,7 +106,7 @@ module _ (w : TreeWords) where
 
   behind :
       (s : LockState) (is : List ℕ) → tree-refusal t .number ≡ 0 → All-threads t is → Formed t (s .words) → good-counts t (s .counters) ≡ true →
-      Counts-pass t s is → check-refusal t (lock-state (run t is (s .words) .state) (counters-behind t is s)) ≡ accepted
+      Counts-pass t s is → check-refusal t (lock-state (run t is (s .words) .state) (counters-after-run t is s)) ≡ accepted
   unfolding Form-law Counter-form-law
   behind s is ok all f good low =
       passes t _ (ok, form-law t (sixteen-bit w) ok .of-run is (s .words) all f .form, counter-form-law t ok (sixteen-bit w) .of-run is s all f good low)
@@ -117,7 +117,7 @@ module _ (w : TreeWords) where
   unfolding run-answer run-reply check-answer
   of-run s is b f e =
       let r = run-refusal t s is (length b) in
-      let z : r .number ≡ 0 = sym (run-reply-number r s (run t is (s .words)) (counters-behind t is s)) ∙ e in
+      let z : r .number ≡ 0 = sym (run-reply-number r s (run t is (s .words)) (counters-after-run t is s)) ∙ e in
       let g = run-facts t s is (length b) z in
       rw (eq-eqb (r .number) 0 z) (behind s is (g .tree) (g .threads) f (g .counts) (run-counted t s is (length b) z))
 
@@ -125,7 +125,7 @@ module _ (w : TreeWords) where
   unfolding step-answer step-reply check-answer All-threads run run-of
   of-step s i f e =
       let r = step-refusal t s i in
-      let z : r .number ≡ 0 = sym (step-reply-number r s (steps t (i ∷ []) (s .words)) (counters-behind t (i ∷ []) s)) ∙ e in
+      let z : r .number ≡ 0 = sym (step-reply-number r s (steps t (i ∷ []) (s .words)) (counters-after-run t (i ∷ []) s)) ∙ e in
       let g = step-facts t s i z in
       rw (eq-eqb (r .number) 0 z) (behind s (i ∷ []) (g .tree) (g .thread, tt) f (g .counts) (step-counted t s i z))
 

@@ -300,7 +300,9 @@ pub(crate) fn good_threads<'s>(
     requires { ⌜ (count ≤ 64) × (threads ≤ 256) ⌝ }
     requires { ⌜ Lower count (now parents) ⌝ }
     requires { ⌜ Homes-there «ticket_root» count threads (now owners) ⌝ }
-    ensures { λ q. ⌜ q ≡ all-below threads (λ i. used-in «ticket_root» (parents-in count (now (parents .entry))) (now (owners .entry)) (now (statuses .entry)) i (numbers-at (places-in (now (rows .entry)) (now (domains .entry)) (now (peers .entry)) (now (words .entry))) i) (getD (now (nexts .entry)) i 0)) ⌝ }
+    ensures { λ q. ⌜ (let t = parents-in count (now (parents .entry)) in
+        let places = places-in (now (rows .entry)) (now (domains .entry)) (now (peers .entry)) (now (words .entry)) in
+        q ≡ all-below threads (λ i. used-in «ticket_root» t (now (owners .entry)) (now (statuses .entry)) i (numbers-at places i) (getD (now (nexts .entry)) i 0))) ⌝ }
 {
     let row = resting_row_of(ticket_root, count);
     let mut i: u16 = 0;

@@ -109,7 +109,8 @@ pub(crate) fn is_clear<'s>(
     words: &'s [u64; 256],
 ) -> bool
     requires { ⌜ (threads ≤ 256) × (count ≤ 64) ⌝ }
-    ensures { λ r. ⌜ r ≡ clear-in threads count (lent-state (now (tails .entry)) (now (nexts .entry)) (now (statuses .entry)) (now (rows .entry)) (now (domains .entry)) (now (peers .entry)) (now (words .entry)) 0 0) ⌝ }
+    ensures { λ r. ⌜ (let before = lent-state (now (tails .entry)) (now (nexts .entry)) (now (statuses .entry)) (now (rows .entry)) (now (domains .entry)) (now (peers .entry)) (now (words .entry)) 0 0 in
+        r ≡ clear-in threads count before) ⌝ }
 {
     let m = threads as usize;
     let n = count as usize;

@@ -10,7 +10,7 @@ use borrow.Author.Tests.{eq-eqb, ne-eqb}
 use Rattle.model.specs.declared.TreeWords.{TreeWords}
 use Rattle.model.specs.declared.RunReply.{RunReply}
 use Rattle.model.specs.Trees.{tree-of}
-use Rattle.schedules.specs.Rows.{total, cut, alone, row-of, rows-of, behind-one-another, all-rows}
+use Rattle.schedules.specs.Rows.{total, cut, alone, row-of, rows-of, after-one-another, all-rows}
 use Rattle.refusals.specs.declared.Refusal.{Refusal}
 use Rattle.refusals.specs.Arrays.{refusal-words}
 use Rattle.refusals.proofs.RunTests.{refusal-words-not, refusal-words-zero}
@@ -29,13 +29,13 @@ rows-next :
     (w : TreeWords) (ns es l : List ℕ) (k from at : ℕ) → k < length ns →
     sets l at (all-rows w (cut (drop k ns) (drop from es)))
     ≡ sets (sets l at (row-of (alone w (take (getD ns k 0) (drop from es))))) (at + 8) (all-rows w (cut (drop (k + 1) ns) (drop (from + getD ns k 0) es)))
-unfolding rows-of behind-one-another cut
+unfolding rows-of after-one-another cut
 rows-next w ns es l k from at h =
     rw (add-one, drop-cons ns k 0 h, drop-drop) (row-first l at (alone w (take (getD ns k 0) (drop from es))) _)
 
 -- after the last length there is none
 rows-end : (w : TreeWords) (ns es : List ℕ) (k : ℕ) → length ns ≤ k → all-rows w (cut (drop k ns) es) ≡ []
-unfolding rows-of behind-one-another cut
+unfolding rows-of after-one-another cut
 rows-end w ns es k h = rw (drop-of-length-le ns h)
 
 -- after k schedules: the rows stored so far, and those still ahead

@@ -34,7 +34,7 @@ use Rattle.lock.specs.Steps.Running.{kinds-of, counts-by, trace-front, step-cod
 use Rattle.lock.proofs.steps.Answering as steps-proofs
 use Rattle.lock.proofs.steps.SoFar.{thread-at, below}
 use Rattle.lock.proofs.steps.StepCodes.{code-kind, domain-of-code}
-use Rattle.lock.proofs.steps.Telling.{told-front-length}
+use Rattle.lock.proofs.steps.Telling.{reported-front-length}
 use Rattle.kinds.specs.declared.KindsReply.{KindsReply}
 use Rattle.kinds.specs.Answers.{kinds-refusal, with-rows, kinds-reply, refused-by, kinds-answer, kinds-trace, kinds-rows}
 use Rattle.kinds.specs.Laws.{row-at, Row-law, Kinds-run-law, Kinds-buffer-law}
@@ -53,12 +53,12 @@ code-at [] t (i ∷ is) s k h l = absurd (omega arith)
 code-at (c ∷ b) t (i ∷ is) s zero h l = refl
 code-at (c ∷ b) t (i ∷ is) s (suc k) h l = code-at b t is (step t i s .state) k (omega arith) (omega arith)
 
-code-behind : (b : List ℕ) (xs : List Step) (j : ℕ) → length xs ≤ j → getD (codes-front b xs) j 0 ≡ getD b j 0
+code-after : (b : List ℕ) (xs : List Step) (j : ℕ) → length xs ≤ j → getD (codes-front b xs) j 0 ≡ getD b j 0
 unfolding codes-front
-code-behind [] xs j h = refl
-code-behind (c ∷ b) [] j h = refl
-code-behind (c ∷ b) (x ∷ xs) zero h = absurd (omega arith)
-code-behind (c ∷ b) (x ∷ xs) (suc j) h = code-behind b xs j (omega arith)
+code-after [] xs j h = refl
+code-after (c ∷ b) [] j h = refl
+code-after (c ∷ b) (x ∷ xs) zero h = absurd (omega arith)
+code-after (c ∷ b) (x ∷ xs) (suc j) h = code-after b xs j (omega arith)
 
 -- below a number, or not
 same-or-less : (j n : ℕ) (C : Type 0) → (j < n → C) → (n ≤ j → C) → C
@@ -75,11 +75,11 @@ module _ (w : TreeWords) (s : LockState) (is b rs : List ℕ) (r : Refusal) (e :
   abbrev xs : List Step
   xs = steps t is (s .words)
 
-  pub told-refuses :
+  pub reported-refuses :
       (r .number ≡ 0 → ⊥) → (y : KindsReply) → y ≡ with-rows (run-refused (refusal (r .number) (r .place)) s) 0 →
       (y ≡ kinds-answer w s is b rs) × ((b ≡ kinds-trace w s is b rs) × (rs ≡ kinds-rows w s is b rs))
   unfolding kinds-answer kinds-reply run-reply kinds-trace run-buffer kinds-rows row-buffer refused-by refusal
-  told-refuses n y f =
+  reported-refuses n y f =
       let m = ne-eqb (kinds-refusal t s is (length b) (length rs) .number) 0 (refusal-words-not r _ e n) in
       (f ∙ rw (e, m), (rw m, rw m))
 
@@ -104,7 +104,7 @@ module _ (w : TreeWords) (s : LockState) (is b rs : List ℕ) (r : Refusal) (e :
     rows-fit = early-passes t s is (length b) (length rs) (early-zero t s is (length b) (length rs) accepted) .1
 
     pub codes-fit : (codes : List ℕ) → codes ≡ codes-front rs xs → 2 * length is ≤ length codes
-    codes-fit codes f = omega (arith, ap length f, told-front-length rs xs, rows-fit)
+    codes-fit codes f = omega (arith, ap length f, reported-front-length rs xs, rows-fit)
 
     pub threads-fit : Threads-fit is
     threads-fit = record { fits = below t is (good .tree) (good .threads) }
@@ -150,7 +150,7 @@ module _ (w : TreeWords) (s : LockState) (is b rs : List ℕ) (r : Refusal) (e :
       after-there j h =
           let y : 2 * length is + (j - 2 * length is) ≡ j = omega arith in
           let m = j - 2 * length is in
-          g .behind j h ∙ ap (λ v. getD v j 0) f ∙ code-behind rs xs j (omega (arith, steps-length t is (s .words)))
+          g .behind j h ∙ ap (λ v. getD v j 0) f ∙ code-after rs xs j (omega (arith, steps-length t is (s .words)))
           ∙ rw (← y) (sym (getD-drop (2 * length is) rs m 0) ∙ ap (λ v. getD v m 0) (sym (kinds-buffer-law w s is b rs .after)) ∙ getD-drop (2 * length is) B m 0)
 
       each : (j : ℕ) → getD rows j 0 ≡ getD B j 0
@@ -162,17 +162,17 @@ module _ (w : TreeWords) (s : LockState) (is b rs : List ℕ) (r : Refusal) (e :
             | no y ↦ let z : j ≡ 2 * q + 1 = omega arith in rw z (domain-there q (omega arith))
           ]) (after-there j)
 
-      pub rows-told : rows ≡ B
+      pub rows-reported : rows ≡ B
       unfolding Kinds-buffer-law
-      rows-told = ext-getD 0 rows B (g .long ∙ ap length f ∙ told-front-length rs xs ∙ sym (kinds-buffer-law w s is b rs .long)) (λ j h. each j)
+      rows-reported = ext-getD 0 rows B (g .long ∙ ap length f ∙ reported-front-length rs xs ∙ sym (kinds-buffer-law w s is b rs .long)) (λ j h. each j)
 
     -- THE REPLY AND THE TRACE are the run's
-    pub told-answered :
+    pub reported-answered :
         (n : State) (b′ kinds : List ℕ) (counts : Counts) (c : Counters) (m : ℕ) → n ≡ run t is (s .words) .state → b′ ≡ trace-front b (run t is (s .words)) →
         kinds ≡ kinds-of xs → counts ≡ counts-by kinds → c ≡ counters-after t (s .counters) xs → m ≡ length is →
         (record { number = 0; place = 0; counts = counts; rows = m; state = lock-state n c } ≡ kinds-answer w s is b rs) × (b′ ≡ kinds-trace w s is b rs)
     unfolding Kinds-run-law Kinds-buffer-law
-    told-answered n b′ kinds counts c m g h k q counted q′ =
+    reported-answered n b′ kinds counts c m g h k q counted q′ =
         let run-answer = steps-proofs.run-answered w s is b r as-run z n b′ kinds counts c g h k q counted in
         let same = kinds-run-law w s is b rs (λ n. let y = sym accepted ∙ n in absurd (omega arith)) in
         (ap (λ y. with-rows y m) (run-answer .0 ∙ sym (same .reply)) ∙ ap (with-rows (record { number = kinds-answer w s is b rs .number; place = kinds-answer w s is b rs .place; counts = kinds-answer w s is b rs .counts; state = kinds-answer w s is b rs .state })) (q′ ∙ sym (kinds-buffer-law w s is b rs .told accepted)), run-answer .1 ∙ sym (same .traced))

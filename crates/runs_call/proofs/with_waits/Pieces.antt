@@ -15,7 +15,7 @@ use Rattle.model.specs.Steps.{stay, other, root-entry, passed-entry, crossed-en
 use Rattle.model.specs.Runs.{steps, state-after, how-many, entering, counts-of, run-of, run}
 use Rattle.model.specs.Counters.{lock-state, counters-after, good-counts, any-above}
 use Rattle.model.specs.Refusals.{first-refusal, bad-counter, tree-refusal, run-tests-before-19, run-refusal}
-use Rattle.model.specs.Answers.{counters-behind}
+use Rattle.model.specs.Answers.{counters-after-run}
 use Rattle.model.specs.CounterLaws.{Counter-form-law}
 use Rattle.model.proofs.Trees.Accepted.{accepted, sixteen-bit}
 use Rattle.model.specs.Laws.{All-threads, Formed, Form-law, Count-law}
@@ -32,7 +32,7 @@ use Rattle.runs_call.proofs.with_waits.Tables.{start, mark-small, attem
 use Rattle.lock.specs.Steps.Running.{kinds-of, counts-by, trace-front, step-code, codes-front}
 use Rattle.runs_call.specs.WithWaits.Waiting.{kinds-added, Counting, Countable, Counted, Small, Marks-of, Handed-in, Marks-fit}
 use Rattle.lock.proofs.steps.SoFar.{counts-kinds}
-use Rattle.lock.proofs.steps.Telling.{told-front-length}
+use Rattle.lock.proofs.steps.Telling.{reported-front-length}
 
 -- pieces of a schedule
 pub all-take : (t : Tree) (is : List ℕ) (m : ℕ) → All-threads t is → All-threads t (take m is)
@@ -74,10 +74,10 @@ unfolding counts-of
 all-counted xs = ap (λ v. v .steps) (counts-kinds xs)
 
 -- THE TRACE of a second run after that of a first
-trace-behind :
+trace-after :
     (b₀ b T U ys : List ℕ) (n : ℕ) → b ≡ T ++ drop (length T) b₀ → n ≡ length T → n ≤ length b → ys ≡ U ++ drop (length U) (take (length b - n) (drop n b)) →
     take n b ++ (ys ++ drop (length b - n) (drop n b)) ≡ (T ++ U) ++ drop (length (T ++ U)) b₀
-trace-behind b₀ b T U ys n eb en h ey =
+trace-after b₀ b T U ys n eb en h ey =
     let front : take n b ≡ T = rw (eb, en) (take-append-seam T (drop (length T) b₀)) in
     let rest : drop n b ≡ drop (length T) b₀ = rw (eb, en) (drop-append-seam T (drop (length T) b₀)) in
     let long : length (drop n b) ≡ length b - n = length-drop n b in
@@ -204,7 +204,7 @@ module _ (w : TreeWords) (us is b₀ : List ℕ) (s₀ : State) (c₀ : Counters
 
       -- no counter is above 2^63 after the pieces so far
       counts-good : good-counts t c ≡ true
-      unfolding Counter-form-law counters-behind bad-counter
+      unfolding Counter-form-law counters-after-run bad-counter
       counts-good =
           rw (G .counters-are)
           (counter-form-law t (R .tree) (sixteen-bit w) .of-run (take from is) handed (all-take t is from (R .threads)) (G .first-formed) (R .counts)
@@ -243,7 +243,7 @@ module _ (w : TreeWords) (us is b₀ : List ℕ) (s₀ : State) (c₀ : Counters
       -- what was told of it can be counted
       module _ (codes : List ℕ) (et : codes ≡ codes-front (replicate 1024 0) (steps t piece s)) where
         room : length codes ≡ 1024
-        room = ap length et ∙ told-front-length (replicate 1024 0) (steps t piece s) ∙ length-replicate {A = ℕ} 1024 0
+        room = ap length et ∙ reported-front-length (replicate 1024 0) (steps t piece s) ∙ length-replicate {A = ℕ} 1024 0
 
         code : (k : ℕ) → k < length piece → getD codes k 0 ≡ step-code (step t (getD piece k 0) (state-after s (steps t (take k piece) s)))
         code k h =
@@ -282,7 +282,7 @@ module _ (w : TreeWords) (us is b₀ : List ℕ) (s₀ : State) (c₀ : Counters
               counters-are = ec ∙ ap (λ v. counters-after t v (steps t piece s)) (G .counters-are) ∙ sym (ap (counters-after t c₀) joined ∙ counters-join t c₀ (done from) (steps t piece s));
               kinds-are = em ∙ ap (λ v. kinds-added v pk) (G .kinds-are) ∙ ap (kinds-added (kinds-of (done from))) ek ∙ sym (ap kinds-of joined ∙ kinds-join (done from) (steps t piece s));
               trace-is =
-                  trace-behind b₀ b T (entering (steps t piece s)) ys (n - first) (G .trace-is) traced part-room ey
+                  trace-after b₀ b T (entering (steps t piece s)) ys (n - first) (G .trace-is) traced part-room ey
                   ∙ sym (ap (λ v. v ++ drop (length v) b₀) (ap entering joined ∙ entering-join (done from) (steps t piece s)));
               tallies = rw joined (C .counted us (done from) s counting);
             }

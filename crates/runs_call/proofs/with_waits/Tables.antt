@@ -19,7 +19,7 @@ use Rattle.runs_call.specs.WithWaits.Tallies.{first, mark-with, mark-of,
 use Rattle.waits.proofs.Sums.{total-join, largest-join}
 use Rattle.waits.proofs.Bounds.{bounded}
 use Rattle.runs_call.specs.WithWaits.Waiting.{mark-at, Marks-of, Handed-in}
-use Rattle.runs_call.proofs.with_waits.Tallying.{marked-first, number-told, counted-next, other-turn, own-turn}
+use Rattle.runs_call.proofs.with_waits.Tallying.{marked-first, number-reported, counted-next, other-turn, own-turn}
 
 -- A TABLE with another number at an index
 noted-there : (b : Bool) (l : List ℕ) (k v : ℕ) → k < length l → getD (noted b l k v) k 0 ≡ cond b v (getD l k 0)
@@ -161,4 +161,4 @@ module _ (t : Tree) (us : List ℕ) (xs : List Step) (M A W L : List ℕ) (n : �
   unfolding numbers-by under-way-below
   numbers-end zero h = refl
   numbers-end (suc k) h =
-      rw (numbers-end k (omega arith), T .entered-are, number-told _ (under-way-from t k (getD us k 0) xs) (getD M k 0) (T .each k (omega arith) .marked))
+      rw (numbers-end k (omega arith), T .entered-are, number-reported _ (under-way-from t k (getD us k 0) xs) (getD M k 0) (T .each k (omega arith) .marked))

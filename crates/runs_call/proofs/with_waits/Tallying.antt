@@ -25,10 +25,10 @@ unfolding mark-of
 marked-first zero h = inl (refl, refl)
 marked-first (suc a) h = rw (ne-eqb (suc a) 0 (omega arith)) (inr (omega arith, (omega arith, omega arith)))
 
-pub number-told : (n a m : ℕ) → Marked n a m → number-of n m ≡ a
+pub number-reported : (n a m : ℕ) → Marked n a m → number-of n m ≡ a
 unfolding number-of
-number-told n a m (inl z) = rw (eq-eqb m 0 (z .1)) (sym (z .0))
-number-told n a m (inr z) = rw (ne-eqb m 0 (omega (arith, z .1 .1))) (omega (arith, z .1 .0))
+number-reported n a m (inl z) = rw (eq-eqb m 0 (z .1)) (sym (z .0))
+number-reported n a m (inr z) = rw (ne-eqb m 0 (omega (arith, z .1 .1))) (omega (arith, z .1 .0))
 
 module _ (t : Tree) (i under-way : ℕ) where
   -- one step more

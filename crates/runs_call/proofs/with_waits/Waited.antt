@@ -15,7 +15,7 @@ use Rattle.model.specs.declared.Counts.{Counts}
 use Rattle.model.specs.Trees.{Tree, tree-of}
 use Rattle.model.specs.Runs.{steps, counts-of, run-of, run}
 use Rattle.model.specs.Refusals.{refusal, run-refusal}
-use Rattle.model.specs.Answers.{counters-behind, no-counts, run-reply, run-buffer}
+use Rattle.model.specs.Answers.{counters-after-run, no-counts, run-reply, run-buffer}
 use Rattle.model.proofs.Laws.Runs.{steps-length}
 use Rattle.model.proofs.Laws.Calls.{run-facts}
 use Rattle.refusals.specs.declared.Refusal.{Refusal}
@@ -89,7 +89,7 @@ module _ (w : TreeWords) (s : LockState) (is b rs us : List ℕ) (r : Refusal) (
         us′ ≡ sets (replicate 256 0) 0 (under-way-below (tree-of w) us (tree-of w .threads) (steps (tree-of w) is (s .words))) →
         c ≡ counters-after (tree-of w) (s .counters) (steps (tree-of w) is (s .words)) →
         Answers (record { number = 0; place = 0; counts = counts; rows = tree-of w .threads + 1; state = lock-state n c }) b′ rs′ us′
-    unfolding waits-on-answer waits-reply run-reply waits-on-trace run-buffer waits-on-rows row-buffer waits-on-under-way refused-on counters-behind run run-of
+    unfolding waits-on-answer waits-reply run-reply waits-on-trace run-buffer waits-on-rows row-buffer waits-on-under-way refused-on counters-after-run run run-of
     waits-answered n b′ kinds counts rs′ us′ c g h k y f u counted =
         let xs = steps (tree-of w) is (s .words) in
         let p = eq-eqb (waits-on-refusal (tree-of w) s is (length b) (length rs) us .number) 0 (refusal-words-zero r _ e z) in

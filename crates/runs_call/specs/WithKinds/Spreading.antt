@@ -16,8 +16,8 @@ abbrev pub lent-lock : (tails nexts statuses places domains peers words : List �
 lent-lock ts ns vs rs ds ps ws v g es ms ls = lock-state (lent-state ts ns vs rs ds ps ws v g) (counters-in es ms ls)
 
 -- what is told beside it
-abbrev pub told-beside : KindsReply → Told
-told-beside r = record { number = r .number; place = r .place; counts = r .counts; rows = r .rows }
+abbrev pub reported-beside : KindsReply → Told
+reported-beside r = record { number = r .number; place = r .place; counts = r .counts; rows = r .rows }
 
 -- each entry of a schedule has a home
 pub record Threads-fit (schedule : List ℕ) : Type 0 where

@@ -7,7 +7,7 @@ ghost use Rattle.model.specs.Laws.{Typed};
 ghost use Rattle.refusals.specs.Arrays.{refusal-words, lent-state};
 ghost use Rattle.rows.specs.Common.Standing.{row-domain};
 ghost use Rattle.kinds.specs.Answers.{kinds-refusal, kinds-answer, kinds-trace, kinds-rows};
-ghost use Rattle.runs_call.specs.WithKinds.Spreading.{Threads-fit, Spread, lent-lock, told-beside};
+ghost use Rattle.runs_call.specs.WithKinds.Spreading.{Threads-fit, Spread, lent-lock, reported-beside};
 use lock::steps::limits;
 use lock::steps::run;
 use model::Counts;
@@ -65,7 +65,8 @@ fn refusal_of<'s, 'c>(
     row_room: usize,
 ) -> Refusal
     requires { ⌜ Typed (lent-state (now tails) (now nexts) (now statuses) (now places) (now domains) (now peers) (now words) ticket grant) ⌝ }
-    ensures { λ r. ⌜ r ≡ refusal-words (kinds-refusal (tree-of tree) (lent-lock (now (tails .entry)) (now (nexts .entry)) (now (statuses .entry)) (now (places .entry)) (now (domains .entry)) (now (peers .entry)) (now (words .entry)) ticket grant (now (entries .entry)) (now (tenures .entry)) (now (longest .entry))) (now (schedule .entry)) room «row_room») ⌝ }
+    ensures { λ r. ⌜ (let before = lent-lock (now (tails .entry)) (now (nexts .entry)) (now (statuses .entry)) (now (places .entry)) (now (domains .entry)) (now (peers .entry)) (now (words .entry)) ticket grant (now (entries .entry)) (now (tenures .entry)) (now (longest .entry)) in
+        r ≡ refusal-words (kinds-refusal (tree-of tree) before (now (schedule .entry)) room «row_room»)) ⌝ }
 {
     let r = refusals::of_runs::lent_refusal_of(
         tree,
@@ -120,7 +121,7 @@ pub(crate) struct Told {
 }
 
 // The steps of a schedule, told.
-pub(crate) fn run_told(
+pub(crate) fn run_reported(
     tree: TreeWords,
     tails: &mut [u16; 64],
     nexts: &mut [u16; 320],
@@ -139,10 +140,15 @@ pub(crate) fn run_told(
     rows: &mut [u16],
 ) -> Told
     requires { ⌜ Typed (lent-state (now tails) (now nexts) (now statuses) (now places) (now domains) (now peers) (now words) (now ticket) (now granted)) ⌝ }
-    ensures { λ r. ⌜ r ≡ told-beside (kinds-answer tree (lent-lock (now (tails .entry)) (now (nexts .entry)) (now (statuses .entry)) (now (places .entry)) (now (domains .entry)) (now (peers .entry)) (now (words .entry)) (now (ticket .entry)) (now (granted .entry)) (now (entries .entry)) (now (tenures .entry)) (now (longest .entry))) (now (schedule .entry)) (now (trace .entry)) (now (rows .entry))) ⌝ }
-    ensures { λ r. ⌜ lent-lock (now (tails .exit)) (now (nexts .exit)) (now (statuses .exit)) (now (places .exit)) (now (domains .exit)) (now (peers .exit)) (now (words .exit)) (now (ticket .exit)) (now (granted .exit)) (now (entries .exit)) (now (tenures .exit)) (now (longest .exit)) ≡ kinds-answer tree (lent-lock (now (tails .entry)) (now (nexts .entry)) (now (statuses .entry)) (now (places .entry)) (now (domains .entry)) (now (peers .entry)) (now (words .entry)) (now (ticket .entry)) (now (granted .entry)) (now (entries .entry)) (now (tenures .entry)) (now (longest .entry))) (now (schedule .entry)) (now (trace .entry)) (now (rows .entry)) .state ⌝ }
-    ensures { λ r. ⌜ now (trace .exit) ≡ kinds-trace tree (lent-lock (now (tails .entry)) (now (nexts .entry)) (now (statuses .entry)) (now (places .entry)) (now (domains .entry)) (now (peers .entry)) (now (words .entry)) (now (ticket .entry)) (now (granted .entry)) (now (entries .entry)) (now (tenures .entry)) (now (longest .entry))) (now (schedule .entry)) (now (trace .entry)) (now (rows .entry)) ⌝ }
-    ensures { λ r. ⌜ now (rows .exit) ≡ kinds-rows tree (lent-lock (now (tails .entry)) (now (nexts .entry)) (now (statuses .entry)) (now (places .entry)) (now (domains .entry)) (now (peers .entry)) (now (words .entry)) (now (ticket .entry)) (now (granted .entry)) (now (entries .entry)) (now (tenures .entry)) (now (longest .entry))) (now (schedule .entry)) (now (trace .entry)) (now (rows .entry)) ⌝ }
+    ensures { λ r. ⌜ (let before = lent-lock (now (tails .entry)) (now (nexts .entry)) (now (statuses .entry)) (now (places .entry)) (now (domains .entry)) (now (peers .entry)) (now (words .entry)) (now (ticket .entry)) (now (granted .entry)) (now (entries .entry)) (now (tenures .entry)) (now (longest .entry)) in
+        r ≡ reported-beside (kinds-answer tree before (now (schedule .entry)) (now (trace .entry)) (now (rows .entry)))) ⌝ }
+    ensures { λ r. ⌜ (let before = lent-lock (now (tails .entry)) (now (nexts .entry)) (now (statuses .entry)) (now (places .entry)) (now (domains .entry)) (now (peers .entry)) (now (words .entry)) (now (ticket .entry)) (now (granted .entry)) (now (entries .entry)) (now (tenures .entry)) (now (longest .entry)) in
+        let after = lent-lock (now (tails .exit)) (now (nexts .exit)) (now (statuses .exit)) (now (places .exit)) (now (domains .exit)) (now (peers .exit)) (now (words .exit)) (now (ticket .exit)) (now (granted .exit)) (now (entries .exit)) (now (tenures .exit)) (now (longest .exit)) in
+        after ≡ kinds-answer tree before (now (schedule .entry)) (now (trace .entry)) (now (rows .entry)) .state) ⌝ }
+    ensures { λ r. ⌜ (let before = lent-lock (now (tails .entry)) (now (nexts .entry)) (now (statuses .entry)) (now (places .entry)) (now (domains .entry)) (now (peers .entry)) (now (words .entry)) (now (ticket .entry)) (now (granted .entry)) (now (entries .entry)) (now (tenures .entry)) (now (longest .entry)) in
+        now (trace .exit) ≡ kinds-trace tree before (now (schedule .entry)) (now (trace .entry)) (now (rows .entry))) ⌝ }
+    ensures { λ r. ⌜ (let before = lent-lock (now (tails .entry)) (now (nexts .entry)) (now (statuses .entry)) (now (places .entry)) (now (domains .entry)) (now (peers .entry)) (now (words .entry)) (now (ticket .entry)) (now (granted .entry)) (now (entries .entry)) (now (tenures .entry)) (now (longest .entry)) in
+        now (rows .exit) ≡ kinds-rows tree before (now (schedule .entry)) (now (trace .entry)) (now (rows .entry))) ⌝ }
 {
     let mut kinds = [0u32; 6];
     let r = refusal_of(

@@ -5,7 +5,7 @@ ghost use Rattle.model.specs.Counters.{lock-state};
 ghost use Rattle.refusals.specs.Arrays.{lent-state};
 ghost use Rattle.refusals.specs.OfRuns.Counts.{counters-in};
 ghost use Rattle.waits.specs.Answers.{waits-on-answer, waits-on-trace, waits-on-rows, waits-on-under-way};
-ghost use Rattle.runs_call.specs.WithWaits.Told.{waits-told};
+ghost use Rattle.runs_call.specs.WithWaits.Told.{waits-reported};
 use crate::with_waits::waiting;
 use model::Counts;
 use model::TreeWords;
@@ -38,11 +38,17 @@ pub(crate) fn waits_tested(
     under_way: &mut [u64; 256],
 ) -> Waited
     requires { ⌜ Typed (lent-state (now tails) (now nexts) (now statuses) (now places) (now domains) (now peers) (now words) (now ticket) (now granted)) ⌝ }
-    ensures { λ r. ⌜ r ≡ waits-told (waits-on-answer tree (lock-state (lent-state (now (tails .entry)) (now (nexts .entry)) (now (statuses .entry)) (now (places .entry)) (now (domains .entry)) (now (peers .entry)) (now (words .entry)) (now (ticket .entry)) (now (granted .entry))) (counters-in (now (entries .entry)) (now (tenures .entry)) (now (longest .entry)))) (now (schedule .entry)) (now (trace .entry)) (now (rows .entry)) (now («under_way» .entry))) ⌝ }
-    ensures { λ r. ⌜ lock-state (lent-state (now (tails .exit)) (now (nexts .exit)) (now (statuses .exit)) (now (places .exit)) (now (domains .exit)) (now (peers .exit)) (now (words .exit)) (now (ticket .exit)) (now (granted .exit))) (counters-in (now (entries .exit)) (now (tenures .exit)) (now (longest .exit))) ≡ waits-on-answer tree (lock-state (lent-state (now (tails .entry)) (now (nexts .entry)) (now (statuses .entry)) (now (places .entry)) (now (domains .entry)) (now (peers .entry)) (now (words .entry)) (now (ticket .entry)) (now (granted .entry))) (counters-in (now (entries .entry)) (now (tenures .entry)) (now (longest .entry)))) (now (schedule .entry)) (now (trace .entry)) (now (rows .entry)) (now («under_way» .entry)) .state ⌝ }
-    ensures { λ r. ⌜ now (trace .exit) ≡ waits-on-trace tree (lock-state (lent-state (now (tails .entry)) (now (nexts .entry)) (now (statuses .entry)) (now (places .entry)) (now (domains .entry)) (now (peers .entry)) (now (words .entry)) (now (ticket .entry)) (now (granted .entry))) (counters-in (now (entries .entry)) (now (tenures .entry)) (now (longest .entry)))) (now (schedule .entry)) (now (trace .entry)) (now (rows .entry)) (now («under_way» .entry)) ⌝ }
-    ensures { λ r. ⌜ now (rows .exit) ≡ waits-on-rows tree (lock-state (lent-state (now (tails .entry)) (now (nexts .entry)) (now (statuses .entry)) (now (places .entry)) (now (domains .entry)) (now (peers .entry)) (now (words .entry)) (now (ticket .entry)) (now (granted .entry))) (counters-in (now (entries .entry)) (now (tenures .entry)) (now (longest .entry)))) (now (schedule .entry)) (now (trace .entry)) (now (rows .entry)) (now («under_way» .entry)) ⌝ }
-    ensures { λ r. ⌜ now («under_way» .exit) ≡ waits-on-under-way tree (lock-state (lent-state (now (tails .entry)) (now (nexts .entry)) (now (statuses .entry)) (now (places .entry)) (now (domains .entry)) (now (peers .entry)) (now (words .entry)) (now (ticket .entry)) (now (granted .entry))) (counters-in (now (entries .entry)) (now (tenures .entry)) (now (longest .entry)))) (now (schedule .entry)) (now (trace .entry)) (now (rows .entry)) (now («under_way» .entry)) ⌝ }
+    ensures { λ r. ⌜ (let before = lent-state (now (tails .entry)) (now (nexts .entry)) (now (statuses .entry)) (now (places .entry)) (now (domains .entry)) (now (peers .entry)) (now (words .entry)) (now (ticket .entry)) (now (granted .entry)) in
+        r ≡ waits-reported (waits-on-answer tree (lock-state before (counters-in (now (entries .entry)) (now (tenures .entry)) (now (longest .entry)))) (now (schedule .entry)) (now (trace .entry)) (now (rows .entry)) (now («under_way» .entry)))) ⌝ }
+    ensures { λ r. ⌜ (let before = lent-state (now (tails .entry)) (now (nexts .entry)) (now (statuses .entry)) (now (places .entry)) (now (domains .entry)) (now (peers .entry)) (now (words .entry)) (now (ticket .entry)) (now (granted .entry)) in
+        let after = lent-state (now (tails .exit)) (now (nexts .exit)) (now (statuses .exit)) (now (places .exit)) (now (domains .exit)) (now (peers .exit)) (now (words .exit)) (now (ticket .exit)) (now (granted .exit)) in
+        lock-state after (counters-in (now (entries .exit)) (now (tenures .exit)) (now (longest .exit))) ≡ waits-on-answer tree (lock-state before (counters-in (now (entries .entry)) (now (tenures .entry)) (now (longest .entry)))) (now (schedule .entry)) (now (trace .entry)) (now (rows .entry)) (now («under_way» .entry)) .state) ⌝ }
+    ensures { λ r. ⌜ (let before = lent-state (now (tails .entry)) (now (nexts .entry)) (now (statuses .entry)) (now (places .entry)) (now (domains .entry)) (now (peers .entry)) (now (words .entry)) (now (ticket .entry)) (now (granted .entry)) in
+        now (trace .exit) ≡ waits-on-trace tree (lock-state before (counters-in (now (entries .entry)) (now (tenures .entry)) (now (longest .entry)))) (now (schedule .entry)) (now (trace .entry)) (now (rows .entry)) (now («under_way» .entry))) ⌝ }
+    ensures { λ r. ⌜ (let before = lent-state (now (tails .entry)) (now (nexts .entry)) (now (statuses .entry)) (now (places .entry)) (now (domains .entry)) (now (peers .entry)) (now (words .entry)) (now (ticket .entry)) (now (granted .entry)) in
+        now (rows .exit) ≡ waits-on-rows tree (lock-state before (counters-in (now (entries .entry)) (now (tenures .entry)) (now (longest .entry)))) (now (schedule .entry)) (now (trace .entry)) (now (rows .entry)) (now («under_way» .entry))) ⌝ }
+    ensures { λ r. ⌜ (let before = lent-state (now (tails .entry)) (now (nexts .entry)) (now (statuses .entry)) (now (places .entry)) (now (domains .entry)) (now (peers .entry)) (now (words .entry)) (now (ticket .entry)) (now (granted .entry)) in
+        now («under_way» .exit) ≡ waits-on-under-way tree (lock-state before (counters-in (now (entries .entry)) (now (tenures .entry)) (now (longest .entry)))) (now (schedule .entry)) (now (trace .entry)) (now (rows .entry)) (now («under_way» .entry))) ⌝ }
 {
     let mut kinds = [0u32; 6];
     let r = crate::with_waits::refusal_of(

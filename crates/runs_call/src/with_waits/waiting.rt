@@ -147,8 +147,10 @@ fn note(
     requires { ⌜ Fits (now marks) (now attempts) (now totals) at entered ⌝ }
     ensures { λ r. ⌜ now (marks .exit) ≡ set (now (marks .entry)) at (cond enters 0 (mark-at (now (marks .entry)) at entered begins)) ⌝ }
     ensures { λ r. ⌜ now (attempts .exit) ≡ noted (finishes enters (mark-at (now (marks .entry)) at entered begins)) (now (attempts .entry)) at (getD (now (attempts .entry)) at 0 + 1) ⌝ }
-    ensures { λ r. ⌜ now (totals .exit) ≡ noted (finishes enters (mark-at (now (marks .entry)) at entered begins)) (now (totals .entry)) at (getD (now (totals .entry)) at 0 + wait-of entered (mark-at (now (marks .entry)) at entered begins)) ⌝ }
-    ensures { λ r. ⌜ now (longest .exit) ≡ noted (finishes enters (mark-at (now (marks .entry)) at entered begins)) (now (longest .entry)) at (max (getD (now (longest .entry)) at 0) (wait-of entered (mark-at (now (marks .entry)) at entered begins))) ⌝ }
+    ensures { λ r. ⌜ (let mark = mark-at (now (marks .entry)) at entered begins in
+        now (totals .exit) ≡ noted (finishes enters mark) (now (totals .entry)) at (getD (now (totals .entry)) at 0 + wait-of entered mark)) ⌝ }
+    ensures { λ r. ⌜ (let mark = mark-at (now (marks .entry)) at entered begins in
+        now (longest .exit) ≡ noted (finishes enters mark) (now (longest .entry)) at (max (getD (now (longest .entry)) at 0) (wait-of entered mark))) ⌝ }
 {
     let mark = mark_with(begins, entered, marks[at]);
     if !enters {
@@ -295,15 +297,23 @@ pub(crate) fn run_counted(
     under_way: &mut [u64; 256],
 )
     requires { ⌜ Typed (lent-state (now tails) (now nexts) (now statuses) (now places) (now domains) (now peers) (now words) (now ticket) (now granted)) ⌝ }
-    requires { ⌜ run-refusal (tree-of tree) (lock-state (lent-state (now tails) (now nexts) (now statuses) (now places) (now domains) (now peers) (now words) (now ticket) (now granted)) (counters-in (now entries) (now tenures) (now longest))) (now schedule) (length (now trace)) .number ≡ 0 ⌝ }
+    requires { ⌜ (let lent = lent-state (now tails) (now nexts) (now statuses) (now places) (now domains) (now peers) (now words) (now ticket) (now granted) in
+        run-refusal (tree-of tree) (lock-state lent (counters-in (now entries) (now tenures) (now longest))) (now schedule) (length (now trace)) .number ≡ 0) ⌝ }
     requires { ⌜ 5 * (tree-of tree .threads + 1) ≤ length (now rows) ⌝ }
     requires { ⌜ Handed-in (now «under_way») ⌝ }
-    ensures { λ r. ⌜ lent-state (now (tails .exit)) (now (nexts .exit)) (now (statuses .exit)) (now (places .exit)) (now (domains .exit)) (now (peers .exit)) (now (words .exit)) (now (ticket .exit)) (now (granted .exit)) ≡ run (tree-of tree) (now (schedule .entry)) (lent-state (now (tails .entry)) (now (nexts .entry)) (now (statuses .entry)) (now (places .entry)) (now (domains .entry)) (now (peers .entry)) (now (words .entry)) (now (ticket .entry)) (now (granted .entry))) .state ⌝ }
-    ensures { λ r. ⌜ now (trace .exit) ≡ trace-front (now (trace .entry)) (run (tree-of tree) (now (schedule .entry)) (lent-state (now (tails .entry)) (now (nexts .entry)) (now (statuses .entry)) (now (places .entry)) (now (domains .entry)) (now (peers .entry)) (now (words .entry)) (now (ticket .entry)) (now (granted .entry)))) ⌝ }
-    ensures { λ r. ⌜ now (kinds .exit) ≡ kinds-of (steps (tree-of tree) (now (schedule .entry)) (lent-state (now (tails .entry)) (now (nexts .entry)) (now (statuses .entry)) (now (places .entry)) (now (domains .entry)) (now (peers .entry)) (now (words .entry)) (now (ticket .entry)) (now (granted .entry)))) ⌝ }
-    ensures { λ r. ⌜ now (rows .exit) ≡ sets (now (rows .entry)) 0 (all-rows-from (tree-of tree) (now («under_way» .entry)) (steps (tree-of tree) (now (schedule .entry)) (lent-state (now (tails .entry)) (now (nexts .entry)) (now (statuses .entry)) (now (places .entry)) (now (domains .entry)) (now (peers .entry)) (now (words .entry)) (now (ticket .entry)) (now (granted .entry))))) ⌝ }
-    ensures { λ r. ⌜ now («under_way» .exit) ≡ sets (replicate 256 0) 0 (under-way-below (tree-of tree) (now («under_way» .entry)) (tree-of tree .threads) (steps (tree-of tree) (now (schedule .entry)) (lent-state (now (tails .entry)) (now (nexts .entry)) (now (statuses .entry)) (now (places .entry)) (now (domains .entry)) (now (peers .entry)) (now (words .entry)) (now (ticket .entry)) (now (granted .entry))))) ⌝ }
-    ensures { λ r. ⌜ counters-in (now (entries .exit)) (now (tenures .exit)) (now (longest .exit)) ≡ counters-after (tree-of tree) (counters-in (now (entries .entry)) (now (tenures .entry)) (now (longest .entry))) (steps (tree-of tree) (now (schedule .entry)) (lent-state (now (tails .entry)) (now (nexts .entry)) (now (statuses .entry)) (now (places .entry)) (now (domains .entry)) (now (peers .entry)) (now (words .entry)) (now (ticket .entry)) (now (granted .entry)))) ⌝ }
+    ensures { λ r. ⌜ (let before = lent-state (now (tails .entry)) (now (nexts .entry)) (now (statuses .entry)) (now (places .entry)) (now (domains .entry)) (now (peers .entry)) (now (words .entry)) (now (ticket .entry)) (now (granted .entry)) in
+        let after = lent-state (now (tails .exit)) (now (nexts .exit)) (now (statuses .exit)) (now (places .exit)) (now (domains .exit)) (now (peers .exit)) (now (words .exit)) (now (ticket .exit)) (now (granted .exit)) in
+        after ≡ run (tree-of tree) (now (schedule .entry)) before .state) ⌝ }
+    ensures { λ r. ⌜ (let before = lent-state (now (tails .entry)) (now (nexts .entry)) (now (statuses .entry)) (now (places .entry)) (now (domains .entry)) (now (peers .entry)) (now (words .entry)) (now (ticket .entry)) (now (granted .entry)) in
+        now (trace .exit) ≡ trace-front (now (trace .entry)) (run (tree-of tree) (now (schedule .entry)) before)) ⌝ }
+    ensures { λ r. ⌜ (let before = lent-state (now (tails .entry)) (now (nexts .entry)) (now (statuses .entry)) (now (places .entry)) (now (domains .entry)) (now (peers .entry)) (now (words .entry)) (now (ticket .entry)) (now (granted .entry)) in
+        now (kinds .exit) ≡ kinds-of (steps (tree-of tree) (now (schedule .entry)) before)) ⌝ }
+    ensures { λ r. ⌜ (let before = lent-state (now (tails .entry)) (now (nexts .entry)) (now (statuses .entry)) (now (places .entry)) (now (domains .entry)) (now (peers .entry)) (now (words .entry)) (now (ticket .entry)) (now (granted .entry)) in
+        now (rows .exit) ≡ sets (now (rows .entry)) 0 (all-rows-from (tree-of tree) (now («under_way» .entry)) (steps (tree-of tree) (now (schedule .entry)) before))) ⌝ }
+    ensures { λ r. ⌜ (let before = lent-state (now (tails .entry)) (now (nexts .entry)) (now (statuses .entry)) (now (places .entry)) (now (domains .entry)) (now (peers .entry)) (now (words .entry)) (now (ticket .entry)) (now (granted .entry)) in
+        now («under_way» .exit) ≡ sets (replicate 256 0) 0 (under-way-below (tree-of tree) (now («under_way» .entry)) (tree-of tree .threads) (steps (tree-of tree) (now (schedule .entry)) before))) ⌝ }
+    ensures { λ r. ⌜ (let before = lent-state (now (tails .entry)) (now (nexts .entry)) (now (statuses .entry)) (now (places .entry)) (now (domains .entry)) (now (peers .entry)) (now (words .entry)) (now (ticket .entry)) (now (granted .entry)) in
+        counters-in (now (entries .exit)) (now (tenures .exit)) (now (longest .exit)) ≡ counters-after (tree-of tree) (counters-in (now (entries .entry)) (now (tenures .entry)) (now (longest .entry))) (steps (tree-of tree) (now (schedule .entry)) before)) ⌝ }
 {
     let mut marks = [0u64; 256];
     set_marks(&mut marks, under_way);

@@ -8,7 +8,7 @@ use Rattle.text_tree_call.proofs.read_text.Tie as tie
 returns : tie.Need-returns
 returns c =
     let after-reached2 : tie.After-reached2 = search c in
-    let after-read-root : tie.After-read-root = search c in
+    let after-read-root : tie.After-read-root = search after-reached2 in
     c .tree-reply .ensures ∙ answer-whole _ _ (after-read-root .read-root .ensures) _ (after-reached2 .reached2 .given .1) (c .before .if1 .taken)
 
 returns-2 : tie.Need-returns-2
@@ -19,7 +19,7 @@ returns-2 c =
 returns-3 : tie.Need-returns-3
 returns-3 c =
     let after-reached2 : tie.After-reached2 = search c in
-    let after-read-root : tie.After-read-root = search c in
+    let after-read-root : tie.After-read-root = search after-reached2 in
     c .refusal-reply2 .ensures ∙ answer-more _ _ (after-read-root .read-root .ensures) _ (after-reached2 .reached2 .given .1) (c .before .if1 .left)
 
 pub read-text-spec : {M : Type 1} → statement M

@@ -33,4 +33,4 @@ returns-2 c = sym (any-nowhere _ _ (λ j l. c .before .loop .inv .1 j (omega ari
 
 pub has-child-spec : {M : Type 1} → statement M
 has-child-spec =
-    tie.close (tie.spec Inv-loop μ-loop loop-holds (λ c κs. search needs) returns (λ c. search needs) (λ c. omega arith) loop-again returns-2)
+    tie.close (tie.spec Inv-loop μ-loop loop-holds (λ c κs. search needs) returns (λ c. search needs) (λ c. search needs) loop-again returns-2)

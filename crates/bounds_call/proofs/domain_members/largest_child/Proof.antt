@@ -33,4 +33,4 @@ returns c = largest-all _ _ _ _ (omega arith) (c .before .loop .inv .1)
 
 pub largest-child-spec : {M : Type 1} → statement M
 largest-child-spec =
-    tie.close (tie.spec Inv-loop μ-loop loop-holds (λ c κs. search needs) (λ c κs. search needs) (λ c. search needs) (λ c. omega arith) loop-again returns)
+    tie.close (tie.spec Inv-loop μ-loop loop-holds (λ c κs. search needs) (λ c κs. search needs) (λ c. search needs) (λ c. search needs) loop-again returns)

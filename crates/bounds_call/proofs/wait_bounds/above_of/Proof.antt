@@ -19,7 +19,7 @@ element-copy-out-capped-sum c = let s : tie.Start = search c in let few = few-do
 element-copy-out-capped-sum-2 : tie.Need-element-copy-out-capped-sum-2
 element-copy-out-capped-sum-2 c =
     let else1 : tie.Else1 = search c in
-    let s : tie.Start = search c in let few = few-domains _ (s .pre .0) in let up = parent-small _ (s .pre .0) _ _ (omega (arith, else1 .if1 .left)) (s .pre .1 .0) (c .before .byte-index .ensures .0) in omega (arith, up .0)
+    let s : tie.Start = search else1 in let few = few-domains _ (s .pre .0) in let up = parent-small _ (s .pre .0) _ _ (omega (arith, else1 .if1 .left)) (s .pre .1 .0) (c .before .byte-index .ensures .0) in omega (arith, up .0)
 
 element-copy-out-tenures-of : tie.Need-element-copy-out-tenures-of
 element-copy-out-tenures-of c =
@@ -36,7 +36,7 @@ element-copy-out-tenures-of-2 c =
 tenures-of-requires : tie.Need-tenures-of-requires
 tenures-of-requires c κs =
     let else1 : tie.Else1 = search c in
-    let s : tie.Start = search c in
+    let s : tie.Start = search else1 in
     let few = few-domains _ (s .pre .0) in
     let inner = else1 .if1 .left in
     (count-few _ (s .pre .0) _ _ _ (omega (arith, s .pre .1 .0)) (s .pre .1 .1 .0) refl, threshold-positive _ (s .pre .0) _ (omega (arith, inner)) (s .pre .1 .0))
@@ -44,9 +44,9 @@ tenures-of-requires c κs =
 returns-2 : tie.Need-returns-2
 returns-2 c =
     let after-capped-sum : tie.After-capped-sum = search c in
-    let after-byte-index : tie.After-byte-index = search c in
-    let else1 : tie.Else1 = search c in
-    let s : tie.Start = search c in
+    let after-byte-index : tie.After-byte-index = search after-capped-sum in
+    let else1 : tie.Else1 = search after-byte-index in
+    let s : tie.Start = search else1 in
     above-some _ (s .pre .0) _ _ _ _ _ _ _ _ _ _ (else1 .if1 .left) (s .pre .1 .0) (after-byte-index .byte-index .ensures .0) (s .pre .1 .1 .0) (s .pre .1 .1 .1 .0) (s .pre .1 .1 .1 .1)
     (after-capped-sum .capped-sum .ensures) refl refl (c .before .tenures-of .ensures) (c .capped-product .ensures)
 

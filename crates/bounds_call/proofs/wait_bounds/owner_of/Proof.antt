@@ -8,7 +8,7 @@ use Rattle.bounds_call.proofs.wait_bounds.owner_of.Tie as tie
 returns : tie.Need-returns
 returns c =
     let then1 : tie.Then1 = search c in
-    let s : tie.Start = search c in owner-thread _ (s .pre .0) _ _ (then1 .if1 .taken) (c .before .before .if2 .taken) (c .byte-number .ensures)
+    let s : tie.Start = search then1 in owner-thread _ (s .pre .0) _ _ (then1 .if1 .taken) (c .before .before .if2 .taken) (c .byte-number .ensures)
 
 returns-2 : tie.Need-returns-2
 returns-2 c = let s = c .before .before in owner-no-thread _ (s .pre .0) _ (c .before .if1 .taken) (c .if2 .left)
@@ -19,8 +19,8 @@ returns-3 c = let s = c .before .before in owner-root _ (s .pre .0) _ _ (c .befo
 returns-4 : tie.Need-returns-4
 returns-4 c =
     let else3 : tie.Else3 = search c in
-    let else1 : tie.Else1 = search c in
-    let s : tie.Start = search c in owner-domain _ (s .pre .0) _ _ _ (else1 .if1 .left) refl (else3 .if3 .left) (c .before .before .if4 .taken) (c .byte-number2 .ensures)
+    let else1 : tie.Else1 = search else3 in
+    let s : tie.Start = search else1 in owner-domain _ (s .pre .0) _ _ _ (else1 .if1 .left) refl (else3 .if3 .left) (c .before .before .if4 .taken) (c .byte-number2 .ensures)
 
 returns-5 : tie.Need-returns-5
 returns-5 c = let s : tie.Start = search c in owner-no-domain _ (s .pre .0) _ _ (c .before .before .if1 .left) refl (c .if4 .left)

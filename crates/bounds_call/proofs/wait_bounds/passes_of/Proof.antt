@@ -29,7 +29,7 @@ loop-holds c = let ok = c .pre .0 in (ok, accepted (tree-of (c .args .t1)) ok .s
 loop-again : tie.Need-loop-again Inv-loop μ-loop
 loop-again c =
     let after-largest-member : tie.After-largest-member Inv-loop μ-loop = search c in
-    let at-loop : tie.At-loop Inv-loop μ-loop = search c in
+    let at-loop : tie.At-loop Inv-loop μ-loop = search after-largest-member in
     let l = at-loop .loop in
     let v = l .inv in (
       v .0,

@@ -25,8 +25,8 @@ loop-holds c = (c .pre .0, omega arith, c .pre .1, summed-none _ _, before-none 
 loop-again : tie.Need-loop-again Inv-loop μ-loop
 loop-again c =
     let after-sum-at : tie.After-sum-at Inv-loop μ-loop = search c in
-    let after-owner-of : tie.After-owner-of Inv-loop μ-loop = search c in
-    let at-loop : tie.At-loop Inv-loop μ-loop = search c in
+    let after-owner-of : tie.After-owner-of Inv-loop μ-loop = search after-sum-at in
+    let at-loop : tie.At-loop Inv-loop μ-loop = search after-owner-of in
     let v = at-loop .loop .inv in
     let owned = after-owner-of .owner-of .ensures in (
       v .0,

@@ -27,31 +27,31 @@ sums-before-requires : tie.Need-sums-before-requires
 unfolding wait-bounds-answer
 sums-before-requires c κs =
     let else1 : tie.Else1 = search c in
-    let after-tree-refusal-of : tie.After-tree-refusal-of = search c in
+    let after-tree-refusal-of : tie.After-tree-refusal-of = search else1 in
     (waits-accepted _ _ (after-tree-refusal-of .tree-refusal-of .ensures ∙ refusal-words-same _) (else1 .if1 .left), c .before .passes-of .ensures)
 
 sums-of-others-requires : tie.Need-sums-of-others-requires
 unfolding wait-bounds-answer
 sums-of-others-requires c κs =
     let after-passes-of : tie.After-passes-of = search c in
-    let else1 : tie.Else1 = search c in
-    let after-tree-refusal-of : tie.After-tree-refusal-of = search c in
+    let else1 : tie.Else1 = search after-passes-of in
+    let after-tree-refusal-of : tie.After-tree-refusal-of = search else1 in
     (waits-accepted _ _ (after-tree-refusal-of .tree-refusal-of .ensures ∙ refusal-words-same _) (else1 .if1 .left), (after-passes-of .passes-of .ensures, c .before .before .sums-before .ensures))
 
 above-words-requires : tie.Need-above-words-requires
 unfolding wait-bounds-answer
 above-words-requires c κs =
     let after-count-members : tie.After-count-members = search c in
-    let else1 : tie.Else1 = search c in
-    let after-tree-refusal-of : tie.After-tree-refusal-of = search c in
+    let else1 : tie.Else1 = search after-count-members in
+    let after-tree-refusal-of : tie.After-tree-refusal-of = search else1 in
     (waits-accepted _ _ (after-tree-refusal-of .tree-refusal-of .ensures ∙ refusal-words-same _) (else1 .if1 .left), (after-count-members .count-members .ensures, c .before .before .sums-of-others .ensures))
 
 wait-words-requires : tie.Need-wait-words-requires
 unfolding wait-bounds-answer
 wait-words-requires c κs =
     let after-sums-of-others : tie.After-sums-of-others = search c in
-    let else1 : tie.Else1 = search c in
-    let after-tree-refusal-of : tie.After-tree-refusal-of = search c in
+    let else1 : tie.Else1 = search after-sums-of-others in
+    let after-tree-refusal-of : tie.After-tree-refusal-of = search else1 in
     (waits-accepted _ _ (after-tree-refusal-of .tree-refusal-of .ensures ∙ refusal-words-same _) (else1 .if1 .left), (after-sums-of-others .sums-of-others .ensures, c .before .before .above-words .ensures))
 
 returns-2 : tie.Need-returns-2

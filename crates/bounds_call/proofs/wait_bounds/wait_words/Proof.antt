@@ -32,7 +32,7 @@ element-copy-out-capped-sum-2 c =
 loop-again : tie.Need-loop-again Inv-loop μ-loop
 loop-again c =
     let after-byte-index : tie.After-byte-index Inv-loop μ-loop = search c in
-    let at-loop : tie.At-loop Inv-loop μ-loop = search c in
+    let at-loop : tie.At-loop Inv-loop μ-loop = search after-byte-index in
     let v = at-loop .loop .inv in (v .0, v .1, omega arith, v .3, v .4, waits-next _ (v .0) _ _ _ _ (omega arith) (omega arith) (v .5) (thread-wait _ (v .0) _ _ _ _ _ (omega arith) (after-byte-index .byte-index .ensures .0) (v .3) (v .4) (c .capped-sum .ensures)))
 
 returns : tie.Need-returns Inv-loop μ-loop

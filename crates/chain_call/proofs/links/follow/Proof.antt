@@ -8,7 +8,7 @@ fill-tables-requires c κs = let s : tie.Start = search c in (s .pre .0, s .pre 
 follow-links-requires : tie.Need-follow-links-requires
 follow-links-requires c κs =
     let after-fill-tables : tie.After-fill-tables = search c in
-    let s : tie.Start = search c in (s .pre .0, (s .pre .1 .0, (s .pre .1 .1, after-fill-tables .fill-tables .ensures)))
+    let s : tie.Start = search after-fill-tables in (s .pre .0, (s .pre .1 .0, (s .pre .1 .1, after-fill-tables .fill-tables .ensures)))
 
 returns : tie.Need-returns
 returns c = c .follow-links .ensures

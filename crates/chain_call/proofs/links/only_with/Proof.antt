@@ -22,7 +22,7 @@ loop-holds c = (search needs, count-first _)
 loop-again : tie.Need-loop-again Inv-loop μ-loop
 loop-again c =
     let at-loop : tie.At-loop Inv-loop μ-loop = search c in
-    let start : tie.Start Inv-loop μ-loop = search c in
+    let start : tie.Start Inv-loop μ-loop = search at-loop in
     let A = start .args in (omega arith, key-next (A .keys .now) (A .key) _ _ _ (at-loop .loop .inv .1) (c .more-if-at .ensures))
 
 returns : tie.Need-returns Inv-loop μ-loop

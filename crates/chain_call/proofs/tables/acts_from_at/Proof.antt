@@ -14,13 +14,13 @@ returns-2 c = rw (ne-eqb _ _ (c .before .before .if1 .left), sym (c .before .act
 returns-3 : tie.Need-returns-3
 returns-3 c =
     let after-acts-everywhere-at : tie.After-acts-everywhere-at = search c in
-    let else1 : tie.Else1 = search c in
+    let else1 : tie.Else1 = search after-acts-everywhere-at in
     rw (ne-eqb _ _ (else1 .if1 .left), sym (after-acts-everywhere-at .acts-everywhere-at .ensures) ∙ c .before .before .if2 .left, sym (c .before .joins-at .ensures) ∙ c .if3 .taken)
 
 returns-4 : tie.Need-returns-4
 returns-4 c =
     let after-acts-everywhere-at : tie.After-acts-everywhere-at = search c in
-    let else1 : tie.Else1 = search c in
+    let else1 : tie.Else1 = search after-acts-everywhere-at in
     rw (ne-eqb _ _ (else1 .if1 .left), sym (after-acts-everywhere-at .acts-everywhere-at .ensures) ∙ c .before .before .if2 .left, sym (c .before .joins-at .ensures) ∙ c .if3 .left)
 
 pub acts-from-at-spec : {M : Type 1} → statement M

@@ -50,7 +50,7 @@ element-copy-out-next c =
 note-next-requires : tie.Need-note-next-requires Inv-loop μ-loop
 note-next-requires c κs =
     let at-loop : tie.At-loop Inv-loop μ-loop = search c in
-    let start : tie.Start Inv-loop μ-loop = search c in
+    let start : tie.Start Inv-loop μ-loop = search at-loop in
     let p = start .pre in
     let l = at-loop .loop .inv in
     (next-small _ (p .0) _ (p .1 .1 .1) _ _ (p .1 .0) _ _ _ _ l, omega (arith, few-threads _ (p .0), p .1 .0))
@@ -58,8 +58,8 @@ note-next-requires c κs =
 returns : tie.Need-returns Inv-loop μ-loop
 returns c =
     let in-loop : tie.In-loop Inv-loop μ-loop = search c in
-    let at-loop : tie.At-loop Inv-loop μ-loop = search c in
-    let start : tie.Start Inv-loop μ-loop = search c in
+    let at-loop : tie.At-loop Inv-loop μ-loop = search in-loop in
+    let start : tie.Start Inv-loop μ-loop = search at-loop in
     let p = start .pre in
     let l = at-loop .loop .inv in
     let b = in-loop .loop-test .taken in
@@ -68,7 +68,7 @@ returns c =
 cast-r : tie.Need-cast-r Inv-loop μ-loop
 cast-r c =
     let at-loop : tie.At-loop Inv-loop μ-loop = search c in
-    let start : tie.Start Inv-loop μ-loop = search c in
+    let start : tie.Start Inv-loop μ-loop = search at-loop in
     let p = start .pre in
     let l = at-loop .loop .inv in
     omega (arith, few-threads _ (p .0), few-domains _ (p .0), at-real _ (p .0) _ (p .1 .0) _ _ (l .at), at-record _ (p .0) _ (p .1 .0) _ _ (l .at))
@@ -76,7 +76,7 @@ cast-r c =
 add-r : tie.Need-add-r Inv-loop μ-loop
 add-r c =
     let at-loop : tie.At-loop Inv-loop μ-loop = search c in
-    let start : tie.Start Inv-loop μ-loop = search c in
+    let start : tie.Start Inv-loop μ-loop = search at-loop in
     let p = start .pre in
     let l = at-loop .loop .inv in
     omega (arith, few-threads _ (p .0), few-domains _ (p .0), at-real _ (p .0) _ (p .1 .0) _ _ (l .at), at-record _ (p .0) _ (p .1 .0) _ _ (l .at))
@@ -84,7 +84,7 @@ add-r c =
 cast-at : tie.Need-cast-at Inv-loop μ-loop
 cast-at c =
     let at-loop : tie.At-loop Inv-loop μ-loop = search c in
-    let start : tie.Start Inv-loop μ-loop = search c in
+    let start : tie.Start Inv-loop μ-loop = search at-loop in
     let p = start .pre in
     let l = at-loop .loop .inv in
     omega (arith, few-threads _ (p .0), few-domains _ (p .0), at-real _ (p .0) _ (p .1 .0) _ _ (l .at), at-record _ (p .0) _ (p .1 .0) _ _ (l .at))
@@ -92,7 +92,7 @@ cast-at c =
 element-copy-out-c-2 : tie.Need-element-copy-out-c-2 Inv-loop μ-loop
 element-copy-out-c-2 c =
     let at-loop : tie.At-loop Inv-loop μ-loop = search c in
-    let start : tie.Start Inv-loop μ-loop = search c in
+    let start : tie.Start Inv-loop μ-loop = search at-loop in
     let p = start .pre in
     let l = at-loop .loop .inv in
     omega (arith, few-threads _ (p .0), few-domains _ (p .0), at-real _ (p .0) _ (p .1 .0) _ _ (l .at), at-record _ (p .0) _ (p .1 .0) _ _ (l .at))
@@ -100,7 +100,7 @@ element-copy-out-c-2 c =
 loop-less : tie.Need-loop-less Inv-loop μ-loop
 loop-less c =
     let at-loop : tie.At-loop Inv-loop μ-loop = search c in
-    let start : tie.Start Inv-loop μ-loop = search c in
+    let start : tie.Start Inv-loop μ-loop = search at-loop in
     let p = start .pre in
     let l = at-loop .loop .inv in
     at-falls _ (p .0) _ (p .1 .0) _ _ (l .at) (omega (arith, c .before .if1 .left))
@@ -108,8 +108,8 @@ loop-less c =
 loop-again : tie.Need-loop-again Inv-loop μ-loop
 loop-again c =
     let in-loop : tie.In-loop Inv-loop μ-loop = search c in
-    let at-loop : tie.At-loop Inv-loop μ-loop = search c in
-    let start : tie.Start Inv-loop μ-loop = search c in
+    let at-loop : tie.At-loop Inv-loop μ-loop = search in-loop in
+    let start : tie.Start Inv-loop μ-loop = search at-loop in
     let p = start .pre in
     let l = at-loop .loop .inv in
     rw (c .before .before .note-next .ensures) (noting-up _ (p .0) _ (p .1 .1 .1) _ _ (p .1 .0) _ _ _ _ l (in-loop .loop-test .taken) (c .before .if1 .left))

@@ -18,7 +18,7 @@ put-ok-requires c κs =
 put-spaced-requires : tie.Need-put-spaced-requires
 put-spaced-requires c κs =
     let after-numbers-of : tie.After-numbers-of = search c in
-    let start : tie.Start = search c in
+    let start : tie.Start = search after-numbers-of in
     let n = after-numbers-of .numbers-of .ensures in
     omega (arith, length-first-line (start .args .counts), ap (λ v. length (spaced v)) n)
 
@@ -26,8 +26,8 @@ returns : tie.Need-returns
 unfolding first-line
 returns c =
     let after-put-ok : tie.After-put-ok = search c in
-    let after-numbers-of : tie.After-numbers-of = search c in
-    let start : tie.Start = search c in
+    let after-numbers-of : tie.After-numbers-of = search after-put-ok in
+    let start : tie.Start = search after-numbers-of in
     let a = start .args in
     let x = a .counts in
     let n = after-numbers-of .numbers-of .ensures in

@@ -41,7 +41,7 @@ put-numeral-requires c κs =
 loop-again : tie.Need-loop-again Inv-loop μ-loop
 loop-again c =
     let test : tie.In-loop Inv-loop μ-loop = search c in
-    let start-point : tie.Start Inv-loop μ-loop = search c in
+    let start-point : tie.Start Inv-loop μ-loop = search test in
     let n = c .before .before .put-numeral in
     let h = test .before .loop in
     let ns = start-point .args .numbers .now in

@@ -26,8 +26,8 @@ loop-holds c = (search needs, refl, refl, refl, omega arith)
 put-number-requires : tie.Need-put-number-requires Inv-loop μ-loop
 put-number-requires c κs =
     let in-loop : tie.In-loop Inv-loop μ-loop = search c in
-    let at-loop : tie.At-loop Inv-loop μ-loop = search c in
-    let start-point : tie.Start Inv-loop μ-loop = search c in
+    let at-loop : tie.At-loop Inv-loop μ-loop = search in-loop in
+    let start-point : tie.Start Inv-loop μ-loop = search at-loop in
     let h = at-loop .loop in
     let element = c .before .word-number in
     let next = trace-length-next (start-point .args .trace .now) (h .k) (in-loop .loop-test .taken) in
@@ -36,9 +36,9 @@ put-number-requires c κs =
 loop-again : tie.Need-loop-again Inv-loop μ-loop
 loop-again c =
     let after-word-number : tie.After-word-number Inv-loop μ-loop = search c in
-    let in-loop : tie.In-loop Inv-loop μ-loop = search c in
-    let at-loop : tie.At-loop Inv-loop μ-loop = search c in
-    let start-point : tie.Start Inv-loop μ-loop = search c in
+    let in-loop : tie.In-loop Inv-loop μ-loop = search after-word-number in
+    let at-loop : tie.At-loop Inv-loop μ-loop = search in-loop in
+    let start-point : tie.Start Inv-loop μ-loop = search at-loop in
     let h = at-loop .loop in
     let a = start-point .args in
     let element = after-word-number .word-number in

@@ -23,8 +23,8 @@ loop-holds c = (omega arith, omega arith)
 returns : tie.Need-returns Inv-loop μ-loop
 returns c =
     let in-loop : tie.In-loop Inv-loop μ-loop = search c in
-    let at-loop : tie.At-loop Inv-loop μ-loop = search c in
-    let start : tie.Start Inv-loop μ-loop = search c in
+    let at-loop : tie.At-loop Inv-loop μ-loop = search in-loop in
+    let start : tie.Start Inv-loop μ-loop = search at-loop in
     let h = at-loop .loop in
     let is = start .args .trace .now in
     let next = trace-length-next is (h .k) (in-loop .loop-test .taken) in
@@ -35,8 +35,8 @@ returns c =
 loop-again : tie.Need-loop-again Inv-loop μ-loop
 loop-again c =
     let in-loop : tie.In-loop Inv-loop μ-loop = search c in
-    let at-loop : tie.At-loop Inv-loop μ-loop = search c in
-    let start : tie.Start Inv-loop μ-loop = search c in
+    let at-loop : tie.At-loop Inv-loop μ-loop = search in-loop in
+    let start : tie.Start Inv-loop μ-loop = search at-loop in
     let h = at-loop .loop in
     let next = trace-length-next (start .args .trace .now) (h .k) (in-loop .loop-test .taken) in
     let long = ap (λ v. length (numeral v)) (c .before .before .word-number .ensures) in

@@ -24,7 +24,7 @@ returns-2 : tie.Need-returns-2
 unfolding refusal-line
 returns-2 c =
     let after-put-refused : tie.After-put-refused = search c in
-    let start : tie.Start = search c in
+    let start : tie.Start = search after-put-refused in
     let a = start .args in
     let line = refusal-line (a .number) (a .place) in
     let long = length-refusal-line (a .number) (a .place) in

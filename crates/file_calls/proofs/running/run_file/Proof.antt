@@ -29,8 +29,8 @@ returns-2 : tie.Need-returns-2
 unfolding file-answer output-answer
 returns-2 c =
     let after-reached : tie.After-reached = search c in
-    let after-read-tree : tie.After-read-tree = search c in
-    let start : tie.Start = search c in
+    let after-read-tree : tie.After-read-tree = search after-reached in
+    let start : tie.Start = search after-read-tree in
     let a = start .args in
     let short : length (a .file .now) ≤ 65536 = omega arith in
     let e = file-at (a .file .now) (length (a .output .now)) short _ (after-read-tree .read-tree .ensures) _ (after-reached .reached .given .1) in
@@ -41,7 +41,7 @@ returns-3 : tie.Need-returns-3
 unfolding file-answer output-answer outcome-reply outcome-output refusal
 returns-3 c =
     let after-read-tree : tie.After-read-tree = search c in
-    let start : tie.Start = search c in
+    let start : tie.Start = search after-read-tree in
     let a = start .args in
     let short : length (a .file .now) ≤ 65536 = omega arith in
     let e = file-ended (a .file .now) (length (a .output .now)) short _ (after-read-tree .read-tree .ensures) (c .before .enum-told .given .1) in
@@ -51,7 +51,7 @@ returns-4 : tie.Need-returns-4
 unfolding file-answer output-answer outcome-reply outcome-output refusal
 returns-4 c =
     let after-read-tree : tie.After-read-tree = search c in
-    let start : tie.Start = search c in
+    let start : tie.Start = search after-read-tree in
     let a = start .args in
     let short : length (a .file .now) ≤ 65536 = omega arith in
     let e = file-bad (a .file .now) (length (a .output .now)) short _ (after-read-tree .read-tree .ensures) _ (c .before .before .reached2 .given .1) in

@@ -22,7 +22,7 @@ use Rattle.file_calls.proofs.writing.write_file.Tie as tie
 returns : tie.Need-returns
 returns c =
     let after-tree-refusal-of : tie.After-tree-refusal-of = search c in
-    let start : tie.Start = search c in
+    let start : tie.Start = search after-tree-refusal-of in
     let a = start .args in
     let w = a .t1 in
     let is = a .schedule .now in
@@ -36,10 +36,10 @@ returns c =
 returns-2 : tie.Need-returns-2
 returns-2 c =
     let after-schedule-refusal-of : tie.After-schedule-refusal-of = search c in
-    let else1 : tie.Else1 = search c in
-    let after-tree-refusal-of : tie.After-tree-refusal-of = search c in
-    let after-tree : tie.After-tree = search c in
-    let start : tie.Start = search c in
+    let else1 : tie.Else1 = search after-schedule-refusal-of in
+    let after-tree-refusal-of : tie.After-tree-refusal-of = search else1 in
+    let after-tree : tie.After-tree = search after-tree-refusal-of in
+    let start : tie.Start = search after-tree in
     let a = start .args in
     let w = a .t1 in
     let is = a .schedule .now in
@@ -57,8 +57,8 @@ put-tree-requires : tie.Need-put-tree-requires
 unfolding tree-of
 put-tree-requires c κs =
     let else1 : tie.Else1 = search c in
-    let after-tree-refusal-of : tie.After-tree-refusal-of = search c in
-    let start : tie.Start = search c in
+    let after-tree-refusal-of : tie.After-tree-refusal-of = search else1 in
+    let start : tie.Start = search after-tree-refusal-of in
     let a = start .args in
     let w = a .t1 in
     let is = a .schedule .now in
@@ -73,11 +73,11 @@ add-length : tie.Need-add-length
 unfolding tree-of
 add-length c =
     let else2 : tie.Else2 = search c in
-    let after-schedule-refusal-of : tie.After-schedule-refusal-of = search c in
-    let else1 : tie.Else1 = search c in
-    let after-tree-refusal-of : tie.After-tree-refusal-of = search c in
-    let after-tree : tie.After-tree = search c in
-    let start : tie.Start = search c in
+    let after-schedule-refusal-of : tie.After-schedule-refusal-of = search else2 in
+    let else1 : tie.Else1 = search after-schedule-refusal-of in
+    let after-tree-refusal-of : tie.After-tree-refusal-of = search else1 in
+    let after-tree : tie.After-tree = search after-tree-refusal-of in
+    let start : tie.Start = search after-tree in
     let w = start .args .t1 in
     let is = start .args .schedule .now in
     let r = after-tree-refusal-of .tree-refusal-of in
@@ -91,12 +91,12 @@ returns-3 : tie.Need-returns-3
 unfolding refusal
 returns-3 c =
     let after-put-tree : tie.After-put-tree = search c in
-    let else2 : tie.Else2 = search c in
-    let after-schedule-refusal-of : tie.After-schedule-refusal-of = search c in
-    let else1 : tie.Else1 = search c in
-    let after-tree-refusal-of : tie.After-tree-refusal-of = search c in
-    let after-tree : tie.After-tree = search c in
-    let start : tie.Start = search c in
+    let else2 : tie.Else2 = search after-put-tree in
+    let after-schedule-refusal-of : tie.After-schedule-refusal-of = search else2 in
+    let else1 : tie.Else1 = search after-schedule-refusal-of in
+    let after-tree-refusal-of : tie.After-tree-refusal-of = search else1 in
+    let after-tree : tie.After-tree = search after-tree-refusal-of in
+    let start : tie.Start = search after-tree in
     let a = start .args in
     let w = a .t1 in
     let is = a .schedule .now in
@@ -116,12 +116,12 @@ returns-4 : tie.Need-returns-4
 unfolding refusal
 returns-4 c =
     let after-put-tree : tie.After-put-tree = search c in
-    let else2 : tie.Else2 = search c in
-    let after-schedule-refusal-of : tie.After-schedule-refusal-of = search c in
-    let else1 : tie.Else1 = search c in
-    let after-tree-refusal-of : tie.After-tree-refusal-of = search c in
-    let after-tree : tie.After-tree = search c in
-    let start : tie.Start = search c in
+    let else2 : tie.Else2 = search after-put-tree in
+    let after-schedule-refusal-of : tie.After-schedule-refusal-of = search else2 in
+    let else1 : tie.Else1 = search after-schedule-refusal-of in
+    let after-tree-refusal-of : tie.After-tree-refusal-of = search else1 in
+    let after-tree : tie.After-tree = search after-tree-refusal-of in
+    let start : tie.Start = search after-tree in
     let a = start .args in
     let w = a .t1 in
     let is = a .schedule .now in
@@ -143,9 +143,9 @@ put-tree-requires-2 : tie.Need-put-tree-requires-2
 unfolding tree-of
 put-tree-requires-2 c κs =
     let after-put-tree : tie.After-put-tree = search c in
-    let else1 : tie.Else1 = search c in
-    let after-tree-refusal-of : tie.After-tree-refusal-of = search c in
-    let start : tie.Start = search c in
+    let else1 : tie.Else1 = search after-put-tree in
+    let after-tree-refusal-of : tie.After-tree-refusal-of = search else1 in
+    let start : tie.Start = search after-tree-refusal-of in
     let a = start .args in
     let w = a .t1 in
     let is = a .schedule .now in
@@ -159,8 +159,8 @@ put-tree-requires-2 c κs =
 put-schedule-requires : tie.Need-put-schedule-requires
 put-schedule-requires c κs =
     let after-put-tree2 : tie.After-put-tree2 = search c in
-    let else4 : tie.Else4 = search c in
-    let after-put-tree : tie.After-put-tree = search c in
+    let else4 : tie.Else4 = search after-put-tree2 in
+    let after-put-tree : tie.After-put-tree = search else4 in
     let first = after-put-tree .put-tree .ensures .0 in
     let second = after-put-tree2 .put-tree2 in
     omega (arith, first, second .ensures .0, second .kept .0, else4 .if4 .left)
@@ -168,15 +168,15 @@ put-schedule-requires c κs =
 returns-5 : tie.Need-returns-5
 returns-5 c =
     let after-put-tree2 : tie.After-put-tree2 = search c in
-    let else4 : tie.Else4 = search c in
-    let else3 : tie.Else3 = search c in
-    let after-put-tree : tie.After-put-tree = search c in
-    let else2 : tie.Else2 = search c in
-    let after-schedule-refusal-of : tie.After-schedule-refusal-of = search c in
-    let else1 : tie.Else1 = search c in
-    let after-tree-refusal-of : tie.After-tree-refusal-of = search c in
-    let after-tree : tie.After-tree = search c in
-    let start : tie.Start = search c in
+    let else4 : tie.Else4 = search after-put-tree2 in
+    let else3 : tie.Else3 = search else4 in
+    let after-put-tree : tie.After-put-tree = search else3 in
+    let else2 : tie.Else2 = search after-put-tree in
+    let after-schedule-refusal-of : tie.After-schedule-refusal-of = search else2 in
+    let else1 : tie.Else1 = search after-schedule-refusal-of in
+    let after-tree-refusal-of : tie.After-tree-refusal-of = search else1 in
+    let after-tree : tie.After-tree = search after-tree-refusal-of in
+    let start : tie.Start = search after-tree in
     let a = start .args in
     let w = a .t1 in
     let is = a .schedule .now in

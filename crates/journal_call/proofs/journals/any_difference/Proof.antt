@@ -13,10 +13,10 @@ use Rattle.journal_call.proofs.journals.any_difference.Statement.{state
 use Rattle.journal_call.proofs.journals.any_difference.Tie as tie
 
 -- one entry more
-one-told :
+one-reported :
     (ks cs : List ℕ) (n mark next : ℕ) → (mark ≡ 0 → All-same-kinds ks cs n) → next ≡ cond (eqb (getD ks n 0) (getD cs n 0 % 8)) mark 1 → next ≡ 0 →
     All-same-kinds ks cs (n + 1)
-one-told ks cs n mark next h e z = by (eqb (getD ks n 0) (getD cs n 0 % 8)) refl e
+one-reported ks cs n mark next h e z = by (eqb (getD ks n 0) (getD cs n 0 % 8)) refl e
   where
     by : (b : Bool) → eqb (getD ks n 0) (getD cs n 0 % 8) ≡ b → next ≡ cond b mark 1 → All-same-kinds ks cs (n + 1)
     by true f g = one-more _ false _ (h (sym g ∙ z)) (rw f)
@@ -31,30 +31,12 @@ abbrev μ-loop : tie.MeasureT-loop
 loop-holds : tie.Need-loop-holds Inv-loop μ-loop
 loop-holds c = (omega arith, λ _ j l. absurd (omega arith))
 
-shared-slice-read-marked : tie.Need-shared-slice-read-marked Inv-loop μ-loop
-shared-slice-read-marked c = search needs
-
-mul-marked : tie.Need-mul-marked Inv-loop μ-loop
-mul-marked c = omega arith
-
-shared-slice-read-marked-2 : tie.Need-shared-slice-read-marked-2 Inv-loop μ-loop
-shared-slice-read-marked-2 c = search needs
-
-marked-requires : tie.Need-marked-requires Inv-loop μ-loop
-marked-requires c κs = search needs
-
-add-k : tie.Need-add-k Inv-loop μ-loop
-add-k c = omega arith
-
-loop-less : tie.Need-loop-less Inv-loop μ-loop
-loop-less c = omega arith
-
 loop-again : tie.Need-loop-again Inv-loop μ-loop
 loop-again c =
     let at-loop : tie.At-loop Inv-loop μ-loop = search c in
-    let start : tie.Start Inv-loop μ-loop = search c in
+    let start : tie.Start Inv-loop μ-loop = search at-loop in
     let a = start .args in
-    (omega arith, one-told (a .kinds .now) (a .codes .now) _ _ _ (at-loop .loop .inv .1) (c .marked .ensures))
+    (omega arith, one-reported (a .kinds .now) (a .codes .now) _ _ _ (at-loop .loop .inv .1) (c .marked .ensures))
 
 returns : tie.Need-returns Inv-loop μ-loop
 returns c z j h = c .before .loop .inv .1 z j (omega arith)
@@ -66,11 +48,11 @@ any-difference-spec =
     Inv-loop
     μ-loop
     loop-holds
-    shared-slice-read-marked
-    mul-marked
-    shared-slice-read-marked-2
-    marked-requires
-    add-k
-    loop-less
+    (λ c. search needs)
+    (λ c. search needs)
+    (λ c. search needs)
+    (λ c κs. search needs)
+    (λ c. search needs)
+    (λ c. search needs)
     loop-again
     returns)

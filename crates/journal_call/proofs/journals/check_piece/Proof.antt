@@ -27,9 +27,6 @@ room c = search needs
 full : (c : tie.After-read-piece) → c .read-piece .result .number ≡ 0 → c .read-piece .result .position < length (start-of c .args .journal .now) → 1024 ≤ c .read-piece .result .count
 full c z h = c .read-piece .ensures .full z h 1024 (search needs) (search needs)
 
-read-piece-requires : tie.Need-read-piece-requires
-read-piece-requires c κs = search needs
-
 run-piece-requires : tie.Need-run-piece-requires
 run-piece-requires c κs =
     let p = read-of c in
@@ -37,45 +34,30 @@ run-piece-requires c κs =
     let few : p .read-piece .result .count ≤ 1024 = search needs in
     (p .read-piece .ensures .threads-fit, (g .formed .typed, runs _ _ (g .passes) _ _ _ g _ _ _ (p .read-piece .ensures) _ (search needs) (omega (arith, few))))
 
-first-other-kind-requires : tie.Need-first-other-kind-requires
-first-other-kind-requires c κs = search needs
-
-position-after-requires : tie.Need-position-after-requires
-position-after-requires c κs = search needs
-
-stopped-by-requires : tie.Need-stopped-by-requires
-stopped-by-requires c κs = search needs
-
 returns : tie.Need-returns
 returns c =
     let f : tie.After-first-other-kind = search c in
-    let differing : tie.Then1 = search c in
+    let differing : tie.Then1 = search f in
     let p = read-of (stepping f) in
     let g = start-of p .pre in
     let ran : tie.After-run-piece = search f in
     stopping _ _ _ _ _ _ _ _ _ (c .stopped-by .ensures)
     (differs _ _ (g .passes) _ _ _ g _ _ _ (p .read-piece .ensures) _ _ (ran .run-piece .ensures .1) (room (stepping f)) _ (f .first-other-kind .ensures) (differing .if1 .taken) _ (c .before .position-after .ensures))
 
-stopped-by-requires-2 : tie.Need-stopped-by-requires-2
-stopped-by-requires-2 c κs = search needs
-
 returns-2 : tie.Need-returns-2
 returns-2 c =
     let f : tie.After-first-other-kind = search c in
-    let same : tie.Else1 = search c in
+    let same : tie.Else1 = search f in
     let p = read-of (stepping f) in
     let g = start-of p .pre in
     let ran : tie.After-run-piece = search f in
     stopping _ _ _ _ _ _ _ _ _ (c .stopped-by2 .ensures)
     (stops _ _ (g .passes) _ _ _ g _ _ _ (p .read-piece .ensures) _ _ (ran .run-piece .ensures .1) (room (stepping f)) _ (f .first-other-kind .ensures) (same .if1 .left) (c .before .if2 .taken))
 
-stopped-by-requires-3 : tie.Need-stopped-by-requires-3
-stopped-by-requires-3 c κs = search needs
-
 returns-3 : tie.Need-returns-3
 returns-3 c =
     let f : tie.After-first-other-kind = search c in
-    let same : tie.Else1 = search c in
+    let same : tie.Else1 = search f in
     let p = read-of (stepping f) in
     let g = start-of p .pre in
     let ran : tie.After-run-piece = search f in
@@ -85,8 +67,8 @@ returns-3 c =
 returns-4 : tie.Need-returns-4
 returns-4 c =
     let f : tie.After-first-other-kind = search c in
-    let same : tie.Else1 = search c in
-    let unbroken : tie.Else2 = search c in
+    let same : tie.Else1 = search f in
+    let unbroken : tie.Else2 = search same in
     let p = read-of (stepping f) in
     let g = start-of p .pre in
     let ran : tie.After-run-piece = search f in
@@ -105,14 +87,14 @@ pub check-piece-spec : {M : Type 1} → statement M
 check-piece-spec =
     tie.close
     (tie.spec
-    read-piece-requires
+    (λ c κs. search needs)
     run-piece-requires
-    first-other-kind-requires
-    position-after-requires
-    stopped-by-requires
+    (λ c κs. search needs)
+    (λ c κs. search needs)
+    (λ c κs. search needs)
     returns
-    stopped-by-requires-2
+    (λ c κs. search needs)
     returns-2
-    stopped-by-requires-3
+    (λ c κs. search needs)
     returns-3
     returns-4)

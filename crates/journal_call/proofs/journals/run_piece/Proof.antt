@@ -13,38 +13,23 @@ use borrow.Author.Needs.{needs}
 use Rattle.journal_call.proofs.journals.run_piece.Statement.{statement}
 use Rattle.journal_call.proofs.journals.run_piece.Tie as tie
 
-sub-run-lent : tie.Need-sub-run-lent
-sub-run-lent c = search needs
-
-part-run-lent-start : tie.Need-part-run-lent-start
-part-run-lent-start c = search needs
-
-part-run-lent-end : tie.Need-part-run-lent-end
-part-run-lent-end c = search needs
-
 run-lent-requires : tie.Need-run-lent-requires
 unfolding fresh-counters
 run-lent-requires c κs =
     let after-counts : tie.After-counts = search c in
-    let after-run-lent-arg2 : tie.After-run-lent-arg2 = search c in
-    let begin : tie.Start = search c in
+    let after-run-lent-arg2 : tie.After-run-lent-arg2 = search after-counts in
+    let begin : tie.Start = search after-run-lent-arg2 in
     let a = begin .args in
     let s = lent-state (a .tails .now) (a .nexts .now) (a .statuses .now) (a .rows .now) (a .domains .now) (a .peers .now) (a .words .now) (a .ticket .now) (a .granted .now) in
     let whole : a .count - 0 ≡ a .count = omega arith in
     (begin .pre .1 .0, ap (λ n. first-refusal (run-tests-before-19 (tree-of (a .tree)) (lock-state s fresh-counters) (take n (a .threads .now)) (length (a .trace .now))) .number) whole ∙ begin .pre .1 .1)
 
-same-length : tie.Need-same-length
-same-length c = search needs
-
-same-length-2 : tie.Need-same-length-2
-same-length-2 c = search needs
-
 returns : tie.Need-returns
 returns c =
     let after-run-lent : tie.After-run-lent = search c in
-    let after-counts : tie.After-counts = search c in
-    let after-run-lent-arg2 : tie.After-run-lent-arg2 = search c in
-    let start : tie.Start = search c in
+    let after-counts : tie.After-counts = search after-run-lent in
+    let after-run-lent-arg2 : tie.After-run-lent-arg2 = search after-counts in
+    let start : tie.Start = search after-run-lent-arg2 in
     let ran = after-run-lent .run-lent in
     let a = start .args in
     let s = lent-state (a .tails .now) (a .nexts .now) (a .statuses .now) (a .rows .now) (a .domains .now) (a .peers .now) (a .words .now) (a .ticket .now) (a .granted .now) in
@@ -57,10 +42,10 @@ pub run-piece-spec : {M : Type 1} → statement M
 run-piece-spec =
     tie.close
     (tie.spec
-    sub-run-lent
-    part-run-lent-start
-    part-run-lent-end
+    (λ c. search needs)
+    (λ c. search needs)
+    (λ c. search needs)
     run-lent-requires
-    same-length
-    same-length-2
+    (λ c. search needs)
+    (λ c. search needs)
     returns)

@@ -3,7 +3,7 @@
 -- Of the toolchain's letters, 𝓤 is the algebra of resources, H the heap, A the atoms of ghost state, W what is given of both, 𝓜 the model of the heap, 𝓖 the rules of ghost state, 𝓡 what it is to run a routine, 𝓣 the tables of calls (C) and of loops (Λ); κ is a lifetime, q a share of its token. T is the reader's type, S a turn's, Tr the tree's.
 use mathlib.Core.Path.{_≡_, refl, ap, subst}
 use mathlib.Core.Bool.{Bool, true, false, not}
-use Prim.Native.Nat.{ℕ, _<_, _^_, _+_, _-_}
+use Prim.Native.Nat.{ℕ, _<_, _^_, _-_}
 use mathlib.Core.List.{List, [], _∷_}
 use mathlib.Core.WellFounded.{InvImage·wf}
 use native.Mathlib.Omega.{arith}

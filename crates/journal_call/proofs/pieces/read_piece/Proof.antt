@@ -10,14 +10,11 @@ use Rattle.journal_call.proofs.pieces.read_piece.Statement.{statement}
 use Rattle.journal_call.proofs.pieces.read_piece.Tie as tie
 
 abbrev Inv-loop : tie.InvT-loop
-Inv-loop journal position before known threads₀ kinds₀ room count₀ at₀ last₀ behind-alike₀ threads kinds count at last behind-alike =
+Inv-loop journal position before known threads₀ kinds₀ room count₀ at₀ last₀ after-alike₀ threads kinds count at last after-alike =
     Read-on known journal position before threads₀ kinds₀ 0 threads kinds count at last
 
 abbrev μ-loop : tie.MeasureT-loop
-μ-loop journal position before known threads₀ kinds₀ room count₀ at₀ last₀ behind-alike₀ threads kinds count at last behind-alike = room - count
-
-smaller-requires : tie.Need-smaller-requires Inv-loop μ-loop
-smaller-requires c κs = search needs
+μ-loop journal position before known threads₀ kinds₀ room count₀ at₀ last₀ after-alike₀ threads kinds count at last after-alike = room - count
 
 loop-holds : tie.Need-loop-holds Inv-loop μ-loop
 loop-holds c = nothing _ _ _ _ _ _ _ (omega arith) (omega arith)
@@ -36,7 +33,7 @@ loop-less c =
 loop-again : tie.Need-loop-again Inv-loop μ-loop
 loop-again c =
     let after-read-alike : tie.After-read-alike Inv-loop μ-loop = search c in
-    let at-loop : tie.At-loop Inv-loop μ-loop = search c in
+    let at-loop : tie.At-loop Inv-loop μ-loop = search after-read-alike in
     more _ _ _ _ _ _ _ _ _ _ _ _ (at-loop .loop .inv) _ _ _ _ _ (after-read-alike .read-alike .ensures)
 
 block-end-requires : tie.Need-block-end-requires Inv-loop μ-loop
@@ -47,8 +44,8 @@ block-end-requires c κs =
 read-next-requires : tie.Need-read-next-requires Inv-loop μ-loop
 read-next-requires c κs =
     let after-read-alike : tie.After-read-alike Inv-loop μ-loop = search c in
-    let at-loop : tie.At-loop Inv-loop μ-loop = search c in
-    let after-smaller : tie.After-smaller Inv-loop μ-loop = search c in
+    let at-loop : tie.At-loop Inv-loop μ-loop = search after-read-alike in
+    let after-smaller : tie.After-smaller Inv-loop μ-loop = search at-loop in
     let inv = at-loop .loop .inv in
     let four = after-read-alike .read-alike .kept in
     let end = c .before .before .block-end .ensures in
@@ -58,23 +55,23 @@ read-next-requires c κs =
 same-length : tie.Need-same-length Inv-loop μ-loop
 same-length c =
     let after-read-next : tie.After-read-next Inv-loop μ-loop = search c in
-    let after-read-alike : tie.After-read-alike Inv-loop μ-loop = search c in
-    let at-loop : tie.At-loop Inv-loop μ-loop = search c in
+    let after-read-alike : tie.After-read-alike Inv-loop μ-loop = search after-read-next in
+    let at-loop : tie.At-loop Inv-loop μ-loop = search after-read-alike in
     after-read-next .read-next .kept .1 .1 .1 .1 .0 ∙ after-read-alike .read-alike .kept .1 .1 .1 .1 .0 ∙ threads-long _ _ _ _ _ _ _ _ _ _ _ _ (at-loop .loop .inv)
 
 same-length-2 : tie.Need-same-length-2 Inv-loop μ-loop
 same-length-2 c =
     let after-read-next : tie.After-read-next Inv-loop μ-loop = search c in
-    let after-read-alike : tie.After-read-alike Inv-loop μ-loop = search c in
-    let at-loop : tie.At-loop Inv-loop μ-loop = search c in
+    let after-read-alike : tie.After-read-alike Inv-loop μ-loop = search after-read-next in
+    let at-loop : tie.At-loop Inv-loop μ-loop = search after-read-alike in
     after-read-next .read-next .kept .1 .1 .1 .1 .1 .0 ∙ after-read-alike .read-alike .kept .1 .1 .1 .1 .1 .0 ∙ kinds-long _ _ _ _ _ _ _ _ _ _ _ _ (at-loop .loop .inv)
 
 returns : tie.Need-returns Inv-loop μ-loop
 returns c =
     let after-read-next : tie.After-read-next Inv-loop μ-loop = search c in
-    let else1 : tie.Else1 Inv-loop μ-loop = search c in
-    let after-read-alike : tie.After-read-alike Inv-loop μ-loop = search c in
-    let at-loop : tie.At-loop Inv-loop μ-loop = search c in
+    let else1 : tie.Else1 Inv-loop μ-loop = search after-read-next in
+    let after-read-alike : tie.After-read-alike Inv-loop μ-loop = search else1 in
+    let at-loop : tie.At-loop Inv-loop μ-loop = search after-read-alike in
     let some = after-read-next .read-next in
     piece _ _ _ _ _ _ _ _ (some .result)
     (more _ _ _ _ _ _ _ _ _ _ _ _ (at-loop .loop .inv) _ _ _ _ _
@@ -84,23 +81,23 @@ returns c =
 same-length-3 : tie.Need-same-length-3 Inv-loop μ-loop
 same-length-3 c =
     let after-read-next : tie.After-read-next Inv-loop μ-loop = search c in
-    let after-read-alike : tie.After-read-alike Inv-loop μ-loop = search c in
-    let at-loop : tie.At-loop Inv-loop μ-loop = search c in
+    let after-read-alike : tie.After-read-alike Inv-loop μ-loop = search after-read-next in
+    let at-loop : tie.At-loop Inv-loop μ-loop = search after-read-alike in
     after-read-next .read-next .kept .1 .1 .1 .1 .0 ∙ after-read-alike .read-alike .kept .1 .1 .1 .1 .0 ∙ threads-long _ _ _ _ _ _ _ _ _ _ _ _ (at-loop .loop .inv)
 
 same-length-4 : tie.Need-same-length-4 Inv-loop μ-loop
 same-length-4 c =
     let after-read-next : tie.After-read-next Inv-loop μ-loop = search c in
-    let after-read-alike : tie.After-read-alike Inv-loop μ-loop = search c in
-    let at-loop : tie.At-loop Inv-loop μ-loop = search c in
+    let after-read-alike : tie.After-read-alike Inv-loop μ-loop = search after-read-next in
+    let at-loop : tie.At-loop Inv-loop μ-loop = search after-read-alike in
     after-read-next .read-next .kept .1 .1 .1 .1 .1 .0 ∙ after-read-alike .read-alike .kept .1 .1 .1 .1 .1 .0 ∙ kinds-long _ _ _ _ _ _ _ _ _ _ _ _ (at-loop .loop .inv)
 
 returns-2 : tie.Need-returns-2 Inv-loop μ-loop
 returns-2 c =
     let after-read-next : tie.After-read-next Inv-loop μ-loop = search c in
-    let else1 : tie.Else1 Inv-loop μ-loop = search c in
-    let after-read-alike : tie.After-read-alike Inv-loop μ-loop = search c in
-    let at-loop : tie.At-loop Inv-loop μ-loop = search c in
+    let else1 : tie.Else1 Inv-loop μ-loop = search after-read-next in
+    let after-read-alike : tie.After-read-alike Inv-loop μ-loop = search else1 in
+    let at-loop : tie.At-loop Inv-loop μ-loop = search after-read-alike in
     let some = after-read-next .read-next in
     piece _ _ _ _ _ _ _ _ (some .result)
     (more _ _ _ _ _ _ _ _ _ _ _ _ (at-loop .loop .inv) _ _ _ _ _
@@ -114,7 +111,7 @@ turn-of c = search c
 loop-less-2 : tie.Need-loop-less-2 Inv-loop μ-loop
 loop-less-2 c =
     let after-read-next : tie.After-read-next Inv-loop μ-loop = search c in
-    let after-block-end : tie.After-block-end Inv-loop μ-loop = search c in
+    let after-block-end : tie.After-block-end Inv-loop μ-loop = search after-read-next in
     let in-loop = turn-of after-block-end in
     let full = after-read-next .read-next .ensures .1 .full (c .before .before .if2 .left) (c .if3 .left) in
     omega (arith, full, after-block-end .block-end .ensures .0 .0, in-loop .loop-test .taken)
@@ -122,14 +119,11 @@ loop-less-2 c =
 loop-again-2 : tie.Need-loop-again-2 Inv-loop μ-loop
 loop-again-2 c =
     let after-read-next : tie.After-read-next Inv-loop μ-loop = search c in
-    let else1 : tie.Else1 Inv-loop μ-loop = search c in
-    let after-read-alike : tie.After-read-alike Inv-loop μ-loop = search c in
-    let at-loop : tie.At-loop Inv-loop μ-loop = search c in
+    let else1 : tie.Else1 Inv-loop μ-loop = search after-read-next in
+    let after-read-alike : tie.After-read-alike Inv-loop μ-loop = search else1 in
+    let at-loop : tie.At-loop Inv-loop μ-loop = search after-read-alike in
     more _ _ _ _ _ _ _ _ _ _ _ _ (at-loop .loop .inv) _ _ _ _ _
     (again _ _ _ _ _ _ _ _ _ _ _ _ (after-read-alike .read-alike .ensures) (else1 .if1 .left) _ _ _ _ _ (after-read-next .read-next .ensures .0))
-
-stopped-requires : tie.Need-stopped-requires Inv-loop μ-loop
-stopped-requires c κs = search needs
 
 same-length-5 : tie.Need-same-length-5 Inv-loop μ-loop
 same-length-5 c = threads-long _ _ _ _ _ _ _ _ _ _ _ _ (c .before .before .loop .inv)
@@ -151,7 +145,7 @@ read-piece-spec =
     (tie.spec
     Inv-loop
     μ-loop
-    smaller-requires
+    (λ c κs. search needs)
     loop-holds
     read-alike-requires
     loop-less
@@ -166,7 +160,7 @@ read-piece-spec =
     returns-2
     loop-less-2
     loop-again-2
-    stopped-requires
+    (λ c κs. search needs)
     same-length-5
     same-length-6
     returns-3)

@@ -17,37 +17,19 @@ abbrev μ-loop : tie.MeasureT-loop
 loop-holds : tie.Need-loop-holds Inv-loop μ-loop
 loop-holds c = (omega arith, ap (λ n. position-after n (c .before .args .journal .now) (c .before .args .position) (c .before .args .before)) (omega arith))
 
-read-entry-requires : tie.Need-read-entry-requires Inv-loop μ-loop
-read-entry-requires c κs = search needs
-
-enum-known-e : tie.Need-enum-known-e Inv-loop μ-loop
-enum-known-e c = search needs
-
-add-k : tie.Need-add-k Inv-loop μ-loop
-add-k c = omega arith
-
-loop-less : tie.Need-loop-less Inv-loop μ-loop
-loop-less c = omega arith
-
 loop-again : tie.Need-loop-again Inv-loop μ-loop
 loop-again c =
     let after-read-entry : tie.After-read-entry Inv-loop μ-loop = search c in
-    let l : tie.At-loop Inv-loop μ-loop = search c in
+    let l : tie.At-loop Inv-loop μ-loop = search after-read-entry in
     let bs = l .before .before .args .journal .now in
     let left : l .before .before .args .count - l .loop .k ≡ suc (l .before .before .args .count - (l .loop .k + 1)) = omega arith in
     let e = sym (after-read-entry .read-entry .ensures) ∙ c .before .e .given .1 in
     (omega arith, sym (position-next _ bs (l .loop .at) (l .loop .last) _ _ _ e) ∙ sym (ap (λ n. position-after n bs (l .loop .at) (l .loop .last)) left) ∙ l .loop .inv .1)
 
-enum-told : tie.Need-enum-told Inv-loop μ-loop
-enum-told c = search needs
-
 returns : tie.Need-returns Inv-loop μ-loop
 returns c =
     let l : tie.At-loop Inv-loop μ-loop = search c in
     sym (position-broken _ (l .before .before .args .journal .now) (l .loop .at) (l .loop .last) (sym (c .before .before .read-entry .ensures) ∙ c .enum-told .given .1)) ∙ l .loop .inv .1
-
-enum-told-2 : tie.Need-enum-told-2 Inv-loop μ-loop
-enum-told-2 c = search needs
 
 returns-2 : tie.Need-returns-2 Inv-loop μ-loop
 returns-2 c =
@@ -66,13 +48,13 @@ position-after-spec =
     Inv-loop
     μ-loop
     loop-holds
-    read-entry-requires
-    enum-known-e
-    add-k
-    loop-less
+    (λ c κs. search needs)
+    (λ c. search needs)
+    (λ c. search needs)
+    (λ c. search needs)
     loop-again
-    enum-told
+    (λ c. search needs)
     returns
-    enum-told-2
+    (λ c. search needs)
     returns-2
     returns-3)

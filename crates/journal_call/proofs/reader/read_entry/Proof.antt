@@ -18,17 +18,8 @@ three m h a b c = omega (arith, a, b, c)
 returns : tie.Need-returns
 returns c = rw (le-ltb _ _ (c .if1 .taken))
 
-shared-slice-read-bits : tie.Need-shared-slice-read-bits
-shared-slice-read-bits c = search needs
-
 returns-2 : tie.Need-returns-2
 returns-2 c = rw (lt-ltb _ _ (c .before .before .if1 .left), lt-ltb _ _ (c .if2 .taken))
-
-sub-if3 : tie.Need-sub-if3
-sub-if3 c = search needs
-
-byte-index-requires : tie.Need-byte-index-requires
-byte-index-requires c κs = search needs
 
 whole-entry-requires : tie.Need-whole-entry-requires
 whole-entry-requires c κs =
@@ -39,95 +30,41 @@ whole-entry-requires c κs =
 returns-3 : tie.Need-returns-3
 returns-3 c =
     let else2 : tie.Else2 = search c in
-    let else1 : tie.Else1 = search c in
-    let start : tie.Start = search c in
+    let else1 : tie.Else1 = search else2 in
+    let start : tie.Start = search else1 in
     let a = start .args in
     let few : c .before .byte-index .result ≤ 3 = omega (arith, else2 .if2 .left, c .before .byte-index .ensures .0) in
     c .whole-entry .ensures ∙ sym (whole-entry (a .journal .now) (a .position) (a .before) (c .before .byte-index .result) (else1 .if1 .left) (sym (c .before .byte-index .ensures .0)) few (omega (arith, few, c .before .before .if3 .taken)))
 
-sub-if4 : tie.Need-sub-if4
-sub-if4 c = search needs
-
-size-of-requires : tie.Need-size-of-requires
-size-of-requires c κs = search needs
-
 returns-4 : tie.Need-returns-4
 returns-4 c =
     let else2 : tie.Else2 = search c in
-    let else1 : tie.Else1 = search c in
+    let else1 : tie.Else1 = search else2 in
     rw (lt-ltb _ _ (else1 .if1 .left), le-ltb _ _ (else2 .if2 .left), ← c .before .size-of .ensures, lt-ltb _ _ (c .if4 .taken))
-
-add-t13 : tie.Need-add-t13
-add-t13 c = search needs
-
-add-two-bytes : tie.Need-add-two-bytes
-add-two-bytes c = search needs
-
-shared-slice-read-two-bytes : tie.Need-shared-slice-read-two-bytes
-shared-slice-read-two-bytes c = search needs
-
-add-two-bytes-2 : tie.Need-add-two-bytes-2
-add-two-bytes-2 c = search needs
 
 shared-slice-read-two-bytes-2 : tie.Need-shared-slice-read-two-bytes-2
 shared-slice-read-two-bytes-2 c =
     let else4 : tie.Else4 = search c in
-    let after-size-of : tie.After-size-of = search c in
+    let after-size-of : tie.After-size-of = search else4 in
     omega (arith, after-size-of .size-of .ensures ∙ ap entry-size (c .before .before .match .keys2), else4 .if4 .left)
-
-two-bytes-requires : tie.Need-two-bytes-requires
-two-bytes-requires c κs = search needs
-
-add-t21 : tie.Need-add-t21
-add-t21 c = search needs
-
-add-t22 : tie.Need-add-t22
-add-t22 c = search needs
-
-shared-slice-read-t24 : tie.Need-shared-slice-read-t24
-shared-slice-read-t24 c = search needs
-
-add-t25 : tie.Need-add-t25
-add-t25 c = search needs
-
-add-two-bytes-3 : tie.Need-add-two-bytes-3
-add-two-bytes-3 c = search needs
-
-shared-slice-read-two-bytes-3 : tie.Need-shared-slice-read-two-bytes-3
-shared-slice-read-two-bytes-3 c = search needs
-
-add-two-bytes-4 : tie.Need-add-two-bytes-4
-add-two-bytes-4 c = search needs
-
-shared-slice-read-two-bytes-4 : tie.Need-shared-slice-read-two-bytes-4
-shared-slice-read-two-bytes-4 c = search needs
-
-two-bytes-requires-2 : tie.Need-two-bytes-requires-2
-two-bytes-requires-2 c κs = search needs
-
-add-t33 : tie.Need-add-t33
-add-t33 c = search needs
 
 shared-slice-read-t35 : tie.Need-shared-slice-read-t35
 shared-slice-read-t35 c =
     let at-match-rest : tie.At-match-rest = search c in
-    let else4 : tie.Else4 = search c in
-    let after-size-of : tie.After-size-of = search c in
-    let else2 : tie.Else2 = search c in
-    let start : tie.Start = search c in
+    let else4 : tie.Else4 = search at-match-rest in
+    let after-size-of : tie.After-size-of = search else4 in
+    let else2 : tie.Else2 = search after-size-of in
+    let start : tie.Start = search else2 in
     let a = start .args in
     let m = at-match-rest .match in
     let bits = three (getD (a .journal .now) (a .position) 0) (else2 .if2 .left) (m .rest .0 .0 .1) (m .rest .0 .1) (m .rest .1) in
     let size = after-size-of .size-of .ensures ∙ ap entry-size bits in
     omega (arith, size, else4 .if4 .left)
 
-add-t36 : tie.Need-add-t36
-add-t36 c = search needs
-
 returns-5 : tie.Need-returns-5
 returns-5 c =
     let else1 : tie.Else1 = search c in
-    let start : tie.Start = search c in
+    let start : tie.Start = search else1 in
     let a = start .args in
     let size = c .before .before .size-of .ensures ∙ ap entry-size (c .match .keys1) in
     sym (whole-entry (a .journal .now) (a .position) (a .before) 0 (else1 .if1 .left) (c .match .keys1) (lit≤ tt) (omega (arith, size, c .before .if4 .left)))
@@ -135,10 +72,10 @@ returns-5 c =
 returns-6 : tie.Need-returns-6
 returns-6 c =
     let at-match-keys2 : tie.At-match-keys2 = search c in
-    let else4 : tie.Else4 = search c in
-    let after-size-of : tie.After-size-of = search c in
-    let else1 : tie.Else1 = search c in
-    let start : tie.Start = search c in
+    let else4 : tie.Else4 = search at-match-keys2 in
+    let after-size-of : tie.After-size-of = search else4 in
+    let else1 : tie.Else1 = search after-size-of in
+    let start : tie.Start = search else1 in
     let a = start .args in
     let bits = at-match-keys2 .match .keys2 in
     let size = after-size-of .size-of .ensures ∙ ap entry-size bits in
@@ -148,8 +85,8 @@ returns-6 c =
 returns-7 : tie.Need-returns-7
 returns-7 c =
     let after-size-of : tie.After-size-of = search c in
-    let else1 : tie.Else1 = search c in
-    let start : tie.Start = search c in
+    let else1 : tie.Else1 = search after-size-of in
+    let start : tie.Start = search else1 in
     let a = start .args in
     let bits = c .before .match .keys3 in
     let size = after-size-of .size-of .ensures ∙ ap entry-size bits in
@@ -158,11 +95,11 @@ returns-7 c =
 returns-8 : tie.Need-returns-8
 returns-8 c =
     let at-match-rest : tie.At-match-rest = search c in
-    let else4 : tie.Else4 = search c in
-    let after-size-of : tie.After-size-of = search c in
-    let else2 : tie.Else2 = search c in
-    let else1 : tie.Else1 = search c in
-    let start : tie.Start = search c in
+    let else4 : tie.Else4 = search at-match-rest in
+    let after-size-of : tie.After-size-of = search else4 in
+    let else2 : tie.Else2 = search after-size-of in
+    let else1 : tie.Else1 = search else2 in
+    let start : tie.Start = search else1 in
     let a = start .args in
     let m = at-match-rest .match in
     let bits = three (getD (a .journal .now) (a .position) 0) (else2 .if2 .left) (m .rest .0 .0 .1) (m .rest .0 .1) (m .rest .1) in
@@ -175,33 +112,33 @@ read-entry-spec =
     tie.close
     (tie.spec
     returns
-    shared-slice-read-bits
+    (λ c. search needs)
     returns-2
-    sub-if3
-    byte-index-requires
+    (λ c. search needs)
+    (λ c κs. search needs)
     whole-entry-requires
     returns-3
-    sub-if4
-    size-of-requires
+    (λ c. search needs)
+    (λ c κs. search needs)
     returns-4
-    add-t13
-    add-two-bytes
-    shared-slice-read-two-bytes
-    add-two-bytes-2
+    (λ c. search needs)
+    (λ c. search needs)
+    (λ c. search needs)
+    (λ c. search needs)
     shared-slice-read-two-bytes-2
-    two-bytes-requires
-    add-t21
-    add-t22
-    shared-slice-read-t24
-    add-t25
-    add-two-bytes-3
-    shared-slice-read-two-bytes-3
-    add-two-bytes-4
-    shared-slice-read-two-bytes-4
-    two-bytes-requires-2
-    add-t33
+    (λ c κs. search needs)
+    (λ c. search needs)
+    (λ c. search needs)
+    (λ c. search needs)
+    (λ c. search needs)
+    (λ c. search needs)
+    (λ c. search needs)
+    (λ c. search needs)
+    (λ c. search needs)
+    (λ c κs. search needs)
+    (λ c. search needs)
     shared-slice-read-t35
-    add-t36
+    (λ c. search needs)
     returns-5
     returns-6
     returns-7

@@ -20,18 +20,6 @@ loop-holds c =
     let start : tie.Start Inv-loop μ-loop = search c in
     (omega (arith, start .pre .0), nothing _ _ _ _ _ _ _ (omega (arith, start .pre)) (omega (arith, start .pre)))
 
-read-entry-requires : tie.Need-read-entry-requires Inv-loop μ-loop
-read-entry-requires c κs = search needs
-
-enum-known-e : tie.Need-enum-known-e Inv-loop μ-loop
-enum-known-e c = search needs
-
-cast-if1 : tie.Need-cast-if1 Inv-loop μ-loop
-cast-if1 c = search needs
-
-stopped-requires : tie.Need-stopped-requires Inv-loop μ-loop
-stopped-requires c κs = search needs
-
 same-length : tie.Need-same-length Inv-loop μ-loop
 same-length c =
     let at-loop : tie.At-loop Inv-loop μ-loop = search c in
@@ -45,29 +33,23 @@ same-length-2 c =
 returns : tie.Need-returns Inv-loop μ-loop
 returns c =
     let after-e : tie.After-e Inv-loop μ-loop = search c in
-    let after-read-entry : tie.After-read-entry Inv-loop μ-loop = search c in
-    let at-loop : tie.At-loop Inv-loop μ-loop = search c in
+    let after-read-entry : tie.After-read-entry Inv-loop μ-loop = search after-e in
+    let at-loop : tie.At-loop Inv-loop μ-loop = search after-read-entry in
     rw (c .stopped .ensures) (at-loop .loop .inv .1, unknown _ _ _ _ _ _ _ _ _ (sym (after-read-entry .read-entry .ensures) ∙ after-e .e .given .1) (c .before .if1 .taken))
-
-mul-threads : tie.Need-mul-threads Inv-loop μ-loop
-mul-threads c = omega arith
 
 slice-write-threads : tie.Need-slice-write-threads Inv-loop μ-loop
 slice-write-threads c =
     let in-loop : tie.In-loop Inv-loop μ-loop = search c in
-    let l : tie.At-loop Inv-loop μ-loop = search c in
-    let start : tie.Start Inv-loop μ-loop = search c in
+    let l : tie.At-loop Inv-loop μ-loop = search in-loop in
+    let start : tie.Start Inv-loop μ-loop = search l in
     omega (arith, in-loop .loop-test .taken, threads-long _ _ _ _ _ _ _ _ _ _ _ _ (l .loop .inv .1), start .pre)
 
 slice-write-kinds : tie.Need-slice-write-kinds Inv-loop μ-loop
 slice-write-kinds c =
     let in-loop : tie.In-loop Inv-loop μ-loop = search c in
-    let l : tie.At-loop Inv-loop μ-loop = search c in
-    let start : tie.Start Inv-loop μ-loop = search c in
+    let l : tie.At-loop Inv-loop μ-loop = search in-loop in
+    let start : tie.Start Inv-loop μ-loop = search l in
     omega (arith, in-loop .loop-test .taken, kinds-long _ _ _ _ _ _ _ _ _ _ _ _ (l .loop .inv .1), start .pre)
-
-add-count : tie.Need-add-count Inv-loop μ-loop
-add-count c = omega arith
 
 loop-less : tie.Need-loop-less Inv-loop μ-loop
 loop-less c =
@@ -77,21 +59,15 @@ loop-less c =
 loop-again : tie.Need-loop-again Inv-loop μ-loop
 loop-again c =
     let after-read-entry : tie.After-read-entry Inv-loop μ-loop = search c in
-    let in-loop : tie.In-loop Inv-loop μ-loop = search c in
-    let l : tie.At-loop Inv-loop μ-loop = search c in
-    let begin : tie.Start Inv-loop μ-loop = search c in
+    let in-loop : tie.In-loop Inv-loop μ-loop = search after-read-entry in
+    let l : tie.At-loop Inv-loop μ-loop = search in-loop in
+    let begin : tie.Start Inv-loop μ-loop = search l in
     let long-threads = threads-long _ _ _ _ _ _ _ _ _ _ _ _ (l .loop .inv .1) in
     let long-kinds = kinds-long _ _ _ _ _ _ _ _ _ _ _ _ (l .loop .inv .1) in (
       omega (arith, in-loop .loop-test .taken),
       more _ _ _ _ _ _ _ _ _ _ _ _ (l .loop .inv .1) _ _ _ _ _
           (one _ _ _ _ _ _ _ _ _ _ (omega (arith, in-loop .loop-test .taken, long-threads, begin .pre)) (omega (arith, in-loop .loop-test .taken, long-kinds, begin .pre)) (sym (after-read-entry .read-entry .ensures) ∙ c .before .before .e .given .1) (c .if1 .left)),
     )
-
-enum-told : tie.Need-enum-told Inv-loop μ-loop
-enum-told c = search needs
-
-stopped-requires-2 : tie.Need-stopped-requires-2 Inv-loop μ-loop
-stopped-requires-2 c κs = search needs
 
 same-length-3 : tie.Need-same-length-3 Inv-loop μ-loop
 same-length-3 c =
@@ -106,14 +82,8 @@ same-length-4 c =
 returns-2 : tie.Need-returns-2 Inv-loop μ-loop
 returns-2 c =
     let after-read-entry : tie.After-read-entry Inv-loop μ-loop = search c in
-    let at-loop : tie.At-loop Inv-loop μ-loop = search c in
+    let at-loop : tie.At-loop Inv-loop μ-loop = search after-read-entry in
     rw (c .stopped2 .ensures) (at-loop .loop .inv .1, broken _ _ _ _ _ _ (sym (after-read-entry .read-entry .ensures) ∙ c .before .enum-told .given .1))
-
-enum-told-2 : tie.Need-enum-told-2 Inv-loop μ-loop
-enum-told-2 c = search needs
-
-stopped-requires-3 : tie.Need-stopped-requires-3 Inv-loop μ-loop
-stopped-requires-3 c κs = search needs
 
 same-length-5 : tie.Need-same-length-5 Inv-loop μ-loop
 same-length-5 c =
@@ -128,11 +98,8 @@ same-length-6 c =
 returns-3 : tie.Need-returns-3 Inv-loop μ-loop
 returns-3 c =
     let after-read-entry : tie.After-read-entry Inv-loop μ-loop = search c in
-    let at-loop : tie.At-loop Inv-loop μ-loop = search c in
+    let at-loop : tie.At-loop Inv-loop μ-loop = search after-read-entry in
     rw (c .stopped3 .ensures) (at-loop .loop .inv .1, ended _ _ _ _ _ _ (sym (after-read-entry .read-entry .ensures) ∙ c .before .enum-told2 .given .1))
-
-stopped-requires-4 : tie.Need-stopped-requires-4 Inv-loop μ-loop
-stopped-requires-4 c κs = search needs
 
 same-length-7 : tie.Need-same-length-7 Inv-loop μ-loop
 same-length-7 c = threads-long _ _ _ _ _ _ _ _ _ _ _ _ (c .before .before .loop .inv .1)
@@ -150,30 +117,30 @@ read-some-spec =
     Inv-loop
     μ-loop
     loop-holds
-    read-entry-requires
-    enum-known-e
-    cast-if1
-    stopped-requires
+    (λ c κs. search needs)
+    (λ c. search needs)
+    (λ c. search needs)
+    (λ c κs. search needs)
     same-length
     same-length-2
     returns
-    mul-threads
+    (λ c. search needs)
     slice-write-threads
     slice-write-kinds
-    add-count
+    (λ c. search needs)
     loop-less
     loop-again
-    enum-told
-    stopped-requires-2
+    (λ c. search needs)
+    (λ c κs. search needs)
     same-length-3
     same-length-4
     returns-2
-    enum-told-2
-    stopped-requires-3
+    (λ c. search needs)
+    (λ c κs. search needs)
     same-length-5
     same-length-6
     returns-3
-    stopped-requires-4
+    (λ c κs. search needs)
     same-length-7
     same-length-8
     returns-4)

@@ -8,9 +8,6 @@ use Rattle.journal_call.proofs.reader.thread_by.Tie as tie
 mul-result : tie.Need-mul-result
 mul-result c = omega (arith, by-product-small (c .args .given) (c .args .there) (c .args .before) 65536 (c .pre) (omega arith) (omega arith))
 
-sub-result : tie.Need-sub-result
-sub-result c = search needs
-
 mul-result-2 : tie.Need-mul-result-2
 mul-result-2 c = omega (arith, by-product-small (c .args .given) (c .args .there) (c .args .before) 65536 (c .pre) (omega arith) (omega arith))
 
@@ -21,4 +18,4 @@ returns : tie.Need-returns
 returns c = by-product (c .args .given) (c .args .there) (c .args .before) (c .pre)
 
 pub thread-by-spec : {M : Type 1} → statement M
-thread-by-spec = tie.close (tie.spec mul-result sub-result mul-result-2 add-result returns)
+thread-by-spec = tie.close (tie.spec mul-result (λ c. search needs) mul-result-2 add-result returns)

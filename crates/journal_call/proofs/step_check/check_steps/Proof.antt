@@ -6,31 +6,19 @@ use borrow.Author.Needs.{needs}
 use Rattle.journal_call.proofs.step_check.check_steps.Statement.{statement}
 use Rattle.journal_call.proofs.step_check.check_steps.Tie as tie
 
-early-refusal-of-requires : tie.Need-early-refusal-of-requires
-early-refusal-of-requires c κs = search needs
-
-number-index-requires : tie.Need-number-index-requires
-number-index-requires c κs = search needs
-
 returns : tie.Need-returns
 returns c =
     let after-early-refusal-of : tie.After-early-refusal-of = search c in
-    let start : tie.Start = search c in
+    let start : tie.Start = search after-early-refusal-of in
     let a = start .args in refused-answered _ _ (a .threads .now) (a .kinds .now) (a .domains .now) _ (after-early-refusal-of .early-refusal-of .ensures) (c .before .if1 .taken) _ (c .number-index .ensures)
-
-slice-aggregate-check-all : tie.Need-slice-aggregate-check-all
-slice-aggregate-check-all c = search needs
-
-slice-aggregate-check-all-2 : tie.Need-slice-aggregate-check-all-2
-slice-aggregate-check-all-2 c = search needs
 
 check-all-requires : tie.Need-check-all-requires
 check-all-requires c κs =
     let after-rows2 : tie.After-rows2 = search c in
-    let after-rows : tie.After-rows = search c in
-    let passed : tie.Else1 = search c in
-    let after-early-refusal-of : tie.After-early-refusal-of = search c in
-    let first : tie.Start = search c in
+    let after-rows : tie.After-rows = search after-rows2 in
+    let passed : tie.Else1 = search after-rows in
+    let after-early-refusal-of : tie.After-early-refusal-of = search passed in
+    let first : tie.Start = search after-early-refusal-of in
     let told = after-early-refusal-of .early-refusal-of .ensures in
     let a = first .args in
     let g = first .good .1 .0 .1 .1 .0 .1 .1 in
@@ -43,17 +31,14 @@ check-all-requires c κs =
       ),
     )
 
-place-of-requires : tie.Need-place-of-requires
-place-of-requires c κs = search needs
-
 returns-2 : tie.Need-returns-2
 returns-2 c =
     let after-check-all : tie.After-check-all = search c in
-    let after-place-domains2 : tie.After-place-domains2 = search c in
-    let after-place-domains : tie.After-place-domains = search c in
-    let passed : tie.Else1 = search c in
-    let after-early-refusal-of : tie.After-early-refusal-of = search c in
-    let start : tie.Start = search c in
+    let after-place-domains2 : tie.After-place-domains2 = search after-check-all in
+    let after-place-domains : tie.After-place-domains = search after-place-domains2 in
+    let passed : tie.Else1 = search after-place-domains in
+    let after-early-refusal-of : tie.After-early-refusal-of = search passed in
+    let start : tie.Start = search after-early-refusal-of in
     let a = start .args in
     let all = after-check-all .check-all .ensures in
     steps-answered _ _ (a .threads .now) (a .kinds .now) (a .domains .now) _ (after-early-refusal-of .early-refusal-of .ensures) (passed .if1 .left) _ _ _ (all .0) (all .1) (c .place-of .ensures)
@@ -62,11 +47,11 @@ pub check-steps-spec : {M : Type 1} → statement M
 check-steps-spec =
     tie.close
     (tie.spec
-    early-refusal-of-requires
-    number-index-requires
+    (λ c κs. search needs)
+    (λ c κs. search needs)
     returns
-    slice-aggregate-check-all
-    slice-aggregate-check-all-2
+    (λ c. search needs)
+    (λ c. search needs)
     check-all-requires
-    place-of-requires
+    (λ c κs. search needs)
     returns-2)

@@ -27,8 +27,8 @@ returns-2 : tie.Need-returns-2
 unfolding read-answer schedule-answer reading-buffer
 returns-2 c =
     let after-reached : tie.After-reached = search c in
-    let after-read-tree : tie.After-read-tree = search c in
-    let start : tie.Start = search c in
+    let after-read-tree : tie.After-read-tree = search after-reached in
+    let start : tie.Start = search after-read-tree in
     let a = start .args in
     let short : length (a .file .now) ≤ 65536 = omega arith in
     let e = read-at (a .file .now) short _ (after-read-tree .read-tree .ensures) _ (after-reached .reached .given .1) in
@@ -39,7 +39,7 @@ returns-3 : tie.Need-returns-3
 unfolding read-answer schedule-answer reading-buffer
 returns-3 c =
     let after-read-tree : tie.After-read-tree = search c in
-    let start : tie.Start = search c in
+    let start : tie.Start = search after-read-tree in
     let a = start .args in
     let short : length (a .file .now) ≤ 65536 = omega arith in
     let e = read-ended (a .file .now) short _ (after-read-tree .read-tree .ensures) (c .before .before .enum-told .given .1) in
@@ -49,8 +49,8 @@ returns-4 : tie.Need-returns-4
 unfolding read-answer schedule-answer reading-buffer
 returns-4 c =
     let after-reached2 : tie.After-reached2 = search c in
-    let after-read-tree : tie.After-read-tree = search c in
-    let start : tie.Start = search c in
+    let after-read-tree : tie.After-read-tree = search after-reached2 in
+    let start : tie.Start = search after-read-tree in
     let a = start .args in
     let short : length (a .file .now) ≤ 65536 = omega arith in
     let e = read-bad (a .file .now) short _ (after-read-tree .read-tree .ensures) _ (after-reached2 .reached2 .given .1) in

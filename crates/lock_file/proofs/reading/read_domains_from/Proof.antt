@@ -25,30 +25,30 @@ parent-of-requires c κs =
 threshold-of-requires : tie.Need-threshold-of-requires Inv-loop μ-loop
 threshold-of-requires c κs =
     let after-next : tie.After-next Inv-loop μ-loop = search c in
-    let after-domain-end-at : tie.After-domain-end-at Inv-loop μ-loop = search c in
+    let after-domain-end-at : tie.After-domain-end-at Inv-loop μ-loop = search after-next in
     domain-within _ _ _ (sym (after-domain-end-at .domain-end-at .ensures) ∙ after-next .next .given .1) .inside
 
 returns : tie.Need-returns Inv-loop μ-loop
 returns c =
     let in-loop : tie.In-loop Inv-loop μ-loop = search c in
-    let at-loop : tie.At-loop Inv-loop μ-loop = search c in
+    let at-loop : tie.At-loop Inv-loop μ-loop = search in-loop in
     sym (domains-ended _ _ _ _ _ _ (in-loop .loop-test .taken) (sym (c .before .before .domain-end-at .ensures) ∙ c .enum-told .given .1)) ∙ at-loop .loop .inv .1
 
 returns-2 : tie.Need-returns-2 Inv-loop μ-loop
 returns-2 c =
     let after-domain-end-at : tie.After-domain-end-at Inv-loop μ-loop = search c in
-    let in-loop : tie.In-loop Inv-loop μ-loop = search c in
-    let at-loop : tie.At-loop Inv-loop μ-loop = search c in
+    let in-loop : tie.In-loop Inv-loop μ-loop = search after-domain-end-at in
+    let at-loop : tie.At-loop Inv-loop μ-loop = search in-loop in
     sym (domains-bad _ _ _ _ _ _ _ (in-loop .loop-test .taken) (sym (after-domain-end-at .domain-end-at .ensures) ∙ c .before .p .given .1)) ∙ at-loop .loop .inv .1
 
 loop-again : tie.Need-loop-again Inv-loop μ-loop
 loop-again c =
     let after-store-parent : tie.After-store-parent Inv-loop μ-loop = search c in
-    let after-parent-of : tie.After-parent-of Inv-loop μ-loop = search c in
-    let after-next : tie.After-next Inv-loop μ-loop = search c in
-    let after-domain-end-at : tie.After-domain-end-at Inv-loop μ-loop = search c in
-    let in-loop : tie.In-loop Inv-loop μ-loop = search c in
-    let at-loop : tie.At-loop Inv-loop μ-loop = search c in
+    let after-parent-of : tie.After-parent-of Inv-loop μ-loop = search after-store-parent in
+    let after-next : tie.After-next Inv-loop μ-loop = search after-parent-of in
+    let after-domain-end-at : tie.After-domain-end-at Inv-loop μ-loop = search after-next in
+    let in-loop : tie.In-loop Inv-loop μ-loop = search after-domain-end-at in
+    let at-loop : tie.At-loop Inv-loop μ-loop = search in-loop in
     let came = sym (after-domain-end-at .domain-end-at .ensures) ∙ after-next .next .given .1 in (
       search needs,
       rw (c .store-threshold .ensures, c .before .threshold-of .ensures, after-store-parent .store-parent .ensures, after-parent-of .parent-of .ensures)

@@ -6,7 +6,7 @@ use Rattle.lock_file.proofs.reading.read_threads.Tie as tie
 
 returns : tie.Need-returns
 unfolding threads-read
-returns c = rw (c .before .before .reached .given .1, c .read-threads-behind .ensures)
+returns c = rw (c .before .before .reached .given .1, c .read-threads-after .ensures)
 
 returns-2 : tie.Need-returns-2
 unfolding threads-read

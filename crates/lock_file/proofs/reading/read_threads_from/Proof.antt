@@ -26,22 +26,22 @@ home-of-requires c κs =
 returns : tie.Need-returns Inv-loop μ-loop
 returns c =
     let in-loop : tie.In-loop Inv-loop μ-loop = search c in
-    let at-loop : tie.At-loop Inv-loop μ-loop = search c in
+    let at-loop : tie.At-loop Inv-loop μ-loop = search in-loop in
     sym (threads-ended _ _ _ _ _ _ (in-loop .loop-test .taken) (sym (c .before .before .thread-end-at .ensures) ∙ c .enum-told .given .1)) ∙ at-loop .loop .inv
 
 returns-2 : tie.Need-returns-2 Inv-loop μ-loop
 returns-2 c =
     let after-thread-end-at : tie.After-thread-end-at Inv-loop μ-loop = search c in
-    let in-loop : tie.In-loop Inv-loop μ-loop = search c in
-    let at-loop : tie.At-loop Inv-loop μ-loop = search c in
+    let in-loop : tie.In-loop Inv-loop μ-loop = search after-thread-end-at in
+    let at-loop : tie.At-loop Inv-loop μ-loop = search in-loop in
     sym (threads-bad _ _ _ _ _ _ _ (in-loop .loop-test .taken) (sym (after-thread-end-at .thread-end-at .ensures) ∙ c .before .p .given .1)) ∙ at-loop .loop .inv
 
 loop-again : tie.Need-loop-again Inv-loop μ-loop
 loop-again c =
     let after-next : tie.After-next Inv-loop μ-loop = search c in
-    let after-thread-end-at : tie.After-thread-end-at Inv-loop μ-loop = search c in
-    let in-loop : tie.In-loop Inv-loop μ-loop = search c in
-    let at-loop : tie.At-loop Inv-loop μ-loop = search c in
+    let after-thread-end-at : tie.After-thread-end-at Inv-loop μ-loop = search after-next in
+    let in-loop : tie.In-loop Inv-loop μ-loop = search after-thread-end-at in
+    let at-loop : tie.At-loop Inv-loop μ-loop = search in-loop in
     let came = sym (after-thread-end-at .thread-end-at .ensures) ∙ after-next .next .given .1 in
     rw (c .store-home .ensures, c .before .before .home-of .ensures) (sym (threads-next _ _ _ _ _ _ _ (in-loop .loop-test .taken) came) ∙ at-loop .loop .inv)
 

@@ -8,9 +8,9 @@ returns : tie.Need-returns
 unfolding tree-read
 returns c =
     let after-domain-count-of : tie.After-domain-count-of = search c in
-    let after-byte-at : tie.After-byte-at = search c in
-    let after-read-threads : tie.After-read-threads = search c in
-    let after-read-domains : tie.After-read-domains = search c in
+    let after-byte-at : tie.After-byte-at = search after-domain-count-of in
+    let after-read-threads : tie.After-read-threads = search after-byte-at in
+    let after-read-domains : tie.After-read-domains = search after-read-threads in
     rw (c .schedule-start-of .ensures, c .before .thread-count-of .ensures, c .before .before .root-number-of .ensures, after-domain-count-of .domain-count-of .ensures, after-byte-at .byte-at .ensures, after-read-threads .read-threads .ensures, after-read-domains .read-domains .ensures)
 
 pub tree-of-spec : {M : Type 1} → statement M

@@ -22,7 +22,7 @@ loop-holds c = (search needs, search needs, refl)
 loop-again : tie.Need-loop-again Inv-loop μ-loop
 loop-again c =
     let at-loop : tie.At-loop Inv-loop μ-loop = search c in
-    let start : tie.Start Inv-loop μ-loop = search c in
+    let start : tie.Start Inv-loop μ-loop = search at-loop in
     let h = at-loop .loop in
     let low = start .pre .1 .0 .lower (h .c) (omega arith) (h .inv .1) in
     let z : 0 < 6 - h .looked = omega arith in

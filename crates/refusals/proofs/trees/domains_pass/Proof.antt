@@ -24,7 +24,7 @@ returns c = record { sound = λ e. absurd (false≢true e) }
 add-level : tie.Need-add-level Inv-loop μ-loop
 add-level c =
     let at-loop : tie.At-loop Inv-loop μ-loop = search c in
-    let s : tie.Start Inv-loop μ-loop = search c in
+    let s : tie.Start Inv-loop μ-loop = search at-loop in
     let l = at-loop .loop in
     let p = getD (s .args .parents .now) (l .d) 0 in
     omega (arith, l .inv .2 .levels .few p (omega (arith, c .before .byte-number .ensures)))
@@ -38,9 +38,9 @@ returns-3 c = record { sound = λ e. absurd (false≢true e) }
 loop-again : tie.Need-loop-again Inv-loop μ-loop
 loop-again c =
     let else2 : tie.Else2 Inv-loop μ-loop = search c in
-    let e : tie.Else1 Inv-loop μ-loop = search c in
-    let in-loop : tie.In-loop Inv-loop μ-loop = search c in
-    let at-loop : tie.At-loop Inv-loop μ-loop = search c in
+    let e : tie.Else1 Inv-loop μ-loop = search else2 in
+    let in-loop : tie.In-loop Inv-loop μ-loop = search e in
+    let at-loop : tie.At-loop Inv-loop μ-loop = search in-loop in
     let fits = c .before .«of-16-bits» .ensures in
     let l = at-loop .loop in
     let s : tie.Start Inv-loop μ-loop = search e in

@@ -19,13 +19,13 @@ loop-holds c = (search needs, marked-none _ 64)
 array-write-occupied : tie.Need-array-write-occupied Inv-loop μ-loop
 array-write-occupied c =
     let at-loop : tie.At-loop Inv-loop μ-loop = search c in
-    let s : tie.Start Inv-loop μ-loop = search c in
+    let s : tie.Start Inv-loop μ-loop = search at-loop in
     omega (arith, c .byte-index .ensures .0, s .pre .1 .real (at-loop .loop .i) (c .before .before .loop-test .taken), s .pre .0 .0)
 
 loop-again : tie.Need-loop-again Inv-loop μ-loop
 loop-again c =
     let at-loop : tie.At-loop Inv-loop μ-loop = search c in
-    let s : tie.Start Inv-loop μ-loop = search c in
+    let s : tie.Start Inv-loop μ-loop = search at-loop in
     let l = at-loop .loop in
     let e = c .byte-index .ensures in
     let r = s .pre .1 .real (l .i) (c .before .before .loop-test .taken) in

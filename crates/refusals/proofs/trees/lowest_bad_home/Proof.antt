@@ -23,8 +23,8 @@ element-copy-out-if1 c = omega (arith, c .byte-index .ensures .1)
 returns : tie.Need-returns Inv-loop μ-loop
 returns c =
     let in-loop : tie.In-loop Inv-loop μ-loop = search c in
-    let at-loop : tie.At-loop Inv-loop μ-loop = search c in
-    let s : tie.Start Inv-loop μ-loop = search c in
+    let at-loop : tie.At-loop Inv-loop μ-loop = search in-loop in
+    let s : tie.Start Inv-loop μ-loop = search at-loop in
     let l = at-loop .loop in
     let e = c .before .before .byte-index .ensures in
     scan-found _ _ _ (l .inv) (sym (home-test _ _ _ _ _ _ _ (s .pre .1) (in-loop .loop-test .taken) (e .0) (e .1)) ∙ c .if1 .taken)
@@ -32,8 +32,8 @@ returns c =
 loop-again : tie.Need-loop-again Inv-loop μ-loop
 loop-again c =
     let in-loop : tie.In-loop Inv-loop μ-loop = search c in
-    let at-loop : tie.At-loop Inv-loop μ-loop = search c in
-    let s : tie.Start Inv-loop μ-loop = search c in
+    let at-loop : tie.At-loop Inv-loop μ-loop = search in-loop in
+    let s : tie.Start Inv-loop μ-loop = search at-loop in
     let l = at-loop .loop in
     let e = c .before .before .byte-index .ensures in
     let t = in-loop .loop-test .taken in

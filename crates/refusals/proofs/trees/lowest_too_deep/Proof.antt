@@ -37,7 +37,7 @@ add-level c =
 returns : tie.Need-returns Inv-loop μ-loop
 returns c =
     let at-loop : tie.At-loop Inv-loop μ-loop = search c in
-    let s : tie.Start Inv-loop μ-loop = search c in
+    let s : tie.Start Inv-loop μ-loop = search at-loop in
     let l = at-loop .loop in
     record {
       within = omega arith;
@@ -48,7 +48,7 @@ returns c =
 loop-again : tie.Need-loop-again Inv-loop μ-loop
 loop-again c =
     let at-loop : tie.At-loop Inv-loop μ-loop = search c in
-    let s : tie.Start Inv-loop μ-loop = search c in
+    let s : tie.Start Inv-loop μ-loop = search at-loop in
     let l = at-loop .loop in
     (omega arith, omega arith, levels-next _ _ _ _ (s .pre .0 .1) (l .inv .2) (l .inv .0) (c .before .before .loop-test .taken) (c .if1 .left))
 

@@ -18,9 +18,9 @@ returns-2 : tie.Need-returns-2
 unfolding draw-row
 returns-2 c =
     let after-count-given : tie.After-count-given = search c in
-    let else1 : tie.Else1 = search c in
-    let after-next-number : tie.After-next-number = search c in
-    let start : tie.Start = search c in
+    let else1 : tie.Else1 = search after-count-given in
+    let after-next-number : tie.After-next-number = search else1 in
+    let start : tie.Start = search after-next-number in
     (record { does = λ t i s S. rw (c .moves2 .ensures, root-own t i _ (S .0) (start .pre .1 .1 .0 .1 .1), ← S .1, eq-eqb _ _ (else1 .if1 .left), after-next-number .next-number .ensures) (record { kind-is = refl; state-left = refl }) }, (rw (c .moves2 .ensures) (entered _ 2 _ _ _ refl (c .before .count-entry .ensures)), rw (c .moves2 .ensures) (after-count-given .count-given .ensures)))
 
 pub draw-spec : {M : Type 1} → statement M

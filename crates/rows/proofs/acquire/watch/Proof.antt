@@ -21,7 +21,7 @@ returns-2 : tie.Need-returns-2
 unfolding watch-row
 returns-2 c =
     let else1 : tie.Else1 = search c in
-    let start : tie.Start = search c in
+    let start : tie.Start = search else1 in
     (record { does = λ t i s S. rw (c .moves .ensures, root-own t i _ (S .0) (start .pre .1 .1 .0 .1), ← S .1 .0, ← S .1 .1 .0, eq-eqb _ _ (else1 .if1 .left)) (record { kind-is = refl; state-left = refl }) }, rw (c .moves .ensures) (entered _ 2 _ _ _ refl (c .before .count-entry .ensures)))
 
 pub watch-spec : {M : Type 1} → statement M

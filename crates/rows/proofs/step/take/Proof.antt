@@ -30,8 +30,8 @@ member-at-requires c κs =
 start-requires : tie.Need-start-requires
 start-requires c κs =
     let after-enum-told : tie.After-enum-told = search c in
-    let m : tie.After-member-at = search c in
-    let start : tie.Start = search c in
+    let m : tie.After-member-at = search after-enum-told in
+    let start : tie.Start = search m in
     let M = m .member-at .ensures in let b = m .before .domain-by-row .ensures in let a = m .before .before .place-by-row .ensures in
     let p = start .pre in let r = turn-of _ _ _ _ _ _ _ _ (p .0) in let f = fits r in
     (f .few-domains, (f .low, ((rw (M .home-is) (f .home-real), (M .within, own-small r a b M (after-enum-told .enum-told .given .1))), p .1 .0)))
@@ -44,7 +44,7 @@ prep-requires c κs =
 swap-requires : tie.Need-swap-requires
 swap-requires c κs =
     let m : tie.After-member-at = search c in
-    let start : tie.Start = search c in
+    let start : tie.Start = search m in
     let M = m .member-at .ensures in
     let p = start .pre in let r = turn-of _ _ _ _ _ _ _ _ (p .0) in let f = fits r in
     (f .few-domains, (f .low, ((rw (M .home-is) (f .home-real), M .within), p .1 .0)))
@@ -52,27 +52,27 @@ swap-requires c κs =
 link-requires : tie.Need-link-requires
 link-requires c κs =
     let after-member-at : tie.After-member-at = search c in
-    let after-place-by-row : tie.After-place-by-row = search c in
-    let start : tie.Start = search c in
+    let after-place-by-row : tie.After-place-by-row = search after-member-at in
+    let start : tie.Start = search after-place-by-row in
     let r = turn-of _ _ _ _ _ _ _ _ (start .pre .0) in let a = after-place-by-row .place-by-row .ensures in ((after-member-at .member-at .ensures) .within, link-fits r a _ _ (c .before .before .p .given .1))
 
 wait-requires : tie.Need-wait-requires
 wait-requires c κs =
     let start : tie.Start = search c in
-    let m : tie.After-member-at = search c in let M = m .member-at .ensures in let p = start .pre in let f = fits (turn-of _ _ _ _ _ _ _ _ (p .0)) in (f .few-domains, (f .low, ((rw (M .home-is) (f .home-real), M .within), p .1 .0 .0)))
+    let m : tie.After-member-at = search start in let M = m .member-at .ensures in let p = start .pre in let f = fits (turn-of _ _ _ _ _ _ _ _ (p .0)) in (f .few-domains, (f .low, ((rw (M .home-is) (f .home-real), M .within), p .1 .0 .0)))
 
 element-copy-out-check : tie.Need-element-copy-out-check
 element-copy-out-check c =
     let after-domain-by-row : tie.After-domain-by-row = search c in
-    let after-place-by-row : tie.After-place-by-row = search c in
-    let start : tie.Start = search c in
+    let after-place-by-row : tie.After-place-by-row = search after-domain-by-row in
+    let start : tie.Start = search after-place-by-row in
     let r = turn-of _ _ _ _ _ _ _ _ (start .pre .0) in let a = after-place-by-row .place-by-row .ensures in let b = after-domain-by-row .domain-by-row .ensures in omega (arith, small r a b)
 
 element-copy-out-check-2 : tie.Need-element-copy-out-check-2
 element-copy-out-check-2 c =
     let after-domain-by-row : tie.After-domain-by-row = search c in
-    let after-place-by-row : tie.After-place-by-row = search c in
-    let start : tie.Start = search c in
+    let after-place-by-row : tie.After-place-by-row = search after-domain-by-row in
+    let start : tie.Start = search after-place-by-row in
     let r = turn-of _ _ _ _ _ _ _ _ (start .pre .0) in let a = after-place-by-row .place-by-row .ensures in let b = after-domain-by-row .domain-by-row .ensures in omega (arith, small r a b)
 
 element-copy-out-check-3 : tie.Need-element-copy-out-check-3
@@ -108,15 +108,15 @@ element-copy-out-linger c =
 grant-requires : tie.Need-grant-requires
 grant-requires c κs =
     let after-p2 : tie.After-p2 = search c in
-    let after-place-by-row : tie.After-place-by-row = search c in
-    let start : tie.Start = search c in
+    let after-place-by-row : tie.After-place-by-row = search after-p2 in
+    let start : tie.Start = search after-place-by-row in
     let r = turn-of _ _ _ _ _ _ _ _ (start .pre .0) in let a = after-place-by-row .place-by-row .ensures in (grant-fits r a _ _ _ (after-p2 .p2 .given .1), start .pre .1 .0 .1)
 
 draw-requires : tie.Need-draw-requires
 draw-requires c κs =
     let after-enum-told10 : tie.After-enum-told10 = search c in
-    let m : tie.After-member-at = search c in
-    let start : tie.Start = search c in
+    let m : tie.After-member-at = search after-enum-told10 in
+    let start : tie.Start = search m in
     let M = m .member-at .ensures in let b = m .before .domain-by-row .ensures in let a = m .before .before .place-by-row .ensures in
     let p = start .pre in let r = turn-of _ _ _ _ _ _ _ _ (p .0) in let f = fits r in
     (f .few-domains, (f .low, ((rw (M .home-is) (f .home-real), (M .within, at-root r a b M Draw (after-enum-told10 .enum-told10 .given .1) refl)), p .1 .0)))
@@ -129,8 +129,8 @@ element-copy-out-watch c =
 watch-requires : tie.Need-watch-requires
 watch-requires c κs =
     let after-enum-told11 : tie.After-enum-told11 = search c in
-    let start : tie.Start = search c in
-    let m : tie.After-member-at = search c in let M = m .member-at .ensures in let b = m .before .domain-by-row .ensures in let a = m .before .before .place-by-row .ensures in let p = start .pre in let r = turn-of _ _ _ _ _ _ _ _ (p .0) in let f = fits r in (f .few-domains, (f .low, ((rw (M .home-is) (f .home-real), at-root r a b M Watch (after-enum-told11 .enum-told11 .given .1) refl), p .1 .0 .0)))
+    let start : tie.Start = search after-enum-told11 in
+    let m : tie.After-member-at = search start in let M = m .member-at .ensures in let b = m .before .domain-by-row .ensures in let a = m .before .before .place-by-row .ensures in let p = start .pre in let r = turn-of _ _ _ _ _ _ _ _ (p .0) in let f = fits r in (f .few-domains, (f .low, ((rw (M .home-is) (f .home-real), at-root r a b M Watch (after-enum-told11 .enum-told11 .given .1) refl), p .1 .0 .0)))
 
 count-shown-requires : tie.Need-count-shown-requires
 count-shown-requires c κs =
@@ -140,14 +140,14 @@ count-shown-requires c κs =
 raise-requires : tie.Need-raise-requires
 raise-requires c κs =
     let after-enum-told12 : tie.After-enum-told12 = search c in
-    let start : tie.Start = search c in
-    let m : tie.After-member-at = search c in let b = m .before .domain-by-row .ensures in let a = m .before .before .place-by-row .ensures in at-root (turn-of _ _ _ _ _ _ _ _ (start .pre .0)) a b (m .member-at .ensures) Raise (after-enum-told12 .enum-told12 .given .1) refl
+    let start : tie.Start = search after-enum-told12 in
+    let m : tie.After-member-at = search start in let b = m .before .domain-by-row .ensures in let a = m .before .before .place-by-row .ensures in at-root (turn-of _ _ _ _ _ _ _ _ (start .pre .0)) a b (m .member-at .ensures) Raise (after-enum-told12 .enum-told12 .given .1) refl
 
 returns : tie.Need-returns
 unfolding started-in
 returns c =
     let after-enum-told : tie.After-enum-told = search c in
-    let m : tie.After-member-at = search c in
+    let m : tie.After-member-at = search after-enum-told in
     let M = m .member-at .ensures in let b = m .before .domain-by-row .ensures in let a = m .before .before .place-by-row .ensures in
     let g : tie.Start = search m in let r = turn-of _ _ _ _ _ _ _ _ (g .pre .0) in let x = g .args in
     let same = after-enum-told .enum-told .given .1 in
@@ -157,7 +157,7 @@ returns-2 : tie.Need-returns-2
 unfolding started-in
 returns-2 c =
     let after-enum-told2 : tie.After-enum-told2 = search c in
-    let m : tie.After-member-at = search c in
+    let m : tie.After-member-at = search after-enum-told2 in
     let M = m .member-at .ensures in let b = m .before .domain-by-row .ensures in let a = m .before .before .place-by-row .ensures in
     let g : tie.Start = search m in let r = turn-of _ _ _ _ _ _ _ _ (g .pre .0) in let x = g .args in
     let same = after-enum-told2 .enum-told2 .given .1 in
@@ -167,7 +167,7 @@ returns-3 : tie.Need-returns-3
 unfolding started-in
 returns-3 c =
     let after-enum-told3 : tie.After-enum-told3 = search c in
-    let m : tie.After-member-at = search c in
+    let m : tie.After-member-at = search after-enum-told3 in
     let M = m .member-at .ensures in let b = m .before .domain-by-row .ensures in let a = m .before .before .place-by-row .ensures in
     let g : tie.Start = search m in let r = turn-of _ _ _ _ _ _ _ _ (g .pre .0) in let x = g .args in
     let same = after-enum-told3 .enum-told3 .given .1 in
@@ -177,7 +177,7 @@ returns-4 : tie.Need-returns-4
 unfolding started-in
 returns-4 c =
     let after-p : tie.After-p = search c in
-    let m : tie.After-member-at = search c in
+    let m : tie.After-member-at = search after-p in
     let M = m .member-at .ensures in let b = m .before .domain-by-row .ensures in let a = m .before .before .place-by-row .ensures in
     let g : tie.Start = search m in let r = turn-of _ _ _ _ _ _ _ _ (g .pre .0) in let x = g .args in
     let same = after-p .p .given .1 in
@@ -187,7 +187,7 @@ returns-5 : tie.Need-returns-5
 unfolding started-in
 returns-5 c =
     let after-enum-told4 : tie.After-enum-told4 = search c in
-    let m : tie.After-member-at = search c in
+    let m : tie.After-member-at = search after-enum-told4 in
     let M = m .member-at .ensures in let b = m .before .domain-by-row .ensures in let a = m .before .before .place-by-row .ensures in
     let g : tie.Start = search m in let r = turn-of _ _ _ _ _ _ _ _ (g .pre .0) in let x = g .args in
     let same = after-enum-told4 .enum-told4 .given .1 in
@@ -205,7 +205,7 @@ returns-6 c =
 returns-7 : tie.Need-returns-7
 returns-7 c =
     let after-enum-told6 : tie.After-enum-told6 = search c in
-    let m : tie.After-member-at = search c in
+    let m : tie.After-member-at = search after-enum-told6 in
     let M = m .member-at .ensures in let b = m .before .domain-by-row .ensures in let a = m .before .before .place-by-row .ensures in
     let g : tie.Start = search m in let r = turn-of _ _ _ _ _ _ _ _ (g .pre .0) in let x = g .args in
     let same = after-enum-told6 .enum-told6 .given .1 in
@@ -245,7 +245,7 @@ returns-11 : tie.Need-returns-11
 unfolding started-in
 returns-11 c =
     let after-p2 : tie.After-p2 = search c in
-    let m : tie.After-member-at = search c in
+    let m : tie.After-member-at = search after-p2 in
     let M = m .member-at .ensures in let b = m .before .domain-by-row .ensures in let a = m .before .before .place-by-row .ensures in
     let g : tie.Start = search m in let r = turn-of _ _ _ _ _ _ _ _ (g .pre .0) in let x = g .args in
     let same = after-p2 .p2 .given .1 in
@@ -255,7 +255,7 @@ returns-12 : tie.Need-returns-12
 unfolding started-in
 returns-12 c =
     let after-enum-told10 : tie.After-enum-told10 = search c in
-    let m : tie.After-member-at = search c in
+    let m : tie.After-member-at = search after-enum-told10 in
     let M = m .member-at .ensures in let b = m .before .domain-by-row .ensures in let a = m .before .before .place-by-row .ensures in
     let g : tie.Start = search m in let r = turn-of _ _ _ _ _ _ _ _ (g .pre .0) in let x = g .args in
     let same = after-enum-told10 .enum-told10 .given .1 in
@@ -265,7 +265,7 @@ returns-13 : tie.Need-returns-13
 unfolding started-in
 returns-13 c =
     let after-enum-told11 : tie.After-enum-told11 = search c in
-    let m : tie.After-member-at = search c in
+    let m : tie.After-member-at = search after-enum-told11 in
     let M = m .member-at .ensures in let b = m .before .domain-by-row .ensures in let a = m .before .before .place-by-row .ensures in
     let g : tie.Start = search m in let r = turn-of _ _ _ _ _ _ _ _ (g .pre .0) in let x = g .args in
     let same = after-enum-told11 .enum-told11 .given .1 in
@@ -274,7 +274,7 @@ returns-13 c =
 returns-14 : tie.Need-returns-14
 returns-14 c =
     let after-enum-told12 : tie.After-enum-told12 = search c in
-    let m : tie.After-member-at = search c in
+    let m : tie.After-member-at = search after-enum-told12 in
     let M = m .member-at .ensures in let b = m .before .domain-by-row .ensures in let a = m .before .before .place-by-row .ensures in
     let g : tie.Start = search m in let r = turn-of _ _ _ _ _ _ _ _ (g .pre .0) in let x = g .args in
     let same = after-enum-told12 .enum-told12 .given .1 in
@@ -283,7 +283,7 @@ returns-14 c =
 returns-15 : tie.Need-returns-15
 returns-15 c =
     let after-place-by-row : tie.After-place-by-row = search c in
-    let start : tie.Start = search c in
+    let start : tie.Start = search after-place-by-row in
     let r = turn-of _ _ _ _ _ _ _ _ (start .pre .0) in
     let a = after-place-by-row .place-by-row .ensures in
     absurd (never r a (c .before .enum-told13 .given .1))

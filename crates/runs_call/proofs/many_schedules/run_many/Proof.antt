@@ -21,8 +21,8 @@ run-rows-requires c κs =
 returns-2 : tie.Need-returns-2
 returns-2 c =
     let after-run-rows : tie.After-run-rows = search c in
-    let passed : tie.Else1 = search c in
-    let start : tie.Start = search c in
+    let passed : tie.Else1 = search after-run-rows in
+    let start : tie.Start = search passed in
     let a = start .args in
     call-answered (a .tree) (a .lengths .now) (a .entries .now) (a .rows .now) _ (passed .before .before .many-refusal-of .ensures) (passed .if1 .left) _ (after-run-rows .run-rows .ensures)
 

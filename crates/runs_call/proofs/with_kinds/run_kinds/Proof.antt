@@ -4,8 +4,8 @@ use borrow.Author.Needs.{needs}
 use Rattle.runs_call.proofs.with_kinds.run_kinds.Statement.{statement}
 use Rattle.runs_call.proofs.with_kinds.run_kinds.Tie as tie
 
-run-told-requires : tie.Need-run-told-requires
-run-told-requires c κs =
+run-reported-requires : tie.Need-run-reported-requires
+run-reported-requires c κs =
     let first : tie.Start = search c in
     let g = first .good .1 .0 .1 .1 .0 .1 .1 in
     let q = g .1 .1 .1 .0 .1 .1 in
@@ -13,9 +13,9 @@ run-told-requires c κs =
 
 returns : tie.Need-returns
 returns c =
-    let after-run-told : tie.After-run-told = search c in
-    let ran = after-run-told .run-told .ensures in
+    let after-run-reported : tie.After-run-reported = search c in
+    let ran = after-run-reported .run-reported .ensures in
     (rw (ran .0, ran .1 .0), ran .1 .1)
 
 pub run-kinds-spec : {M : Type 1} → statement M
-run-kinds-spec = tie.close (tie.spec run-told-requires (λ c. search needs) (λ c. search needs) returns)
+run-kinds-spec = tie.close (tie.spec run-reported-requires (λ c. search needs) (λ c. search needs) returns)

@@ -11,7 +11,7 @@ use Rattle.text_tree_call.proofs.domains.follow.Tie as tie
 add-t9 : tie.Need-add-t9
 add-t9 c =
     let after-reached2 : tie.After-reached2 = search c in
-    let start : tie.Start = search c in
+    let start : tie.Start = search after-reached2 in
     omega (arith, byte-in-text (start .args .text .now) (after-reached2 .reached2 .given .0 .0) 32 (lit< tt) (sym (c .before .byte-at .ensures) ∙ c .if1 .taken))
 
 returns : tie.Need-returns
@@ -22,7 +22,7 @@ returns c =
 add-t10 : tie.Need-add-t10
 add-t10 c =
     let after-reached2 : tie.After-reached2 = search c in
-    let start : tie.Start = search c in
+    let start : tie.Start = search after-reached2 in
     omega (arith, byte-in-text (start .args .text .now) (after-reached2 .reached2 .given .0 .0) 41 (lit< tt) (sym (c .before .before .byte-at .ensures) ∙ c .if2 .taken))
 
 returns-2 : tie.Need-returns-2

@@ -11,13 +11,13 @@ use Rattle.text_tree_call.proofs.domains.read_leaf.Tie as tie
 returns : tie.Need-returns
 returns c =
     let after-read2 : tie.After-read2 = search c in
-    let after-read-count : tie.After-read-count = search c in
+    let after-read-count : tie.After-read-count = search after-read2 in
     leaf-wrong _ _ _ _ _ (after-read-count .read-count .ensures) _ _ _ (after-read2 .read2 .given .1) (λ e. c .if1 .taken (c .before .byte-at .ensures ∙ e))
 
 add-t15 : tie.Need-add-t15
 add-t15 c =
     let after-read2 : tie.After-read2 = search c in
-    let start : tie.Start = search c in
+    let start : tie.Start = search after-read2 in
     omega (arith, byte-in-text (start .args .text .now) (after-read2 .read2 .given .0 .0) 41 (lit< tt) (sym (c .before .before .byte-at .ensures) ∙ c .before .if1 .left))
 
 returns-2 : tie.Need-returns-2
@@ -28,7 +28,7 @@ returns-2 c =
 returns-3 : tie.Need-returns-3
 returns-3 c =
     let after-read2 : tie.After-read2 = search c in
-    let after-read-count : tie.After-read-count = search c in
+    let after-read-count : tie.After-read-count = search after-read2 in
     rw (c .add-threads .ensures) (leaf-closed _ _ _ _ _ (after-read-count .read-count .ensures) _ _ (after-read2 .read2 .given .1) (sym (c .before .before .byte-at .ensures) ∙ c .before .if1 .left))
 
 pub read-leaf-spec : {M : Type 1} → statement M

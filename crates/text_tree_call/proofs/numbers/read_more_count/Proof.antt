@@ -33,24 +33,24 @@ grow-count-requires c κs =
 add-at : tie.Need-add-at Inv-loop μ-loop
 add-at c =
     let after-is-digit-byte : tie.After-is-digit-byte Inv-loop μ-loop = search c in
-    let after-byte-at : tie.After-byte-at Inv-loop μ-loop = search c in
-    let at-loop : tie.At-loop Inv-loop μ-loop = search c in
-    let start-point : tie.Start Inv-loop μ-loop = search c in
+    let after-byte-at : tie.After-byte-at Inv-loop μ-loop = search after-is-digit-byte in
+    let at-loop : tie.At-loop Inv-loop μ-loop = search after-byte-at in
+    let start-point : tie.Start Inv-loop μ-loop = search at-loop in
     omega (arith, digit-in-text (start-point .args .text .now) (at-loop .loop .at) (sym (ap is-digit (after-byte-at .byte-at .ensures)) ∙ sym (after-is-digit-byte .is-digit-byte .ensures) ∙ c .before .before .if1 .taken))
 
 loop-less : tie.Need-loop-less Inv-loop μ-loop
 loop-less c =
     let after-is-digit-byte : tie.After-is-digit-byte Inv-loop μ-loop = search c in
-    let after-byte-at : tie.After-byte-at Inv-loop μ-loop = search c in
-    let at-loop : tie.At-loop Inv-loop μ-loop = search c in
-    let start-point : tie.Start Inv-loop μ-loop = search c in
+    let after-byte-at : tie.After-byte-at Inv-loop μ-loop = search after-is-digit-byte in
+    let at-loop : tie.At-loop Inv-loop μ-loop = search after-byte-at in
+    let start-point : tie.Start Inv-loop μ-loop = search at-loop in
     omega (arith, digit-in-text (start-point .args .text .now) (at-loop .loop .at) (sym (ap is-digit (after-byte-at .byte-at .ensures)) ∙ sym (after-is-digit-byte .is-digit-byte .ensures) ∙ c .before .before .if1 .taken))
 
 loop-again : tie.Need-loop-again Inv-loop μ-loop
 loop-again c =
     let after-is-digit-byte : tie.After-is-digit-byte Inv-loop μ-loop = search c in
-    let after-byte-at : tie.After-byte-at Inv-loop μ-loop = search c in
-    let at-loop : tie.At-loop Inv-loop μ-loop = search c in
+    let after-byte-at : tie.After-byte-at Inv-loop μ-loop = search after-is-digit-byte in
+    let at-loop : tie.At-loop Inv-loop μ-loop = search after-byte-at in
     let grew = c .grow-count .ensures ∙ ap (λ b. least 257 (grown (at-loop .loop .number) b)) (c .before .byte-at2 .ensures) in (
       λ d ds w. at-loop .loop .inv .0 d ds w ∙ count-goes-on _ _ d ds w _ (sym (ap is-digit (after-byte-at .byte-at .ensures)) ∙ sym (after-is-digit-byte .is-digit-byte .ensures) ∙ c .before .before .if1 .taken) ∙ rw grew,
       search needs,

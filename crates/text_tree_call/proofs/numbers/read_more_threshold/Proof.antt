@@ -27,7 +27,7 @@ loop-holds c = (λ d ds w. refl, search needs, search needs)
 grow-requires : tie.Need-grow-requires Inv-loop μ-loop
 grow-requires c κs =
     let read : tie.After-byte-at Inv-loop μ-loop = search c in
-    let start-point : tie.Start Inv-loop μ-loop = search c in
+    let start-point : tie.Start Inv-loop μ-loop = search read in
     let l = read .before .loop in
     let grows-on = sym (ap (grows (l .number)) (read .byte-at .ensures)) ∙ sym (c .before .before .grows-with .ensures) ∙ c .before .if1 .taken in
     (search needs, rw (c .byte-at2 .ensures) (digit-bounds _ (grows-digit (l .number) (getD (start-point .args .text .now) (l .at) 0) grows-on) .0))
@@ -35,8 +35,8 @@ grow-requires c κs =
 add-at : tie.Need-add-at Inv-loop μ-loop
 add-at c =
     let after-grows-with : tie.After-grows-with Inv-loop μ-loop = search c in
-    let read : tie.After-byte-at Inv-loop μ-loop = search c in
-    let start-point : tie.Start Inv-loop μ-loop = search c in
+    let read : tie.After-byte-at Inv-loop μ-loop = search after-grows-with in
+    let start-point : tie.Start Inv-loop μ-loop = search read in
     let l = read .before .loop in
     let text = start-point .args .text .now in
     let grows-on = sym (ap (grows (l .number)) (read .byte-at .ensures)) ∙ sym (after-grows-with .grows-with .ensures) ∙ c .before .before .if1 .taken in
@@ -45,8 +45,8 @@ add-at c =
 loop-less : tie.Need-loop-less Inv-loop μ-loop
 loop-less c =
     let after-grows-with : tie.After-grows-with Inv-loop μ-loop = search c in
-    let read : tie.After-byte-at Inv-loop μ-loop = search c in
-    let start-point : tie.Start Inv-loop μ-loop = search c in
+    let read : tie.After-byte-at Inv-loop μ-loop = search after-grows-with in
+    let start-point : tie.Start Inv-loop μ-loop = search read in
     let l = read .before .loop in
     let text = start-point .args .text .now in
     let grows-on = sym (ap (grows (l .number)) (read .byte-at .ensures)) ∙ sym (after-grows-with .grows-with .ensures) ∙ c .before .before .if1 .taken in
@@ -55,8 +55,8 @@ loop-less c =
 loop-again : tie.Need-loop-again Inv-loop μ-loop
 loop-again c =
     let after-grows-with : tie.After-grows-with Inv-loop μ-loop = search c in
-    let read : tie.After-byte-at Inv-loop μ-loop = search c in
-    let start-point : tie.Start Inv-loop μ-loop = search c in
+    let read : tie.After-byte-at Inv-loop μ-loop = search after-grows-with in
+    let start-point : tie.Start Inv-loop μ-loop = search read in
     let l = read .before .loop in
     let grew = c .grow .ensures ∙ ap (grown (l .number)) (c .before .byte-at2 .ensures) in
     let grows-on = sym (ap (grows (l .number)) (read .byte-at .ensures)) ∙ sym (after-grows-with .grows-with .ensures) ∙ c .before .before .if1 .taken in (

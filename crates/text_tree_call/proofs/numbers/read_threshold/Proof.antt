@@ -28,7 +28,7 @@ sub-byte-number c =
 returns-2 : tie.Need-returns-2
 returns-2 c =
     let after-is-first-digit-byte : tie.After-is-first-digit-byte = search c in
-    let after-byte-at : tie.After-byte-at = search c in
+    let after-byte-at : tie.After-byte-at = search after-is-first-digit-byte in
     threshold-first _ _ _ _ (sym (ap is-first-digit (after-byte-at .byte-at .ensures)) ∙ sym (after-is-first-digit-byte .is-first-digit-byte .ensures) ∙ not-false (after-is-first-digit-byte .is-first-digit-byte .result) (c .before .before .if1 .left)) (c .before .byte-number .ensures ∙ ap (λ b. b - 48) (after-byte-at .byte-at .ensures)) (c .read-more-threshold .ensures)
 
 pub read-threshold-spec : {M : Type 1} → statement M

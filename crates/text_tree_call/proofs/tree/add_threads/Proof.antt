@@ -16,16 +16,16 @@ add-threads c = omega (arith, least-limit 257 (c .before .before .args .tree .th
 fill-homes-requires : tie.Need-fill-homes-requires
 fill-homes-requires c κs =
     let after-number-index : tie.After-number-index = search c in
-    let after-least-of3 : tie.After-least-of3 = search c in
+    let after-least-of3 : tie.After-least-of3 = search after-number-index in
     rw (after-number-index .number-index .ensures, after-least-of3 .least-of3 .ensures) (least-limit 256 _)
 
 returns : tie.Need-returns
 unfolding threads-added threads-after
 returns c =
     let after-number-index : tie.After-number-index = search c in
-    let after-least-of3 : tie.After-least-of3 = search c in
-    let after-least-of2 : tie.After-least-of2 = search c in
-    let after-least-of : tie.After-least-of = search c in
+    let after-least-of3 : tie.After-least-of3 = search after-number-index in
+    let after-least-of2 : tie.After-least-of2 = search after-least-of3 in
+    let after-least-of : tie.After-least-of = search after-least-of2 in
     rw (c .fill-homes .ensures, c .before .number-index2 .ensures, after-number-index .number-index .ensures, after-least-of3 .least-of3 .ensures, after-least-of2 .least-of2 .ensures, after-least-of .least-of .ensures)
 
 pub add-threads-spec : {M : Type 1} → statement M

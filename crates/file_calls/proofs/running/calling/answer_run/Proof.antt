@@ -30,9 +30,9 @@ returns-2 : tie.Need-returns-2
 unfolding run-outcome outcome-reply outcome-output refusal
 returns-2 c =
     let after-write-listing : tie.After-write-listing = search c in
-    let after-number-index : tie.After-number-index = search c in
-    let else1 : tie.Else1 = search c in
-    let start : tie.Start = search c in
+    let after-number-index : tie.After-number-index = search after-write-listing in
+    let else1 : tie.Else1 = search after-number-index in
+    let start : tie.Start = search else1 in
     let a = start .args in
     let ls = listing (a .reply .counts) (take (a .reply .counts .entries) (a .trace .now)) in
     let room = length (a .output .now) in
@@ -47,8 +47,8 @@ returns-2 c =
 cast-t12 : tie.Need-cast-t12
 cast-t12 c =
     let after-write-listing : tie.After-write-listing = search c in
-    let after-number-index : tie.After-number-index = search c in
-    let start : tie.Start = search c in
+    let after-number-index : tie.After-number-index = search after-write-listing in
+    let start : tie.Start = search after-number-index in
     let n = after-number-index .number-index .result in
     let is = start .args .trace .now in
     let h : n ≤ length is = omega arith in
@@ -58,9 +58,9 @@ returns-3 : tie.Need-returns-3
 unfolding run-outcome outcome-reply outcome-output
 returns-3 c =
     let after-write-listing : tie.After-write-listing = search c in
-    let after-number-index : tie.After-number-index = search c in
-    let else1 : tie.Else1 = search c in
-    let start : tie.Start = search c in
+    let after-number-index : tie.After-number-index = search after-write-listing in
+    let else1 : tie.Else1 = search after-number-index in
+    let start : tie.Start = search else1 in
     let a = start .args in
     let ls = listing (a .reply .counts) (take (a .reply .counts .entries) (a .trace .now)) in
     let room = length (a .output .now) in

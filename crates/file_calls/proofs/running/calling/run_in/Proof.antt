@@ -13,7 +13,7 @@ use Rattle.file_calls.proofs.running.calling.run_in.Tie as tie
 slice-aggregate-run-lock : tie.Need-slice-aggregate-run-lock
 slice-aggregate-run-lock c =
     let after-read-schedule : tie.After-read-schedule = search c in
-    let start : tie.Start = search c in
+    let start : tie.Start = search after-read-schedule in
     let a = start .args in
     let n = (length (a .file .now) - a .at) / 2 in
     let l = after-read-schedule .read-schedule .last .1 .1 .0 in
@@ -23,9 +23,9 @@ slice-aggregate-run-lock c =
 answer-run-requires : tie.Need-answer-run-requires
 answer-run-requires c κs =
     let after-run-lock : tie.After-run-lock = search c in
-    let after-fresh-lock : tie.After-fresh-lock = search c in
-    let after-read-schedule : tie.After-read-schedule = search c in
-    let start : tie.Start = search c in
+    let after-fresh-lock : tie.After-fresh-lock = search after-run-lock in
+    let after-read-schedule : tie.After-read-schedule = search after-fresh-lock in
+    let start : tie.Start = search after-read-schedule in
     let a = start .args in
     let pre = start .pre in
     let l = after-read-schedule .read-schedule in
@@ -41,9 +41,9 @@ answer-run-requires c κs =
 returns : tie.Need-returns
 returns c =
     let after-run-lock : tie.After-run-lock = search c in
-    let after-fresh-lock : tie.After-fresh-lock = search c in
-    let after-read-schedule : tie.After-read-schedule = search c in
-    let start : tie.Start = search c in
+    let after-fresh-lock : tie.After-fresh-lock = search after-run-lock in
+    let after-read-schedule : tie.After-read-schedule = search after-fresh-lock in
+    let start : tie.Start = search after-read-schedule in
     let a = start .args in
     let pre = start .pre in
     let l = after-read-schedule .read-schedule in

@@ -29,7 +29,7 @@ same-length-2 c =
 returns-2 : tie.Need-returns-2
 returns-2 c =
     let else2 : tie.Else2 = search c in
-    let then1 : tie.Then1 = search c in
+    let then1 : tie.Then1 = search else2 in
     let e = domain-threshold _ _ (then1 .if1 .taken) (else2 .if2 .left) in
     let w = c .before .before .put-two-bytes .ensures in
     (omega (arith, w .0, ap length e), w .1 ∙ rw (e, add-one))
@@ -60,8 +60,8 @@ same-length-4 c =
 returns-4 : tie.Need-returns-4
 returns-4 c =
     let else3 : tie.Else3 = search c in
-    let else1 : tie.Else1 = search c in
-    let start : tie.Start = search c in
+    let else1 : tie.Else1 = search else3 in
+    let start : tie.Start = search else1 in
     let a = start .args in
     let e = domain-both _ _ (else1 .if1 .left) (else3 .if3 .left) in
     let w = c .before .before .put-two-bytes2 .ensures in

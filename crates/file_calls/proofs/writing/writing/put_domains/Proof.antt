@@ -29,8 +29,8 @@ loop-holds c = (omega arith, omega arith, refl, refl, refl)
 put-domain-requires : tie.Need-put-domain-requires Inv-loop μ-loop
 put-domain-requires c κs =
     let in-loop : tie.In-loop Inv-loop μ-loop = search c in
-    let at-loop : tie.At-loop Inv-loop μ-loop = search c in
-    let start-point : tie.Start Inv-loop μ-loop = search c in
+    let at-loop : tie.At-loop Inv-loop μ-loop = search in-loop in
+    let start-point : tie.Start Inv-loop μ-loop = search at-loop in
     let h = at-loop .loop in
     let a = start-point .args in
     let t = tree-in (a .domains) 0 (a .parents .now) (a .thresholds .now) [] in
@@ -47,9 +47,9 @@ put-domain-requires c κs =
 loop-again : tie.Need-loop-again Inv-loop μ-loop
 loop-again c =
     let after-of-16-bits : tie.After-of-16-bits Inv-loop μ-loop = search c in
-    let in-loop : tie.In-loop Inv-loop μ-loop = search c in
-    let at-loop : tie.At-loop Inv-loop μ-loop = search c in
-    let start-point : tie.Start Inv-loop μ-loop = search c in
+    let in-loop : tie.In-loop Inv-loop μ-loop = search after-of-16-bits in
+    let at-loop : tie.At-loop Inv-loop μ-loop = search in-loop in
+    let start-point : tie.Start Inv-loop μ-loop = search at-loop in
     let h = at-loop .loop in
     let a = start-point .args in
     let t = tree-in (a .domains) 0 (a .parents .now) (a .thresholds .now) [] in

@@ -24,7 +24,7 @@ loop-holds c = (omega arith, refl, omega arith, refl)
 loop-again : tie.Need-loop-again Inv-loop μ-loop
 loop-again c =
     let in-loop : tie.In-loop Inv-loop μ-loop = search c in
-    let at-loop : tie.At-loop Inv-loop μ-loop = search c in
+    let at-loop : tie.At-loop Inv-loop μ-loop = search in-loop in
     let h = at-loop .loop in
     let less = in-loop .loop-test .taken in
     let w = c .before .before .put-two-bytes in (

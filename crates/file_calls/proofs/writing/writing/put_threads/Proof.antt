@@ -30,7 +30,7 @@ loop-holds c = (omega arith, refl, rw sub-zero, rw sub-zero)
 put-thread-requires : tie.Need-put-thread-requires Inv-loop μ-loop
 put-thread-requires c κs =
     let at-loop : tie.At-loop Inv-loop μ-loop = search c in
-    let start-point : tie.Start Inv-loop μ-loop = search c in
+    let start-point : tie.Start Inv-loop μ-loop = search at-loop in
     let h = at-loop .loop in
     let a = start-point .args in
     let less = c .before .before .loop-test .taken in
@@ -40,8 +40,8 @@ put-thread-requires c κs =
 loop-again : tie.Need-loop-again Inv-loop μ-loop
 loop-again c =
     let in-loop : tie.In-loop Inv-loop μ-loop = search c in
-    let at-loop : tie.At-loop Inv-loop μ-loop = search c in
-    let start-point : tie.Start Inv-loop μ-loop = search c in
+    let at-loop : tie.At-loop Inv-loop μ-loop = search in-loop in
+    let start-point : tie.Start Inv-loop μ-loop = search at-loop in
     let h = at-loop .loop in
     let a = start-point .args in
     let less = in-loop .loop-test .taken in

@@ -7,27 +7,6 @@ use borrow.Author.Needs.{needs}
 use Rattle.journal_call.proofs.pieces.alike.all_are.Statement.{statement}
 use Rattle.journal_call.proofs.pieces.alike.all_are.Tie as tie
 
-mul-word : tie.Need-mul-word
-mul-word c = search needs
-
-add-word : tie.Need-add-word
-add-word c = search needs
-
-mul-word-2 : tie.Need-mul-word-2
-mul-word-2 c = search needs
-
-add-word-2 : tie.Need-add-word-2
-add-word-2 c = search needs
-
-mul-word-3 : tie.Need-mul-word-3
-mul-word-3 c = search needs
-
-add-word-3 : tie.Need-add-word-3
-add-word-3 c = search needs
-
-mul-result : tie.Need-mul-result
-mul-result c = search needs
-
 returns : tie.Need-returns
 returns c = λ z.
     let a = c .args in
@@ -40,4 +19,4 @@ returns c = λ z.
 pub all-are-spec : {M : Type 1} → statement M
 all-are-spec =
     tie.close
-    (tie.spec mul-word add-word mul-word-2 add-word-2 mul-word-3 add-word-3 mul-result returns)
+    (tie.spec (λ c. search needs) (λ c. search needs) (λ c. search needs) (λ c. search needs) (λ c. search needs) (λ c. search needs) (λ c. search needs) returns)

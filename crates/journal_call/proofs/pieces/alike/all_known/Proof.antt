@@ -13,8 +13,5 @@ returns-2 c = λ z. absurd (false≢true z)
 returns-3 : tie.Need-returns-3
 returns-3 c = λ z. absurd (false≢true z)
 
-returns-4 : tie.Need-returns-4
-returns-4 c = search needs
-
 pub all-known-spec : {M : Type 1} → statement M
-all-known-spec = tie.close (tie.spec returns returns-2 returns-3 returns-4)
+all-known-spec = tie.close (tie.spec returns returns-2 returns-3 (λ c. search needs))

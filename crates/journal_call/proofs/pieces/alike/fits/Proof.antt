@@ -10,26 +10,17 @@ use Rattle.journal_call.proofs.pieces.alike.fits.Tie as tie
 returns : tie.Need-returns
 returns c = λ z. absurd (false≢true z)
 
-sub-if2 : tie.Need-sub-if2
-sub-if2 c = search needs
-
 returns-2 : tie.Need-returns-2
 returns-2 c = λ z. absurd (false≢true z)
 
 returns-3 : tie.Need-returns-3
 returns-3 c = λ z. absurd (false≢true z)
 
-sub-if4 : tie.Need-sub-if4
-sub-if4 c = search needs
-
 returns-4 : tie.Need-returns-4
 returns-4 c = λ z. absurd (false≢true z)
 
 returns-5 : tie.Need-returns-5
 returns-5 c = λ z. absurd (false≢true z)
-
-sub-result : tie.Need-sub-result
-sub-result c = search needs
 
 returns-6 : tie.Need-returns-6
 returns-6 c =
@@ -42,4 +33,4 @@ returns-6 c =
 pub fits-spec : {M : Type 1} → statement M
 fits-spec =
     tie.close
-    (tie.spec returns sub-if2 returns-2 returns-3 sub-if4 returns-4 returns-5 sub-result returns-6)
+    (tie.spec returns (λ c. search needs) returns-2 returns-3 (λ c. search needs) returns-4 returns-5 (λ c. search needs) returns-6)

@@ -5,56 +5,32 @@ use borrow.Author.Needs.{needs}
 use Rattle.journal_call.proofs.pieces.alike.read_four.Statement.{statement}
 use Rattle.journal_call.proofs.pieces.alike.read_four.Tie as tie
 
-stopped-requires : tie.Need-stopped-requires
-stopped-requires c κs = search needs
-
 returns : tie.Need-returns
 returns c =
     let begin : tie.Start = search c in
     rw (c .stopped .ensures) (nothing _ _ _ _ _ _ _ (begin .pre .0) (begin .pre .1))
 
-fits-requires : tie.Need-fits-requires
-fits-requires c κs = search needs
-
 read-same-requires : tie.Need-read-same-requires
 read-same-requires c κs =
     let after-fits2 : tie.After-fits2 = search c in
-    let else1 : tie.Else1 = search c in
+    let else1 : tie.Else1 = search after-fits2 in
     (after-fits2 .fits2 .ensures (c .before .before .if2 .taken), omega (arith, else1 .if1 .left))
-
-same-length : tie.Need-same-length
-same-length c = search needs
-
-same-length-2 : tie.Need-same-length-2
-same-length-2 c = search needs
-
-returns-2 : tie.Need-returns-2
-returns-2 c = search needs
 
 read-others-requires : tie.Need-read-others-requires
 read-others-requires c κs =
     let after-read-same : tie.After-read-same = search c in
-    let then2 : tie.Then2 = search c in
-    let after-fits2 : tie.After-fits2 = search c in
+    let then2 : tie.Then2 = search after-read-same in
+    let after-fits2 : tie.After-fits2 = search then2 in
     let fits = after-fits2 .fits2 .ensures (then2 .if2 .taken) in
     let kept = after-read-same .read-same .kept in
     record { bytes-left = fits .bytes-left; threads-left = omega (arith, fits .threads-left, kept .1 .1 .1 .1 .0); kinds-left = omega (arith, fits .kinds-left, kept .1 .1 .1 .1 .1 .0) }
 
-same-length-3 : tie.Need-same-length-3
-same-length-3 c = search needs
-
-same-length-4 : tie.Need-same-length-4
-same-length-4 c = search needs
-
 returns-3 : tie.Need-returns-3
 returns-3 c =
     let after-read-others : tie.After-read-others = search c in
-    let else3 : tie.Else3 = search c in
-    let after-read-same : tie.After-read-same = search c in
+    let else3 : tie.Else3 = search after-read-others in
+    let after-read-same : tie.After-read-same = search else3 in
     again _ _ _ _ _ _ _ _ _ _ _ _ (after-read-same .read-same .ensures) (omega (arith, else3 .if3 .left)) _ _ _ _ _ (after-read-others .read-others .ensures)
-
-stopped-requires-2 : tie.Need-stopped-requires-2
-stopped-requires-2 c κs = search needs
 
 returns-4 : tie.Need-returns-4
 returns-4 c =
@@ -65,16 +41,16 @@ pub read-four-spec : {M : Type 1} → statement M
 read-four-spec =
     tie.close
     (tie.spec
-    stopped-requires
+    (λ c κs. search needs)
     returns
-    fits-requires
+    (λ c κs. search needs)
     read-same-requires
-    same-length
-    same-length-2
-    returns-2
+    (λ c. search needs)
+    (λ c. search needs)
+    (λ c. search needs)
     read-others-requires
-    same-length-3
-    same-length-4
+    (λ c. search needs)
+    (λ c. search needs)
     returns-3
-    stopped-requires-2
+    (λ c κs. search needs)
     returns-4)

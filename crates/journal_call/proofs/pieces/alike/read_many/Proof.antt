@@ -5,34 +5,16 @@ use borrow.Author.Needs.{needs}
 use Rattle.journal_call.proofs.pieces.alike.read_many.Statement.{statement}
 use Rattle.journal_call.proofs.pieces.alike.read_many.Tie as tie
 
-stopped-requires : tie.Need-stopped-requires
-stopped-requires c κs = search needs
-
 returns : tie.Need-returns
 returns c =
     let begin : tie.Start = search c in
     rw (c .stopped .ensures) (nothing _ _ _ _ _ _ _ (begin .pre .0) (begin .pre .1))
 
-fits-requires : tie.Need-fits-requires
-fits-requires c κs = search needs
-
 read-sixteen-requires : tie.Need-read-sixteen-requires
 read-sixteen-requires c κs =
     let after-fits2 : tie.After-fits2 = search c in
-    let else1 : tie.Else1 = search c in
+    let else1 : tie.Else1 = search after-fits2 in
     (after-fits2 .fits2 .ensures (c .before .before .if2 .taken), omega (arith, else1 .if1 .left))
-
-same-length : tie.Need-same-length
-same-length c = search needs
-
-same-length-2 : tie.Need-same-length-2
-same-length-2 c = search needs
-
-returns-2 : tie.Need-returns-2
-returns-2 c = search needs
-
-stopped-requires-2 : tie.Need-stopped-requires-2
-stopped-requires-2 c κs = search needs
 
 returns-3 : tie.Need-returns-3
 returns-3 c =
@@ -40,4 +22,4 @@ returns-3 c =
     rw (c .stopped2 .ensures) (nothing _ _ _ _ _ _ _ (begin .pre .0) (begin .pre .1))
 
 pub read-many-spec : {M : Type 1} → statement M
-read-many-spec = tie.close (tie.spec stopped-requires returns fits-requires read-sixteen-requires same-length same-length-2 returns-2 stopped-requires-2 returns-3)
+read-many-spec = tie.close (tie.spec (λ c κs. search needs) returns (λ c κs. search needs) read-sixteen-requires (λ c. search needs) (λ c. search needs) (λ c. search needs) (λ c κs. search needs) returns-3)

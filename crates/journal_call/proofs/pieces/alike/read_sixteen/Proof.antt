@@ -24,9 +24,6 @@ kinds-given-requires c κs =
     let start : tie.Start Inv-loop μ-loop = search c in
     start .pre .0 .bytes-left
 
-stopped-requires : tie.Need-stopped-requires Inv-loop μ-loop
-stopped-requires c κs = search needs
-
 returns : tie.Need-returns Inv-loop μ-loop
 returns c =
     let start : tie.Start Inv-loop μ-loop = search c in
@@ -88,17 +85,11 @@ slice-write-kinds c =
     let l = c .before .before .loop in
     omega (arith, c .before .loop-test .taken, begin .pre .0 .kinds-left, kinds-long _ _ _ _ _ _ _ _ _ _ _ _ (l .inv .1))
 
-add-k : tie.Need-add-k Inv-loop μ-loop
-add-k c = omega arith
-
-loop-less : tie.Need-loop-less Inv-loop μ-loop
-loop-less c = omega arith
-
 loop-again : tie.Need-loop-again Inv-loop μ-loop
 loop-again c =
     let else1 : tie.Else1 Inv-loop μ-loop = search c in
-    let after-kinds-given : tie.After-kinds-given Inv-loop μ-loop = search c in
-    let begin : tie.Start Inv-loop μ-loop = search c in
+    let after-kinds-given : tie.After-kinds-given Inv-loop μ-loop = search else1 in
+    let begin : tie.Start Inv-loop μ-loop = search after-kinds-given in
     let l = c .before .before .loop in
     let here = c .before .loop-test .taken in
     let bits : getD (begin .args .journal .now) (begin .args .position + 2 * l .k) 0 ≡ 2 = after-kinds-given .kinds-given .ensures (not-false _ (else1 .if1 .left)) (l .k) here in
@@ -121,9 +112,6 @@ add-stopped-2 c =
     let start : tie.Start Inv-loop μ-loop = search c in
     omega (arith, start .pre .0 .bytes-left)
 
-stopped-requires-2 : tie.Need-stopped-requires-2 Inv-loop μ-loop
-stopped-requires-2 c κs = search needs
-
 same-length : tie.Need-same-length Inv-loop μ-loop
 same-length c = threads-long _ _ _ _ _ _ _ _ _ _ _ _ (c .before .before .loop .inv .1)
 
@@ -144,7 +132,7 @@ read-sixteen-spec =
     Inv-loop
     μ-loop
     kinds-given-requires
-    stopped-requires
+    (λ c κs. search needs)
     returns
     loop-holds
     add-threads
@@ -156,12 +144,12 @@ read-sixteen-spec =
     shared-slice-read-kinds
     add-kinds-3
     slice-write-kinds
-    add-k
-    loop-less
+    (λ c. search needs)
+    (λ c. search needs)
     loop-again
     add-stopped
     add-stopped-2
-    stopped-requires-2
+    (λ c κs. search needs)
     same-length
     same-length-2
     returns-2)

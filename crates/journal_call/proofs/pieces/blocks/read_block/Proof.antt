@@ -41,9 +41,6 @@ shared-slice-read-bits c =
     let l = c .before .before .loop in
     omega (arith, l .inv, c .before .loop-test .taken, begin .pre)
 
-stopped-requires : tie.Need-stopped-requires Inv-loop μ-loop
-stopped-requires c κs = search needs
-
 same-length : tie.Need-same-length Inv-loop μ-loop
 same-length c =
     let at-loop : tie.At-loop Inv-loop μ-loop = search c in
@@ -57,27 +54,18 @@ same-length-2 c =
 returns : tie.Need-returns Inv-loop μ-loop
 returns c =
     let in-loop : tie.In-loop Inv-loop μ-loop = search c in
-    let at-loop : tie.At-loop Inv-loop μ-loop = search c in
-    let begin : tie.Start Inv-loop μ-loop = search c in
+    let at-loop : tie.At-loop Inv-loop μ-loop = search in-loop in
+    let begin : tie.Start Inv-loop μ-loop = search at-loop in
     let l = at-loop .loop in
     rw (c .stopped .ensures) (l .inv .2, broken _ _ _ _ _ _ (no-entry (begin .args .journal .now) (begin .args .position + l .passed) (l .last) _ (omega (arith, l .inv, in-loop .loop-test .taken, begin .pre)) refl (c .before .if1 .taken)))
-
-byte-index-requires : tie.Need-byte-index-requires Inv-loop μ-loop
-byte-index-requires c κs = search needs
 
 thread-at-requires : tie.Need-thread-at-requires Inv-loop μ-loop
 thread-at-requires c κs =
     let in-loop : tie.In-loop Inv-loop μ-loop = search c in
-    let at-loop : tie.At-loop Inv-loop μ-loop = search c in
-    let begin : tie.Start Inv-loop μ-loop = search c in
+    let at-loop : tie.At-loop Inv-loop μ-loop = search in-loop in
+    let begin : tie.Start Inv-loop μ-loop = search at-loop in
     let l = at-loop .loop in
     (omega (arith, c .before .if1 .left, c .byte-index .ensures .0), omega (arith, l .inv, in-loop .loop-test .taken, begin .pre))
-
-cast-if2 : tie.Need-cast-if2 Inv-loop μ-loop
-cast-if2 c = search needs
-
-stopped-requires-2 : tie.Need-stopped-requires-2 Inv-loop μ-loop
-stopped-requires-2 c κs = search needs
 
 same-length-3 : tie.Need-same-length-3 Inv-loop μ-loop
 same-length-3 c =
@@ -92,64 +80,55 @@ same-length-4 c =
 returns-2 : tie.Need-returns-2 Inv-loop μ-loop
 returns-2 c =
     let after-byte-index : tie.After-byte-index Inv-loop μ-loop = search c in
-    let else1 : tie.Else1 Inv-loop μ-loop = search c in
-    let in-loop : tie.In-loop Inv-loop μ-loop = search c in
-    let at-loop : tie.At-loop Inv-loop μ-loop = search c in
-    let begin : tie.Start Inv-loop μ-loop = search c in
+    let else1 : tie.Else1 Inv-loop μ-loop = search after-byte-index in
+    let in-loop : tie.In-loop Inv-loop μ-loop = search else1 in
+    let at-loop : tie.At-loop Inv-loop μ-loop = search in-loop in
+    let begin : tie.Start Inv-loop μ-loop = search at-loop in
     let l = at-loop .loop in
     let map = after-byte-index .byte-index in
     rw (c .stopped2 .ensures)
     (l .inv .2, unknown _ _ _ _ _ _ _ _ _ (entry-read (begin .args .journal .now) (begin .args .position + l .passed) (l .last) (map .result) (omega (arith, l .inv, in-loop .loop-test .taken, begin .pre)) (map .ensures .0) _ _ _ (omega (arith, else1 .if1 .left, map .ensures .0)) (c .before .before .thread-at .ensures) refl refl) (c .before .if2 .taken))
 
-mul-threads : tie.Need-mul-threads Inv-loop μ-loop
-mul-threads c = omega arith
-
 slice-write-threads : tie.Need-slice-write-threads Inv-loop μ-loop
 slice-write-threads c =
     let in-loop : tie.In-loop Inv-loop μ-loop = search c in
-    let at-loop : tie.At-loop Inv-loop μ-loop = search c in
-    let begin : tie.Start Inv-loop μ-loop = search c in
+    let at-loop : tie.At-loop Inv-loop μ-loop = search in-loop in
+    let begin : tie.Start Inv-loop μ-loop = search at-loop in
     let l = at-loop .loop in
     omega (arith, in-loop .loop-test .taken, threads-long _ _ _ _ _ _ _ _ _ _ _ _ (l .inv .2), begin .pre)
 
 kind-at-requires : tie.Need-kind-at-requires Inv-loop μ-loop
 kind-at-requires c κs =
     let else1 : tie.Else1 Inv-loop μ-loop = search c in
-    let in-loop : tie.In-loop Inv-loop μ-loop = search c in
-    let at-loop : tie.At-loop Inv-loop μ-loop = search c in
-    let begin : tie.Start Inv-loop μ-loop = search c in
+    let in-loop : tie.In-loop Inv-loop μ-loop = search else1 in
+    let at-loop : tie.At-loop Inv-loop μ-loop = search in-loop in
+    let begin : tie.Start Inv-loop μ-loop = search at-loop in
     let l = at-loop .loop in
     (omega (arith, else1 .if1 .left, c .before .before .byte-index .ensures .0), omega (arith, l .inv, in-loop .loop-test .taken, begin .pre))
 
 slice-write-kinds : tie.Need-slice-write-kinds Inv-loop μ-loop
 slice-write-kinds c =
     let in-loop : tie.In-loop Inv-loop μ-loop = search c in
-    let at-loop : tie.At-loop Inv-loop μ-loop = search c in
-    let begin : tie.Start Inv-loop μ-loop = search c in
+    let at-loop : tie.At-loop Inv-loop μ-loop = search in-loop in
+    let begin : tie.Start Inv-loop μ-loop = search at-loop in
     let l = at-loop .loop in
     omega (arith, in-loop .loop-test .taken, kinds-long _ _ _ _ _ _ _ _ _ _ _ _ (l .inv .2), begin .pre)
 
 array-read-byte-index : tie.Need-array-read-byte-index Inv-loop μ-loop
 array-read-byte-index c =
     let in-loop : tie.In-loop Inv-loop μ-loop = search c in
-    let at-loop : tie.At-loop Inv-loop μ-loop = search c in
-    let begin : tie.Start Inv-loop μ-loop = search c in
+    let at-loop : tie.At-loop Inv-loop μ-loop = search in-loop in
+    let begin : tie.Start Inv-loop μ-loop = search at-loop in
     let l = at-loop .loop in
     omega (arith, l .inv, in-loop .loop-test .taken, begin .pre)
-
-byte-index-requires-2 : tie.Need-byte-index-requires-2 Inv-loop μ-loop
-byte-index-requires-2 c κs = search needs
 
 add-passed : tie.Need-add-passed Inv-loop μ-loop
 add-passed c =
     let in-loop : tie.In-loop Inv-loop μ-loop = search c in
-    let at-loop : tie.At-loop Inv-loop μ-loop = search c in
-    let begin : tie.Start Inv-loop μ-loop = search c in
+    let at-loop : tie.At-loop Inv-loop μ-loop = search in-loop in
+    let begin : tie.Start Inv-loop μ-loop = search at-loop in
     let l = at-loop .loop in
     omega (arith, l .inv, in-loop .loop-test .taken, begin .pre)
-
-add-count : tie.Need-add-count Inv-loop μ-loop
-add-count c = omega arith
 
 loop-less : tie.Need-loop-less Inv-loop μ-loop
 loop-less c =
@@ -159,12 +138,12 @@ loop-less c =
 loop-again : tie.Need-loop-again Inv-loop μ-loop
 loop-again c =
     let after-thread-at : tie.After-thread-at Inv-loop μ-loop = search c in
-    let after-byte-index : tie.After-byte-index Inv-loop μ-loop = search c in
-    let else1 : tie.Else1 Inv-loop μ-loop = search c in
-    let in-loop : tie.In-loop Inv-loop μ-loop = search c in
-    let at-loop : tie.At-loop Inv-loop μ-loop = search c in
-    let after-sizes-from : tie.After-sizes-from Inv-loop μ-loop = search c in
-    let begin : tie.Start Inv-loop μ-loop = search c in
+    let after-byte-index : tie.After-byte-index Inv-loop μ-loop = search after-thread-at in
+    let else1 : tie.Else1 Inv-loop μ-loop = search after-byte-index in
+    let in-loop : tie.In-loop Inv-loop μ-loop = search else1 in
+    let at-loop : tie.At-loop Inv-loop μ-loop = search in-loop in
+    let after-sizes-from : tie.After-sizes-from Inv-loop μ-loop = search at-loop in
+    let begin : tie.Start Inv-loop μ-loop = search after-sizes-from in
     let l = at-loop .loop in
     let here = in-loop .loop-test .taken in
     let map = after-byte-index .byte-index in
@@ -186,9 +165,6 @@ add-stopped c =
     let begin : tie.Start Inv-loop μ-loop = search c in
     let l = c .before .loop in
     omega (arith, l .inv, begin .pre)
-
-stopped-requires-3 : tie.Need-stopped-requires-3 Inv-loop μ-loop
-stopped-requires-3 c κs = search needs
 
 same-length-5 : tie.Need-same-length-5 Inv-loop μ-loop
 same-length-5 c = threads-long _ _ _ _ _ _ _ _ _ _ _ _ (c .before .before .loop .inv .2)
@@ -212,29 +188,29 @@ read-block-spec =
     loop-holds
     add-at
     shared-slice-read-bits
-    stopped-requires
+    (λ c κs. search needs)
     same-length
     same-length-2
     returns
-    byte-index-requires
+    (λ c κs. search needs)
     thread-at-requires
-    cast-if2
-    stopped-requires-2
+    (λ c. search needs)
+    (λ c κs. search needs)
     same-length-3
     same-length-4
     returns-2
-    mul-threads
+    (λ c. search needs)
     slice-write-threads
     kind-at-requires
     slice-write-kinds
     array-read-byte-index
-    byte-index-requires-2
+    (λ c κs. search needs)
     add-passed
-    add-count
+    (λ c. search needs)
     loop-less
     loop-again
     add-stopped
-    stopped-requires-3
+    (λ c κs. search needs)
     same-length-5
     same-length-6
     returns-3)

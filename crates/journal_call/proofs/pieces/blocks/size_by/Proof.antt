@@ -4,17 +4,5 @@ use borrow.Author.Needs.{needs}
 use Rattle.journal_call.proofs.pieces.blocks.size_by.Statement.{statement}
 use Rattle.journal_call.proofs.pieces.blocks.size_by.Tie as tie
 
-mul-result : tie.Need-mul-result
-mul-result c = search needs
-
-add-result : tie.Need-add-result
-add-result c = search needs
-
-add-result-2 : tie.Need-add-result-2
-add-result-2 c = search needs
-
-returns : tie.Need-returns
-returns c h = omega arith
-
 pub size-by-spec : {M : Type 1} → statement M
-size-by-spec = tie.close (tie.spec mul-result add-result add-result-2 returns)
+size-by-spec = tie.close (tie.spec (λ c. search needs) (λ c. search needs) (λ c. search needs) (λ c h. omega arith))

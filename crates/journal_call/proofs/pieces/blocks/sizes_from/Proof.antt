@@ -17,24 +17,6 @@ abbrev μ-loop : tie.MeasureT-loop
 loop-holds : tie.Need-loop-holds Inv-loop μ-loop
 loop-holds c = (omega arith, no-size _ _ _ refl)
 
-add-size-by : tie.Need-add-size-by Inv-loop μ-loop
-add-size-by c = search needs
-
-shared-slice-read-size-by : tie.Need-shared-slice-read-size-by Inv-loop μ-loop
-shared-slice-read-size-by c = search needs
-
-size-by-requires : tie.Need-size-by-requires Inv-loop μ-loop
-size-by-requires c κs = search needs
-
-array-write-sizes : tie.Need-array-write-sizes Inv-loop μ-loop
-array-write-sizes c = search needs
-
-add-k : tie.Need-add-k Inv-loop μ-loop
-add-k c = omega arith
-
-loop-less : tie.Need-loop-less Inv-loop μ-loop
-loop-less c = omega arith
-
 loop-again : tie.Need-loop-again Inv-loop μ-loop
 loop-again c =
     let at-loop : tie.At-loop Inv-loop μ-loop = search c in
@@ -47,4 +29,4 @@ returns c =
     rw done at (l .inv .1)
 
 pub sizes-from-spec : {M : Type 1} → statement M
-sizes-from-spec = tie.close (tie.spec Inv-loop μ-loop loop-holds add-size-by shared-slice-read-size-by size-by-requires array-write-sizes add-k loop-less loop-again returns)
+sizes-from-spec = tie.close (tie.spec Inv-loop μ-loop loop-holds (λ c. search needs) (λ c. search needs) (λ c κs. search needs) (λ c. search needs) (λ c. search needs) (λ c. omega arith) loop-again returns)

@@ -1,6 +1,6 @@
 -- `journal_call::step_check::pieces::check_all` meets its contract: piece after piece, up to the first that has a wrong step, or the last.
 use mathlib.Core.Path.{_≡_, refl, sym, ap, _∙_}
-use Prim.Native.Nat.{_+_, _-_, _≤_}
+use Prim.Native.Nat.{_+_, _-_}
 use native.Mathlib.Omega.{arith}
 use lib.ListN.{length}
 use borrow.Author.Needs.{needs}
@@ -23,63 +23,30 @@ loop-holds c =
     let f : tie.Start Inv-loop μ-loop = search c in
     (f .pre .1 .1 .1 .0, (f .pre .1 .1 .1 .1, none-yet _ _ (f .args .threads .now) (f .args .kinds .now) (f .args .domains .now) (f .pre .1 .0) (f .pre .1 .1 .0) (f .pre .0)))
 
-sub-loop : tie.Need-sub-loop Inv-loop μ-loop
-sub-loop c = omega arith
-
-add-end : tie.Need-add-end Inv-loop μ-loop
-add-end c = omega arith
-
 mul-check-piece : tie.Need-mul-check-piece Inv-loop μ-loop
 mul-check-piece c =
     let after-check-piece-arg2 : tie.After-check-piece-arg2 Inv-loop μ-loop = search c in
-    let at-loop : tie.At-loop Inv-loop μ-loop = search c in
-    let f : tie.Start Inv-loop μ-loop = search c in omega (arith, at-loop .loop .inv .1 .1 .within, f .pre .1 .0, f .pre .1 .1 .0, f .good .1 .1 .1 .1 .1 .1 .1 .1 .1 .1 .1 .1 .1 .0)
-
-sub-check-piece : tie.Need-sub-check-piece Inv-loop μ-loop
-sub-check-piece c = omega arith
-
-part-check-piece-start : tie.Need-part-check-piece-start Inv-loop μ-loop
-part-check-piece-start c = omega arith
-
-part-check-piece-end : tie.Need-part-check-piece-end Inv-loop μ-loop
-part-check-piece-end c = omega arith
+    let at-loop : tie.At-loop Inv-loop μ-loop = search after-check-piece-arg2 in
+    let f : tie.Start Inv-loop μ-loop = search at-loop in omega (arith, at-loop .loop .inv .1 .1 .within, f .pre .1 .0, f .pre .1 .1 .0, f .good .1 .1 .1 .1 .1 .1 .1 .1 .1 .1 .1 .1 .1 .0)
 
 mul-check-piece-2 : tie.Need-mul-check-piece-2 Inv-loop μ-loop
 mul-check-piece-2 c =
     let after-check-piece-arg3 : tie.After-check-piece-arg3 Inv-loop μ-loop = search c in
-    let at-loop : tie.At-loop Inv-loop μ-loop = search c in
-    let f : tie.Start Inv-loop μ-loop = search c in omega (arith, at-loop .loop .inv .1 .1 .within, f .pre .1 .0, f .pre .1 .1 .0, f .good .1 .1 .1 .1 .1 .1 .1 .1 .1 .1 .1 .1 .1 .0)
-
-sub-check-piece-2 : tie.Need-sub-check-piece-2 Inv-loop μ-loop
-sub-check-piece-2 c = omega arith
-
-part-check-piece-start-2 : tie.Need-part-check-piece-start-2 Inv-loop μ-loop
-part-check-piece-start-2 c = omega arith
-
-part-check-piece-end-2 : tie.Need-part-check-piece-end-2 Inv-loop μ-loop
-part-check-piece-end-2 c = omega arith
+    let at-loop : tie.At-loop Inv-loop μ-loop = search after-check-piece-arg3 in
+    let f : tie.Start Inv-loop μ-loop = search at-loop in omega (arith, at-loop .loop .inv .1 .1 .within, f .pre .1 .0, f .pre .1 .1 .0, f .good .1 .1 .1 .1 .1 .1 .1 .1 .1 .1 .1 .1 .1 .0)
 
 mul-check-piece-3 : tie.Need-mul-check-piece-3 Inv-loop μ-loop
 mul-check-piece-3 c =
     let after-check-piece-arg4 : tie.After-check-piece-arg4 Inv-loop μ-loop = search c in
-    let at-loop : tie.At-loop Inv-loop μ-loop = search c in
-    let f : tie.Start Inv-loop μ-loop = search c in omega (arith, at-loop .loop .inv .1 .1 .within, f .pre .1 .0, f .pre .1 .1 .0, f .good .1 .1 .1 .1 .1 .1 .1 .1 .1 .1 .1 .1 .1 .0)
-
-sub-check-piece-3 : tie.Need-sub-check-piece-3 Inv-loop μ-loop
-sub-check-piece-3 c = omega arith
-
-part-check-piece-start-3 : tie.Need-part-check-piece-start-3 Inv-loop μ-loop
-part-check-piece-start-3 c = omega arith
-
-part-check-piece-end-3 : tie.Need-part-check-piece-end-3 Inv-loop μ-loop
-part-check-piece-end-3 c = omega arith
+    let at-loop : tie.At-loop Inv-loop μ-loop = search after-check-piece-arg4 in
+    let f : tie.Start Inv-loop μ-loop = search at-loop in omega (arith, at-loop .loop .inv .1 .1 .within, f .pre .1 .0, f .pre .1 .1 .0, f .good .1 .1 .1 .1 .1 .1 .1 .1 .1 .1 .1 .1 .1 .0)
 
 check-piece-requires : tie.Need-check-piece-requires Inv-loop μ-loop
 check-piece-requires c κs =
     let after-check-piece-arg7 : tie.After-check-piece-arg7 Inv-loop μ-loop = search c in
-    let in-loop : tie.In-loop Inv-loop μ-loop = search c in
-    let at-loop : tie.At-loop Inv-loop μ-loop = search c in
-    let f : tie.Start Inv-loop μ-loop = search c in
+    let in-loop : tie.In-loop Inv-loop μ-loop = search after-check-piece-arg7 in
+    let at-loop : tie.At-loop Inv-loop μ-loop = search in-loop in
+    let f : tie.Start Inv-loop μ-loop = search at-loop in
     let l = at-loop .loop in
     let g = l .inv .1 .1 in
     (g .ready, piece-fits _ _ (f .args .threads .now) (f .args .kinds .now) (f .args .domains .now) (f .pre .1 .0) (f .pre .1 .1 .0) _ (l .at) (l .at + 1024) g (omega arith) (omega (arith, g .within, in-loop .loop-test .taken)) _ _ (omega arith) (l .inv .0) (l .inv .1 .0))
@@ -87,10 +54,10 @@ check-piece-requires c κs =
 add-t56 : tie.Need-add-t56 Inv-loop μ-loop
 add-t56 c =
     let after-check-piece : tie.After-check-piece Inv-loop μ-loop = search c in
-    let after-check-piece-arg8 : tie.After-check-piece-arg8 Inv-loop μ-loop = search c in
-    let in-loop : tie.In-loop Inv-loop μ-loop = search c in
-    let at-loop : tie.At-loop Inv-loop μ-loop = search c in
-    let f : tie.Start Inv-loop μ-loop = search c in
+    let after-check-piece-arg8 : tie.After-check-piece-arg8 Inv-loop μ-loop = search after-check-piece in
+    let in-loop : tie.In-loop Inv-loop μ-loop = search after-check-piece-arg8 in
+    let at-loop : tie.At-loop Inv-loop μ-loop = search in-loop in
+    let f : tie.Start Inv-loop μ-loop = search at-loop in
     let l = at-loop .loop in
     let g = l .inv .1 .1 in
     omega (arith, steps-few _ _ (f .args .threads .now) (f .args .kinds .now) (f .args .domains .now) (f .pre .1 .0) (f .pre .1 .1 .0) _ (l .at) (l .at + 1024) g (omega arith) (omega (arith, g .within, in-loop .loop-test .taken)) _ (ap (λ v. v .steps) (after-check-piece .check-piece .ensures .0)), f .good .1 .1 .1 .1 .1 .1 .1 .1 .1 .1 .1 .1 .1 .0)
@@ -98,26 +65,26 @@ add-t56 c =
 same-length : tie.Need-same-length Inv-loop μ-loop
 same-length c =
     let after-check-piece : tie.After-check-piece Inv-loop μ-loop = search c in
-    let after-check-piece-arg8 : tie.After-check-piece-arg8 Inv-loop μ-loop = search c in
-    let at-loop : tie.At-loop Inv-loop μ-loop = search c in
-    let start : tie.Start Inv-loop μ-loop = search c in
+    let after-check-piece-arg8 : tie.After-check-piece-arg8 Inv-loop μ-loop = search after-check-piece in
+    let at-loop : tie.At-loop Inv-loop μ-loop = search after-check-piece-arg8 in
+    let start : tie.Start Inv-loop μ-loop = search at-loop in
     after-check-piece .check-piece .ensures .1 .1 .0 ∙ at-loop .loop .inv .0 ∙ sym (start .pre .1 .1 .1 .0)
 
 same-length-2 : tie.Need-same-length-2 Inv-loop μ-loop
 same-length-2 c =
     let after-check-piece : tie.After-check-piece Inv-loop μ-loop = search c in
-    let after-check-piece-arg8 : tie.After-check-piece-arg8 Inv-loop μ-loop = search c in
-    let at-loop : tie.At-loop Inv-loop μ-loop = search c in
-    let start : tie.Start Inv-loop μ-loop = search c in
+    let after-check-piece-arg8 : tie.After-check-piece-arg8 Inv-loop μ-loop = search after-check-piece in
+    let at-loop : tie.At-loop Inv-loop μ-loop = search after-check-piece-arg8 in
+    let start : tie.Start Inv-loop μ-loop = search at-loop in
     after-check-piece .check-piece .ensures .1 .1 .1 ∙ at-loop .loop .inv .1 .0 ∙ sym (start .pre .1 .1 .1 .1)
 
 returns : tie.Need-returns Inv-loop μ-loop
 returns c =
     let after-check-piece : tie.After-check-piece Inv-loop μ-loop = search c in
-    let after-check-piece-arg8 : tie.After-check-piece-arg8 Inv-loop μ-loop = search c in
-    let in-loop : tie.In-loop Inv-loop μ-loop = search c in
-    let at-loop : tie.At-loop Inv-loop μ-loop = search c in
-    let f : tie.Start Inv-loop μ-loop = search c in
+    let after-check-piece-arg8 : tie.After-check-piece-arg8 Inv-loop μ-loop = search after-check-piece in
+    let in-loop : tie.In-loop Inv-loop μ-loop = search after-check-piece-arg8 in
+    let at-loop : tie.At-loop Inv-loop μ-loop = search in-loop in
+    let f : tie.Start Inv-loop μ-loop = search at-loop in
     let l = at-loop .loop in
     let g = l .inv .1 .1 in
     let e = after-check-piece .check-piece .ensures in
@@ -125,16 +92,13 @@ returns c =
     let answer = stops _ _ (f .args .threads .now) (f .args .kinds .now) (f .args .domains .now) (f .pre .1 .0) (f .pre .1 .1 .0) _ (l .at) (l .at + 1024) g (omega arith) (omega (arith, g .within, in-loop .loop-test .taken)) (λ z. n (ap (λ v. v .number) (e .0) ∙ z)) in
     (rw (e .0) (answer .0), e .1 .0 ∙ answer .1)
 
-loop-less : tie.Need-loop-less Inv-loop μ-loop
-loop-less c = omega arith
-
 loop-again : tie.Need-loop-again Inv-loop μ-loop
 loop-again c =
     let after-check-piece : tie.After-check-piece Inv-loop μ-loop = search c in
-    let after-check-piece-arg8 : tie.After-check-piece-arg8 Inv-loop μ-loop = search c in
-    let in-loop : tie.In-loop Inv-loop μ-loop = search c in
-    let at-loop : tie.At-loop Inv-loop μ-loop = search c in
-    let f : tie.Start Inv-loop μ-loop = search c in
+    let after-check-piece-arg8 : tie.After-check-piece-arg8 Inv-loop μ-loop = search after-check-piece in
+    let in-loop : tie.In-loop Inv-loop μ-loop = search after-check-piece-arg8 in
+    let at-loop : tie.At-loop Inv-loop μ-loop = search in-loop in
+    let f : tie.Start Inv-loop μ-loop = search at-loop in
     let l = at-loop .loop in
     let g = l .inv .1 .1 in
     let e = after-check-piece .check-piece .ensures in
@@ -143,54 +107,27 @@ loop-again c =
 mul-check-piece-4 : tie.Need-mul-check-piece-4 Inv-loop μ-loop
 mul-check-piece-4 c =
     let after-check-piece-arg19 : tie.After-check-piece-arg19 Inv-loop μ-loop = search c in
-    let at-loop : tie.At-loop Inv-loop μ-loop = search c in
-    let f : tie.Start Inv-loop μ-loop = search c in omega (arith, at-loop .loop .inv .1 .1 .within, f .pre .1 .0, f .pre .1 .1 .0, f .good .1 .1 .1 .1 .1 .1 .1 .1 .1 .1 .1 .1 .1 .0)
-
-sub-check-piece-4 : tie.Need-sub-check-piece-4 Inv-loop μ-loop
-sub-check-piece-4 c = omega arith
-
-part-check-piece-start-4 : tie.Need-part-check-piece-start-4 Inv-loop μ-loop
-part-check-piece-start-4 c = omega arith
-
-part-check-piece-end-4 : tie.Need-part-check-piece-end-4 Inv-loop μ-loop
-part-check-piece-end-4 c = omega arith
+    let at-loop : tie.At-loop Inv-loop μ-loop = search after-check-piece-arg19 in
+    let f : tie.Start Inv-loop μ-loop = search at-loop in omega (arith, at-loop .loop .inv .1 .1 .within, f .pre .1 .0, f .pre .1 .1 .0, f .good .1 .1 .1 .1 .1 .1 .1 .1 .1 .1 .1 .1 .1 .0)
 
 mul-check-piece-5 : tie.Need-mul-check-piece-5 Inv-loop μ-loop
 mul-check-piece-5 c =
     let after-check-piece-arg20 : tie.After-check-piece-arg20 Inv-loop μ-loop = search c in
-    let at-loop : tie.At-loop Inv-loop μ-loop = search c in
-    let f : tie.Start Inv-loop μ-loop = search c in omega (arith, at-loop .loop .inv .1 .1 .within, f .pre .1 .0, f .pre .1 .1 .0, f .good .1 .1 .1 .1 .1 .1 .1 .1 .1 .1 .1 .1 .1 .0)
-
-sub-check-piece-5 : tie.Need-sub-check-piece-5 Inv-loop μ-loop
-sub-check-piece-5 c = omega arith
-
-part-check-piece-start-5 : tie.Need-part-check-piece-start-5 Inv-loop μ-loop
-part-check-piece-start-5 c = omega arith
-
-part-check-piece-end-5 : tie.Need-part-check-piece-end-5 Inv-loop μ-loop
-part-check-piece-end-5 c = omega arith
+    let at-loop : tie.At-loop Inv-loop μ-loop = search after-check-piece-arg20 in
+    let f : tie.Start Inv-loop μ-loop = search at-loop in omega (arith, at-loop .loop .inv .1 .1 .within, f .pre .1 .0, f .pre .1 .1 .0, f .good .1 .1 .1 .1 .1 .1 .1 .1 .1 .1 .1 .1 .1 .0)
 
 mul-check-piece-6 : tie.Need-mul-check-piece-6 Inv-loop μ-loop
 mul-check-piece-6 c =
     let after-check-piece-arg21 : tie.After-check-piece-arg21 Inv-loop μ-loop = search c in
-    let at-loop : tie.At-loop Inv-loop μ-loop = search c in
-    let f : tie.Start Inv-loop μ-loop = search c in omega (arith, at-loop .loop .inv .1 .1 .within, f .pre .1 .0, f .pre .1 .1 .0, f .good .1 .1 .1 .1 .1 .1 .1 .1 .1 .1 .1 .1 .1 .0)
-
-sub-check-piece-6 : tie.Need-sub-check-piece-6 Inv-loop μ-loop
-sub-check-piece-6 c = omega arith
-
-part-check-piece-start-6 : tie.Need-part-check-piece-start-6 Inv-loop μ-loop
-part-check-piece-start-6 c = omega arith
-
-part-check-piece-end-6 : tie.Need-part-check-piece-end-6 Inv-loop μ-loop
-part-check-piece-end-6 c = omega arith
+    let at-loop : tie.At-loop Inv-loop μ-loop = search after-check-piece-arg21 in
+    let f : tie.Start Inv-loop μ-loop = search at-loop in omega (arith, at-loop .loop .inv .1 .1 .within, f .pre .1 .0, f .pre .1 .1 .0, f .good .1 .1 .1 .1 .1 .1 .1 .1 .1 .1 .1 .1 .1 .0)
 
 check-piece-requires-2 : tie.Need-check-piece-requires-2 Inv-loop μ-loop
 check-piece-requires-2 c κs =
     let after-check-piece-arg24 : tie.After-check-piece-arg24 Inv-loop μ-loop = search c in
-    let after-loop : tie.After-loop Inv-loop μ-loop = search c in
-    let at-loop : tie.At-loop Inv-loop μ-loop = search c in
-    let f : tie.Start Inv-loop μ-loop = search c in
+    let after-loop : tie.After-loop Inv-loop μ-loop = search after-check-piece-arg24 in
+    let at-loop : tie.At-loop Inv-loop μ-loop = search after-loop in
+    let f : tie.Start Inv-loop μ-loop = search at-loop in
     let l = at-loop .loop in
     let g = l .inv .1 .1 in
     let n = length (f .args .threads .now) in
@@ -199,9 +136,9 @@ check-piece-requires-2 c κs =
 add-t69 : tie.Need-add-t69 Inv-loop μ-loop
 add-t69 c =
     let after-check-piece2 : tie.After-check-piece2 Inv-loop μ-loop = search c in
-    let after-check-piece-arg25 : tie.After-check-piece-arg25 Inv-loop μ-loop = search c in
-    let at-loop : tie.At-loop Inv-loop μ-loop = search c in
-    let f : tie.Start Inv-loop μ-loop = search c in
+    let after-check-piece-arg25 : tie.After-check-piece-arg25 Inv-loop μ-loop = search after-check-piece2 in
+    let at-loop : tie.At-loop Inv-loop μ-loop = search after-check-piece-arg25 in
+    let f : tie.Start Inv-loop μ-loop = search at-loop in
     let l = at-loop .loop in
     let g = l .inv .1 .1 in
     omega (arith, steps-few _ _ (f .args .threads .now) (f .args .kinds .now) (f .args .domains .now) (f .pre .1 .0) (f .pre .1 .1 .0) _ (l .at) (length (f .args .threads .now)) g (g .within) (omega arith) _ (ap (λ v. v .steps) (after-check-piece2 .«check-piece2» .ensures .0)), f .good .1 .1 .1 .1 .1 .1 .1 .1 .1 .1 .1 .1 .1 .0)
@@ -209,25 +146,25 @@ add-t69 c =
 same-length-3 : tie.Need-same-length-3 Inv-loop μ-loop
 same-length-3 c =
     let after-check-piece2 : tie.After-check-piece2 Inv-loop μ-loop = search c in
-    let after-check-piece-arg25 : tie.After-check-piece-arg25 Inv-loop μ-loop = search c in
-    let at-loop : tie.At-loop Inv-loop μ-loop = search c in
-    let start : tie.Start Inv-loop μ-loop = search c in
+    let after-check-piece-arg25 : tie.After-check-piece-arg25 Inv-loop μ-loop = search after-check-piece2 in
+    let at-loop : tie.At-loop Inv-loop μ-loop = search after-check-piece-arg25 in
+    let start : tie.Start Inv-loop μ-loop = search at-loop in
     after-check-piece2 .«check-piece2» .ensures .1 .1 .0 ∙ at-loop .loop .inv .0 ∙ sym (start .pre .1 .1 .1 .0)
 
 same-length-4 : tie.Need-same-length-4 Inv-loop μ-loop
 same-length-4 c =
     let after-check-piece2 : tie.After-check-piece2 Inv-loop μ-loop = search c in
-    let after-check-piece-arg25 : tie.After-check-piece-arg25 Inv-loop μ-loop = search c in
-    let at-loop : tie.At-loop Inv-loop μ-loop = search c in
-    let start : tie.Start Inv-loop μ-loop = search c in
+    let after-check-piece-arg25 : tie.After-check-piece-arg25 Inv-loop μ-loop = search after-check-piece2 in
+    let at-loop : tie.At-loop Inv-loop μ-loop = search after-check-piece-arg25 in
+    let start : tie.Start Inv-loop μ-loop = search at-loop in
     after-check-piece2 .«check-piece2» .ensures .1 .1 .1 ∙ at-loop .loop .inv .1 .0 ∙ sym (start .pre .1 .1 .1 .1)
 
 returns-2 : tie.Need-returns-2 Inv-loop μ-loop
 returns-2 c =
     let after-check-piece2 : tie.After-check-piece2 Inv-loop μ-loop = search c in
-    let after-check-piece-arg25 : tie.After-check-piece-arg25 Inv-loop μ-loop = search c in
-    let at-loop : tie.At-loop Inv-loop μ-loop = search c in
-    let f : tie.Start Inv-loop μ-loop = search c in
+    let after-check-piece-arg25 : tie.After-check-piece-arg25 Inv-loop μ-loop = search after-check-piece2 in
+    let at-loop : tie.At-loop Inv-loop μ-loop = search after-check-piece-arg25 in
+    let f : tie.Start Inv-loop μ-loop = search at-loop in
     let l = at-loop .loop in
     let g = l .inv .1 .1 in
     let e = after-check-piece2 .«check-piece2» .ensures in
@@ -241,39 +178,39 @@ check-all-spec =
     Inv-loop
     μ-loop
     loop-holds
-    sub-loop
-    add-end
+    (λ c. search needs)
+    (λ c. search needs)
     mul-check-piece
-    sub-check-piece
-    part-check-piece-start
-    part-check-piece-end
+    (λ c. search needs)
+    (λ c. search needs)
+    (λ c. search needs)
     mul-check-piece-2
-    sub-check-piece-2
-    part-check-piece-start-2
-    part-check-piece-end-2
+    (λ c. search needs)
+    (λ c. search needs)
+    (λ c. search needs)
     mul-check-piece-3
-    sub-check-piece-3
-    part-check-piece-start-3
-    part-check-piece-end-3
+    (λ c. search needs)
+    (λ c. search needs)
+    (λ c. search needs)
     check-piece-requires
     add-t56
     same-length
     same-length-2
     returns
-    loop-less
+    (λ c. search needs)
     loop-again
     mul-check-piece-4
-    sub-check-piece-4
-    part-check-piece-start-4
-    part-check-piece-end-4
+    (λ c. search needs)
+    (λ c. search needs)
+    (λ c. search needs)
     mul-check-piece-5
-    sub-check-piece-5
-    part-check-piece-start-5
-    part-check-piece-end-5
+    (λ c. search needs)
+    (λ c. search needs)
+    (λ c. search needs)
     mul-check-piece-6
-    sub-check-piece-6
-    part-check-piece-start-6
-    part-check-piece-end-6
+    (λ c. search needs)
+    (λ c. search needs)
+    (λ c. search needs)
     check-piece-requires-2
     add-t69
     same-length-3

@@ -3,7 +3,6 @@ use mathlib.Core.Path.{_≡_}
 use mathlib.Core.Bool.{false}
 use Prim.Native.Nat.{ℕ, _≤_, _<_, _-_}
 use native.Mathlib.Omega.{arith}
-use borrow.Author.Tests.{eq-eqb, ne-eqb}
 use Rattle.refusals.proofs.Scanning.{one-more}
 use Rattle.journal_call.specs.StepCheck.Stretches.{differs}
 use Rattle.journal_call.proofs.step_check.Comparing.{kind-differs, domain-differs, both-same}
@@ -30,9 +29,6 @@ shared-slice-read-code c =
     let start : tie.Start Inv-loop μ-loop = search c in
     omega (arith, start .pre .codes-long)
 
-mul-if1 : tie.Need-mul-if1 Inv-loop μ-loop
-mul-if1 c = omega arith
-
 shared-slice-read-if1 : tie.Need-shared-slice-read-if1 Inv-loop μ-loop
 shared-slice-read-if1 c =
     let start : tie.Start Inv-loop μ-loop = search c in
@@ -41,49 +37,34 @@ shared-slice-read-if1 c =
 returns : tie.Need-returns Inv-loop μ-loop
 returns c =
     let at-loop : tie.At-loop Inv-loop μ-loop = search c in
-    let start : tie.Start Inv-loop μ-loop = search c in
+    let start : tie.Start Inv-loop μ-loop = search at-loop in
     let a = start .args in
     let k = at-loop .loop .k in
     record { within = omega arith; passed = at-loop .loop .inv .1; fails = λ _. kind-differs (a .homes .now) (a .threads .now) (a .kinds .now) (a .domains .now) (a .codes .now) k (c .if1 .taken) }
-
-mul-word-index : tie.Need-mul-word-index Inv-loop μ-loop
-mul-word-index c = omega arith
 
 shared-slice-read-word-index : tie.Need-shared-slice-read-word-index Inv-loop μ-loop
 shared-slice-read-word-index c =
     let start : tie.Start Inv-loop μ-loop = search c in
     omega (arith, start .pre .threads-long)
 
-word-index-requires : tie.Need-word-index-requires Inv-loop μ-loop
-word-index-requires c κs = search needs
-
 element-copy-out-home : tie.Need-element-copy-out-home Inv-loop μ-loop
 element-copy-out-home c =
     let at-loop : tie.At-loop Inv-loop μ-loop = search c in
-    let start : tie.Start Inv-loop μ-loop = search c in
+    let start : tie.Start Inv-loop μ-loop = search at-loop in
     rw (c .word-index .ensures) (start .pre .small (at-loop .loop .k) (omega arith))
-
-mul-word-number : tie.Need-mul-word-number Inv-loop μ-loop
-mul-word-number c = omega arith
 
 shared-slice-read-word-number : tie.Need-shared-slice-read-word-number Inv-loop μ-loop
 shared-slice-read-word-number c =
     let after-shared-slice-known3 : tie.After-shared-slice-known3 Inv-loop μ-loop = search c in
-    let start : tie.Start Inv-loop μ-loop = search c in
+    let start : tie.Start Inv-loop μ-loop = search after-shared-slice-known3 in
     omega (arith, start .pre .domains-long)
-
-word-number-requires : tie.Need-word-number-requires Inv-loop μ-loop
-word-number-requires c κs = search needs
-
-domain-of-code-requires : tie.Need-domain-of-code-requires Inv-loop μ-loop
-domain-of-code-requires c κs = search needs
 
 returns-2 : tie.Need-returns-2 Inv-loop μ-loop
 returns-2 c =
     let after-word-index : tie.After-word-index Inv-loop μ-loop = search c in
-    let else1 : tie.Else1 Inv-loop μ-loop = search c in
-    let at-loop : tie.At-loop Inv-loop μ-loop = search c in
-    let start : tie.Start Inv-loop μ-loop = search c in
+    let else1 : tie.Else1 Inv-loop μ-loop = search after-word-index in
+    let at-loop : tie.At-loop Inv-loop μ-loop = search else1 in
+    let start : tie.Start Inv-loop μ-loop = search at-loop in
     let a = start .args in
     let k = at-loop .loop .k in
     record {
@@ -92,18 +73,12 @@ returns-2 c =
       fails = λ _. domain-differs (a .homes .now) (a .threads .now) (a .kinds .now) (a .domains .now) (a .codes .now) k (else1 .if1 .left) _ _ _ (after-word-index .word-index .ensures) (c .before .before .word-number .ensures) (c .before .domain-of-code .ensures) (c .if2 .taken);
     }
 
-add-k : tie.Need-add-k Inv-loop μ-loop
-add-k c = omega arith
-
-loop-less : tie.Need-loop-less Inv-loop μ-loop
-loop-less c = omega arith
-
 loop-again : tie.Need-loop-again Inv-loop μ-loop
 loop-again c =
     let after-word-index : tie.After-word-index Inv-loop μ-loop = search c in
-    let else1 : tie.Else1 Inv-loop μ-loop = search c in
-    let at-loop : tie.At-loop Inv-loop μ-loop = search c in
-    let start : tie.Start Inv-loop μ-loop = search c in
+    let else1 : tie.Else1 Inv-loop μ-loop = search after-word-index in
+    let at-loop : tie.At-loop Inv-loop μ-loop = search else1 in
+    let start : tie.Start Inv-loop μ-loop = search at-loop in
     let a = start .args in
     let k = at-loop .loop .k in (
       omega arith,
@@ -123,19 +98,19 @@ first-difference-spec =
     loop-holds
     mul-code
     shared-slice-read-code
-    mul-if1
+    (λ c. search needs)
     shared-slice-read-if1
     returns
-    mul-word-index
+    (λ c. search needs)
     shared-slice-read-word-index
-    word-index-requires
+    (λ c κs. search needs)
     element-copy-out-home
-    mul-word-number
+    (λ c. search needs)
     shared-slice-read-word-number
-    word-number-requires
-    domain-of-code-requires
+    (λ c κs. search needs)
+    (λ c κs. search needs)
     returns-2
-    add-k
-    loop-less
+    (λ c. search needs)
+    (λ c. search needs)
     loop-again
     returns-3)

@@ -20,25 +20,10 @@ abbrev μ-loop : tie.MeasureT-loop
 loop-holds : tie.Need-loop-holds Inv-loop μ-loop
 loop-holds c = (search needs, λ j l. absurd (omega arith))
 
-mul-word-number : tie.Need-mul-word-number Inv-loop μ-loop
-mul-word-number c = omega arith
-
-shared-slice-read-word-number : tie.Need-shared-slice-read-word-number Inv-loop μ-loop
-shared-slice-read-word-number c = omega arith
-
-word-number-requires : tie.Need-word-number-requires Inv-loop μ-loop
-word-number-requires c κs = search needs
-
 returns : tie.Need-returns Inv-loop μ-loop
 returns c =
     let at-loop : tie.At-loop Inv-loop μ-loop = search c in
     record { within = omega arith; passed = at-loop .loop .inv .1; fails = λ _. not-below _ _ _ (c .before .word-number .ensures) (c .if1 .taken) }
-
-add-k : tie.Need-add-k Inv-loop μ-loop
-add-k c = omega arith
-
-loop-less : tie.Need-loop-less Inv-loop μ-loop
-loop-less c = omega arith
 
 loop-again : tie.Need-loop-again Inv-loop μ-loop
 loop-again c =
@@ -55,11 +40,11 @@ first-unknown-spec =
     Inv-loop
     μ-loop
     loop-holds
-    mul-word-number
-    shared-slice-read-word-number
-    word-number-requires
+    (λ c. search needs)
+    (λ c. search needs)
+    (λ c κs. search needs)
     returns
-    add-k
-    loop-less
+    (λ c. search needs)
+    (λ c. search needs)
     loop-again
     returns-2)

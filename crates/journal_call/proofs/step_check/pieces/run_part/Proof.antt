@@ -4,8 +4,8 @@ use Prim.Native.Nat.{_-_}
 use native.Mathlib.Omega.{arith}
 use lib.ListN.{length, take}
 use Rattle.model.specs.Trees.{tree-of}
-use Rattle.model.specs.Runs.{steps, state-after, run-of, run}
-use Rattle.model.specs.Counters.{lock-after, counters-after}
+use Rattle.model.specs.Runs.{steps, run-of, run}
+use Rattle.model.specs.Counters.{lock-after}
 use Rattle.model.specs.Refusals.{first-refusal, run-tests-before-19}
 use Rattle.lock.specs.Steps.Running.{codes-front}
 use Rattle.journal_call.specs.StepCheck.Stretches.{lent-lock}
@@ -13,30 +13,15 @@ use borrow.Author.Needs.{needs}
 use Rattle.journal_call.proofs.step_check.pieces.run_part.Statement.{statement}
 use Rattle.journal_call.proofs.step_check.pieces.run_part.Tie as tie
 
-sub-run-lent : tie.Need-sub-run-lent
-sub-run-lent c = search needs
-
-part-run-lent-start : tie.Need-part-run-lent-start
-part-run-lent-start c = search needs
-
-part-run-lent-end : tie.Need-part-run-lent-end
-part-run-lent-end c = search needs
-
 run-lent-requires : tie.Need-run-lent-requires
 run-lent-requires c κs =
     let after-kinds : tie.After-kinds = search c in
-    let after-run-lent-arg2 : tie.After-run-lent-arg2 = search c in
-    let begin : tie.Start = search c in
+    let after-run-lent-arg2 : tie.After-run-lent-arg2 = search after-kinds in
+    let begin : tie.Start = search after-run-lent-arg2 in
     let a = begin .args in
     let s = lent-lock (a .tails .now) (a .nexts .now) (a .statuses .now) (a .rows .now) (a .places .now) (a .peers .now) (a .words .now) (a .ticket .now) (a .granted .now) (a .entries .now) (a .tenures .now) (a .longest .now) in
     let whole : a .count - 0 ≡ a .count = omega arith in
     (begin .pre .1 .0, ap (λ n. first-refusal (run-tests-before-19 (tree-of (a .tree)) s (take n (a .threads .now)) (length (a .trace .now))) .number) whole ∙ begin .pre .1 .1)
-
-same-length : tie.Need-same-length
-same-length c = search needs
-
-same-length-2 : tie.Need-same-length-2
-same-length-2 c = search needs
 
 -- when the steps have been taken, and where the function starts
 abbrev ran-of : tie.After-slice-known4 → tie.After-run-lent
@@ -64,10 +49,10 @@ pub run-part-spec : {M : Type 1} → statement M
 run-part-spec =
     tie.close
     (tie.spec
-    sub-run-lent
-    part-run-lent-start
-    part-run-lent-end
+    (λ c. search needs)
+    (λ c. search needs)
+    (λ c. search needs)
     run-lent-requires
-    same-length
-    same-length-2
+    (λ c. search needs)
+    (λ c. search needs)
     returns)

@@ -4,58 +4,43 @@ use borrow.Author.Needs.{needs}
 use Rattle.journal_call.proofs.step_check.pieces.stretch_of.Statement.{statement}
 use Rattle.journal_call.proofs.step_check.pieces.stretch_of.Tie as tie
 
-first-unknown-requires : tie.Need-first-unknown-requires
-first-unknown-requires c κs = search needs
-
-sub-lent-counter-refusal-of : tie.Need-sub-lent-counter-refusal-of
-sub-lent-counter-refusal-of c = search needs
-
-part-lent-counter-refusal-of-start : tie.Need-part-lent-counter-refusal-of-start
-part-lent-counter-refusal-of-start c = search needs
-
-part-lent-counter-refusal-of-end : tie.Need-part-lent-counter-refusal-of-end
-part-lent-counter-refusal-of-end c = search needs
-
 lent-counter-refusal-of-requires : tie.Need-lent-counter-refusal-of-requires
 lent-counter-refusal-of-requires c κs =
     let first : tie.Start = search c in
     let found = c .before in
     (first .pre .0 .typed, early _ _ _ (first .pre .0) (first .pre .1) _ (found .first-unknown .ensures))
 
-number-index-requires : tie.Need-number-index-requires
-number-index-requires c κs = search needs
-
 returns : tie.Need-returns
 returns c =
     let told : tie.After-lent-counter-refusal-of = search c in
-    let after-first-unknown : tie.After-first-unknown = search c in
-    let first : tie.Start = search c in
+    let after-first-unknown : tie.After-first-unknown = search told in
+    let first : tie.Start = search after-first-unknown in
     counter-stops _ _ _ (first .pre .0) (first .pre .1) _ (after-first-unknown .first-unknown .ensures) _ (told .lent-counter-refusal-of .ensures) (c .before .if1 .taken) _ (c .number-index .ensures)
 
 returns-2 : tie.Need-returns-2
 returns-2 c =
     let told : tie.After-lent-counter-refusal-of = search c in
-    let after-first-unknown : tie.After-first-unknown = search c in
-    let first : tie.Start = search c in
+    let after-first-unknown : tie.After-first-unknown = search told in
+    let first : tie.Start = search after-first-unknown in
     thread-stops _ _ _ (first .pre .0) (first .pre .1) _ (after-first-unknown .first-unknown .ensures) _ (told .lent-counter-refusal-of .ensures) (c .before .if1 .left) (c .if2 .taken)
 
 returns-3 : tie.Need-returns-3
 returns-3 c =
     let told : tie.After-lent-counter-refusal-of = search c in
-    let after-first-unknown : tie.After-first-unknown = search c in
-    let first : tie.Start = search c in
+    let after-first-unknown : tie.After-first-unknown = search told in
+    let first : tie.Start = search after-first-unknown in
     nothing-stops _ _ _ (first .pre .0) (first .pre .1) _ (after-first-unknown .first-unknown .ensures) _ (told .lent-counter-refusal-of .ensures) (c .before .if1 .left) (c .if2 .left)
 
 pub stretch-of-spec : {M : Type 1} → statement M
 stretch-of-spec =
     tie.close
     (tie.spec
-    first-unknown-requires
-    sub-lent-counter-refusal-of
-    part-lent-counter-refusal-of-start
-    part-lent-counter-refusal-of-end
+    (λ c κs. search needs)
+    (λ c. search needs)
+    (λ c. search needs)
+    (λ c. search needs)
     lent-counter-refusal-of-requires
-    number-index-requires
+    (λ c κs. search needs)
     returns
     returns-2
     returns-3)

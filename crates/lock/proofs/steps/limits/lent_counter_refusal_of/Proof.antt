@@ -4,17 +4,10 @@ use borrow.Author.Needs.{needs}
 use Rattle.lock.proofs.steps.limits.lent_counter_refusal_of.Statement.{statement}
 use Rattle.lock.proofs.steps.limits.lent_counter_refusal_of.Tie as tie
 
-has-room-requires : tie.Need-has-room-requires
-has-room-requires c κs = search needs
-
 returns : tie.Need-returns
-returns c = has-room _ _ _ _ _ _ (c .before .before .before .pre .1) _ (c .before .has-room .ensures) (c .if1 .taken)
-
-lowest-above-requires : tie.Need-lowest-above-requires
-lowest-above-requires c κs = search needs
-
-cast-if2 : tie.Need-cast-if2
-cast-if2 c = search needs
+returns c =
+    let start : tie.Start = search c in
+    has-room _ _ _ _ _ _ (start .pre .1) _ (c .before .has-room .ensures) (c .if1 .taken)
 
 returns-2 : tie.Need-returns-2
 returns-2 c = is-above _ _ _ _ _ _ _ (c .before .lowest-above .ensures) (c .if2 .taken)
@@ -25,4 +18,4 @@ returns-3 c = is-none _ _ _ _ _ _ _ (c .before .lowest-above .ensures) (c .if2 .
 pub lent-counter-refusal-of-spec : {M : Type 1} → statement M
 lent-counter-refusal-of-spec =
     tie.close
-    (tie.spec has-room-requires returns lowest-above-requires cast-if2 returns-2 returns-3)
+    (tie.spec (λ c κs. search needs) returns (λ c κs. search needs) (λ c. search needs) returns-2 returns-3)

@@ -1,17 +1,14 @@
 -- `lock::steps::limits::lowest_above` meets its contract: the entries tried so far left no counter above.
-use mathlib.Core.Path.{_≡_, refl, sym, ap, _∙_}
-use mathlib.Core.Bool.{true, false}
+use mathlib.Core.Path.{sym, _∙_}
 use Prim.Native.Nat.{_-_}
 use native.Mathlib.Omega.{arith}
-use lib.ListN.{length, getD}
-use borrow.Author.Tests.{not-true, not-false}
+use lib.ListN.{length}
 use Rattle.model.specs.Trees.{tree-of}
 use Rattle.model.specs.Counters.{lock-state}
 use Rattle.model.proofs.Laws.Calls.{early-facts}
-use Rattle.model.proofs.Trees.Accepted.{sixteen-bit}
 use Rattle.refusals.specs.Arrays.{lent-state}
 use Rattle.refusals.specs.OfRuns.Counts.{counters-in}
-use Rattle.lock.proofs.steps.Trying.{Tried, tried-start, tried-asks, tried-count, tried-next, Tries}
+use Rattle.lock.proofs.steps.Trying.{tried-start, tried-asks, tried-count, tried-next, Tries}
 use borrow.Author.Needs.{needs}
 use Rattle.lock.proofs.steps.limits.lowest_above.Statement.{statement}
 use Rattle.lock.proofs.steps.limits.lowest_above.Tie as tie
@@ -24,47 +21,39 @@ abbrev μ-loop : tie.MeasureT-loop
 
 loop-holds : tie.Need-loop-holds Inv-loop μ-loop
 unfolding Tries
-loop-holds c = λ R. tried-start _ _ _ _ _ R (record { typed = c .before .before .before .before .before .before .before .before .before .before .before .pre .0; form = R .form })
+loop-holds c =
+    let start : tie.Start Inv-loop μ-loop = search c in
+    λ R. tried-start _ _ _ _ _ R (record { typed = start .pre .0; form = R .form })
 
 cast-loop : tie.Need-cast-loop Inv-loop μ-loop
 unfolding Tries
-cast-loop c = omega (arith, (c .loop .inv (early-facts (tree-of (c .before .before .before .before .before .before .before .before .before .before .before .before .args .tree)) _ _ _ (c .before .before .before .before .before .before .before .before .before .before .before .before .pre .1))) .within, (early-facts (tree-of (c .before .before .before .before .before .before .before .before .before .before .before .before .args .tree)) _ _ _ (c .before .before .before .before .before .before .before .before .before .before .before .before .pre .1)) .short)
-
-cast-at : tie.Need-cast-at Inv-loop μ-loop
-cast-at c = omega arith
-
-mul-t40 : tie.Need-mul-t40 Inv-loop μ-loop
-mul-t40 c = omega arith
-
-shared-slice-read-t44 : tie.Need-shared-slice-read-t44 Inv-loop μ-loop
-shared-slice-read-t44 c = omega arith
-
-slice-aggregate-run-lent : tie.Need-slice-aggregate-run-lent Inv-loop μ-loop
-slice-aggregate-run-lent c = search needs
-
-slice-aggregate-run-lent-2 : tie.Need-slice-aggregate-run-lent-2 Inv-loop μ-loop
-slice-aggregate-run-lent-2 c = search needs
-
-slice-aggregate-run-lent-3 : tie.Need-slice-aggregate-run-lent-3 Inv-loop μ-loop
-slice-aggregate-run-lent-3 c = search needs
+cast-loop c =
+    let start : tie.Start Inv-loop μ-loop = search c in
+    omega (arith, (c .loop .inv (early-facts (tree-of (start .args .tree)) _ _ _ (start .pre .1))) .within, (early-facts (tree-of (start .args .tree)) _ _ _ (start .pre .1)) .short)
 
 run-lent-requires : tie.Need-run-lent-requires Inv-loop μ-loop
 unfolding Tries
 run-lent-requires c κs =
-    let R = early-facts (tree-of (c .before .before .before .before .before .before .before .before .before .before .before .before .before .before .before .before .before .before .before .before .before .before .before .before .before .before .before .before .before .before .args .tree)) _ _ _ (c .before .before .before .before .before .before .before .before .before .before .before .before .before .before .before .before .before .before .before .before .before .before .before .before .before .before .before .before .before .before .pre .1) in
-    let so-far = c .before .before .before .before .before .before .before .before .before .before .before .before .before .before .before .before .before .before .loop .inv R in
-    (so-far .formed .typed, tried-asks _ _ _ _ _ R _ _ _ (c .before .before .before .before .before .before .before .before .before .before .before .before .before .before .before .before .before .loop-test .taken) so-far)
-
-is-above-requires : tie.Need-is-above-requires Inv-loop μ-loop
-is-above-requires c κs = search needs
+    let in-loop : tie.In-loop Inv-loop μ-loop = search c in
+    let at-loop : tie.At-loop Inv-loop μ-loop = search in-loop in
+    let start : tie.Start Inv-loop μ-loop = search at-loop in
+    let R = early-facts (tree-of (start .args .tree)) _ _ _ (start .pre .1) in
+    let so-far = at-loop .loop .inv R in
+    (so-far .formed .typed, tried-asks _ _ _ _ _ R _ _ _ (in-loop .loop-test .taken) so-far)
 
 returns : tie.Need-returns Inv-loop μ-loop
 unfolding Tries
 returns c =
-    let R = early-facts (tree-of (c .before .before .before .before .before .before .before .before .before .before .before .before .before .before .before .before .before .before .before .before .before .before .before .before .before .before .before .before .before .before .before .before .before .before .before .before .before .before .args .tree)) _ _ _ (c .before .before .before .before .before .before .before .before .before .before .before .before .before .before .before .before .before .before .before .before .before .before .before .before .before .before .before .before .before .before .before .before .before .before .before .before .before .before .pre .1) in
-    let test = c .before .before .before .before .before .before .before .before .before .before .before .before .before .before .before .before .before .before .before .before .before .before .before .before .before .loop-test .taken in
-    let so-far = c .before .before .before .before .before .before .before .before .before .before .before .before .before .before .before .before .before .before .before .before .before .before .before .before .before .before .loop .inv R in
-    let ran = c .before .before .before .before .before .before .before .run-lent .ensures in
+    let after-run-lent : tie.After-run-lent Inv-loop μ-loop = search c in
+    let after-drawn : tie.After-drawn Inv-loop μ-loop = search after-run-lent in
+    let in-loop : tie.In-loop Inv-loop μ-loop = search after-drawn in
+    let at-loop : tie.At-loop Inv-loop μ-loop = search in-loop in
+    let after-ds : tie.After-ds Inv-loop μ-loop = search at-loop in
+    let start : tie.Start Inv-loop μ-loop = search after-ds in
+    let R = early-facts (tree-of (start .args .tree)) _ _ _ (start .pre .1) in
+    let test = in-loop .loop-test .taken in
+    let so-far = at-loop .loop .inv R in
+    let ran = after-run-lent .run-lent .ensures in
     record {
       within = omega (arith, test);
       passed = so-far .passed;
@@ -72,21 +61,32 @@ returns c =
     }
 
 add-k : tie.Need-add-k Inv-loop μ-loop
-add-k c = omega (arith, c .before .before .before .before .before .before .before .before .before .before .before .before .before .before .before .before .before .before .before .before .before .before .before .before .before .loop-test .taken, (early-facts (tree-of (c .before .before .before .before .before .before .before .before .before .before .before .before .before .before .before .before .before .before .before .before .before .before .before .before .before .before .before .before .before .before .before .before .before .before .before .before .before .before .args .tree)) _ _ _ (c .before .before .before .before .before .before .before .before .before .before .before .before .before .before .before .before .before .before .before .before .before .before .before .before .before .before .before .before .before .before .before .before .before .before .before .before .before .before .pre .1)) .short)
+add-k c =
+    let in-loop : tie.In-loop Inv-loop μ-loop = search c in
+    let start : tie.Start Inv-loop μ-loop = search in-loop in
+    omega (arith, in-loop .loop-test .taken, (early-facts (tree-of (start .args .tree)) _ _ _ (start .pre .1)) .short)
 
 loop-less : tie.Need-loop-less Inv-loop μ-loop
-loop-less c = omega (arith, c .before .before .before .before .before .before .before .before .before .before .before .before .before .before .before .before .before .before .before .before .before .before .before .before .before .loop-test .taken)
+loop-less c =
+    let in-loop : tie.In-loop Inv-loop μ-loop = search c in
+    omega (arith, in-loop .loop-test .taken)
 
 loop-again : tie.Need-loop-again Inv-loop μ-loop
 unfolding Tries
-loop-again c = λ R.
-    let ran = c .before .before .before .before .before .before .before .run-lent .ensures in
-    tried-next _ _ _ _ _ R _ _ _ (c .before .before .before .before .before .before .before .before .before .before .before .before .before .before .before .before .before .before .before .before .before .before .before .before .before .loop-test .taken) (c .before .before .before .before .before .before .before .before .before .before .before .before .before .before .before .before .before .before .before .before .before .before .before .before .before .before .loop .inv R) _ _ (ran .0) (ran .1 .1 .1 .1) (sym (c .before .is-above .ensures) ∙ c .if1 .left)
+loop-again c =
+    let after-run-lent : tie.After-run-lent Inv-loop μ-loop = search c in
+    let after-drawn : tie.After-drawn Inv-loop μ-loop = search after-run-lent in
+    let in-loop : tie.In-loop Inv-loop μ-loop = search after-drawn in
+    let at-loop : tie.At-loop Inv-loop μ-loop = search in-loop in
+    λ R.
+    let ran = after-run-lent .run-lent .ensures in
+    tried-next _ _ _ _ _ R _ _ _ (in-loop .loop-test .taken) (at-loop .loop .inv R) _ _ (ran .0) (ran .1 .1 .1 .1) (sym (c .before .is-above .ensures) ∙ c .if1 .left)
 
 returns-2 : tie.Need-returns-2 Inv-loop μ-loop
 unfolding Tries
 returns-2 c =
-    let so-far = c .before .loop .inv (early-facts (tree-of (c .before .before .before .before .before .before .before .before .before .before .before .before .before .args .tree)) _ _ _ (c .before .before .before .before .before .before .before .before .before .before .before .before .before .pre .1)) in
+    let start : tie.Start Inv-loop μ-loop = search c in
+    let so-far = c .before .loop .inv (early-facts (tree-of (start .args .tree)) _ _ _ (start .pre .1)) in
     record { within = so-far .within; passed = so-far .passed; fails = λ h. absurd (omega (arith, c .loop-test .left)) }
 
 pub lowest-above-spec : {M : Type 1} → statement M
@@ -97,14 +97,14 @@ lowest-above-spec =
     μ-loop
     loop-holds
     cast-loop
-    cast-at
-    mul-t40
-    shared-slice-read-t44
-    slice-aggregate-run-lent
-    slice-aggregate-run-lent-2
-    slice-aggregate-run-lent-3
+    (λ c. search needs)
+    (λ c. search needs)
+    (λ c. search needs)
+    (λ c. search needs)
+    (λ c. search needs)
+    (λ c. search needs)
     run-lent-requires
-    is-above-requires
+    (λ c κs. search needs)
     returns
     add-k
     loop-less

@@ -4,23 +4,14 @@ use borrow.Author.Needs.{needs}
 use Rattle.lock.proofs.steps.run.domain_of_code.Statement.{statement}
 use Rattle.lock.proofs.steps.run.domain_of_code.Tie as tie
 
-byte-number-requires : tie.Need-byte-number-requires
-byte-number-requires c κs = search needs
-
 returns : tie.Need-returns
 returns c = rw (eq-eqb _ _ (c .before .if1 .taken)) (c .byte-number .ensures)
 
-byte-number-requires-2 : tie.Need-byte-number-requires-2
-byte-number-requires-2 c κs = search needs
-
 returns-2 : tie.Need-returns-2
 returns-2 c = rw (ne-eqb _ _ (c .before .before .if1 .left), eq-eqb _ _ (c .before .if2 .taken)) (c .byte-number2 .ensures)
-
-cast-result : tie.Need-cast-result
-cast-result c = search needs
 
 returns-3 : tie.Need-returns-3
 returns-3 c = rw (ne-eqb _ _ (c .before .if1 .left), ne-eqb _ _ (c .if2 .left))
 
 pub domain-of-code-spec : {M : Type 1} → statement M
-domain-of-code-spec = tie.close (tie.spec byte-number-requires returns byte-number-requires-2 returns-2 cast-result returns-3)
+domain-of-code-spec = tie.close (tie.spec (λ c κs. search needs) returns (λ c κs. search needs) returns-2 (λ c. search needs) returns-3)

@@ -1,8 +1,8 @@
 -- `lock::steps::run::run_lent` takes the steps of a schedule: the entries done so far have given the state, the trace, how many steps are of each kind and the counters of the domains.
-use mathlib.Core.Path.{_≡_, refl, sym, ap, _∙_}
+use mathlib.Core.Path.{refl, sym, _∙_}
 use Prim.Native.Nat.{_+_, _-_, _≤_}
 use native.Mathlib.Omega.{arith}
-use lib.ListN.{length, getD}
+use lib.ListN.{length}
 use Rattle.model.specs.Trees.{tree-of}
 use Rattle.model.specs.States.{wrap}
 use Rattle.model.proofs.Laws.Calls.{early-facts}
@@ -40,58 +40,63 @@ abbrev μ-loop : tie.MeasureT-loop
 μ-loop tails₀ nexts₀ statuses₀ rows₀ domains₀ peers₀ words₀ ticket granted schedule trace₀ kinds codes₀ entries₀ tenures₀ longest₀ tree drawn₀ raised₀ tally₀ shown₀ entered₀ k₀ tails nexts statuses rows domains peers words trace codes entries tenures longest drawn raised tally shown entered k = length schedule - k
 
 loop-holds : tie.Need-loop-holds Inv-loop2 μ-loop2 Inv-loop μ-loop
-loop-holds c = (start _ _ _ _ (record { typed = c .before .before .before .before .before .pre .0; form = (early-facts _ _ _ _ (c .before .before .before .before .before .pre .1)) .form }), codes-start _ _ _ _, tallied-start _ _ _ _, clear-none)
-
-cast-loop : tie.Need-cast-loop Inv-loop2 μ-loop2 Inv-loop μ-loop
-cast-loop c = omega arith
-
-cast-position : tie.Need-cast-position Inv-loop2 μ-loop2 Inv-loop μ-loop
-cast-position c = omega arith
-
-mul-i : tie.Need-mul-i Inv-loop2 μ-loop2 Inv-loop μ-loop
-mul-i c = omega arith
-
-shared-slice-read-i : tie.Need-shared-slice-read-i Inv-loop2 μ-loop2 Inv-loop μ-loop
-shared-slice-read-i c = omega arith
+loop-holds c =
+    let start-point : tie.Start Inv-loop2 μ-loop2 Inv-loop μ-loop = search c in
+    (start _ _ _ _ (record { typed = start-point .pre .0; form = (early-facts _ _ _ _ (start-point .pre .1)) .form }), codes-start _ _ _ _, tallied-start _ _ _ _, clear-none)
 
 cast-at : tie.Need-cast-at Inv-loop2 μ-loop2 Inv-loop μ-loop
-cast-at c = omega (arith, thread-small _ _ _ _ _ (early-facts _ _ _ _ (c .before .before .before .before .before .before .before .before .pre .1)) (c .before .loop-test .taken))
+cast-at c =
+    let start-point : tie.Start Inv-loop2 μ-loop2 Inv-loop μ-loop = search c in
+    omega (arith, thread-small _ _ _ _ _ (early-facts _ _ _ _ (start-point .pre .1)) (c .before .loop-test .taken))
 
 place-at-requires : tie.Need-place-at-requires Inv-loop2 μ-loop2 Inv-loop μ-loop
-place-at-requires c κs = omega (arith, thread-small _ _ _ _ _ (early-facts _ _ _ _ (c .before .before .before .before .before .before .before .before .before .before .before .before .pre .1)) (c .before .before .before .before .before .loop-test .taken))
+place-at-requires c κs =
+    let in-loop : tie.In-loop Inv-loop2 μ-loop2 Inv-loop μ-loop = search c in
+    let start-point : tie.Start Inv-loop2 μ-loop2 Inv-loop μ-loop = search in-loop in
+    omega (arith, thread-small _ _ _ _ _ (early-facts _ _ _ _ (start-point .pre .1)) (in-loop .loop-test .taken))
 
 looked-at-requires : tie.Need-looked-at-requires Inv-loop2 μ-loop2 Inv-loop μ-loop
-looked-at-requires c κs = shape-of (c .before .before .before .before .before .before .before .before .before .before .before .before .before .before .args .t1) ((early-facts _ _ _ _ (c .before .before .before .before .before .before .before .before .before .before .before .before .before .before .pre .1)) .tree) .few-domains
+looked-at-requires c κs =
+    let start-point : tie.Start Inv-loop2 μ-loop2 Inv-loop μ-loop = search c in
+    shape-of (start-point .args .t1) ((early-facts _ _ _ _ (start-point .pre .1)) .tree) .few-domains
 
 loop2-holds : tie.Need-loop2-holds Inv-loop2 μ-loop2 Inv-loop μ-loop
-loop2-holds c = (search needs, marked-start _ ((early-facts _ _ _ _ (c .before .before .before .before .before .before .before .before .before .before .before .before .before .before .before .pre .1)) .tree) _ _ _ _ (c .before .before .before .before .before .before .before .before .before .loop .inv .3))
+loop2-holds c =
+    let at-loop : tie.At-loop Inv-loop2 μ-loop2 Inv-loop μ-loop = search c in
+    let start-point : tie.Start Inv-loop2 μ-loop2 Inv-loop μ-loop = search at-loop in
+    (search needs, marked-start _ ((early-facts _ _ _ _ (start-point .pre .1)) .tree) _ _ _ _ (at-loop .loop .inv .3))
 
 cast-other : tie.Need-cast-other Inv-loop2 μ-loop2 Inv-loop μ-loop
 cast-other c =
+    let first : tie.Start Inv-loop2 μ-loop2 Inv-loop μ-loop = search c in
     let looked = c .before .before in
-    let first = c .before .before .before .before .before .before .before .before .before .before .before .before .before .before .before .before .before in
     let r = early-facts _ _ _ _ (first .pre .1) in
     omega (arith, looked-real (looked .looked-at .ensures) (c .«loop2-test» .taken), shape-of (first .args .t1) (r .tree) .few-threads)
 
 place-at-requires-2 : tie.Need-place-at-requires-2 Inv-loop2 μ-loop2 Inv-loop μ-loop
 place-at-requires-2 c κs =
-    let looked = c .before .before .before .before .before .before in
-    let first = c .before .before .before .before .before .before .before .before .before .before .before .before .before .before .before .before .before .before .before .before .before in
+    let in-loop2 : tie.In-loop2 Inv-loop2 μ-loop2 Inv-loop μ-loop = search c in
+    let looked : tie.After-looked-at Inv-loop2 μ-loop2 Inv-loop μ-loop = search in-loop2 in
+    let after-shared-slice-known2 : tie.After-shared-slice-known2 Inv-loop2 μ-loop2 Inv-loop μ-loop = search looked in
+    let first : tie.Start Inv-loop2 μ-loop2 Inv-loop μ-loop = search after-shared-slice-known2 in
     let r = early-facts _ _ _ _ (first .pre .1) in
-    omega (arith, looked-real (looked .looked-at .ensures) (c .before .before .before .before .«loop2-test» .taken), shape-of (first .args .t1) (r .tree) .few-threads)
+    omega (arith, looked-real (looked .looked-at .ensures) (in-loop2 .«loop2-test» .taken), shape-of (first .args .t1) (r .tree) .few-threads)
 
 element-copy-out-its-home : tie.Need-element-copy-out-its-home Inv-loop2 μ-loop2 Inv-loop μ-loop
 element-copy-out-its-home c =
-    let looked = c .before .before .before .before .before .before .before in
-    let first = c .before .before .before .before .before .before .before .before .before .before .before .before .before .before .before .before .before .before .before .before .before .before in
+    let in-loop2 : tie.In-loop2 Inv-loop2 μ-loop2 Inv-loop μ-loop = search c in
+    let looked : tie.After-looked-at Inv-loop2 μ-loop2 Inv-loop μ-loop = search in-loop2 in
+    let after-shared-slice-known2 : tie.After-shared-slice-known2 Inv-loop2 μ-loop2 Inv-loop μ-loop = search looked in
+    let first : tie.Start Inv-loop2 μ-loop2 Inv-loop μ-loop = search after-shared-slice-known2 in
     let r = early-facts _ _ _ _ (first .pre .1) in
-    omega (arith, looked-real (looked .looked-at .ensures) (c .before .before .before .before .before .«loop2-test» .taken), shape-of (first .args .t1) (r .tree) .few-threads)
+    omega (arith, looked-real (looked .looked-at .ensures) (in-loop2 .«loop2-test» .taken), shape-of (first .args .t1) (r .tree) .few-threads)
 
 mark-shown-requires : tie.Need-mark-shown-requires Inv-loop2 μ-loop2 Inv-loop μ-loop
 mark-shown-requires c κs =
-    let test = c .before .before .before .before .before .before .before .before .before .before in
-    let looked = c .before .before .before .before .before .before .before .before .before .before .before .before in
-    let first = c .before .before .before .before .before .before .before .before .before .before .before .before .before .before .before .before .before .before .before .before .before .before .before .before .before .before .before in
+    let test : tie.In-loop2 Inv-loop2 μ-loop2 Inv-loop μ-loop = search c in
+    let looked : tie.After-looked-at Inv-loop2 μ-loop2 Inv-loop μ-loop = search test in
+    let after-shared-slice-known2 : tie.After-shared-slice-known2 Inv-loop2 μ-loop2 Inv-loop μ-loop = search looked in
+    let first : tie.Start Inv-loop2 μ-loop2 Inv-loop μ-loop = search after-shared-slice-known2 in
     let w = first .args .t1 in
     let r = early-facts _ _ _ _ (first .pre .1) in
     let k = shape-of w (r .tree) in
@@ -99,33 +104,41 @@ mark-shown-requires c κs =
 
 add-j : tie.Need-add-j Inv-loop2 μ-loop2 Inv-loop μ-loop
 add-j c =
-    let looked = c .before .before .before .before .before .before .before .before .before .before .before .before .before in
-    let first = c .before .before .before .before .before .before .before .before .before .before .before .before .before .before .before .before .before .before .before .before .before .before .before .before .before .before .before .before in
+    let in-loop2 : tie.In-loop2 Inv-loop2 μ-loop2 Inv-loop μ-loop = search c in
+    let looked : tie.After-looked-at Inv-loop2 μ-loop2 Inv-loop μ-loop = search in-loop2 in
+    let after-shared-slice-known2 : tie.After-shared-slice-known2 Inv-loop2 μ-loop2 Inv-loop μ-loop = search looked in
+    let first : tie.Start Inv-loop2 μ-loop2 Inv-loop μ-loop = search after-shared-slice-known2 in
     let r = early-facts _ _ _ _ (first .pre .1) in
-    omega (arith, looked-real (looked .looked-at .ensures) (c .before .before .before .before .before .before .before .before .before .before .before .«loop2-test» .taken), shape-of (first .args .t1) (r .tree) .few-threads)
-
-loop2-less : tie.Need-loop2-less Inv-loop2 μ-loop2 Inv-loop μ-loop
-loop2-less c = omega arith
+    omega (arith, looked-real (looked .looked-at .ensures) (in-loop2 .«loop2-test» .taken), shape-of (first .args .t1) (r .tree) .few-threads)
 
 loop2-again : tie.Need-loop2-again Inv-loop2 μ-loop2 Inv-loop μ-loop
 loop2-again c =
-    let test = c .before .before .before .before .before .before .before .before .before .before .before in
-    let looked = c .before .before .before .before .before .before .before .before .before .before .before .before .before in
-    let first = c .before .before .before .before .before .before .before .before .before .before .before .before .before .before .before .before .before .before .before .before .before .before .before .before .before .before .before .before in
+    let after-place-at2 : tie.After-place-at2 Inv-loop2 μ-loop2 Inv-loop μ-loop = search c in
+    let test : tie.In-loop2 Inv-loop2 μ-loop2 Inv-loop μ-loop = search after-place-at2 in
+    let looked : tie.After-looked-at Inv-loop2 μ-loop2 Inv-loop μ-loop = search test in
+    let after-shared-slice-known2 : tie.After-shared-slice-known2 Inv-loop2 μ-loop2 Inv-loop μ-loop = search looked in
+    let after-row-known : tie.After-row-known Inv-loop2 μ-loop2 Inv-loop μ-loop = search after-shared-slice-known2 in
+    let first : tie.Start Inv-loop2 μ-loop2 Inv-loop μ-loop = search after-row-known in
     let r = early-facts _ _ _ _ (first .pre .1) in
     let real = looked-real (looked .looked-at .ensures) (test .«loop2-test» .taken) in
-    (omega arith, marked-next (first .args .t1) (r .tree) _ _ _ _ _ _ real (test .before .loop2 .inv .1) (rw (c .before .before .before .before .before .before .place-at2 .ensures) at (c .mark-shown .ensures)))
+    (omega arith, marked-next (first .args .t1) (r .tree) _ _ _ _ _ _ real (test .before .loop2 .inv .1) (rw (after-place-at2 .place-at2 .ensures) at (c .mark-shown .ensures)))
 
 take-requires : tie.Need-take-requires Inv-loop2 μ-loop2 Inv-loop μ-loop
 unfolding tree-of
 take-requires c κs =
-    let l = c .before .before .before .before .before .before .before .before .before .before .before .before .before .before .before .before .before .before .before .before .before .before .before .before .loop in
-    let test = c .before .before .before .before .before .before .before .before .before .before .before .before .before .before .before .before .before .before .before .before .before .before .before .loop-test .taken in
-    let stands = c .before .before .before .before .before .before .before .before .before .before .before .before .before .before .before .before .before .place-at .ensures in
-    let look = c .before .before .before .before .before .before .before .before .before .before .before .before .before .before .before .looked-at .ensures in
-    let marks = c .before .before .before .before .before .before .before .before .before .before .before .before .before .before .loop2 .inv in
-    let done = c .before .before .before .before .before .before .before .before .before .before .before .before .before .«loop2-test» .left in
-    let first = c .before .before .before .before .before .before .before .before .before .before .before .before .before .before .before .before .before .before .before .before .before .before .before .before .before .before .before .before .before .before in
+    let after-loop2 : tie.After-loop2 Inv-loop2 μ-loop2 Inv-loop μ-loop = search c in
+    let at-loop2 : tie.At-loop2 Inv-loop2 μ-loop2 Inv-loop μ-loop = search after-loop2 in
+    let after-looked-at : tie.After-looked-at Inv-loop2 μ-loop2 Inv-loop μ-loop = search at-loop2 in
+    let after-place-at : tie.After-place-at Inv-loop2 μ-loop2 Inv-loop μ-loop = search after-looked-at in
+    let in-loop : tie.In-loop Inv-loop2 μ-loop2 Inv-loop μ-loop = search after-place-at in
+    let at-loop : tie.At-loop Inv-loop2 μ-loop2 Inv-loop μ-loop = search in-loop in
+    let first : tie.Start Inv-loop2 μ-loop2 Inv-loop μ-loop = search at-loop in
+    let l = at-loop .loop in
+    let test = in-loop .loop-test .taken in
+    let stands = after-place-at .place-at .ensures in
+    let look = after-looked-at .looked-at .ensures in
+    let marks = at-loop2 .loop2 .inv in
+    let done = after-loop2 .«loop2-test» .left in
     let w = first .args .t1 in
     let r = early-facts _ _ _ _ (first .pre .1) in
     let n = lent-state (l .tails) (l .nexts) (l .statuses) (l .rows) (l .domains) (l .peers) (l .words) (l .drawn) (l .raised) in
@@ -135,48 +148,80 @@ take-requires c κs =
 
 count-in-requires : tie.Need-count-in-requires Inv-loop2 μ-loop2 Inv-loop μ-loop
 count-in-requires c κs =
-    let test = c .before .before .before .before .before .before .before .before .before .before .before .before .before .before .before .before .before .before .before .before .before .before .before .before .before .before in
+    let after-place-at : tie.After-place-at Inv-loop2 μ-loop2 Inv-loop μ-loop = search c in
+    let test : tie.In-loop Inv-loop2 μ-loop2 Inv-loop μ-loop = search after-place-at in
+    let start-point : tie.Start Inv-loop2 μ-loop2 Inv-loop μ-loop = search test in
     let l = test .before .loop in
-    let r = early-facts _ _ _ _ (c .before .before .before .before .before .before .before .before .before .before .before .before .before .before .before .before .before .before .before .before .before .before .before .before .before .before .before .before .before .before .before .before .before .pre .1) in
+    let r = early-facts _ _ _ _ (start-point .pre .1) in
     let n = lent-state (l .tails) (l .nexts) (l .statuses) (l .rows) (l .domains) (l .peers) (l .words) (l .drawn) (l .raised) in
-    let does = rw (c .before .before .before .before .before .before .before .before .before .before .before .before .before .before .before .before .before .before .before .before .place-at .ensures) at (c .before .before .take .ensures .0 .does (n .places) (sym (c .before .before .before .before .before .before .before .before .before .before .before .before .before .before .before .before .before .before .before .before .place-at .ensures))) in
+    let does = rw (after-place-at .place-at .ensures) at (c .before .before .take .ensures .0 .does (n .places) (sym (after-place-at .place-at .ensures))) in
     kind-room _ _ _ _ _ n _ _ _ _ _ (l .inv .0) does (test .loop-test .taken) (r .short)
 
 put-place-requires : tie.Need-put-place-requires Inv-loop2 μ-loop2 Inv-loop μ-loop
-put-place-requires c κs = omega (arith, thread-small _ _ _ _ _ (early-facts _ _ _ _ (c .before .before .before .before .before .before .before .before .before .before .before .before .before .before .before .before .before .before .before .before .before .before .before .before .before .before .before .before .before .before .before .before .before .before .before .before .before .before .pre .1)) (c .before .before .before .before .before .before .before .before .before .before .before .before .before .before .before .before .before .before .before .before .before .before .before .before .before .before .before .before .before .before .before .loop-test .taken))
+put-place-requires c κs =
+    let after-drawn : tie.After-drawn Inv-loop2 μ-loop2 Inv-loop μ-loop = search c in
+    let at-loop2 : tie.At-loop2 Inv-loop2 μ-loop2 Inv-loop μ-loop = search after-drawn in
+    let in-loop : tie.In-loop Inv-loop2 μ-loop2 Inv-loop μ-loop = search at-loop2 in
+    let start-point : tie.Start Inv-loop2 μ-loop2 Inv-loop μ-loop = search in-loop in
+    omega (arith, thread-small _ _ _ _ _ (early-facts _ _ _ _ (start-point .pre .1)) (in-loop .loop-test .taken))
 
 trace-at-requires : tie.Need-trace-at-requires Inv-loop2 μ-loop2 Inv-loop μ-loop
 trace-at-requires c κs =
-    let test = c .before .before .before .before .before .before .before .before .before .before .before .before .before .before .before .before .before .before .before .before .before .before .before .before .before .before .before .before .before .before .before .before .before in
+    let after-drawn : tie.After-drawn Inv-loop2 μ-loop2 Inv-loop μ-loop = search c in
+    let at-loop2 : tie.At-loop2 Inv-loop2 μ-loop2 Inv-loop μ-loop = search after-drawn in
+    let test : tie.In-loop Inv-loop2 μ-loop2 Inv-loop μ-loop = search at-loop2 in
+    let start-point : tie.Start Inv-loop2 μ-loop2 Inv-loop μ-loop = search test in
     let g = test .before .loop .inv .0 in
-    let r = early-facts _ _ _ _ (c .before .before .before .before .before .before .before .before .before .before .before .before .before .before .before .before .before .before .before .before .before .before .before .before .before .before .before .before .before .before .before .before .before .before .before .before .before .before .before .before .pre .1) in
+    let r = early-facts _ _ _ _ (start-point .pre .1) in
     let more = test .loop-test .taken in
     (omega (arith, more, g .entries-fit, g .long, r .fits), omega (arith, more, g .entries-fit, r .short))
 
-put-code-requires : tie.Need-put-code-requires Inv-loop2 μ-loop2 Inv-loop μ-loop
-put-code-requires c κs = search needs
-
 add-k : tie.Need-add-k Inv-loop2 μ-loop2 Inv-loop μ-loop
-add-k c = omega (arith, c .before .before .before .before .before .before .before .before .before .before .before .before .before .before .before .before .before .before .before .before .before .before .before .before .before .before .before .before .before .before .before .before .before .before .before .before .before .before .before .before .loop-test .taken, (early-facts _ _ _ _ (c .before .before .before .before .before .before .before .before .before .before .before .before .before .before .before .before .before .before .before .before .before .before .before .before .before .before .before .before .before .before .before .before .before .before .before .before .before .before .before .before .before .before .before .before .before .before .before .pre .1)) .short)
+add-k c =
+    let after-shown2 : tie.After-shown2 Inv-loop2 μ-loop2 Inv-loop μ-loop = search c in
+    let after-loop2 : tie.After-loop2 Inv-loop2 μ-loop2 Inv-loop μ-loop = search after-shown2 in
+    let in-loop : tie.In-loop Inv-loop2 μ-loop2 Inv-loop μ-loop = search after-loop2 in
+    let start-point : tie.Start Inv-loop2 μ-loop2 Inv-loop μ-loop = search in-loop in
+    omega (arith, in-loop .loop-test .taken, (early-facts _ _ _ _ (start-point .pre .1)) .short)
 
 loop-less : tie.Need-loop-less Inv-loop2 μ-loop2 Inv-loop μ-loop
-loop-less c = omega (arith, c .before .before .before .before .before .before .before .before .before .before .before .before .before .before .before .before .before .before .before .before .before .before .before .before .before .before .before .before .before .before .before .before .before .before .before .before .before .before .before .before .loop-test .taken)
+loop-less c =
+    let after-shown2 : tie.After-shown2 Inv-loop2 μ-loop2 Inv-loop μ-loop = search c in
+    let after-loop2 : tie.After-loop2 Inv-loop2 μ-loop2 Inv-loop μ-loop = search after-shown2 in
+    let in-loop : tie.In-loop Inv-loop2 μ-loop2 Inv-loop μ-loop = search after-loop2 in
+    omega (arith, in-loop .loop-test .taken)
 
 loop-again : tie.Need-loop-again Inv-loop2 μ-loop2 Inv-loop μ-loop
 unfolding tree-of
 loop-again c =
-    let l = c .before .before .before .before .before .before .before .before .before .before .before .before .before .before .before .before .before .before .before .before .before .before .before .before .before .before .before .before .before .before .before .before .before .before .before .before .before .before .before .before .before .loop in
-    let test = c .before .before .before .before .before .before .before .before .before .before .before .before .before .before .before .before .before .before .before .before .before .before .before .before .before .before .before .before .before .before .before .before .before .before .before .before .before .before .before .before .loop-test .taken in
-    let stands = c .before .before .before .before .before .before .before .before .before .before .before .before .before .before .before .before .before .before .before .before .before .before .before .before .before .before .before .before .before .before .before .before .before .before .place-at .ensures in
-    let look = rw stands at (c .before .before .before .before .before .before .before .before .before .before .before .before .before .before .before .before .before .before .before .before .before .before .before .before .before .before .before .before .before .before .before .before .looked-at .ensures) in
-    let marks = c .before .before .before .before .before .before .before .before .before .before .before .before .before .before .before .before .before .before .before .before .before .before .before .before .before .before .before .before .before .before .before .loop2 .inv in
-    let done = c .before .before .before .before .before .before .before .before .before .before .before .before .before .before .before .before .before .before .before .before .before .before .before .before .before .before .before .before .before .before .«loop2-test» .left in
-    let took = c .before .before .before .before .before .before .before .before .before .before .before .before .before .before .before .before .take in
-    let tallied = c .before .before .before .before .before .before .before .before .before .before .before .before .before .count-in .ensures in
-    let stored = c .before .before .before .before .before .before .before .before .put-place .ensures in
-    let traced = c .before .before .before .before .before .before .trace-at .ensures in
+    let after-trace-at : tie.After-trace-at Inv-loop2 μ-loop2 Inv-loop μ-loop = search c in
+    let after-put-place : tie.After-put-place Inv-loop2 μ-loop2 Inv-loop μ-loop = search after-trace-at in
+    let after-count-in : tie.After-count-in Inv-loop2 μ-loop2 Inv-loop μ-loop = search after-put-place in
+    let after-take : tie.After-take Inv-loop2 μ-loop2 Inv-loop μ-loop = search after-count-in in
+    let after-drawn : tie.After-drawn Inv-loop2 μ-loop2 Inv-loop μ-loop = search after-take in
+    let after-take-arg4 : tie.After-take-arg4 Inv-loop2 μ-loop2 Inv-loop μ-loop = search after-drawn in
+    let after-tree2 : tie.After-tree2 Inv-loop2 μ-loop2 Inv-loop μ-loop = search after-take-arg4 in
+    let after-loop2 : tie.After-loop2 Inv-loop2 μ-loop2 Inv-loop μ-loop = search after-tree2 in
+    let at-loop2 : tie.At-loop2 Inv-loop2 μ-loop2 Inv-loop μ-loop = search after-loop2 in
+    let after-looked-at : tie.After-looked-at Inv-loop2 μ-loop2 Inv-loop μ-loop = search at-loop2 in
+    let after-place-at : tie.After-place-at Inv-loop2 μ-loop2 Inv-loop μ-loop = search after-looked-at in
+    let after-place-at-arg3 : tie.After-place-at-arg3 Inv-loop2 μ-loop2 Inv-loop μ-loop = search after-place-at in
+    let after-shared-slice-known2 : tie.After-shared-slice-known2 Inv-loop2 μ-loop2 Inv-loop μ-loop = search after-place-at-arg3 in
+    let in-loop : tie.In-loop Inv-loop2 μ-loop2 Inv-loop μ-loop = search after-shared-slice-known2 in
+    let at-loop : tie.At-loop Inv-loop2 μ-loop2 Inv-loop μ-loop = search in-loop in
+    let after-slice-known2 : tie.After-slice-known2 Inv-loop2 μ-loop2 Inv-loop μ-loop = search at-loop in
+    let first : tie.Start Inv-loop2 μ-loop2 Inv-loop μ-loop = search after-slice-known2 in
+    let l = at-loop .loop in
+    let test = in-loop .loop-test .taken in
+    let stands = after-place-at .place-at .ensures in
+    let look = rw stands at (after-looked-at .looked-at .ensures) in
+    let marks = at-loop2 .loop2 .inv in
+    let done = after-loop2 .«loop2-test» .left in
+    let took = after-take .take in
+    let tallied = after-count-in .count-in .ensures in
+    let stored = after-put-place .put-place .ensures in
+    let traced = after-trace-at .trace-at .ensures in
     let codes = rw stands at (c .before .before .put-code .ensures) in
-    let first = c .before .before .before .before .before .before .before .before .before .before .before .before .before .before .before .before .before .before .before .before .before .before .before .before .before .before .before .before .before .before .before .before .before .before .before .before .before .before .before .before .before .before .before .before .before .before .before in
     let w = first .args .t1 in
     let r = early-facts _ _ _ _ (first .pre .1) in
     let n = lent-state (l .tails) (l .nexts) (l .statuses) (l .rows) (l .domains) (l .peers) (l .words) (l .drawn) (l .raised) in
@@ -210,10 +255,10 @@ run-lent-spec =
     Inv-loop
     μ-loop
     loop-holds
-    cast-loop
-    cast-position
-    mul-i
-    shared-slice-read-i
+    (λ c. search needs)
+    (λ c. search needs)
+    (λ c. search needs)
+    (λ c. search needs)
     cast-at
     place-at-requires
     looked-at-requires
@@ -223,13 +268,13 @@ run-lent-spec =
     element-copy-out-its-home
     mark-shown-requires
     add-j
-    loop2-less
+    (λ c. search needs)
     loop2-again
     take-requires
     count-in-requires
     put-place-requires
     trace-at-requires
-    put-code-requires
+    (λ c κs. search needs)
     add-k
     loop-less
     loop-again

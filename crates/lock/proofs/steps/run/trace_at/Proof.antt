@@ -5,21 +5,6 @@ use borrow.Author.Needs.{needs}
 use Rattle.lock.proofs.steps.run.trace_at.Statement.{statement}
 use Rattle.lock.proofs.steps.run.trace_at.Tie as tie
 
-is-entry-requires : tie.Need-is-entry-requires
-is-entry-requires c κs = search needs
-
-mul-trace : tie.Need-mul-trace
-mul-trace c = search needs
-
-slice-write-trace : tie.Need-slice-write-trace
-slice-write-trace c = search needs
-
-add-result : tie.Need-add-result
-add-result c = search needs
-
-same-length : tie.Need-same-length
-same-length c = search needs
-
 returns : tie.Need-returns
 returns c = let e = sym (c .before .is-entry .ensures) ∙ c .if1 .taken in (rw e, rw e)
 
@@ -27,4 +12,4 @@ returns-2 : tie.Need-returns-2
 returns-2 c = let e = sym (c .before .is-entry .ensures) ∙ c .if1 .left in (rw (e, add-zero), rw e)
 
 pub trace-at-spec : {M : Type 1} → statement M
-trace-at-spec = tie.close (tie.spec is-entry-requires mul-trace slice-write-trace add-result same-length returns returns-2)
+trace-at-spec = tie.close (tie.spec (λ c κs. search needs) (λ c. search needs) (λ c. search needs) (λ c. search needs) (λ c. search needs) returns returns-2)

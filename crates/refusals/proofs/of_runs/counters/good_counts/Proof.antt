@@ -28,14 +28,14 @@ returns : tie.Need-returns Inv-loop μ-loop
 unfolding good-counts
 returns c =
     let after-of-16-bits : tie.After-of-16-bits Inv-loop μ-loop = search c in
-    let in-loop : tie.In-loop Inv-loop μ-loop = search c in
+    let in-loop : tie.In-loop Inv-loop μ-loop = search after-of-16-bits in
     let f = count-refusal-words _ _ _ _ _ _ _ _ (after-of-16-bits .«of-16-bits» .ensures .0) (after-of-16-bits .«of-16-bits» .ensures .1) (c .before .good-count-at .ensures) in
     sym (all-fails 64 _ _ (in-loop .loop-test .taken) (by-answer _ false f (not-true _ (c .if1 .taken))))
 
 loop-again : tie.Need-loop-again Inv-loop μ-loop
 loop-again c =
     let after-of-16-bits : tie.After-of-16-bits Inv-loop μ-loop = search c in
-    let at-loop : tie.At-loop Inv-loop μ-loop = search c in
+    let at-loop : tie.At-loop Inv-loop μ-loop = search after-of-16-bits in
     let f = count-refusal-words _ _ _ _ _ _ _ _ (after-of-16-bits .«of-16-bits» .ensures .0) (after-of-16-bits .«of-16-bits» .ensures .1) (c .before .good-count-at .ensures) in
     (omega arith, one-more _ true _ (at-loop .loop .inv .1) (by-answer _ true f (not-false _ (c .if1 .left))))
 

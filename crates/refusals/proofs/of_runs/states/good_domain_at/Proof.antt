@@ -19,7 +19,7 @@ returns-2 c =
 returns-3 : tie.Need-returns-3
 returns-3 c =
     let else1 : tie.Else1 = search c in
-    let after-is-barred-at : tie.After-is-barred-at = search c in
+    let after-is-barred-at : tie.After-is-barred-at = search else1 in
     let a = by-answer _ false (after-is-barred-at .is-barred-at .ensures) (else1 .if1 .left) in
     let b = by-answer _ true (c .before .before .meets-at .ensures) (not-false _ (c .before .if2 .left)) in
     rw (c .good-peer-at .ensures, a, b)

@@ -19,8 +19,8 @@ returns-3 : tie.Need-returns-3
 unfolding place-in
 returns-3 c =
     let else2 : tie.Else2 = search c in
-    let after-has-spare-word : tie.After-has-spare-word = search c in
-    let else1 : tie.Else1 = search c in
+    let after-has-spare-word : tie.After-has-spare-word = search else2 in
+    let else1 : tie.Else1 = search after-has-spare-word in
     let a = by-answer _ false (after-has-spare-word .has-spare-word .ensures) (else2 .if2 .left) in
     let b = by-answer _ true (c .before .before .has-domain .ensures) (c .before .if3 .taken) in
     rw (c .good-domain-at .ensures, le-ltb _ _ (else1 .if1 .left), a, b)
@@ -29,8 +29,8 @@ returns-4 : tie.Need-returns-4
 unfolding place-in
 returns-4 c =
     let else2 : tie.Else2 = search c in
-    let after-has-spare-word : tie.After-has-spare-word = search c in
-    let else1 : tie.Else1 = search c in
+    let after-has-spare-word : tie.After-has-spare-word = search else2 in
+    let else1 : tie.Else1 = search after-has-spare-word in
     let a = by-answer _ false (after-has-spare-word .has-spare-word .ensures) (else2 .if2 .left) in
     let b = by-answer _ false (c .before .before .has-domain .ensures) (c .before .if3 .left) in
     rw (le-ltb _ _ (else1 .if1 .left), a, b, ne-eqb _ _ (c .if4 .taken))
@@ -39,8 +39,8 @@ returns-5 : tie.Need-returns-5
 unfolding place-in
 returns-5 c =
     let else2 : tie.Else2 = search c in
-    let after-has-spare-word : tie.After-has-spare-word = search c in
-    let else1 : tie.Else1 = search c in
+    let after-has-spare-word : tie.After-has-spare-word = search else2 in
+    let else1 : tie.Else1 = search after-has-spare-word in
     let a = by-answer _ false (after-has-spare-word .has-spare-word .ensures) (else2 .if2 .left) in
     let b = by-answer _ false (c .before .before .has-domain .ensures) (c .before .if3 .left) in
     rw (le-ltb _ _ (else1 .if1 .left), a, b, eq-eqb _ _ (c .if4 .left))

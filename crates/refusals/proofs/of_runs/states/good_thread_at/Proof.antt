@@ -14,7 +14,7 @@ returns c = rw (by-answer _ false (c .before .good-next-at .ensures) (not-true _
 returns-2 : tie.Need-returns-2
 returns-2 c =
     let after-good-next-at : tie.After-good-next-at = search c in
-    let s : tie.Start = search c in
+    let s : tie.Start = search after-good-next-at in
     let n = by-answer _ true (after-good-next-at .good-next-at .ensures) (not-false _ (c .before .before .if1 .left)) in
     let p = rests-good (s .args .ticket-root) (parents-in (s .args .domains) (s .args .parents .now)) (s .args .owners .now) (s .args .statuses .now) (s .args .i) _ (s .args .q) (s .args .resting) (s .pre .1 .1 .1) (by-answer _ true (c .before .rests-at .ensures) (c .if2 .taken)) in
     rw (n, p)
@@ -25,7 +25,7 @@ good-place-at-requires c κs = let s : tie.Start = search c in (s .pre .0, (s .p
 returns-3 : tie.Need-returns-3
 returns-3 c =
     let else1 : tie.Else1 = search c in
-    let after-good-next-at : tie.After-good-next-at = search c in
+    let after-good-next-at : tie.After-good-next-at = search else1 in
     let n = by-answer _ true (after-good-next-at .good-next-at .ensures) (not-false _ (else1 .if1 .left)) in
     rw (c .good-place-at .ensures, n)
 

@@ -23,33 +23,33 @@ returns-4 : tie.Need-returns-4
 unfolding ticket-place-in
 returns-4 c =
     let else2 : tie.Else2 = search c in
-    let else1 : tie.Else1 = search c in
+    let else1 : tie.Else1 = search else2 in
     rw (ne-eqb _ _ (else1 .if1 .left), le-ltb _ _ (else2 .if2 .left), eq-eqb _ _ (c .before .before .if3 .left), ne-eqb _ _ (c .if4 .taken))
 
 returns-5 : tie.Need-returns-5
 unfolding ticket-place-in
 returns-5 c =
     let else3 : tie.Else3 = search c in
-    let else2 : tie.Else2 = search c in
-    let else1 : tie.Else1 = search c in
+    let else2 : tie.Else2 = search else3 in
+    let else1 : tie.Else1 = search else2 in
     rw (ne-eqb _ _ (else1 .if1 .left), le-ltb _ _ (else2 .if2 .left), eq-eqb _ _ (else3 .if3 .left), eq-eqb _ _ (c .before .before .if4 .left), ne-eqb _ _ (c .if5 .taken))
 
 returns-6 : tie.Need-returns-6
 unfolding ticket-place-in
 returns-6 c =
     let else4 : tie.Else4 = search c in
-    let else3 : tie.Else3 = search c in
-    let else2 : tie.Else2 = search c in
-    let else1 : tie.Else1 = search c in
+    let else3 : tie.Else3 = search else4 in
+    let else2 : tie.Else2 = search else3 in
+    let else1 : tie.Else1 = search else2 in
     rw (ne-eqb _ _ (else1 .if1 .left), le-ltb _ _ (else2 .if2 .left), eq-eqb _ _ (else3 .if3 .left), eq-eqb _ _ (else4 .if4 .left), eq-eqb _ _ (c .before .before .if5 .left), ne-eqb _ _ (c .if6 .taken))
 
 returns-7 : tie.Need-returns-7
 unfolding ticket-place-in
 returns-7 c =
     let else4 : tie.Else4 = search c in
-    let else3 : tie.Else3 = search c in
-    let else2 : tie.Else2 = search c in
-    let else1 : tie.Else1 = search c in
+    let else3 : tie.Else3 = search else4 in
+    let else2 : tie.Else2 = search else3 in
+    let else1 : tie.Else1 = search else2 in
     let d = c .before .before in
     rw (c .before .record-at .ensures .0, ne-eqb _ _ (else1 .if1 .left), le-ltb _ _ (else2 .if2 .left), eq-eqb _ _ (else3 .if3 .left), eq-eqb _ _ (else4 .if4 .left), eq-eqb _ _ (d .before .before .if5 .left), eq-eqb _ _ (d .if6 .left))
 

@@ -29,8 +29,8 @@ returns-2 c =
 loop-again : tie.Need-loop-again Inv-loop μ-loop
 loop-again c =
     let in-loop : tie.In-loop Inv-loop μ-loop = search c in
-    let at-loop : tie.At-loop Inv-loop μ-loop = search c in
-    let s : tie.Start Inv-loop μ-loop = search c in
+    let at-loop : tie.At-loop Inv-loop μ-loop = search in-loop in
+    let s : tie.Start Inv-loop μ-loop = search at-loop in
     let l = at-loop .loop in
     let low = s .pre .1 .0 .lower (l .c) (omega arith) (l .inv .1) in
     (omega arith, omega arith, sym (meets-up _ _ _ _ _ (in-loop .loop-test .taken) (c .before .before .if1 .left) (c .before .if2 .left) (l .inv .1)) ∙ l .inv .2)

@@ -12,20 +12,20 @@ returns-2 c = rw (eq-eqb _ _ (c .before .before .if1 .left), ne-eqb _ _ (c .if2 
 returns-3 : tie.Need-returns-3
 returns-3 c =
     let else2 : tie.Else2 = search c in
-    let else1 : tie.Else1 = search c in
+    let else1 : tie.Else1 = search else2 in
     rw (eq-eqb _ _ (else1 .if1 .left), eq-eqb _ _ (else2 .if2 .left), eq-eqb _ _ (c .before .if3 .taken))
 
 returns-4 : tie.Need-returns-4
 returns-4 c =
     let else2 : tie.Else2 = search c in
-    let else1 : tie.Else1 = search c in
+    let else1 : tie.Else1 = search else2 in
     rw (eq-eqb _ _ (else1 .if1 .left), eq-eqb _ _ (else2 .if2 .left), ne-eqb _ _ (c .before .before .if3 .left), ne-eqb _ _ (c .if4 .taken))
 
 returns-5 : tie.Need-returns-5
 returns-5 c =
     let else3 : tie.Else3 = search c in
-    let else2 : tie.Else2 = search c in
-    let else1 : tie.Else1 = search c in
+    let else2 : tie.Else2 = search else3 in
+    let else1 : tie.Else1 = search else2 in
     rw (eq-eqb _ _ (else1 .if1 .left), eq-eqb _ _ (else2 .if2 .left), ne-eqb _ _ (else3 .if3 .left), eq-eqb _ _ (c .before .if4 .left))
 
 pub rests-at-spec : {M : Type 1} → statement M

@@ -35,13 +35,13 @@ element-copy-out-c c =
 loop-less : tie.Need-loop-less Inv-loop μ-loop
 loop-less c =
     let at-loop : tie.At-loop Inv-loop μ-loop = search c in
-    let start : tie.Start Inv-loop μ-loop = search c in
+    let start : tie.Start Inv-loop μ-loop = search at-loop in
     let l = at-loop .loop in omega (arith, start .pre .1 .0 .lower (l .c) (omega (arith, c .before .before .loop-test .taken)) (l .inv .real))
 
 loop-again : tie.Need-loop-again Inv-loop μ-loop
 loop-again c =
     let at-loop : tie.At-loop Inv-loop μ-loop = search c in
-    let start : tie.Start Inv-loop μ-loop = search c in
+    let start : tie.Start Inv-loop μ-loop = search at-loop in
     climbs-on _ _ _ _ _ _ (start .pre .1 .0) (c .before .before .loop-test .taken) (at-loop .loop .inv)
 
 returns : tie.Need-returns Inv-loop μ-loop

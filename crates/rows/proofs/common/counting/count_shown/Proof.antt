@@ -36,7 +36,7 @@ domain-if-requires c κs =
 count-start-requires : tie.Need-count-start-requires Inv-loop μ-loop
 count-start-requires c κs =
     let in-loop : tie.In-loop Inv-loop μ-loop = search c in
-    let at-loop : tie.At-loop Inv-loop μ-loop = search c in
+    let at-loop : tie.At-loop Inv-loop μ-loop = search in-loop in
     (c .before .domain-if .ensures .1, λ n. let l = at-loop .loop in let start : tie.Start Inv-loop μ-loop = search c in let m = meant (l .d) (c .before .domain-if .result) (getD (start .args .shown .now) (l .d) false) (c .before .domain-if .ensures .0) n in rw m (omega (arith, l .inv .2 (l .d) (omega arith), start .pre .1 .1 .room (l .d) (omega (arith, start .pre .0, in-loop .loop-test .taken)))))
 
 count-length-requires : tie.Need-count-length-requires Inv-loop μ-loop
@@ -47,7 +47,7 @@ count-length-requires c κs =
 add-d : tie.Need-add-d Inv-loop μ-loop
 add-d c =
     let in-loop : tie.In-loop Inv-loop μ-loop = search c in
-    let start-point : tie.Start Inv-loop μ-loop = search c in
+    let start-point : tie.Start Inv-loop μ-loop = search in-loop in
     omega (arith, start-point .pre .0, in-loop .loop-test .taken)
 
 loop-less : tie.Need-loop-less Inv-loop μ-loop
@@ -58,9 +58,9 @@ loop-less c =
 loop-again : tie.Need-loop-again Inv-loop μ-loop
 loop-again c =
     let after-domain-if : tie.After-domain-if Inv-loop μ-loop = search c in
-    let in-loop : tie.In-loop Inv-loop μ-loop = search c in
-    let at-loop : tie.At-loop Inv-loop μ-loop = search c in
-    let start : tie.Start Inv-loop μ-loop = search c in
+    let in-loop : tie.In-loop Inv-loop μ-loop = search after-domain-if in
+    let at-loop : tie.At-loop Inv-loop μ-loop = search in-loop in
+    let start : tie.Start Inv-loop μ-loop = search at-loop in
     let l = at-loop .loop in
     let own = after-domain-if .domain-if .ensures .0 in (
       omega (arith, in-loop .loop-test .taken),

@@ -17,7 +17,7 @@ returns-3 c =
 returns-4 : tie.Need-returns-4
 returns-4 c =
     let else2 : tie.Else2 = search c in
-    let else1 : tie.Else1 = search c in
+    let else1 : tie.Else1 = search else2 in
     rw (eq-eqb _ _ (else1 .if1 .left), eq-eqb _ _ (else2 .if2 .left), eq-eqb _ _ (c .before .if3 .left))
 
 pub is-watch-at-spec : {M : Type 1} → statement M

@@ -13,15 +13,15 @@ returns c = rw (by-answer _ false (c .before .is-watch-at .ensures) (not-true _ 
 returns-2 : tie.Need-returns-2
 returns-2 c =
     let after-taken-at : tie.After-taken-at = search c in
-    let start : tie.Start = search c in
+    let start : tie.Start = search after-taken-at in
     let a = start .args in not-marked (a .domains) (a .parents .now) (a .home) (a .statuses .now) (a .q) _ (a .shown .now) _ (after-taken-at .taken-at .ensures .0) _ (c .before .next-number .ensures) (c .if2 .taken)
 
 returns-3 : tie.Need-returns-3
 returns-3 c =
     let after-taken-at : tie.After-taken-at = search c in
-    let else1 : tie.Else1 = search c in
-    let after-is-watch-at : tie.After-is-watch-at = search c in
-    let start : tie.Start = search c in
+    let else1 : tie.Else1 = search after-taken-at in
+    let after-is-watch-at : tie.After-is-watch-at = search else1 in
+    let start : tie.Start = search after-is-watch-at in
     let a = start .args in is-marked (a .domains) (a .parents .now) (a .home) (a .statuses .now) (a .q) _ (a .shown .now) _ (after-taken-at .taken-at .ensures .0) _ (c .before .next-number .ensures) (by-answer _ true (after-is-watch-at .is-watch-at .ensures) (not-false _ (else1 .if1 .left))) (c .if2 .left)
 
 pub mark-shown-spec : {M : Type 1} → statement M

@@ -32,7 +32,7 @@ part-run-row-end c =
 run-row-requires : tie.Need-run-row-requires Inv-loop μ-loop
 run-row-requires c κs =
     let in-loop : tie.In-loop Inv-loop μ-loop = search c in
-    let l : tie.At-loop Inv-loop μ-loop = search c in
+    let l : tie.At-loop Inv-loop μ-loop = search in-loop in
     let begin : tie.Start Inv-loop μ-loop = search l in (
       begin .pre .0,
       (
@@ -44,8 +44,8 @@ run-row-requires c κs =
 add-at : tie.Need-add-at Inv-loop μ-loop
 add-at c =
     let in-loop : tie.In-loop Inv-loop μ-loop = search c in
-    let l : tie.At-loop Inv-loop μ-loop = search c in
-    let start-point : tie.Start Inv-loop μ-loop = search c in
+    let l : tie.At-loop Inv-loop μ-loop = search in-loop in
+    let start-point : tie.Start Inv-loop μ-loop = search l in
     omega (arith, l .loop .inv .0 .row-place, in-loop .loop-test .taken, start-point .pre .1)
 
 loop-again : tie.Need-loop-again Inv-loop μ-loop

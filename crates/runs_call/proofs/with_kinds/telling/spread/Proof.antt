@@ -27,56 +27,56 @@ shared-slice-read-word-index c = let l : tie.At-loop Inv-loop μ-loop = search c
 element-copy-out-home : tie.Need-element-copy-out-home Inv-loop μ-loop
 element-copy-out-home c =
     let l : tie.At-loop Inv-loop μ-loop = search c in
-    let start : tie.Start Inv-loop μ-loop = search c in
+    let start : tie.Start Inv-loop μ-loop = search l in
     let k = l .loop .k in
     rw (c .word-index .ensures) (start .pre .1 .fits (k - 1) (omega (arith, l .loop .inv .0)))
 
 mul-rows : tie.Need-mul-rows Inv-loop μ-loop
 mul-rows c =
     let l : tie.At-loop Inv-loop μ-loop = search c in
-    let start : tie.Start Inv-loop μ-loop = search c in
+    let start : tie.Start Inv-loop μ-loop = search l in
     omega (arith, l .loop .inv .0, l .loop .inv .1 .long, start .pre .0)
 
 mul-rows-2 : tie.Need-mul-rows-2 Inv-loop μ-loop
 mul-rows-2 c =
     let l : tie.At-loop Inv-loop μ-loop = search c in
-    let start : tie.Start Inv-loop μ-loop = search c in
+    let start : tie.Start Inv-loop μ-loop = search l in
     omega (arith, l .loop .inv .0, l .loop .inv .1 .long, start .pre .0)
 
 slice-write-rows : tie.Need-slice-write-rows Inv-loop μ-loop
 slice-write-rows c =
     let l : tie.At-loop Inv-loop μ-loop = search c in
-    let start : tie.Start Inv-loop μ-loop = search c in
+    let start : tie.Start Inv-loop μ-loop = search l in
     omega (arith, l .loop .inv .0, l .loop .inv .1 .long, start .pre .0)
 
 mul-rows-3 : tie.Need-mul-rows-3 Inv-loop μ-loop
 mul-rows-3 c =
     let l : tie.At-loop Inv-loop μ-loop = search c in
-    let start : tie.Start Inv-loop μ-loop = search c in
+    let start : tie.Start Inv-loop μ-loop = search l in
     omega (arith, l .loop .inv .0, l .loop .inv .1 .long, start .pre .0)
 
 add-rows : tie.Need-add-rows Inv-loop μ-loop
 add-rows c =
     let l : tie.At-loop Inv-loop μ-loop = search c in
-    let start : tie.Start Inv-loop μ-loop = search c in
+    let start : tie.Start Inv-loop μ-loop = search l in
     omega (arith, l .loop .inv .0, l .loop .inv .1 .long, start .pre .0)
 
 mul-rows-4 : tie.Need-mul-rows-4 Inv-loop μ-loop
 mul-rows-4 c =
     let l : tie.At-loop Inv-loop μ-loop = search c in
-    let start : tie.Start Inv-loop μ-loop = search c in
+    let start : tie.Start Inv-loop μ-loop = search l in
     omega (arith, l .loop .inv .0, l .loop .inv .1 .long, start .pre .0)
 
 slice-write-rows-2 : tie.Need-slice-write-rows-2 Inv-loop μ-loop
 slice-write-rows-2 c =
     let l : tie.At-loop Inv-loop μ-loop = search c in
-    let start : tie.Start Inv-loop μ-loop = search c in
+    let start : tie.Start Inv-loop μ-loop = search l in
     omega (arith, l .loop .inv .0, l .loop .inv .1 .long, start .pre .0, length-set (l .loop .rows) (2 * (l .loop .k - 1)) (getD (l .loop .rows) (l .loop .k - 1) 0 % 8))
 
 loop-again : tie.Need-loop-again Inv-loop μ-loop
 loop-again c =
     let l : tie.At-loop Inv-loop μ-loop = search c in
-    let first : tie.Start Inv-loop μ-loop = search c in
+    let first : tie.Start Inv-loop μ-loop = search l in
     let k = l .loop .k in
     let z : k - 1 + 1 ≡ k = omega arith in
     (omega (arith, l .loop .inv .0), spread-one _ _ _ (l .loop .rows) (k - 1) (omega (arith, l .loop .inv .0)) (first .pre .0) (rw z (l .loop .inv .1)) _ _ (c .before .before .word-index .ensures) (c .domain-of .ensures))

@@ -20,21 +20,21 @@ loop-holds c = counted-start _ _ _ _ _ _ _ _
 shared-slice-read-code : tie.Need-shared-slice-read-code Inv-loop μ-loop
 shared-slice-read-code c =
     let in-loop : tie.In-loop Inv-loop μ-loop = search c in
-    let at-loop : tie.At-loop Inv-loop μ-loop = search c in
-    let start : tie.Start Inv-loop μ-loop = search c in
+    let at-loop : tie.At-loop Inv-loop μ-loop = search in-loop in
+    let start : tie.Start Inv-loop μ-loop = search at-loop in
     codes-long _ _ _ _ _ _ _ _ _ _ _ _ _ _ (at-loop .loop .inv) (in-loop .loop-test .taken) (start .pre)
 
 element-copy-out-home : tie.Need-element-copy-out-home Inv-loop μ-loop
 element-copy-out-home c =
     let in-loop : tie.In-loop Inv-loop μ-loop = search c in
-    let at-loop : tie.At-loop Inv-loop μ-loop = search c in
-    let start : tie.Start Inv-loop μ-loop = search c in
+    let at-loop : tie.At-loop Inv-loop μ-loop = search in-loop in
+    let start : tie.Start Inv-loop μ-loop = search at-loop in
     rw (c .before .word-index .ensures) (thread-small _ _ _ _ _ _ _ _ _ _ _ _ _ _ (at-loop .loop .inv) (in-loop .loop-test .taken) (start .pre))
 
 note-requires : tie.Need-note-requires Inv-loop μ-loop
 note-requires c κs =
     let word-index : tie.After-word-index Inv-loop μ-loop = search c in
-    let start : tie.Start Inv-loop μ-loop = search c in
+    let start : tie.Start Inv-loop μ-loop = search word-index in
     let test = word-index .before .before in
     let turn = test .before in
     rw (word-index .word-index .ensures) (note-fits _ _ _ _ _ _ _ _ _ _ _ _ _ _ (turn .loop .inv) (test .loop-test .taken) (start .pre))
@@ -42,14 +42,14 @@ note-requires c κs =
 one-more-requires : tie.Need-one-more-requires Inv-loop μ-loop
 one-more-requires c κs =
     let test : tie.In-loop Inv-loop μ-loop = search c in
-    let start : tie.Start Inv-loop μ-loop = search c in
+    let start : tie.Start Inv-loop μ-loop = search test in
     let turn = test .before in
     entered-few _ _ _ _ _ _ _ _ _ _ _ _ _ _ (turn .loop .inv) (test .loop-test .taken) (start .pre)
 
 loop-again : tie.Need-loop-again Inv-loop μ-loop
 loop-again c =
     let entry : tie.After-is-entry Inv-loop μ-loop = search c in
-    let start : tie.Start Inv-loop μ-loop = search c in
+    let start : tie.Start Inv-loop μ-loop = search entry in
     let noted-in = c .before .note .ensures in
     let begun = entry .before in
     let home = begun .before in

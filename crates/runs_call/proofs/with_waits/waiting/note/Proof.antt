@@ -27,7 +27,7 @@ sub-wait c =
 add-totals : tie.Need-add-totals
 add-totals c =
     let after-mark-with : tie.After-mark-with = search c in
-    let first : tie.Start = search c in
+    let first : tie.Start = search after-mark-with in
     let m = after-mark-with .mark-with .ensures in
     let small = first .pre .total-small (first .args .begins) (λ q. c .before .before .if2 .left (m ∙ q)) in
     omega (arith, rw (← m) at small)
@@ -35,9 +35,9 @@ add-totals c =
 returns-3 : tie.Need-returns-3
 returns-3 c =
     let else2 : tie.Else2 = search c in
-    let else1 : tie.Else1 = search c in
-    let mark : tie.After-mark-with = search c in
-    let start : tie.Start = search c in
+    let else1 : tie.Else1 = search else2 in
+    let mark : tie.After-mark-with = search else1 in
+    let start : tie.Start = search mark in
     let e = not-false (start .args .enters) (else1 .if1 .left) in
     let m = mark .mark-with .ensures in
     let z = ne-eqb _ 0 (λ q. else2 .if2 .left (m ∙ q)) in

@@ -21,13 +21,13 @@ loop-holds c = written-start _ _ _ _ _
 put-row-requires : tie.Need-put-row-requires Inv-loop μ-loop
 put-row-requires c κs =
     let at-loop : tie.At-loop Inv-loop μ-loop = search c in
-    let start : tie.Start Inv-loop μ-loop = search c in
+    let start : tie.Start Inv-loop μ-loop = search at-loop in
     row-room _ _ _ _ _ _ _ _ _ _ _ (at-loop .loop .inv) (start .pre .1 .0)
 
 add-all-attempts : tie.Need-add-all-attempts Inv-loop μ-loop
 add-all-attempts c =
     let test : tie.In-loop Inv-loop μ-loop = search c in
-    let start : tie.Start Inv-loop μ-loop = search c in
+    let start : tie.Start Inv-loop μ-loop = search test in
     let l = test .before .loop in
     let p = start .pre in
     let more = test .loop-test .taken in
@@ -53,7 +53,7 @@ same-length c =
 returns : tie.Need-returns Inv-loop μ-loop
 returns c =
     let after-loop : tie.After-loop Inv-loop μ-loop = search c in
-    let at-loop : tie.At-loop Inv-loop μ-loop = search c in
+    let at-loop : tie.At-loop Inv-loop μ-loop = search after-loop in
     written-ends _ _ _ _ _ _ _ _ _ _ _ (at-loop .loop .inv) (after-loop .loop-test .left) _ (c .before .before .put-row2 .ensures)
 
 pub put-rows-spec : {M : Type 1} → statement M

@@ -99,7 +99,7 @@ loop-less c =
 loop-again : tie.Need-loop-again Inv-loop μ-loop
 loop-again c =
     let after-add-kinds : tie.After-add-kinds Inv-loop μ-loop = search c in
-    let after : tie.After-run-lent Inv-loop μ-loop = search c in
+    let after : tie.After-run-lent Inv-loop μ-loop = search after-add-kinds in
     let turn = turn-of (ended-of after) in
     let ran = after .run-lent .ensures in
     let e = ended-of after .piece-end .ensures in

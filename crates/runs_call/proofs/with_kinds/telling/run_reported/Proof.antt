@@ -1,13 +1,13 @@
--- `runs_call::with_kinds::telling::run_told` meets its contract: refused, or run, and what was told of each step as two numbers.
+-- `runs_call::with_kinds::telling::run_reported` meets its contract: refused, or run, and what was told of each step as two numbers.
 use mathlib.Core.Path.{refl, ap}
 use native.Mathlib.Omega.{arith}
 use Rattle.lock.proofs.steps.Answering.{early-passes, kinds-few}
 use Rattle.model.specs.Refusals.{refusal}
-use Rattle.runs_call.specs.WithKinds.Spreading.{told-beside}
-use Rattle.runs_call.proofs.with_kinds.Answering.{told-refuses, as-run, short, codes-fit, threads-fit, rows-told, told-answered}
+use Rattle.runs_call.specs.WithKinds.Spreading.{reported-beside}
+use Rattle.runs_call.proofs.with_kinds.Answering.{reported-refuses, as-run, short, codes-fit, threads-fit, rows-reported, reported-answered}
 use borrow.Author.Needs.{needs}
-use Rattle.runs_call.proofs.with_kinds.telling.run_told.Statement.{statement}
-use Rattle.runs_call.proofs.with_kinds.telling.run_told.Tie as tie
+use Rattle.runs_call.proofs.with_kinds.telling.run_reported.Statement.{statement}
+use Rattle.runs_call.proofs.with_kinds.telling.run_reported.Tie as tie
 
 -- the call's start, what was told of the refusal, where it is accepted, and where its steps are taken
 abbrev first : tie.After-refusal-of → tie.Start
@@ -26,8 +26,8 @@ returns : tie.Need-returns
 unfolding refusal
 returns c =
     let after-refusal-of : tie.After-refusal-of = search c in
-    let answer = told-refuses _ _ _ _ _ _ (after-refusal-of .refusal-of .ensures) (c .before .before .if1 .taken) _ refl in
-    (rw (c .counts-of .ensures) (ap told-beside (answer .0)), (ap (λ r. r .state) (answer .0), answer .1))
+    let answer = reported-refuses _ _ _ _ _ _ (after-refusal-of .refusal-of .ensures) (c .before .before .if1 .taken) _ refl in
+    (rw (c .counts-of .ensures) (ap reported-beside (answer .0)), (ap (λ r. r .state) (answer .0), answer .1))
 
 run-lent-requires : tie.Need-run-lent-requires
 run-lent-requires c κs =
@@ -71,19 +71,19 @@ returns-2 c =
     let told = q .refusal-of .ensures in
     let a = first q .args in
     let e = r .run-lent .ensures in
-    let answer = told-answered _ _ (a .schedule .now) (a .trace .now) (a .rows .now) _ told (p .if1 .left) _ _ _ _ _ _ (e .0) (e .1 .0) (e .1 .1 .0) (c .before .«counts-of2» .ensures) (e .1 .1 .1 .1) (c .index-number .ensures) in (
-      ap told-beside (answer .0),
+    let answer = reported-answered _ _ (a .schedule .now) (a .trace .now) (a .rows .now) _ told (p .if1 .left) _ _ _ _ _ _ (e .0) (e .1 .0) (e .1 .1 .0) (c .before .«counts-of2» .ensures) (e .1 .1 .1 .1) (c .index-number .ensures) in (
+      ap reported-beside (answer .0),
       (
         ap (λ r. r .state) (answer .0),
         (
           answer .1,
-          rows-told _ _ (a .schedule .now) (a .trace .now) (a .rows .now) _ told (p .if1 .left) (first q .pre) _ _ (e .1 .1 .1 .0) (put .spread .ensures),
+          rows-reported _ _ (a .schedule .now) (a .trace .now) (a .rows .now) _ told (p .if1 .left) (first q .pre) _ _ (e .1 .1 .1 .0) (put .spread .ensures),
         ),
       ),
     )
 
-pub run-told-spec : {M : Type 1} → statement M
-run-told-spec =
+pub run-reported-spec : {M : Type 1} → statement M
+run-reported-spec =
     tie.close
     (tie.spec
     (λ c κs. search needs)
