@@ -7,7 +7,7 @@ use borrow.Author.Tests.{eq-eqb}
 use Rattle.model.specs.declared.TreeWords.{TreeWords}
 use Rattle.model.specs.Trees.{tree-of}
 use Rattle.model.specs.Refusals.{tree-refusal}
-use Rattle.model.proofs.Trees.Accepted.{accepted, sixteen-bit}
+use Rattle.model.proofs.Trees.Accepted.{accepted}
 use Rattle.bounds.specs.StarvationFreedom.Bounds.{everyone-bound}
 use Rattle.bounds.specs.StarvationFreedom.Laws.{Everyone-law}
 use Rattle.bounds.proofs.starvation_freedom.Law.{everyone-law}
@@ -50,8 +50,9 @@ rounds-whole w ok h =
 
 pub entering-law : Entering-law
 unfolding Entering-law Everyone-law rounds-answer tree-of
-entering-law w ok start before all =
-    let law = everyone-law (tree-of w) (sixteen-bit w) ok start before all in
+entering-law w s f =
+    let ok = f .fresh-run .tree-accepted in
+    let law = everyone-law (tree-of w) s f in
     record {
       in-rounds = λ h S rs i s. law .in-rounds S (rw (uncut _ _ (rounds-answered w ok) h) at rs) i s;
       by-round-robin = λ h i s. rw (uncut _ _ (rounds-answered w ok) h) (law .by-round-robin i s);

@@ -6,9 +6,8 @@ use lib.ListN.{getD, length}
 use Rattle.model.specs.declared.TreeWords.{TreeWords}
 use Rattle.model.specs.declared.State.{State}
 use Rattle.model.specs.Trees.{tree-of, allowance}
-use Rattle.model.specs.States.{fresh-state}
 use Rattle.model.specs.Runs.{run, occurrences}
-use Rattle.model.specs.Laws.{All-threads}
+use Rattle.model.specs.Laws.{From-fresh}
 use Rattle.bounds.specs.StarvationFreedom.Bounds.{everyone-bound}
 use Rattle.bounds.specs.StarvationFreedom.Laws.{Rounds, round-robin}
 use Rattle.bounds.specs.LongestWait.Bounds.{wait-bound}
@@ -45,9 +44,7 @@ pub record Enters-as-answered (w : TreeWords) (s : State) : Type 0 where
   pub turns : rounds-answer w .turns + 1 < 2 ^ 64 → length (round-robin (w .threads) (rounds-answer w .rounds)) ≡ rounds-answer w .turns
 
 unfoldable pub Entering-law : Type 0
-Entering-law =
-    (w : TreeWords) → rounds-answer w .number ≡ 0 → (start : ℕ) (before : List ℕ) → All-threads (tree-of w) before →
-    Enters-as-answered w (run (tree-of w) before (fresh-state (tree-of w) start) .state)
+Entering-law = (w : TreeWords) (s : State) → From-fresh (tree-of w) s → Enters-as-answered w s
 
 -- THE LONGEST WAIT. Accepted, the word of a thread is its W wherever that is a number of 64 bits, and else 2 ^ 64 less 1; after the last thread it is 0
 pub record Reports-wait-bounds (w : TreeWords) (buffer : List ℕ) : Type 0 where

@@ -8,12 +8,11 @@ use Rattle.model.specs.declared.State.{State}
 use Rattle.model.specs.declared.Counters.{Counters}
 use Rattle.model.specs.declared.LockState.{LockState}
 use Rattle.model.specs.Trees.{Tree}
-use Rattle.model.specs.States.{fresh-state}
 use Rattle.model.specs.Steps.{stay, step}
 use Rattle.model.specs.Runs.{run, occurrences}
 use Rattle.model.specs.Counters.{lock-state, good-counts}
-use Rattle.model.specs.Refusals.{accepted, tree-refusal}
-use Rattle.model.specs.Laws.{All-threads, Sixteen-bit, Refuses-exactly}
+use Rattle.model.specs.Refusals.{accepted}
+use Rattle.model.specs.Laws.{All-threads, From-fresh, Refuses-exactly}
 use Rattle.chain.specs.Chain.{stays, looks-to, chain}
 use Rattle.chain.specs.Answers.{chain-tests, chain-refusal}
 
@@ -64,6 +63,4 @@ pub record Answers-why (t : Tree) (s : State) (i : ℕ) : Type 0 where
   pub explains : Explains t s i (chain t s i)
 
 unfoldable pub Waiting-law : Type 0
-Waiting-law =
-    (t : Tree) → Sixteen-bit t → tree-refusal t .number ≡ 0 → (start : ℕ) (is : List ℕ) → All-threads t is → (i : ℕ) → i < t .threads →
-    Answers-why t (run t is (fresh-state t start) .state) i
+Waiting-law = (t : Tree) (s : State) → From-fresh t s → (i : ℕ) → i < t .threads → Answers-why t s i

@@ -18,7 +18,7 @@ use Rattle.model.specs.Acts.{acts}
 use Rattle.model.specs.Counters.{most-counted}
 use Rattle.model.specs.Refusals.{accepted, tree-refusal}
 use Rattle.model.specs.Answers.{fresh-answer}
-use Rattle.model.specs.Laws.{All-threads, Sixteen-bit}
+use Rattle.model.specs.Laws.{All-threads, Fresh-run, From-fresh}
 use Rattle.model.specs.Calls.{Ask, one-step, a-run, Call, state-in, answer, ask-refusal, call-refusal, asked-entries, joined, Names}
 use Rattle.claims.specs.Claim.{Claim}
 
@@ -65,21 +65,19 @@ pub record Counts-at-check (t : Tree) (s : State) (i l : ℕ) : Type 0 where
 
 unfoldable pub Equality-law : Type 0
 Equality-law =
-    (t : Tree) → Sixteen-bit t → tree-refusal t .number ≡ 0 → (start : ℕ) (is : List ℕ) → All-threads t is → (i l : ℕ) → i < t .threads →
-    place (run t is (fresh-state t start) .state) i ≡ Check l → Counts-at-check t (run t is (fresh-state t start) .state) i l
+    (t : Tree) (s : State) → From-fresh t s → (i l : ℕ) → i < t .threads → place s i ≡ Check l → Counts-at-check t s i l
 
 -- COUNTS PASSED ON. From fresh, the count that Check passes on is one more than a count that has started, so from 2 to the threshold
 unfoldable pub Passed-count-law : Type 0
 Passed-count-law =
-    (t : Tree) → Sixteen-bit t → tree-refusal t .number ≡ 0 → (start : ℕ) (is : List ℕ) → All-threads t is → (i l r v : ℕ) → i < t .threads →
-    (let s = run t is (fresh-state t start) .state in
-    place s i ≡ Check l → place (step t i s .state) i ≡ Grant l r v → (2 ≤ v) × (v ≤ t .threshold l))
+    (t : Tree) (s : State) → From-fresh t s → (i l r v : ℕ) → i < t .threads → place s i ≡ Check l → place (step t i s .state) i ≡ Grant l r v →
+    (2 ≤ v) × (v ≤ t .threshold l)
 
 -- PASSING ON. From fresh, an entry from Wait below the root is at a domain whose threshold is at least 2
 unfoldable pub Passing-law : Type 0
 Passing-law =
-    (t : Tree) → Sixteen-bit t → tree-refusal t .number ≡ 0 → (start : ℕ) (is : List ℕ) → All-threads t is → (i l : ℕ) → i < t .threads →
-    place (run t is (fresh-state t start) .state) i ≡ Wait l → l ≢ 0 → is-entry (step t i (run t is (fresh-state t start) .state) .kind) ≡ true → 2 ≤ t .threshold l
+    (t : Tree) (s : State) → From-fresh t s → (i l : ℕ) → i < t .threads → place s i ≡ Wait l → l ≢ 0 → is-entry (step t i s .kind) ≡ true →
+    2 ≤ t .threshold l
 
 -- so with every threshold 1 no run from fresh makes a passed or a crossed entry
 unfoldable pub Threshold-one-law : Type 0
@@ -122,7 +120,7 @@ pub record Has-queues (t : Tree) (f : State) (S : List ℕ) (s : State) : Type 0
 
 unfoldable pub Queue-law : Type 0
 Queue-law =
-    (t : Tree) → Sixteen-bit t → tree-refusal t .number ≡ 0 → (start : ℕ) (is : List ℕ) → All-threads t is → Has-queues t (fresh-state t start) is (run t is (fresh-state t start) .state)
+    (t : Tree) (start : ℕ) (is : List ℕ) → Fresh-run t is → Has-queues t (fresh-state t start) is (run t is (fresh-state t start) .state)
 
 -- AT MOST 256 WAIT: no queue has more members, that of a ticket root included; so counters of 16 bits tell their tickets apart
 unfoldable pub Few-waiting-law : Type 0
@@ -139,9 +137,7 @@ pub record Can-move (t : Tree) (s : State) : Type 0 where
 
 -- for both kinds of root, in every state reached from fresh in which some thread is not Idle
 unfoldable pub Move-law : Type 0
-Move-law =
-    (t : Tree) → Sixteen-bit t → tree-refusal t .number ≡ 0 → (start : ℕ) (is : List ℕ) → All-threads t is → (i : ℕ) →
-    place (run t is (fresh-state t start) .state) i ≢ Idle → Can-move t (run t is (fresh-state t start) .state)
+Move-law = (t : Tree) (s : State) → From-fresh t s → (i : ℕ) → place s i ≢ Idle → Can-move t s
 
 -- and after every list of steps and runs on one fresh lock
 unfoldable pub List-move-law : Type 0

@@ -6,6 +6,7 @@ pub mod Calls
 pub mod Empty
 pub mod Facts
 pub mod Form
+pub mod FromFresh
 pub mod Kinds
 pub mod Words
 pub mod Unread

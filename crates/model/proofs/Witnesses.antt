@@ -7,6 +7,7 @@ use native.Mathlib.Omega.{arith}
 use lib.Dec.{eqb, ltb}
 use lib.ListN.{getD}
 use borrow.Author.Tests.{ltb-true, eqb-true}
+use Rattle.model.specs.declared.TreeWords.{TreeWords}
 use Rattle.model.specs.Scans.{any-below, all-below, filter-below}
 use Rattle.model.specs.Trees.{Tree, read-word, tree-of, is-ticket, is-child, is-leaf, depth-from, depth, level, meets, on-path, child-from, child, own-record, is-record, is-member, owner-domain, under}
 use Rattle.model.specs.Places.{place-of, is-idle, is-watch}
@@ -18,16 +19,17 @@ use Rattle.model.specs.Counters.{fresh-counters, each-with-index, counte
 use Rattle.model.specs.WellFormed.{good-tail, good-next, good-status, queue-on-path, good-place, good-watch, good-thread, good-counters, well-formed}
 use Rattle.model.specs.Refusals.{refusal, accepted, lowest-bad, first-refusal, bad-domains, bad-threads, bad-parent, too-deep, no-threshold, bad-home, empty-domain, tree-tests, bad-state, bad-length, bad-entry, bad-room, bad-counter, step-tests, run-tests, tree-refusal, step-refusal, run-refusal}
 use Rattle.model.specs.Answers.{counters-after-run}
-use Rattle.model.specs.Laws.{All-threads, Form-law}
+use Rattle.model.specs.Laws.{All-threads, Fresh-run, Form-law}
 use Rattle.model.specs.CounterLaws.{Room-law}
 use Rattle.model.specs.Search.{with-parent, six-levels}
 use Rattle.model.specs.Cases.Marked.{padded, tree, at-ticket-root, count-up, two-homes, first-entries, three-levels}
 use Rattle.model.specs.Cases.Counters.{counters, one-pass}
 use Rattle.model.specs.Cases.Claim.{two-homes-again}
-use Rattle.model.specs.Cases.Witnesses.{crossing, Trees-meet, States-met, counted-before, Counters-met, kinds-of, Kinds-met, Tests-numbered, Unread-met, status-after, Words-met, Domains-met, Own-parent, Witnesses}
+use Rattle.model.specs.Cases.Witnesses.{Meets, crossing, Trees-meet, States-met, counted-before, Counters-met, kinds-of, Kinds-met, Tests-numbered, Unread-met, status-after, Words-met, Domains-met, Own-parent, Witnesses}
 use Rattle.model.proofs.Tests.{and-both}
 use Rattle.model.proofs.Trees.Accepted.{sixteen-bit}
 use Rattle.model.proofs.Laws.Form.{form-law}
+use Rattle.model.proofs.Laws.FromFresh.{left-from-fresh}
 use Rattle.model.proofs.Laws.Counters.{fresh-good, fresh-room, room-law}
 use Rattle.model.proofs.Laws.Refusals.{tree-numbered, run-numbered-before-19}
 use Rattle.model.proofs.ClaimCases.{below-three}
@@ -42,13 +44,18 @@ unfolding known All-threads
 known-threads t [] e = tt
 known-threads t (i ∷ is) e = let both = and-both (ltb i (t .threads)) (known t is) e in (ltb-true _ _ (both .0), known-threads t is (both .1))
 
+meeting : (w : TreeWords) (is : List ℕ) (i : ℕ) → tree-refusal (tree-of w) .number ≡ 0 → known (tree-of w) is ≡ true → i < tree-of w .threads → Meets w is i
+meeting w is i ok e real =
+    let k : Fresh-run (tree-of w) is = record { sixteen-bit = sixteen-bit w; tree-accepted = ok; threads = known-threads (tree-of w) is e } in
+    record { fresh-run = k; from-fresh = left-from-fresh (tree-of w) 0 is k; real = real }
+
 trees-meet : Trees-meet
 unfolding known any-below filter-below read-word tree-of is-ticket is-child is-leaf depth-from depth level meets on-path under refusal accepted lowest-bad first-refusal bad-domains bad-threads bad-parent too-deep no-threshold bad-home empty-domain tree-tests tree-refusal padded tree at-ticket-root two-homes three-levels first-entries crossing
 trees-meet =
     record {
-      queue-root = record { sixteen-bit = sixteen-bit two-homes; accepted = refl; threads = known-threads _ _ refl; real = omega arith };
-      ticket-root = record { sixteen-bit = sixteen-bit (at-ticket-root two-homes); accepted = refl; threads = known-threads _ _ refl; real = omega arith };
-      inner = record { sixteen-bit = sixteen-bit three-levels; accepted = refl; threads = known-threads _ _ refl; real = omega arith };
+      queue-root = meeting two-homes _ _ refl refl (omega arith);
+      ticket-root = meeting (at-ticket-root two-homes) _ _ refl refl (omega arith);
+      inner = meeting three-levels _ _ refl refl (omega arith);
     }
 
 two-homes-known : All-threads (tree-of two-homes) first-entries
@@ -59,7 +66,7 @@ states-met : States-met
 unfolding States-met Form-law Room-law
 states-met =
     let t = tree-of two-homes in
-    let ok = trees-meet .queue-root .accepted in
+    let ok = trees-meet .queue-root .fresh-run .tree-accepted in
     let law = form-law t (sixteen-bit two-homes) ok in
     record {
       formed = law .of-run first-entries (fresh-state t 0) two-homes-known (law .of-fresh 0);

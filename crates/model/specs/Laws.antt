@@ -11,10 +11,11 @@ use Rattle.model.specs.declared.State.{State}
 use Rattle.model.specs.declared.LockState.{LockState}
 use Rattle.model.specs.declared.Counts.{Counts}
 use Rattle.model.specs.declared.Place.{Place}
-use Rattle.model.specs.declared.Place.the-variants.{Idle, Prep, Swap, Link, Wait, Inside, Check, Help, Cas, Linger, Grant, Draw, Watch, Raise, Invalid}
+use Rattle.model.specs.declared.Place.the-variants.{Idle, Swap, Wait, Inside, Draw, Watch}
 use Rattle.model.specs.Trees.{Tree, tree-of, is-ticket, on-path, is-member, under}
+use Rattle.model.specs.Places.{words-of, same-row}
 use Rattle.model.specs.States.{acquire-parent, wait-word, status, place, fresh-state, numbers-at, Places-room}
-use Rattle.model.specs.Steps.{stay, root-entry, passed-entry, crossed-entry, leaving, is-entry, kind-number, Step, step}
+use Rattle.model.specs.Steps.{stay, root-entry, passed-entry, crossed-entry, leaving, is-entry, Step, step}
 use Rattle.model.specs.Runs.{steps, Run, run-of, run, occurrences}
 use Rattle.model.specs.WellFormed.{well-formed}
 use Rattle.model.specs.Answers.{step-answer, run-answer}
@@ -33,6 +34,19 @@ All-threads t (i ∷ is) = (i < t .threads) × All-threads t is
 -- thresholds are 16-bit numbers, as in every tree that a call names
 abbrev pub Sixteen-bit : Tree → Type 0
 Sixteen-bit t = (d : ℕ) → t .threshold d ≤ 65535
+
+-- a schedule of threads of an accepted tree, to be run on a fresh lock
+pub record Fresh-run (t : Tree) (schedule : List ℕ) : Type 0 where
+  pub sixteen-bit : Sixteen-bit t
+  pub tree-accepted : tree-refusal t .number ≡ 0
+  pub threads : All-threads t schedule
+
+-- a state that a fresh lock of an accepted tree reaches by turns of its threads
+pub record From-fresh (t : Tree) (s : State) : Type 0 where
+  pub start : ℕ
+  pub schedule : List ℕ
+  pub fresh-run : Fresh-run t schedule
+  pub reached : s ≡ run t schedule (fresh-state t start) .state
 
 -- what the type of a state fixes: the room of its arrays, that statuses and words are below 2^64, and the counters below 2^16
 pub record Typed (s : State) : Type 0 where
@@ -149,21 +163,7 @@ Answered-kinds-law =
 
 -- What document 01 counted as passed, before document 02 told crossed entries apart: an entry from Wait at any domain but the root
 unfoldable pub waits-below : Place → Bool
-waits-below Idle = false
-waits-below (Prep l) = false
-waits-below (Swap l) = false
-waits-below (Link l p) = false
-waits-below (Wait l) = not (eqb l 0)
-waits-below Inside = false
-waits-below (Check l) = false
-waits-below (Help l) = false
-waits-below (Cas l) = false
-waits-below (Linger l) = false
-waits-below (Grant l r w) = false
-waits-below Draw = false
-waits-below Watch = false
-waits-below Raise = false
-waits-below Invalid = false
+waits-below p = same-row p (Wait 0) && not (eqb (words-of p .domain) 0)
 
 unfoldable pub entries-from-below : List Step → ℕ
 entries-from-below [] = 0
@@ -259,6 +259,5 @@ Unread-law = (w v : TreeWords) → Read-alike w v → tree-of v ≡ tree-of w
 -- 5. WORDS. In every state reached from fresh: the status of a member of a domain other than the root is ACQUIRE_PARENT, WAIT or at most the threshold
 unfoldable pub Word-law : Type 0
 Word-law =
-    (t : Tree) → Sixteen-bit t → tree-refusal t .number ≡ 0 → (start : ℕ) (is : List ℕ) → All-threads t is → (d r : ℕ) → d ≢ 0 → is-member t d r ≡ true →
-    (status (run t is (fresh-state t start) .state) r ≡ acquire-parent) ⊎ (status (run t is (fresh-state t start) .state) r ≡ wait-word)
-    ⊎ (status (run t is (fresh-state t start) .state) r ≤ t .threshold d)
+    (t : Tree) (s : State) → From-fresh t s → (d r : ℕ) → d ≢ 0 → is-member t d r ≡ true →
+    (status s r ≡ acquire-parent) ⊎ (status s r ≡ wait-word) ⊎ (status s r ≤ t .threshold d)

@@ -91,6 +91,10 @@ shaped no-row d p w = Invalid
 unfoldable pub place-of : PlaceWords → Place
 place-of q = cond (fits q) (shaped (shape (q .row)) (q .domain) (q .peer) (q .word)) Invalid
 
+-- two places are of the same row, whatever their parts are
+abbrev pub same-row : Place → Place → Bool
+same-row p q = eqb (words-of p .row) (words-of q .row)
+
 unfoldable pub is-idle : Place → Bool
 is-idle Idle = true
 is-idle (Prep l) = false

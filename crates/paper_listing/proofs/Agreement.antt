@@ -17,7 +17,7 @@ use Rattle.model.specs.States.{wait-word, none, next, status, place, fresh-word
 use Rattle.model.specs.Steps.{release-word, prep-row, draw-row, row, step}
 use Rattle.model.specs.Runs.{steps, state-after, run-of, run}
 use Rattle.model.specs.Refusals.{tree-refusal}
-use Rattle.model.specs.Laws.{All-threads, Sixteen-bit, Form-law}
+use Rattle.model.specs.Laws.{All-threads, Sixteen-bit}
 use Rattle.claims.specs.Reached.{equality-check-row, Equality-law}
 use Rattle.model.proofs.Branches.{prep-branch, swap-branch, link-branch, wait-branch, leave-branch, help-branch, cas-branch, linger-branch, grant-branch, watch-branch, raise-branch, branch}
 use Rattle.model.proofs.Trees.Index.{ancestor, height, record-at}
@@ -25,7 +25,7 @@ use Rattle.model.proofs.Trees.Accepted.{Accepted, accepted}
 use Rattle.model.proofs.Lists.{same-or}
 use Rattle.model.proofs.Trees.Paths.{ancestor-not-root}
 use Rattle.model.proofs.Laws.Facts.{well-formed-facts}
-use Rattle.model.proofs.Laws.Form.{form-law}
+use Rattle.model.proofs.Laws.FromFresh.{left-from-fresh, formed-from-fresh}
 use Rattle.model.proofs.Places.{fresh-idle}
 use Rattle.claims.proofs.Claims.Calls.{run-after, run-one}
 use Rattle.claims.proofs.Claims.Equality.{same-by-equality, equality-law}
@@ -248,11 +248,11 @@ module _ (t : Tree) (bits : Sixteen-bit t) (ok : tree-refusal t .number ≡ 0) (
   one-turn :
       (pre : List ℕ) → All-threads t pre → (i : ℕ) → i < t .threads → (x : Threads) → Together-all t x (run t pre (fresh-state t start) .state) →
       Together-all t (turn t i x) (step t i (run t pre (fresh-state t start) .state) .state)
-  unfolding turn Form-law Entry-law Equality-law Same-test
+  unfolding turn Entry-law Equality-law Same-test
   one-turn pre all i h x y =
       let s = run t pre (fresh-state t start) .state in
-      let formed = form-law t bits ok .of-run pre (fresh-state t start) all (form-law t bits ok .of-fresh start) in
-      let z = entry-law t ok s formed i h .does (λ l q. inl (equality-law t bits ok start pre all i l h q .within)) (x .controls i) (y .stands-there i h) in
+      let f = left-from-fresh t start pre (record { sixteen-bit = bits; tree-accepted = ok; threads = all }) in
+      let z = entry-law t ok s (formed-from-fresh t s f) i h .does (λ l q. inl (equality-law t s f i l h q .within)) (x .controls i) (y .stands-there i h) in
       rw (y .memory) (record {
         memory = z .memory;
         stands-there = λ j hj. same-or j i _ (λ e. rw (e, eq-eqb i i refl) (z .stands)) (λ e. rw (ne-eqb j i e, z .others j e) (y .stands-there j hj));
@@ -271,7 +271,7 @@ module _ (t : Tree) (bits : Sixteen-bit t) (ok : tree-refusal t .number ≡ 0) (
 
 pub listing-agrees : Listing-agrees
 unfolding Listing-agrees at-first All-threads run run-of steps state-after memory-of fresh-words fresh-state place-of place-of-control place-at
-listing-agrees t bits ok start is all =
+listing-agrees t start is k =
     let first : Together-all t (at-first t start) (fresh-state t start) = record { memory = refl; stands-there = λ i h. rw (fresh-idle t start i) at-idle; placed = λ i h. rw (fresh-idle t start i) } in
-    let y = along t bits ok start is [] tt all (at-first t start) first in
+    let y = along t (k .sixteen-bit) (k .tree-accepted) start is [] tt (k .threads) (at-first t start) first in
     record { memory = y .memory; places = y .placed }

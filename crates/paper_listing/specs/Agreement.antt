@@ -1,6 +1,6 @@
 -- How much of the listing one schedule entry takes, by document 01's step table and, at a ticket root, the rows of document 02, (xii); and that the listing and the table agree.
 use mathlib.Core.Path.{_≡_}
-use mathlib.Core.Bool.{Bool, true, false, cond}
+use mathlib.Core.Bool.{Bool, not, cond}
 use mathlib.Core.List.{List, [], _∷_}
 use mathlib.Core.Logic.{_≢_, _⊎_}
 use Prim.Native.Nat.{ℕ, zero, suc, _+_, _≤_, _<_}
@@ -10,11 +10,12 @@ use Rattle.model.specs.declared.Place.{Place}
 use Rattle.model.specs.declared.Place.the-variants.{Idle, Prep, Swap, Link, Wait, Inside, Check, Help, Cas, Linger, Grant, Draw, Watch, Raise, Invalid}
 use Rattle.model.specs.declared.State.{State}
 use Rattle.model.specs.Trees.{Tree, own-record}
+use Rattle.model.specs.Places.{same-row}
 use Rattle.model.specs.States.{none, next, status, place, wrap, fresh-state}
 use Rattle.model.specs.Steps.{release-word, step}
 use Rattle.model.specs.Runs.{run}
 use Rattle.model.specs.Refusals.{tree-refusal}
-use Rattle.model.specs.Laws.{All-threads, Sixteen-bit, Formed}
+use Rattle.model.specs.Laws.{Fresh-run, Formed}
 use Rattle.paper_listing.specs.Calls.{Memory, Return, from-acquire, from-release, after-17, after-29, after-31, after-41, after-43, after-82, Frame, frame, Ticket-point, line-90, line-91, line-91-again, line-92, Point, outside, critical, line-7, line-9, line-10, line-11, line-13, line-14, line-16, line-17, line-25, line-27, line-29, line-31, line-35, line-36, line-37, line-41, line-43, line-53, line-54, line-55, line-57, line-58, line-59, line-66, line-67, line-68, line-69, line-71, line-72, line-82, ticket-lock, Control, control, After}
 use Rattle.paper_listing.specs.Listing.{top-domain, top-node, top-back, next-line}
 
@@ -76,21 +77,7 @@ unfoldable pub place-of-control : Control → Place
 place-of-control c = place-at (c .point) (top-domain (c .frames)) (top-back (c .frames))
 
 unfoldable pub is-place : Place → Bool
-is-place Idle = true
-is-place (Prep l) = true
-is-place (Swap l) = true
-is-place (Link l p) = true
-is-place (Wait l) = true
-is-place Inside = true
-is-place (Check l) = true
-is-place (Help l) = true
-is-place (Cas l) = true
-is-place (Linger l) = true
-is-place (Grant l r w) = true
-is-place Draw = true
-is-place Watch = true
-is-place Raise = true
-is-place Invalid = false
+is-place p = not (same-row p Invalid)
 
 -- ONE SCHEDULE ENTRY: one line, and on to the next point at which a thread stands; eight lines more are enough
 unfoldable pub settle : (lines : ℕ) → Tree → (i : ℕ) → After → After
@@ -195,5 +182,4 @@ pub record Agrees (t : Tree) (x : Threads) (s : State) : Type 0 where
 -- after every schedule from fresh, and so after each of its entries: no Check reached from fresh has a status above the threshold. For both kinds of root: at a queue root Listing 1 as printed, at a ticket root with the ticket lock in place of lines 63 to 89, from every start
 unfoldable pub Listing-agrees : Type 0
 Listing-agrees =
-    (t : Tree) → Sixteen-bit t → tree-refusal t .number ≡ 0 → (start : ℕ) (is : List ℕ) → All-threads t is →
-    Agrees t (turns t is (at-first t start)) (run t is (fresh-state t start) .state)
+    (t : Tree) (start : ℕ) (is : List ℕ) → Fresh-run t is → Agrees t (turns t is (at-first t start)) (run t is (fresh-state t start) .state)

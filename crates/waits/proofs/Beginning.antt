@@ -127,6 +127,8 @@ module _ (i : ℕ) (t : Tree) where
 
 pub beginning-law : Beginning-law
 unfolding Beginning-law Form-law
-beginning-law t sixteen ok is A i h v =
-    let E = even i t sixteen ok h is (fresh-state t v) 0 A (form-law t sixteen ok .of-fresh v) (inl (off-way t v i, refl)) in
+beginning-law t v is k i h =
+    let sixteen = k .sixteen-bit in
+    let ok = k .tree-accepted in
+    let E = even i t sixteen ok h is (fresh-state t v) 0 (k .threads) (form-law t sixteen ok .of-fresh v) (inl (off-way t v i, refl)) in
     omega (arith, E)

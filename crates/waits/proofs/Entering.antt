@@ -204,7 +204,10 @@ off-way t v i = ap (on-way t i) (fresh-idle t v i)
 
 pub entry-law : Entry-law
 unfolding Entry-law run run-of Form-law fresh-state on-way
-entry-law t sixteen ok is A i h =
+entry-law t is k i h =
+    let sixteen = k .sixteen-bit in
+    let ok = k .tree-accepted in
+    let A = k .threads in
     record {
       of-state = λ s f. of-state i t sixteen ok h is s A f;
       of-fresh = λ v. exact i t sixteen ok h is (fresh-state t v) 0 A (form-law t sixteen ok .of-fresh v) (inl (off-way t v i, refl));

@@ -14,9 +14,9 @@ use Rattle.model.specs.States.{fresh-state}
 use Rattle.model.specs.Steps.{Step}
 use Rattle.model.specs.Runs.{steps}
 use Rattle.model.specs.Counters.{most-counted}
-use Rattle.model.specs.Refusals.{refusal, first-refusal, tree-refusal}
+use Rattle.model.specs.Refusals.{refusal, first-refusal}
 use Rattle.model.specs.Answers.{run-refused, run-answer, trace-answer}
-use Rattle.model.specs.Laws.{All-threads, Refuses-exactly, Sixteen-bit}
+use Rattle.model.specs.Laws.{Fresh-run, Refuses-exactly}
 use Rattle.schedules.specs.Rows.{total}
 use Rattle.waits.specs.Attempts.{begins, waits-from, under-way-from, waits}
 use Rattle.waits.specs.Rows.{largest, row-with, row-of, capped}
@@ -151,7 +151,7 @@ beginnings t i (x ∷ xs) = cond (begins t i x) 1 0 + beginnings t i xs
 
 unfoldable pub Beginning-law : Type 0
 Beginning-law =
-    (t : Tree) → Sixteen-bit t → tree-refusal t .number ≡ 0 → (schedule : List ℕ) → All-threads t schedule → (i : ℕ) → i < t .threads → (start : ℕ) →
+    (t : Tree) (start : ℕ) (schedule : List ℕ) → Fresh-run t schedule → (i : ℕ) → i < t .threads →
     (let xs = steps t schedule (fresh-state t start) in beginnings t i xs ≡ length (waits t i xs) + cond (eqb (under-way-from t i 0 xs) 0) 0 1)
 
 -- 8. BOUNDS, by the number handed in: a thread's attempts are at most the run's entries; its total and its largest wait at most these and the entries that the number says; and the number after the run at most one more than both

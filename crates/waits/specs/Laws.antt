@@ -10,9 +10,9 @@ use Rattle.model.specs.declared.LockState.{LockState}
 use Rattle.model.specs.Trees.{Tree, tree-of}
 use Rattle.model.specs.States.{fresh-state}
 use Rattle.model.specs.Runs.{steps, run, occurrences}
-use Rattle.model.specs.Refusals.{refusal, first-refusal, run-tests-before-19, tree-refusal, run-refusal}
+use Rattle.model.specs.Refusals.{refusal, first-refusal, run-tests-before-19, run-refusal}
 use Rattle.model.specs.Answers.{no-counts, run-answer, trace-answer}
-use Rattle.model.specs.Laws.{All-threads, Formed, Refuses-exactly, Sixteen-bit}
+use Rattle.model.specs.Laws.{Fresh-run, Formed, Refuses-exactly}
 use Rattle.schedules.specs.Rows.{total}
 use Rattle.waits.specs.declared.Fraction.{Fraction}
 use Rattle.waits.specs.Attempts.{waits, waits-below}
@@ -107,8 +107,7 @@ pub record Enters-by-attempts (t : Tree) (schedule : List ℕ) (i : ℕ) : Type 
 
 unfoldable pub Entry-law : Type 0
 Entry-law =
-    (t : Tree) → Sixteen-bit t → tree-refusal t .number ≡ 0 → (schedule : List ℕ) → All-threads t schedule → (i : ℕ) → i < t .threads →
-    Enters-by-attempts t schedule i
+    (t : Tree) (schedule : List ℕ) → Fresh-run t schedule → (i : ℕ) → i < t .threads → Enters-by-attempts t schedule i
 
 -- 7. BOUNDS. Attempts, total and largest wait of a thread's row are at most the run's entries. So are attempts and largest wait of the last row, and its total is at most as much for each thread. The run's entries are at most the schedule's, so that no number of a row overflows
 abbrev pub entered : Tree → (schedule : List ℕ) → State → ℕ

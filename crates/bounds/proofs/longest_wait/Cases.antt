@@ -92,16 +92,17 @@ decides c e =
     let all = and-both (all-threads t (bs ++ (i ∷ c .meanwhile)) && (begins t i x && eqb (occurrences i (entering (x ∷ xs))) 0)) _ e in
     let parts = and-both (all-threads t (bs ++ (i ∷ c .meanwhile))) (begins t i x && eqb (occurrences i (entering (x ∷ xs))) 0) (all .0) in
     let own = and-both (begins t i x) (eqb (occurrences i (entering (x ∷ xs))) 0) (parts .1) in
-    let threads = threads-pass t (bs ++ (i ∷ c .meanwhile)) (parts .0) in
-    record {
-      threads = threads;
-      real = thread-there t bs i (c .meanwhile) threads;
-      before = steps t bs f;
-      later = [];
-      there = steps-join t bs (i ∷ c .meanwhile) f ∙ ap (λ ys. steps t bs f ++ (x ∷ ys)) (sym (append-nil xs));
-      begun = own .0;
-      not-entered = eqb-true (occurrences i (entering (x ∷ xs))) 0 (own .1);
-    }
+    let threads = threads-pass t (bs ++ (i ∷ c .meanwhile)) (parts .0) in (
+      threads,
+      record {
+        real = thread-there t bs i (c .meanwhile) threads;
+        before = steps t bs f;
+        later = [];
+        there = steps-join t bs (i ∷ c .meanwhile) f ∙ ap (λ ys. steps t bs f ++ (x ∷ ys)) (sym (append-nil xs));
+        begun = own .0;
+        not-entered = eqb-true (occurrences i (entering (x ∷ xs))) 0 (own .1);
+      },
+    )
 
 pub cases-hold : Cases-hold
 cases-hold = record { bounds = bounds-hold; attempts-decided = decides; attempts = attempts-hold; reached = reached-holds; stalled = stalled-holds; stalled-bound = stalled-bound-holds; beyond = beyond-holds; beyond-bound = beyond-bound-holds; allowed = allowed-holds; example = example-holds }

@@ -311,6 +311,8 @@ module _ (t : Tree) (ok : tree-refusal t .number ≡ 0) (bits : Sixteen-bit t) w
 
 pub wait-bound-law : Wait-bound-law
 unfolding Wait-bound-law
-wait-bound-law t bits ok start schedule i x meanwhile a =
-    let at = reach t ok bits (a .before) schedule (begin t ok bits start) x (meanwhile ++ a .later) (a .threads) (ap (steps t schedule) (begin-words t ok bits start) ∙ a .there) in
+wait-bound-law t start schedule k i x meanwhile a =
+    let ok = k .tree-accepted in
+    let bits = k .sixteen-bit in
+    let at = reach t ok bits (a .before) schedule (begin t ok bits start) x (meanwhile ++ a .later) (k .threads) (ap (steps t schedule) (begin-words t ok bits start) ∙ a .there) in
     attempt t ok bits i (a .real) x meanwhile (a .later) at (a .begun) (a .not-entered)

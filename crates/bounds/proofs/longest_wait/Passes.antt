@@ -46,8 +46,8 @@ fewer-passes-law t ok m e = fewer-passes t (accepted t ok) m e
 
 pub passes-law : Passes-law
 unfolding Passes-law passes
-passes-law t bits ok start schedule threads before meanwhile later x m q e st none mem n =
-    let valid = accepted t ok in
-    let l = from-fresh t valid bits start schedule threads in
+passes-law t start schedule k before meanwhile later x m q e st none mem n =
+    let valid = accepted t (k .tree-accepted) in
+    let l = from-fresh t valid (k .sixteen-bit) start schedule (k .threads) in
     let b = bounded (effective t) (effective-accepted t valid) _ (l .there .queues) (same-real t valid _ (l .real)) (same-run t valid (inv-empty t) (l .follows)) before meanwhile later x m q e st none (same-member t valid (x .domain) q ∙ mem) n in
     omega (arith, same-entries t valid q meanwhile)

@@ -11,8 +11,7 @@ use Rattle.model.specs.Trees.{Tree}
 use Rattle.model.specs.States.{fresh-state}
 use Rattle.model.specs.Steps.{is-entry, Step}
 use Rattle.model.specs.Runs.{steps, state-after, how-many, entering, occurrences}
-use Rattle.model.specs.Refusals.{tree-refusal}
-use Rattle.model.specs.Laws.{All-threads, Sixteen-bit}
+use Rattle.model.specs.Laws.{Fresh-run}
 use Rattle.model.proofs.Tests.{and-both}
 use Rattle.model.proofs.Lists.{same-or, less-or}
 use Rattle.model.proofs.Counted.{occurrences-join, occurrences-one}
@@ -152,7 +151,7 @@ module _ (t : Tree) (i : ℕ) where
           let h′ : 1 ≤ occurrences w (waits-from t i (counted y (begun t i y a)) ys) = rw z at h in
           rec (counted y (begun t i y a)) (way-step so-far a y z way) h′
 
-module _ (t : Tree) (bits : Sixteen-bit t) (ok : tree-refusal t .number ≡ 0) (start : ℕ) (schedule : List ℕ) (threads : All-threads t schedule) (i : ℕ) (h : i < t .threads) where
+module _ (t : Tree) (start : ℕ) (schedule : List ℕ) (k : Fresh-run t schedule) (i : ℕ) (h : i < t .threads) where
   abbrev fresh : State
   fresh = fresh-state t start
 
@@ -165,7 +164,7 @@ module _ (t : Tree) (bits : Sixteen-bit t) (ok : tree-refusal t .number ≡ 0) (
       record {
         first = f .first;
         meanwhile = f .mid;
-        attempt = record { threads = threads; real = h; before = f .before; later = f .later; there = f .there; begun = f .begun-there; not-entered = f .not-entered };
+        attempt = record { real = h; before = f .before; later = f .later; there = f .there; begun = f .begun-there; not-entered = f .not-entered };
         entries = f .many;
       }
 
@@ -191,9 +190,8 @@ module _ (t : Tree) (bits : Sixteen-bit t) (ok : tree-refusal t .number ≡ 0) (
       omega (arith, a .entries)
     where
       attempt-bounded : (a : Waited t schedule start i (suc w)) → Bounded-wait t i (a .first) (a .meanwhile)
-      attempt-bounded a = wait-bound-law t bits ok start schedule i (a .first) (a .meanwhile) (a .attempt)
+      attempt-bounded a = wait-bound-law t start schedule k i (a .first) (a .meanwhile) (a .attempt)
 
 pub waits-bound-law : Waits-bound-law
 unfolding Waits-bound-law
-waits-bound-law t bits ok start schedule threads i h =
-    record { of-attempts = waited t bits ok start schedule threads i h; prompt-waits = prompt-waits t bits ok start schedule threads i h }
+waits-bound-law t start schedule k i h = record { of-attempts = waited t start schedule k i h; prompt-waits = prompt-waits t start schedule k i h }

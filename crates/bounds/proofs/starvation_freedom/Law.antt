@@ -17,7 +17,7 @@ use Rattle.model.specs.Steps.{is-entry, row, step}
 use Rattle.model.specs.Runs.{steps, state-after, entering, run-of, run, occurrences}
 use Rattle.model.specs.Refusals.{tree-refusal}
 use Rattle.model.specs.Calls.{state-at}
-use Rattle.model.specs.Laws.{All-threads, Sixteen-bit, Kind-law}
+use Rattle.model.specs.Laws.{All-threads, Sixteen-bit, From-fresh, Kind-law}
 use Rattle.model.proofs.Tests.{largest-ge}
 use Rattle.model.proofs.Lists.{same-or}
 use Rattle.model.proofs.Trees.Accepted.{Accepted, accepted}
@@ -175,7 +175,7 @@ module _ (t : Tree) (ok : tree-refusal t .number ≡ 0) (bits : Sixteen-bit t) (
   acquiring-not-inside c a e = false≢true (sym (ap is-acquiring e) ∙ a)
 
   releasing-not-idle : (c : Situation t) → is-releasing (place (c .words) i) ≡ true → place (c .words) i ≢ Idle
-  unfolding is-releasing
+  unfolding is-acquiring is-releasing
   releasing-not-idle c a e = false≢true (sym (ap is-releasing e) ∙ a)
 
   idle-acquiring : (c : Situation t) → place (c .words) i ≡ Idle → is-acquiring (place (c .words) i) ≡ true
@@ -278,20 +278,31 @@ module _ (t : Tree) (valid : Accepted t) (bits : Sixteen-bit t) where
         ones = n .1;
       }
 
+there : (t : Tree) {s : State} → From-fresh t s → Situation t
+there t f =
+    let k = f .fresh-run in
+    reached t (accepted t (k .tree-accepted)) (k .sixteen-bit) (f .start) (f .schedule) (k .threads)
+
 pub starvation-law : Starvation-law
-unfolding Starvation-law reached
-starvation-law t bits ok start before all i h = bounded t ok bits i h (reached t (accepted t ok) bits start before all)
+unfolding Starvation-law reached there
+starvation-law t s f i h =
+    let k = f .fresh-run in
+    rw (f .reached) (bounded t (k .tree-accepted) (k .sixteen-bit) i h (there t f))
 
 pub everyone-law : Everyone-law
-unfolding Everyone-law reached
-everyone-law t bits ok start before all =
-    let c = reached t (accepted t ok) bits start before all in
-    record {
+unfolding Everyone-law reached there
+everyone-law t s f =
+    let ok = f .fresh-run .tree-accepted in
+    let bits = f .fresh-run .sixteen-bit in
+    let c = there t f in
+    rw (f .reached) (record {
       in-rounds = λ S rs i h. everyone-has t ok bits i h c S rs;
       by-round-robin = λ i h. everyone-has t ok bits i h c (round-robin (t .threads) (everyone-bound t)) (robin-rounds t (everyone-bound t));
       turns = robin-length (t .threads) (everyone-bound t);
-    }
+    })
 
 pub window-law : Window-law
-unfolding Window-law reached
-window-law t bits ok start before all i h N S w = bounded-in-windows t ok bits i h (reached t (accepted t ok) bits start before all) N S w
+unfolding Window-law reached there
+window-law t s f i h N S w =
+    let k = f .fresh-run in
+    rw (f .reached) (bounded-in-windows t (k .tree-accepted) (k .sixteen-bit) i h (there t f) N S w)

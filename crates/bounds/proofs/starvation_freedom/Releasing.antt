@@ -27,7 +27,7 @@ use Rattle.chain.proofs.Reached.Rows.{link-nexts, next-kept}
 use Rattle.chain.proofs.Reached.Ahead.{link-place, looked-one}
 use Rattle.chain.proofs.Reached.Holding.{far}
 use Rattle.bounds.specs.StarvationFreedom.Bounds.{release-bound}
-use Rattle.bounds.specs.StarvationFreedom.Laws.{is-releasing}
+use Rattle.bounds.specs.StarvationFreedom.Laws.{is-acquiring, is-releasing}
 use Rattle.bounds.proofs.starvation_freedom.Situations as situations
 use Rattle.bounds.proofs.starvation_freedom.Situations.{Situation, queues, next-words, place-other}
 use Rattle.bounds.proofs.starvation_freedom.Within.{Within, then, longer, at-once, within-map, one-round}
@@ -310,7 +310,7 @@ module _ (t : Tree) (valid : Accepted t) (bits : Sixteen-bit t) (a : ℕ) (ha : 
   sooner-idle k l g = longer t valid bits (5 * k + 5) (6 * height t a + 6) (omega arith) (go-idle k l g)
 
   idle-by : (c : Situation t) (p : Place) → place (c .words) a ≡ p → is-releasing p ≡ true → Within t valid bits (6 * height t a + 6) Idles c
-  unfolding is-releasing Says
+  unfolding is-acquiring is-releasing Says
   idle-by c Inside e r = inside-idle e
   idle-by c (Check l) e r =
       let y = says t valid c a ha (Check l) e in

@@ -11,6 +11,7 @@ use Rattle.model.specs.Trees.{tree-of}
 use Rattle.model.specs.States.{fresh-state}
 use Rattle.model.specs.Steps.{Step, step}
 use Rattle.model.specs.Runs.{steps, run, entering, occurrences}
+use Rattle.model.specs.Laws.{All-threads}
 use Rattle.model.specs.Cases.Marked.{tree, at-ticket-root, two-homes, two-in-root}
 use Rattle.claims.specs.Cases.Moving.{three-in-root}
 use Rattle.model.specs.Cases.Ticket.{three-in-ticket}
@@ -104,11 +105,13 @@ unfoldable pub all-reach : List Wait-case → Bool
 all-reach [] = true
 all-reach (c ∷ cs) = eqb (c .entries-in-line) (wait-bound (tree-of (c .words)) (c .thread)) && all-reach cs
 
--- what passes is an attempt as the laws have it
+-- what passes is an attempt, of threads of the tree, as the laws have it
 unfoldable pub Decides-attempts : Type 0
 Decides-attempts =
     (c : Wait-case) → wait-holds c ≡ true →
-    Attempt (tree-of (c .words)) (c .before ++ (c .thread ∷ c .meanwhile)) (c .start) (c .thread) (first-step c) (steps-on c)
+    (let t = tree-of (c .words) in
+    let schedule = c .before ++ (c .thread ∷ c .meanwhile) in
+    All-threads t schedule × Attempt t schedule (c .start) (c .thread) (first-step c) (steps-on c))
 
 -- a leaf of three threads with threshold 2, which does not divide, beside one of one thread
 unfoldable pub three-and-one : TreeWords

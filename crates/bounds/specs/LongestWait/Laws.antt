@@ -10,7 +10,7 @@ use Rattle.model.specs.States.{fresh-state}
 use Rattle.model.specs.Steps.{is-entry, begins, Step}
 use Rattle.model.specs.Runs.{steps, how-many, entering, ended, entries-under, occurrences}
 use Rattle.model.specs.Refusals.{tree-refusal}
-use Rattle.model.specs.Laws.{All-threads, Sixteen-bit}
+use Rattle.model.specs.Laws.{Fresh-run}
 use Rattle.bounds.specs.StarvationFreedom.Bounds.{members}
 use Rattle.waits.specs.Attempts.{begins as begins-attempt, waits}
 use Rattle.bounds.specs.LongestWait.Bounds.{effective-threshold, passes, others-passes, tenures-for-all, member-wait, wait-bound}
@@ -31,7 +31,6 @@ Numbers-law = (t : Tree) → tree-refusal t .number ≡ 0 → Numbers t
 
 -- AN ATTEMPT among the steps of a schedule from fresh: it begins with a step, and up to the end of the steps meanwhile its thread does not enter. It may go on, and the schedule may end with it under way
 pub record Attempt (t : Tree) (schedule : List ℕ) (start thread : ℕ) (first : Step) (meanwhile : List Step) : Type 0 where
-  pub threads : All-threads t schedule
   pub real : thread < t .threads
   pub before : List Step
   pub later : List Step
@@ -50,7 +49,7 @@ pub record Bounded-wait (t : Tree) (thread : ℕ) (first : Step) (meanwhile : Li
 -- for every accepted tree and both kinds of root
 unfoldable pub Wait-bound-law : Type 0
 Wait-bound-law =
-    (t : Tree) → Sixteen-bit t → tree-refusal t .number ≡ 0 → (start : ℕ) (schedule : List ℕ) (i : ℕ) (x : Step) (meanwhile : List Step) →
+    (t : Tree) (start : ℕ) (schedule : List ℕ) → Fresh-run t schedule → (i : ℕ) (x : Step) (meanwhile : List Step) →
     Attempt t schedule start i x meanwhile → Bounded-wait t i x meanwhile
 
 -- 2. THE WAITS OF A RUN, which document 02, (vi), counts: each but 0 is the wait of such an attempt; and where every entry of another in the run is prompt, none is above W
@@ -68,8 +67,7 @@ pub record Waits-bounded (t : Tree) (schedule : List ℕ) (start i : ℕ) : Type
 
 unfoldable pub Waits-bound-law : Type 0
 Waits-bound-law =
-    (t : Tree) → Sixteen-bit t → tree-refusal t .number ≡ 0 → (start : ℕ) (schedule : List ℕ) → All-threads t schedule → (i : ℕ) → i < t .threads →
-    Waits-bounded t schedule start i
+    (t : Tree) (start : ℕ) (schedule : List ℕ) → Fresh-run t schedule → (i : ℕ) → i < t .threads → Waits-bounded t schedule start i
 
 -- 3. PASSES are at most the allowance, and bound the entries under a member as the third demand has it: for two different members of a domain, while m stands ungranted, the entries of threads under q are at most its passes
 unfoldable pub Fewer-passes-law : Type 0
@@ -77,7 +75,7 @@ Fewer-passes-law = (t : Tree) → tree-refusal t .number ≡ 0 → (m : ℕ) →
 
 unfoldable pub Passes-law : Type 0
 Passes-law =
-    (t : Tree) → Sixteen-bit t → tree-refusal t .number ≡ 0 → (start : ℕ) (schedule : List ℕ) → All-threads t schedule →
+    (t : Tree) (start : ℕ) (schedule : List ℕ) → Fresh-run t schedule →
     (before meanwhile later : List Step) (x : Step) (m q : ℕ) → steps t schedule (fresh-state t start) ≡ before ++ (x ∷ (meanwhile ++ later)) →
     x .standing ≡ begins m → occurrences m (ended (x .domain) meanwhile) ≡ 0 → is-member t (x .domain) q ≡ true → q ≢ m →
     entries-under t q meanwhile ≤ passes t q

@@ -1,6 +1,6 @@
 -- NOBODY STARVES under fair schedules: after so many rounds every thread has entered. The laws speak of the step table's steps along schedules of any length; no refusal has a part in them. Each is a statement; proofs/ has its proof.
 use mathlib.Core.Path.{_≡_}
-use mathlib.Core.Bool.{Bool, true, false}
+use mathlib.Core.Bool.{Bool, true, false, _&&_, not}
 use mathlib.Core.List.{List, [], _∷_, _++_}
 use Prim.Native.Nat.{ℕ, zero, suc, _+_, _*_, _≤_, _<_}
 use lib.ListN.{length, take, drop}
@@ -8,10 +8,11 @@ use Rattle.model.specs.declared.Place.{Place}
 use Rattle.model.specs.declared.Place.the-variants.{Idle, Prep, Swap, Link, Wait, Inside, Check, Help, Cas, Linger, Grant, Draw, Watch, Raise, Invalid}
 use Rattle.model.specs.declared.State.{State}
 use Rattle.model.specs.Trees.{Tree}
-use Rattle.model.specs.States.{place, fresh-state}
+use Rattle.model.specs.Places.{same-row}
+use Rattle.model.specs.States.{place}
 use Rattle.model.specs.Runs.{run, occurrences}
 use Rattle.model.specs.Refusals.{tree-refusal}
-use Rattle.model.specs.Laws.{All-threads, Sixteen-bit}
+use Rattle.model.specs.Laws.{All-threads, From-fresh}
 use Rattle.model.specs.Calls.{state-at}
 use Rattle.bounds.specs.StarvationFreedom.Bounds.{acquire-bound, release-bound, everyone-bound, allowance-acquire-bound, allowance-everyone-bound}
 
@@ -35,21 +36,7 @@ is-acquiring Invalid = false
 
 -- Inside, or on the way down
 unfoldable pub is-releasing : Place → Bool
-is-releasing Idle = false
-is-releasing (Prep l) = false
-is-releasing (Swap l) = false
-is-releasing (Link l p) = false
-is-releasing (Wait l) = false
-is-releasing Inside = true
-is-releasing (Check l) = true
-is-releasing (Help l) = true
-is-releasing (Cas l) = true
-is-releasing (Linger l) = true
-is-releasing (Grant l r w) = true
-is-releasing Draw = false
-is-releasing Watch = false
-is-releasing Raise = true
-is-releasing Invalid = false
+is-releasing p = not (is-acquiring p) && not (same-row p Invalid)
 
 -- a round: a schedule of threads of the tree in which every thread occurs
 pub record Round (t : Tree) (schedule : List ℕ) : Type 0 where
@@ -79,9 +66,7 @@ pub record Bounded (t : Tree) (s : State) (i : ℕ) : Type 0 where
 
 -- for every accepted tree, both kinds of root, and every state reached from fresh
 unfoldable pub Starvation-law : Type 0
-Starvation-law =
-    (t : Tree) → Sixteen-bit t → tree-refusal t .number ≡ 0 → (start : ℕ) (before : List ℕ) → All-threads t before → (i : ℕ) → i < t .threads →
-    Bounded t (run t before (fresh-state t start) .state) i
+Starvation-law = (t : Tree) (s : State) → From-fresh t s → (i : ℕ) → i < t .threads → Bounded t s i
 
 -- EVERYONE. The threads in order, again and again: round robin
 unfoldable pub in-order : (threads : ℕ) → List ℕ
@@ -99,9 +84,7 @@ pub record Everyone-enters (t : Tree) (s : State) : Type 0 where
   pub turns : length (round-robin (t .threads) (everyone-bound t)) ≡ everyone-bound t * t .threads
 
 unfoldable pub Everyone-law : Type 0
-Everyone-law =
-    (t : Tree) → Sixteen-bit t → tree-refusal t .number ≡ 0 → (start : ℕ) (before : List ℕ) → All-threads t before →
-    Everyone-enters t (run t before (fresh-state t start) .state)
+Everyone-law = (t : Tree) (s : State) → From-fresh t s → Everyone-enters t s
 
 -- IN WINDOWS: every thread occurs among each N entries one after the other
 pub record Windows (t : Tree) (N : ℕ) (schedule : List ℕ) : Type 0 where
@@ -121,8 +104,7 @@ pub record Bounded-in-windows (t : Tree) (s : State) (i N : ℕ) (S : List ℕ) 
 
 unfoldable pub Window-law : Type 0
 Window-law =
-    (t : Tree) → Sixteen-bit t → tree-refusal t .number ≡ 0 → (start : ℕ) (before : List ℕ) → All-threads t before → (i : ℕ) → i < t .threads →
-    (N : ℕ) (S : List ℕ) → Windows t N S → Bounded-in-windows t (run t before (fresh-state t start) .state) i N S
+    (t : Tree) (s : State) → From-fresh t s → (i : ℕ) → i < t .threads → (N : ℕ) (S : List ℕ) → Windows t N S → Bounded-in-windows t s i N S
 
 -- SHARPER than by allowances: no bound is larger
 pub record Sharper (t : Tree) : Type 0 where

@@ -9,17 +9,16 @@ use lib.ListN.{length}
 use borrow.Author.Tests.{ne-eqb}
 use Rattle.model.specs.declared.State.{State as WordState}
 use Rattle.model.specs.Trees.{Tree}
-use Rattle.model.specs.States.{fresh-state}
 use Rattle.model.specs.Steps.{step}
-use Rattle.model.specs.Runs.{run-of, run, occurrences}
+use Rattle.model.specs.Runs.{occurrences}
 use Rattle.model.specs.Counters.{lock-state}
 use Rattle.model.specs.Refusals.{accepted, refusal, tree-refusal}
-use Rattle.model.specs.Laws.{All-threads, Sixteen-bit, Form-law}
+use Rattle.model.specs.Laws.{All-threads, Sixteen-bit}
 use Rattle.model.proofs.Trees.Accepted.{Accepted, accepted as accepted-tree}
 use Rattle.model.proofs.Lists.{same-or}
-use Rattle.model.proofs.Laws.Form.{form-law}
+use Rattle.model.proofs.Laws.FromFresh.{formed-from-fresh}
 use Rattle.model.proofs.Laws.Calls.{early-accepted}
-use Rattle.claims.proofs.Claims.Reached.{Queued, from-fresh}
+use Rattle.claims.proofs.Claims.Reached.{Queued, queued-from-fresh}
 use Rattle.chain.specs.Chain.{stays, looks-to, chain-from, chain}
 use Rattle.chain.specs.Laws.{Only-stays, Explains, Waiting-law}
 use Rattle.chain.proofs.Refusing.{not-refused}
@@ -154,12 +153,11 @@ not-empty : (c more : List ℕ) (i : ℕ) → c ≡ i ∷ more → length c ≢ 
 not-empty c more i e z = let y : suc (length more) ≡ 0 = sym (ap length e) ∙ z in omega arith
 
 pub waiting-law : Waiting-law
-unfolding Waiting-law Form-law run run-of All-threads accepted refusal
-waiting-law t bits ok v is all i h =
-    let s = run t is (fresh-state t v) .state in
-    let q = from-fresh t (accepted-tree t ok) bits v is all .there in
-    let x = explains t ok bits s q i h in
-    let form = form-law t bits ok .of-run is (fresh-state t v) all (form-law t bits ok .of-fresh v) .form in
+unfolding Waiting-law All-threads accepted refusal
+waiting-law t s f i h =
+    let ok = f .fresh-run .tree-accepted in
+    let x = explains t ok (f .fresh-run .sixteen-bit) s (queued-from-fresh t s f) i h in
+    let form = formed-from-fresh t s f .form in
     record {
       never-refused = λ c good room b.
           (let passed = early-accepted t (lock-state s c) (i ∷ []) 1 (record { tree = ok; form = form; counts = good; short = omega arith; threads = (h, tt); fits = omega arith }) in

@@ -7,9 +7,8 @@ use borrow.Author.Tests.{eq-eqb, ne-eqb}
 use Rattle.model.specs.declared.Place.the-variants.{Check}
 use Rattle.model.specs.declared.State.{State as WordState}
 use Rattle.model.specs.Trees.{Tree, own-record}
-use Rattle.model.specs.States.{none, next, status, place, fresh-state}
+use Rattle.model.specs.States.{none, next, status, place}
 use Rattle.model.specs.Steps.{Row-result, step-from, step}
-use Rattle.model.specs.Runs.{run-of, run}
 use Rattle.claims.specs.Reached.{equality-check-row, Counts-at-check, Equality-law}
 use Rattle.model.proofs.Branches.{Branch, check-passes, check-releases, check-branch, branch}
 use Rattle.model.proofs.Trees.Index.{ancestor, height, record-at}
@@ -20,7 +19,7 @@ use Rattle.model.proofs.Lists.{same-or}
 use Rattle.claims.proofs.Queues.Moves.{low}
 use Rattle.claims.proofs.Words.View.{words-in}
 use Rattle.claims.proofs.Words.Says.{Says, says-at}
-use Rattle.claims.proofs.Claims.Reached.{Queued, from-fresh}
+use Rattle.claims.proofs.Claims.Reached.{Queued, queued-from-fresh}
 
 -- at or below the threshold, below it and other than it are one test, and without a next there is nobody to pass to; so the row by equality comes to the same
 pub same-by-equality :
@@ -65,7 +64,5 @@ counts-at-check t valid s q i l h e =
     }
 
 pub equality-law : Equality-law
-unfolding Equality-law run run-of
-equality-law t bits ok v is all i l h e =
-    let valid = accepted t ok in
-    counts-at-check t valid (run t is (fresh-state t v) .state) (from-fresh t valid bits v is all .there) i l h e
+unfolding Equality-law
+equality-law t s f i l h e = counts-at-check t (accepted t (f .fresh-run .tree-accepted)) s (queued-from-fresh t s f) i l h e

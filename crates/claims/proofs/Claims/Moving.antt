@@ -11,12 +11,11 @@ use Rattle.model.specs.declared.Place.the-variants.{Idle, Link, Linger, Watch}
 use Rattle.model.specs.declared.State.{State as WordState}
 use Rattle.model.specs.Trees.{Tree, tree-of, is-ticket}
 use Rattle.model.specs.Places.{words-of}
-use Rattle.model.specs.States.{acquire-parent, next, status, place, fresh-state}
+use Rattle.model.specs.States.{acquire-parent, next, status, place}
 use Rattle.model.specs.Steps.{Kind, stay, other, root-entry, is-kind, is-entry, Row-result, wait-row, watch-row, row, step}
-use Rattle.model.specs.Runs.{run-of, run}
 use Rattle.model.specs.WellFormed.{good-place}
 use Rattle.model.specs.Answers.{fresh-answer}
-use Rattle.model.specs.Laws.{Sixteen-bit, Form-law, Kind-law}
+use Rattle.model.specs.Laws.{Sixteen-bit, Kind-law, Fresh-run}
 use Rattle.model.specs.Calls.{joined}
 use Rattle.claims.specs.Reached.{Move-law, List-move-law}
 use Rattle.model.proofs.Places.{not-idle}
@@ -27,7 +26,7 @@ use Rattle.model.proofs.Trees.Accepted.{Accepted, accepted, sixteen-bit}
 use Rattle.model.proofs.Trees.Tickets.{ticket-yes, queue-facts}
 use Rattle.model.proofs.Trees.Paths.{ancestor-inner, ancestor-root}
 use Rattle.model.proofs.Trees.Records.{own-record-at, root-record}
-use Rattle.model.proofs.Laws.Form.{form-law}
+use Rattle.model.proofs.Laws.FromFresh.{left-from-fresh, formed-from-fresh}
 use Rattle.model.proofs.Laws.Kinds.{may-stay, goes-on, no-stay, kind-law}
 use Rattle.model.proofs.Lists.{less-or, first-rest, count}
 use Rattle.claims.proofs.Queues.Paths.{laws}
@@ -39,7 +38,7 @@ use Rattle.claims.proofs.Words.Links.{final, after, before-second}
 use Rattle.claims.proofs.Words.View.{Words, words-in}
 use Rattle.claims.proofs.Words.Represents.{letting-go, letting-go-low, Fits, at-idle, at-prep, at-swap, at-link, at-wait, at-woken, at-ready, at-inside, at-check, at-pass, at-help, at-cas, at-linger, at-grant, at-draw, at-watch, at-shown, at-raise, Represents}
 use Rattle.claims.proofs.Words.Releasing.{firm}
-use Rattle.claims.proofs.Claims.Reached.{Queued, from-fresh}
+use Rattle.claims.proofs.Claims.Reached.{Queued, queued-from-fresh}
 use Rattle.claims.proofs.Claims.Calls.{starts-here, joined-threads}
 use Rattle.claims.proofs.Claims.Accepts.{last-reached}
 use Rattle.claims.proofs.Words.Acquiring.{ready-row}
@@ -221,12 +220,11 @@ module _ (t : Tree) (valid : Accepted t) (bits : Sixteen-bit t) (s : WordState) 
   someone-moves i n = from-any i (less-or i (t .threads) _ (λ b. b) (λ b. absurd (n (q .facts .places i .unused b)))) n
 
 pub move-law : Move-law
-unfolding Move-law Form-law Kind-law run run-of step
-move-law t bits ok v is all i n =
-    let s = run t is (fresh-state t v) .state in
-    let x = someone-moves t (accepted t ok) bits s (from-fresh t (accepted t ok) bits v is all .there) i n in
-    let form = form-law t bits ok in
-    let kinds = kind-law t (x .thread) s ok (x .real) (form .of-run is (fresh-state t v) all (form .of-fresh v)) in
+unfolding Move-law Kind-law step
+move-law t s f i n =
+    let k = f .fresh-run in
+    let x = someone-moves t (accepted t (k .tree-accepted)) (k .sixteen-bit) s (queued-from-fresh t s f) i n in
+    let kinds = kind-law t (x .thread) s (k .tree-accepted) (x .real) (formed-from-fresh t s f) in
     record { thread = x .thread; real = x .real; not-idle = x .not-idle; no-stay = x .moves; changes = λ e. x .moves (kinds .stays-exactly .1 e) }
 
 pub list-move-law : List-move-law
@@ -235,5 +233,6 @@ list-move-law w start cs ok n i busy =
     let t = tree-of w in
     let f = fresh-answer w start .state in
     let here = starts-here t f in
+    let turns : Fresh-run t (joined cs f) = record { sixteen-bit = sixteen-bit w; tree-accepted = ok; threads = joined-threads t f cs [] f here n } in
     let there = last-reached t f cs [] f here n in
-    rw there (move-law t (sixteen-bit w) ok _ (joined cs f) (joined-threads t f cs [] f here n) i (rw there at busy))
+    rw there (move-law t _ (left-from-fresh t _ (joined cs f) turns) i (rw there at busy))

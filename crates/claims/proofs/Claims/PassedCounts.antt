@@ -9,14 +9,13 @@ use Rattle.model.specs.declared.Place.the-variants.{Check, Help, Grant, Raise}
 use Rattle.model.specs.declared.State.{State}
 use Rattle.model.specs.Trees.{Tree, is-ticket, own-record}
 use Rattle.model.specs.Places.{words-of}
-use Rattle.model.specs.States.{next, status, place, fresh-state, Has-room}
+use Rattle.model.specs.States.{next, status, place, Has-room}
 use Rattle.model.specs.Steps.{Row-result, release-place, step}
-use Rattle.model.specs.Runs.{run-of, run}
 use Rattle.claims.specs.Reached.{Counts-at-check, Equality-law, Passed-count-law}
 use Rattle.model.proofs.Branches.{Branch, check-passes, check-releases, branch}
 use Rattle.model.proofs.Places.{place-stored}
 use Rattle.model.proofs.Trees.Accepted.{accepted}
-use Rattle.claims.proofs.Claims.Reached.{from-fresh}
+use Rattle.claims.proofs.Claims.Reached.{queued-from-fresh}
 use Rattle.claims.proofs.Claims.Equality.{equality-law}
 
 -- a domain is released from Raise, Help or Check, never from Grant
@@ -37,10 +36,8 @@ passed-count t i l r v s room counts (check-passes _ less some) e =
 passed-count t i l r v s room counts (check-releases _ why) e = absurd (not-released t (t .parent l) l r v (sym (place-stored i (release-place t (t .parent l)) s room) ∙ e))
 
 pub passed-count-law : Passed-count-law
-unfolding Passed-count-law Equality-law run run-of step
-passed-count-law t bits ok start is all i l r v h e g =
-    let s = run t is (fresh-state t start) .state in
-    let not-invalid = accepted t ok in
-    let form = from-fresh t not-invalid bits start is all .there .facts in
-    let room : Has-room (s .places) i = (form .typed .places-room, omega (arith, not-invalid .few-threads)) in
-    passed-count t i l r v s room (equality-law t bits ok start is all i l h e) (branch t i s (Check l)) (rw e at g)
+unfolding Passed-count-law Equality-law step
+passed-count-law t s f i l r v h e g =
+    let valid = accepted t (f .fresh-run .tree-accepted) in
+    let room : Has-room (s .places) i = (queued-from-fresh t s f .facts .typed .places-room, omega (arith, valid .few-threads)) in
+    passed-count t i l r v s room (equality-law t s f i l h e) (branch t i s (Check l)) (rw e at g)

@@ -15,7 +15,7 @@ use Rattle.model.specs.States.{acquire-parent, wait-word, status, place, fresh-
 use Rattle.model.specs.Steps.{is-entry, wait-row, row, step}
 use Rattle.model.specs.Runs.{steps, state-after, run-of, run}
 use Rattle.model.specs.Refusals.{tree-refusal}
-use Rattle.model.specs.Laws.{All-threads, Sixteen-bit, then-run, waits-below, entries-from-below, Passed-law}
+use Rattle.model.specs.Laws.{All-threads, Sixteen-bit, From-fresh, then-run, waits-below, entries-from-below, Passed-law}
 use Rattle.claims.specs.Reached.{Passing-law, Threshold-one-law}
 use Rattle.model.proofs.Tests.{and-false}
 use Rattle.model.proofs.Waiting.{ungranted-row, acquiring-row}
@@ -29,7 +29,8 @@ use Rattle.claims.proofs.Words.Represents.{waiting-word}
 use Rattle.claims.proofs.Words.Says.{Waiting, stands, woken, granted, At, Says, says-at}
 use Rattle.model.proofs.Laws.Runs.{run-join}
 use Rattle.model.proofs.Laws.Passed.{passed-law}
-use Rattle.claims.proofs.Claims.Reached.{Queued, from-fresh, threads-join}
+use Rattle.model.proofs.Laws.FromFresh.{left-from-fresh}
+use Rattle.claims.proofs.Claims.Reached.{Queued, queued-from-fresh, threads-join}
 
 module _ (t : Tree) (valid : Accepted t) (s : WordState) (q : Queued t s) (i l : ℕ) (h : i < t .threads) (n : l ≢ 0) where
   abbrev w : Words
@@ -60,15 +61,14 @@ module _ (t : Tree) (valid : Accepted t) (s : WordState) (q : Queued t s) (i l :
       rw z (omega (arith, p below .1, limit))
 
 pub passing-law : Passing-law
-unfolding Passing-law run run-of step row words-in Says
-passing-law t bits ok v is all i l h e n f =
-    let valid = accepted t ok in
-    let q = from-fresh t valid bits v is all .there in
-    let x : Says t (words-in (run t is (fresh-state t v) .state)) (q .queues) i (Wait l) (q .queues .stage i) = says-at e (q .represents .fits i h) in
-    enough t valid (run t is (fresh-state t v) .state) q i l h n (x .0) (x .1) (x .2) (rw e at f)
+unfolding Passing-law step row words-in Says
+passing-law t s f i l h e n entry =
+    let q = queued-from-fresh t s f in
+    let x : Says t (words-in s) (q .queues) i (Wait l) (q .queues .stage i) = says-at e (q .represents .fits i h) in
+    enough t (accepted t (f .fresh-run .tree-accepted)) s q i l h n (x .0) (x .1) (x .2) (rw e at entry)
 
 -- ALL THRESHOLDS 1
--- one entry behind others
+-- one entry after others
 after-one : (t : Tree) (f : WordState) (pre : List ℕ) (i : ℕ) → run t (pre ++ (i ∷ [])) f .state ≡ step t i (run t pre f .state) .state
 unfolding then-run run run-of steps state-after
 after-one t f pre i = ap (λ x. x .state) (run-join t pre (i ∷ []) f)
@@ -80,6 +80,9 @@ module _ (t : Tree) (ok : tree-refusal t .number ≡ 0) (ones : (d : ℕ) → t 
   sixteen : Sixteen-bit t
   sixteen d = omega (arith, ones d)
 
+  reached-by : (pre : List ℕ) → All-threads t pre → From-fresh t (run t pre f .state)
+  reached-by pre all = left-from-fresh t v pre (record { sixteen-bit = sixteen; tree-accepted = ok; threads = all })
+
   -- no step from a state reached from fresh is an entry from Wait below the root
   none-below : (pre : List ℕ) → All-threads t pre → (i : ℕ) → i < t .threads → (p : Place) → place (run t pre f .state) i ≡ p →
       is-entry (step t i (run t pre f .state) .kind) && waits-below p ≡ false
@@ -90,7 +93,7 @@ module _ (t : Tree) (ok : tree-refusal t .number ≡ 0) (ones : (d : ℕ) → t 
       by true true z y = refl
       by true false z y = refl
       by false false z y = refl
-      by false true z y = absurd (let two = passing-law t sixteen ok v pre all i l h e (eqb-false l 0 z) y in omega (arith, ones l))
+      by false true z y = absurd (let two = passing-law t (run t pre f .state) (reached-by pre all) i l h e (eqb-false l 0 z) y in omega (arith, ones l))
   none-below pre all i h Idle e = and-false (is-entry (step t i (run t pre f .state) .kind))
   none-below pre all i h (Prep l) e = and-false (is-entry (step t i (run t pre f .state) .kind))
   none-below pre all i h (Swap l) e = and-false (is-entry (step t i (run t pre f .state) .kind))

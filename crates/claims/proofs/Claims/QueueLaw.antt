@@ -123,9 +123,10 @@ module _ (t : Tree) (valid : Accepted t) (bits : Sixteen-bit t) (s : WordState) 
 
 pub queue-law : Queue-law
 unfolding Queue-law run run-of words-in
-queue-law t bits ok v is all =
-    let valid = accepted t ok in
-    let x = from-fresh t valid bits v is all in
+queue-law t v is k =
+    let valid = accepted t (k .tree-accepted) in
+    let bits = k .sixteen-bit in
+    let x = from-fresh t valid bits v is (k .threads) in
     let q = x .there in
     let s = run t is (fresh-state t v) .state in
     let g = q .queues in

@@ -9,9 +9,9 @@ use Rattle.model.specs.Trees.{Tree}
 use Rattle.model.specs.Places.{place-domain}
 use Rattle.model.specs.States.{place, fresh-words, fresh-state}
 use Rattle.model.specs.Steps.{Step, row, step}
-use Rattle.model.specs.Runs.{steps, state-after}
-use Rattle.model.specs.Laws.{All-threads, Sixteen-bit}
-use Rattle.model.proofs.Trees.Accepted.{Accepted}
+use Rattle.model.specs.Runs.{steps, state-after, run-of, run}
+use Rattle.model.specs.Laws.{All-threads, Sixteen-bit, From-fresh}
+use Rattle.model.proofs.Trees.Accepted.{Accepted, accepted}
 use Rattle.model.proofs.Laws.Facts.{Facts}
 use Rattle.model.proofs.Laws.Form.{replicate-all, fresh-facts, step-keeps}
 use Rattle.model.proofs.Lists.{count-nil}
@@ -93,6 +93,13 @@ module _ (t : Tree) (valid : Accepted t) (bits : Sixteen-bit t) where
   pub from-fresh : (v : ℕ) (is : List ℕ) → All-threads t is → Led t (fresh-state t v) empty (steps t is (fresh-state t v))
   unfolding fresh-queued
   from-fresh v is l = led is l (fresh-state t v) (fresh-queued t v)
+
+-- every state from fresh represents queues
+pub queued-from-fresh : (t : Tree) (s : WordState) → From-fresh t s → Queued t s
+unfolding run run-of
+queued-from-fresh t s f =
+    let k = f .fresh-run in
+    rw (f .reached) (from-fresh t (accepted t (k .tree-accepted)) (k .sixteen-bit) (f .start) (f .schedule) (k .threads) .there)
 
 pub threads-take : (t : Tree) (k : ℕ) (is : List ℕ) → All-threads t is → All-threads t (take k is)
 unfolding All-threads

@@ -57,7 +57,7 @@ counted-law w start cs ok n =
     let sums = children-law t ok is (f .words) all in
     let sum : (d : ℕ) → children-sum t d (λ k. domain-entries t k xs) ≡ children-sum t d (λ k. getD (last-state cs f .counters .entries) k 0) =
     λ d. children-same t d _ _ (λ k l. sym (holds .entries k (omega arith))) in
-    let has : (d : ℕ) → 0 < d → d < t .domains → Has-tenures t xs d = λ d p r. tenure-law t (sixteen-bit w) ok _ is all d p r in
+    let has : (d : ℕ) → 0 < d → d < t .domains → Has-tenures t xs d = λ d p r. tenure-law t _ is (record { sixteen-bit = sixteen-bit w; tree-accepted = ok; threads = all }) d p r in
     record {
       holds = holds;
       counted = record {

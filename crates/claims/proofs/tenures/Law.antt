@@ -169,4 +169,4 @@ module _ (t : Tree) (valid : Accepted t) (bits : Sixteen-bit t) (d : ℕ) (pos :
 
 pub tenure-law : Tenure-law
 unfolding Tenure-law
-tenure-law t bits ok v is all d pos real = has-tenures t (accepted t ok) bits d pos real v is all
+tenure-law t v is k d pos real = has-tenures t (accepted t (k .tree-accepted)) (k .sixteen-bit) d pos real v is (k .threads)

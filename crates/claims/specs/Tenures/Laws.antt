@@ -15,7 +15,7 @@ use Rattle.model.specs.Steps.{Step}
 use Rattle.model.specs.Runs.{steps, run}
 use Rattle.model.specs.Tenures.{domain-entries, domain-tenures, longest-tenure}
 use Rattle.model.specs.Refusals.{tree-refusal}
-use Rattle.model.specs.Laws.{_⟺_, All-threads, Sixteen-bit}
+use Rattle.model.specs.Laws.{_⟺_, All-threads, Fresh-run}
 use Rattle.model.specs.Answers.{fresh-answer}
 use Rattle.model.specs.Calls.{Call, joined, Names}
 use Rattle.claims.specs.Reached.{last-state}
@@ -45,8 +45,7 @@ pub record Has-tenures (t : Tree) (xs : List Step) (d : ℕ) : Type 0 where
 
 unfoldable pub Tenure-law : Type 0
 Tenure-law =
-    (t : Tree) → Sixteen-bit t → tree-refusal t .number ≡ 0 → (start : ℕ) (is : List ℕ) → All-threads t is → (d : ℕ) → 0 < d → d < t .domains →
-    Has-tenures t (steps t is (fresh-state t start)) d
+    (t : Tree) (start : ℕ) (is : List ℕ) → Fresh-run t is → (d : ℕ) → 0 < d → d < t .domains → Has-tenures t (steps t is (fresh-state t start)) d
 
 -- IN A LOCK'S STATE. The state that a list of calls on a fresh lock returns holds what the steps of the list's schedule tell
 pub record Counters-hold (t : Tree) (xs : List Step) (c : Counters) : Type 0 where

@@ -200,4 +200,6 @@ reached-good-words t b valid v is all =
 
 pub word-law : Word-law
 unfolding Word-law
-word-law t b e v is all d r n m = reached-good-words t b (accepted t e) v is all .statuses r d n m
+word-law t s f d r n m =
+    let k = f .fresh-run in
+    rw (f .reached) (reached-good-words t (k .sixteen-bit) (accepted t (k .tree-accepted)) (f .start) (f .schedule) (k .threads) .statuses r d n m)

@@ -1,12 +1,11 @@
 -- WHO MEETS WHAT THE LAWS ASK. Of each law of `model` that asks something of its input, an input that has all of it at once; docs/WITNESSES.md is the list.
 use mathlib.Core.Path.{_≡_}
 use mathlib.Core.Bool.{true, false}
-use mathlib.Core.List.{List, [], _∷_, _++_, map}
+use mathlib.Core.List.{List, [], _∷_, _++_}
 use mathlib.Core.Logic.{_≢_}
-use Prim.Native.Nat.{ℕ, _≤_, _<_}
+use Prim.Native.Nat.{ℕ, _<_}
 use lib.ListN.{length, getD, replicate}
 use Rattle.model.specs.declared.TreeWords.{TreeWords}
-use Rattle.model.specs.declared.State.{State}
 use Rattle.model.specs.declared.LockState.{LockState}
 use Rattle.model.specs.Trees.{Tree, tree-of, is-leaf, on-path, is-member}
 use Rattle.model.specs.States.{acquire-parent, wait-word, status, fresh-words, fresh-state}
@@ -14,18 +13,17 @@ use Rattle.model.specs.Steps.{kind-number, Step}
 use Rattle.model.specs.Runs.{steps, run}
 use Rattle.model.specs.Counters.{lock-state, fresh-counters, fresh-lock, good-counts}
 use Rattle.model.specs.Refusals.{tree-tests, run-tests-before-19, bad-counter, tree-refusal, step-refusal, run-refusal}
-use Rattle.model.specs.Laws.{All-threads, Sixteen-bit, Formed, Numbered, Read-alike}
+use Rattle.model.specs.Laws.{Fresh-run, From-fresh, Formed, Numbered, Read-alike}
 use Rattle.model.specs.CounterLaws.{Room-left}
 use Rattle.model.specs.Search.{Same-up-to, with-parent, six-levels}
 use Rattle.model.specs.Cases.Marked.{at-ticket-root, two-homes, first-entries, three-levels}
 use Rattle.model.specs.Cases.Counters.{counters, one-pass}
 use Rattle.model.specs.Cases.Claim.{two-homes-again}
 
--- 1. WHAT NEARLY EVERY LAW ASKS: a tree with thresholds of 16 bits that is accepted, a schedule of its threads, and a thread
+-- 1. WHAT NEARLY EVERY LAW ASKS: an accepted tree with 16-bit thresholds, a schedule of its threads, the state that it leaves on a fresh lock, and a thread
 pub record Meets (w : TreeWords) (schedule : List ℕ) (thread : ℕ) : Type 0 where
-  pub sixteen-bit : Sixteen-bit (tree-of w)
-  pub accepted : tree-refusal (tree-of w) .number ≡ 0
-  pub threads : All-threads (tree-of w) schedule
+  pub fresh-run : Fresh-run (tree-of w) schedule
+  pub from-fresh : From-fresh (tree-of w) (run (tree-of w) schedule (fresh-state (tree-of w) 0) .state)
   pub real : thread < tree-of w .threads
 
 -- thread 0 enters and crosses to thread 1, on three levels
